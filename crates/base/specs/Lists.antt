@@ -1,0 +1,81 @@
+-- Lists and tests that compute.
+use mathlib.Core.Bool.{Bool, true, false, _||_, _&&_, cond}
+use mathlib.Core.List.{List, [], _∷_, _++_}
+use Prim.Native.Nat.{ℕ, zero, suc, _+_, _-_}
+use lib.Dec.{eqb}
+
+module _ {ℓ} {A : Type ℓ} where
+  abbrev pub keep : Bool → A → List A → List A
+  keep true x xs = x ∷ xs
+  keep false x xs = xs
+
+  -- the elements that pass the test, in their order
+  abbrev pub filter : (A → Bool) → List A → List A
+  filter p [] = []
+  filter p (x ∷ xs) = keep (p x) x (filter p xs)
+
+  -- some element passes the test
+  abbrev pub any : (A → Bool) → List A → Bool
+  any p [] = false
+  any p (x ∷ xs) = p x || any p xs
+
+  -- every element passes the test
+  abbrev pub all : (A → Bool) → List A → Bool
+  all p [] = true
+  all p (x ∷ xs) = p x && all p xs
+
+  -- the list from the first element on that passes the test
+  abbrev pub fromFirst : (A → Bool) → List A → List A
+  fromFirst p [] = []
+  fromFirst p (x ∷ xs) = cond (p x) (x ∷ xs) (fromFirst p xs)
+
+  -- the lists one after the other
+  abbrev pub concat : List (List A) → List A
+  concat [] = []
+  concat (x ∷ xs) = x ++ concat xs
+
+  abbrev pub trimCons : List A → List (List A) → List (List A)
+  trimCons [] [] = []
+  trimCons [] (y ∷ ys) = [] ∷ y ∷ ys
+  trimCons (x ∷ xs) ys = (x ∷ xs) ∷ ys
+
+  -- without the empty lists at the end
+  abbrev pub trim : List (List A) → List (List A)
+  trim [] = []
+  trim (x ∷ xs) = trimCons x (trim xs)
+
+  abbrev pub isEmpty : List A → Bool
+  isEmpty [] = true
+  isEmpty (x ∷ xs) = false
+
+-- v is in the list
+abbrev pub isIn : List ℕ → ℕ → Bool
+isIn xs v = any (eqb v) xs
+
+-- xs begins with ys
+abbrev pub begins : (xs ys : List ℕ) → Bool
+begins xs [] = true
+begins [] (y ∷ ys) = false
+begins (x ∷ xs) (y ∷ ys) = eqb x y && begins xs ys
+
+abbrev pub sum : List ℕ → ℕ
+sum [] = 0
+sum (x ∷ xs) = x + sum xs
+
+-- k, k + 1, ..: n numbers
+abbrev pub range : (k n : ℕ) → List ℕ
+range k zero = []
+range k (suc n) = k ∷ range (suc k) n
+
+-- the sum of f 0 .. f (n - 1)
+unfoldable pub sumBelow : (ℕ → ℕ) → ℕ → ℕ
+sumBelow f zero = 0
+sumBelow f (suc n) = sumBelow f n + f n
+
+abbrev pub distance : ℕ → ℕ → ℕ
+distance x y = (x - y) + (y - x)
+
+-- 1 if the test holds, else 0
+abbrev pub bit : Bool → ℕ
+bit true = 1
+bit false = 0

@@ -1,0 +1,1 @@
+// Lists, whole numbers and replies that every layer speaks of.

@@ -1,0 +1,45 @@
+-- The levels of a group T. `adj v` lists the rows adjacent to row v, and there are n rows.
+use mathlib.Core.Bool.{Bool, true, false, not, _||_}
+use mathlib.Core.List.{List, [], _∷_, map}
+use Prim.Native.Nat.{ℕ, zero, suc, _-_, _*_}
+use lib.ListN.{take}
+use Rattle.base.specs.Lists.{filter, any, isIn, range, trim}
+
+-- the distance that a colouring keeps: rows of one colour are more than two joins apart
+abbrev pub reach : ℕ
+reach = 2
+
+-- v is at most k joins from a row of T
+unfoldable pub near : (adj : ℕ → List ℕ) (k : ℕ) → List ℕ → ℕ → Bool
+near adj zero T v = isIn T v
+near adj (suc k) T v = near adj k T v || any (near adj k T) (adj v)
+
+-- "The level region of T is T and every freedom joined to it", ascending
+unfoldable pub region : (adj : ℕ → List ℕ) → ℕ → List ℕ → List ℕ
+region adj n T = filter (near adj (reach - 1) T) (range 0 n)
+
+-- "The root is the lowest-numbered freedom of T not yet reached": of the rows not yet reached, ascending, it alone; none if T has none there
+unfoldable pub root : (adj : ℕ → List ℕ) (T rest : List ℕ) → List ℕ
+root adj T rest = take 1 (filter (isIn T) rest)
+
+-- Which of the rows not yet reached, rest, are on the next level: those adjacent to the last level.
+-- At first, and after an empty level, the next component's root alone: so "each later one two above the highest level in use, the levels of joined outsiders counted"
+unfoldable pub isNext : (adj : ℕ → List ℕ) (T last rest : List ℕ) → ℕ → Bool
+isNext adj T [] rest v = isIn (root adj T rest) v
+isNext adj T (x ∷ xs) rest v = any (isIn (x ∷ xs)) (adj v)
+
+-- the next k levels, each ascending: "each freedom the root reaches inside the region has as level its distance from the root plus the island's first level"
+unfoldable pub levelsFrom : (adj : ℕ → List ℕ) → ℕ → (T last rest : List ℕ) → List (List ℕ)
+levelsFrom adj zero T last rest = []
+levelsFrom adj (suc k) T last rest =
+    let new = filter (isNext adj T last rest) rest in
+    new ∷ levelsFrom adj k T new (filter (λ v. not (isNext adj T last rest v)) rest)
+
+-- all levels of T's region; 2 × n are enough, and those past the highest are empty
+unfoldable pub levels : (adj : ℕ → List ℕ) → ℕ → List ℕ → List (List ℕ)
+levels adj n T = levelsFrom adj (2 * n) T [] (region adj n T)
+
+-- T's own rows level by level, "sorted by level, then by number", up to the highest level that holds one.
+-- "Let m be the highest level holding a freedom of T, plus 1 (0 if T is empty)": m is its length. "Empty levels count as levels"
+unfoldable pub ownLevels : (adj : ℕ → List ℕ) → ℕ → List ℕ → List (List ℕ)
+ownLevels adj n T = trim (map (filter (isIn T)) (levels adj n T))

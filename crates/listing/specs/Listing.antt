@@ -1,0 +1,90 @@
+-- What `netplan` writes for what it reads, byte for byte.
+use mathlib.Core.Bool.{Bool, true, false, cond}
+use mathlib.Core.List.{List, [], _∷_, _++_, map}
+use Prim.Native.Nat.{ℕ, zero, suc, _+_}
+use lib.Dec.{eqb, ltb}
+use lib.ListN.{length, drop, getD}
+use Rattle.base.specs.Lists.{concat, isEmpty}
+use Rattle.base.specs.Refusals as no
+use Rattle.matrix.specs.Matrix.{Matrix}
+use Rattle.market.specs.Bytes.{isEnd, isSpace, blank, lineFeed}
+use Rattle.market.specs.Fields.{Scan, got, none, number}
+use Rattle.market.specs.Parse.{Triplet, Parsed, matrixText, rejected, parse}
+use Rattle.market.specs.FullRows.{matrixOf}
+use Rattle.market.specs.Text.{natural}
+use Rattle.plan.specs.Groups.{Group, Plan, fields}
+use Rattle.planner.specs.Planner.{areParameters, plan}
+
+-- "24,576 bytes together at most"
+abbrev pub maxInput : ℕ
+maxInput = 24576
+
+-- "The first line ends at the first line feed, or with the input": the line without it, and what follows
+unfoldable pub firstLine : List ℕ → List ℕ
+firstLine [] = []
+firstLine (b ∷ bs) = let more = b ∷ firstLine bs in cond (isEnd b) [] more
+
+unfoldable pub restOf : List ℕ → List ℕ
+restOf input = drop (suc (length (firstLine input))) input
+
+-- workers and p of the first line, or "a first line that isn't two numbers with one space between"
+pub data Parameters : Type 0 where
+  parameters : (w p : ℕ) → Parameters
+  missing : Parameters
+
+-- a number that takes the whole text
+unfoldable pub last : ℕ → Scan → ℕ → Parameters
+last w (got p k) size = cond (eqb k size) (parameters w p) missing
+last w none size = missing
+
+-- one space, and the last number
+unfoldable pub second : Scan → List ℕ → Parameters
+second (got w k) xs = let rest = drop (suc k) xs in cond (isSpace (getD (drop k xs) 0 0)) (last w (number rest) (length rest)) missing
+second none xs = missing
+
+unfoldable pub parametersOf : List ℕ → Parameters
+parametersOf line = second (number line) line
+
+-- numbers, each after a space
+unfoldable pub spaced : List ℕ → List ℕ
+spaced ns = concat (map (λ n. blank ∷ natural n) ns)
+
+-- "refused", number, place, with single spaces
+unfoldable pub refusedLine : (number place : ℕ) → List ℕ
+refusedLine number place = (114 ∷ 101 ∷ 102 ∷ 117 ∷ 115 ∷ 101 ∷ 100 ∷ []) ++ spaced (number ∷ place ∷ []) ++ lineFeed ∷ []
+
+-- "`order` giving original numbers by plan position"
+unfoldable pub orderLine : List ℕ → List ℕ
+orderLine order = (111 ∷ 114 ∷ 100 ∷ 101 ∷ 114 ∷ []) ++ spaced order ++ lineFeed ∷ []
+
+-- "group start length first workers colour parent"
+unfoldable pub titleLine : List ℕ
+titleLine =
+    103 ∷ 114 ∷ 111 ∷ 117 ∷ 112 ∷ 32
+    ∷ 115 ∷ 116 ∷ 97 ∷ 114 ∷ 116 ∷ 32
+    ∷ 108 ∷ 101 ∷ 110 ∷ 103 ∷ 116 ∷ 104 ∷ 32
+    ∷ 102 ∷ 105 ∷ 114 ∷ 115 ∷ 116 ∷ 32
+    ∷ 119 ∷ 111 ∷ 114 ∷ 107 ∷ 101 ∷ 114 ∷ 115 ∷ 32
+    ∷ 99 ∷ 111 ∷ 108 ∷ 111 ∷ 117 ∷ 114 ∷ 32
+    ∷ 112 ∷ 97 ∷ 114 ∷ 101 ∷ 110 ∷ 116 ∷ 10 ∷ []
+
+-- "each later line a record's six fields after its index"
+unfoldable pub groupLines : ℕ → List Group → List ℕ
+groupLines i [] = []
+groupLines i (g ∷ gs) = natural i ++ spaced (fields g) ++ lineFeed ∷ groupLines (suc i) gs
+
+unfoldable pub planListing : Plan → List ℕ
+planListing p = orderLine (p .order) ++ titleLine ++ groupLines 0 (p .groups)
+
+unfoldable pub planned : Matrix → Parameters → List ℕ
+planned m (parameters w p) = cond (areParameters w p) (planListing (plan m w p)) (refusedLine no.parameter 0)
+planned m missing = refusedLine no.parameter 0
+
+-- "then the matrix text is judged, its lines counted from 1; then a first line that isn't two numbers .. gives 7"
+unfoldable pub judged : Parsed → Parameters → List ℕ
+judged (rejected number place) ps = refusedLine number place
+judged (matrixText n es) ps = planned (matrixOf n es) ps
+
+-- "Longer input gives 2 at 0"
+unfoldable pub listing : List ℕ → List ℕ
+listing input = cond (ltb maxInput (length input)) (refusedLine no.form 0) (judged (parse (restOf input)) (parametersOf (firstLine input)))

@@ -1,0 +1,1 @@
+// netplan's whole answer: from the bytes that it reads to the bytes that it writes.

@@ -1,0 +1,95 @@
+-- Numbers and lines of three fields, at the start of a text.
+use mathlib.Core.Bool.{Bool, true, false, _&&_, _||_, not, cond}
+use mathlib.Core.List.{List, [], _∷_}
+use Prim.Native.Nat.{ℕ, zero, suc, _+_, _-_, _*_}
+use lib.Dec.{leb, eqb}
+use lib.IntN.{ℤ, pos, negsuc}
+use lib.ListN.{length, getD, drop}
+use Rattle.market.specs.Bytes.{isDigit, isSign, isSpace, isEnd, digit0}
+
+-- what stands at the start of a text: a number and how many bytes it takes, or none
+pub data Scan : Type 0 where
+  got : (value size : ℕ) → Scan
+  none : Scan
+
+-- the digits that a text begins with
+unfoldable pub digits : List ℕ → List ℕ
+digits [] = []
+digits (b ∷ bs) = let more = b ∷ digits bs in cond (isDigit b) more []
+
+-- "A number has 1 to 10 decimal digits and no needless leading zero"
+unfoldable pub isNumber : List ℕ → Bool
+isNumber ds = leb 1 (length ds) && leb (length ds) 10 && (leb (length ds) 1 || not (eqb (getD ds 0 0) digit0))
+
+-- the value of decimal digits that come after v
+unfoldable pub valueOf : ℕ → List ℕ → ℕ
+valueOf v [] = v
+valueOf v (d ∷ ds) = valueOf (v * 10 + (d - digit0)) ds
+
+abbrev pub numberOf : List ℕ → Scan
+numberOf ds = cond (isNumber ds) (got (valueOf 0 ds) (length ds)) none
+
+unfoldable pub number : List ℕ → Scan
+number xs = numberOf (digits xs)
+
+-- how many spaces a text begins with
+unfoldable pub spaces : List ℕ → ℕ
+spaces [] = 0
+spaces (b ∷ bs) = let more = suc (spaces bs) in cond (isSpace b) more 0
+
+-- g bytes more
+abbrev pub after : ℕ → Scan → Scan
+after g (got v k) = got v (g + k)
+after g none = none
+
+-- "Fields are parted by one or more spaces": one or more spaces, then a number
+unfoldable pub field : List ℕ → Scan
+field xs = cond (leb 1 (spaces xs)) (after (spaces xs) (number (drop (spaces xs) xs))) none
+
+-- a signed number and how many bytes it takes, or none
+pub data Signed : Type 0 where
+  is : (value : ℤ) (size : ℕ) → Signed
+  no : Signed
+
+abbrev pub unsigned : Scan → Signed
+unsigned (got v k) = is (pos v) k
+unsigned none = no
+
+-- "`-0` is not a number"
+abbrev pub negative : Scan → Signed
+negative (got zero k) = no
+negative (got (suc v) k) = is (negsuc v) (suc k)
+negative none = no
+
+-- "only a value may carry `-`"
+unfoldable pub value : List ℕ → Signed
+value xs = cond (isSign (getD xs 0 0)) (negative (number (drop 1 xs))) (unsigned (number xs))
+
+abbrev pub afterSigned : ℕ → Signed → Signed
+afterSigned g (is v k) = is v (g + k)
+afterSigned g no = no
+
+-- one or more spaces, then a value
+unfoldable pub valueField : List ℕ → Signed
+valueField xs = cond (leb 1 (spaces xs)) (afterSigned (spaces xs) (value (drop (spaces xs) xs))) no
+
+-- a line of three fields with its length, the line feed included; or a line that breaks the form
+pub data Line : Type 0 where
+  line : (first second : ℕ) (third : ℤ) (size : ℕ) → Line
+  broken : Line
+
+abbrev pub onNumber : Scan → (ℕ → ℕ → Line) → Line
+onNumber (got v k) f = f v k
+onNumber none f = broken
+
+abbrev pub onSigned : Signed → (ℤ → ℕ → Line) → Line
+onSigned (is v k) f = f v k
+onSigned no f = broken
+
+-- the first line of a text: number, spaces, number, spaces, value, line feed; "none at the ends", "every line ends in one line feed"
+unfoldable pub fields : List ℕ → Line
+fields xs =
+    onNumber (number xs) (λ r a.
+    onNumber (field (drop a xs)) (λ c b.
+    onSigned (valueField (drop (a + b) xs)) (λ v d.
+    cond (isEnd (getD (drop (a + b + d) xs) 0 0)) (line r c v (a + b + d + 1)) broken)))

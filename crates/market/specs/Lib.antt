@@ -1,0 +1,5 @@
+pub mod Bytes
+pub mod Fields
+pub mod Parse
+pub mod FullRows
+pub mod Text

@@ -1,0 +1,1 @@
+// Matrix Market integer symmetric text: reader and writer.

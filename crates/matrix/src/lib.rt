@@ -1,0 +1,1 @@
+// A symmetric matrix of whole numbers in full rows, its check, and its product with displacements.

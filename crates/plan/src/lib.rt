@@ -1,0 +1,1 @@
+// Plans: an order and records of groups, and the check that a plan is sound for a matrix.

@@ -1,0 +1,94 @@
+-- The planner: the order, and the groups depth first.
+use mathlib.Core.Bool.{Bool, true, false, _&&_}
+use mathlib.Core.List.{List, [], _∷_, _++_, map}
+use Prim.Native.Nat.{ℕ, zero, suc, _+_, _-_, _*_, _/_}
+use lib.Dec.{leb}
+use lib.ListN.{length, take, drop}
+use Rattle.base.specs.Lists.{concat, range}
+use Rattle.base.specs.Replies.{Reply, accepted, refused, check, inTurn, roomFor}
+use Rattle.base.specs.Refusals as no
+use Rattle.matrix.specs.Matrix.{Matrix, neighbours, matrixCheck}
+use Rattle.plan.specs.Groups.{Group, Plan, whole, red, blue, width}
+use Rattle.plan.specs.Sound.{maxWorkers, maxDepth}
+use Rattle.levels.specs.Levels.{reach, ownLevels}
+use Rattle.planner.specs.Loads.{load, extent, cut}
+
+unfoldable pub nothing : Plan
+nothing = record { order = []; groups = [] }
+
+-- a stretch of the order with its records, and the next one
+infixr 20 _then_
+unfoldable pub _then_ : Plan → Plan → Plan
+a then b = record { order = a .order ++ b .order; groups = a .groups ++ b .groups }
+
+-- "a leaf keeps its parent's order"
+unfoldable pub leaf : Group → List ℕ → Plan
+leaf g T = record { order = T; groups = g ∷ [] }
+
+-- a group's planner: from its index, its record and its rows in its parent's order
+abbrev pub Planner : Type 0
+Planner = ℕ → Group → List ℕ → Plan
+
+-- a pair's red and blue rows, by level, and its workers
+pub record Pair : Type 0 where
+  pub reds : List ℕ
+  pub blues : List ℕ
+  pub workers : ℕ
+
+-- The pairs of a group of w workers and load R, in the levels ls and the free workers that are left: "The pair gets b workers, the next ones free". k bounds how many
+unfoldable pub pairs : (adj : ℕ → List ℕ) (k w R p free : ℕ) → List (List ℕ) → List Pair
+pairs adj zero w R p free ls = []
+pairs adj (suc k) w R p free [] = []
+pairs adj (suc k) w R p free (l ∷ ls) =
+    let e = extent w R p free (map (load adj) (l ∷ ls)) in
+    let mine = take (e .levels) (l ∷ ls) in
+    let c = cut (map (load adj) mine) in
+    record { reds = concat (take c mine); blues = concat (drop c mine); workers = e .workers }
+    ∷ pairs adj k w R p (free - e .workers) (drop (e .levels) (l ∷ ls))
+
+-- The children of the group at index up: "Within a pair red comes first", each child with all below it
+unfoldable pub planPairs : (child : Planner) (up start first index : ℕ) → List Pair → Plan
+planPairs child up start first index [] = nothing
+planPairs child up start first index (c ∷ cs) =
+    let mid = start + length (c .reds) in
+    let a = child index (record { start = start; length = length (c .reds); first = first; workers = c .workers; colour = red; parent = up }) (c .reds) in
+    let index₁ = index + length (a .groups) in
+    let b = child index₁ (record { start = mid; length = length (c .blues); first = first; workers = c .workers; colour = blue; parent = up }) (c .blues) in
+    a then b then planPairs child up (mid + length (c .blues)) (first + c .workers) (index₁ + length (b .groups)) cs
+
+-- "T is split if it has at least two workers, depth below 4 and m at least 4" (the depth: a stage is left)
+unfoldable pub splits : Group → List (List ℕ) → Bool
+splits g ls = leb 2 (g .workers) && leb (2 * reach) (length ls)
+
+-- "A group is planned by planning its pairs"
+unfoldable pub split : (adj : ℕ → List ℕ) (child : Planner) (p index : ℕ) → Group → List (List ℕ) → Plan
+split adj child p index g ls =
+    leaf g [] then
+    planPairs child index (g .start) (g .first) (index + 1) (pairs adj (length ls) (g .workers) (load adj (concat ls)) p (g .workers) ls)
+
+-- stages: 4 less the depth
+unfoldable pub planGroup : (adj : ℕ → List ℕ) (n p stages : ℕ) → Planner
+planGroup adj n p zero index g T = leaf g T
+planGroup adj n p (suc s) index g T =
+    let ls = ownLevels adj n T in
+    elim (splits g ls) [ true ↦ split adj (planGroup adj n p s) p index g ls | false ↦ leaf g T ]
+
+-- "the whole has depth 0 and all workers"; "the whole is sorted even as a leaf"
+unfoldable pub planRows : (adj : ℕ → List ℕ) (n p w : ℕ) → Plan
+planRows adj n p w =
+    planGroup adj n p maxDepth 0 (record { start = 0; length = n; first = 0; workers = w; colour = whole; parent = 0 }) (concat (ownLevels adj n (range 0 n)))
+
+-- the plan of a matrix for w workers
+unfoldable pub plan : Matrix → (w p : ℕ) → Plan
+plan m w p = planRows (neighbours m) (m .n) p w
+
+-- "all workers, 1 to 16", "p is 50 to 99"
+unfoldable pub areParameters : (w p : ℕ) → Bool
+areParameters w p = leb 1 w && leb w maxWorkers && leb 50 p && leb p 99
+
+-- The reply: 5, 7, 9 "of order, groups, counted in records"; accepted with the count of groups.
+-- The two lists are then `lent` of the reply, plan's order and its flat groups; room is each list's length
+unfoldable pub planReply : Matrix → (w p orderRoom groupsRoom : ℕ) → Reply
+planReply m w p orderRoom groupsRoom =
+    inTurn refused (matrixCheck m ∷ check no.parameter (areParameters w p) ∷ roomFor (m .n) orderRoom ∷ roomFor (length (plan m w p .groups)) (groupsRoom / width) ∷ [])
+    (accepted (length (plan m w p .groups)))

@@ -1,0 +1,1 @@
+// The planner: RACE's recursive distance-2 colouring.

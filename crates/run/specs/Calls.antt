@@ -1,0 +1,90 @@
+-- The calls on one run, their answers, and the state that each leaves.
+use mathlib.Core.Bool.{Bool, true, false, cond}
+use mathlib.Core.List.{List, [], _∷_, _++_}
+use Prim.Native.Nat.{ℕ, zero, suc}
+use lib.ListN.{length, drop}
+use lib.Dec.{leb}
+use lib.IntN.{ℤ}
+use Rattle.base.specs.Refusals as no
+use Rattle.base.specs.Replies.{Check, check, inTurn}
+use Rattle.matrix.specs.Matrix.{Matrix, matrixCheck, displacementCheck}
+use Rattle.plan.specs.Sound.{planCheck}
+use Rattle.run.specs.Job.{Job, jobOf}
+use Rattle.run.specs.Machine.{State, steps, ready, bits, over, original, isState}
+
+pub data Call : Type 0 where
+  picks : (schedule : List ℕ) → Call
+  readySet : Call
+  -- how long the lent list is
+  forceList : (room : ℕ) → Call
+
+pub data Answer : Type 0 where
+  -- "the number that the call took and that ending, or 0 at 0 as its ending if it took all"
+  picked : (taken number place : ℕ) → Answer
+  -- "sixteen bits .. and the count of those set"
+  isReady : (bits count : ℕ) → Answer
+  forces : List ℤ → Answer
+  refused : (number place : ℕ) → Answer
+
+unfoldable pub placeOf : (number taken : ℕ) → ℕ
+placeOf zero taken = 0
+placeOf (suc k) taken = taken
+
+unfoldable pub pickedOf : (taken number : ℕ) → Answer
+pickedOf taken number = picked taken number (placeOf number taken)
+
+unfoldable pub readyOf : Job → (made : List ℕ) → Answer
+readyOf j made = isReady (bits (ready j made)) (length (ready j made))
+
+-- "15 until then, afterwards 9 at n if its list is shorter than n, else 0 with" the forces
+unfoldable pub forcesOf : (isOver long : Bool) → ℕ → List ℤ → Answer
+forcesOf false long n zs = refused no.early 0
+forcesOf true false n zs = refused no.short n
+forcesOf true true n zs = forces zs
+
+unfoldable pub answerOf : Job → State → Call → Answer
+answerOf j s (picks ws) = pickedOf (steps j s ws .taken) (steps j s ws .number)
+answerOf j s readySet = readyOf j (s .made)
+answerOf j s (forceList room) = forcesOf (over j (s .made)) (leb (j .matrix .n) room) (j .matrix .n) (original j (s .sums))
+
+unfoldable pub afterOf : Job → State → Call → State
+afterOf j s (picks ws) = steps j s ws .state
+afterOf j s readySet = s
+afterOf j s (forceList room) = s
+
+unfoldable pub stateCheck : Job → State → List Check
+stateCheck j s = check no.state (isState j s) ∷ []
+
+-- a call on an accepted job: its answer, and the state that it leaves
+unfoldable pub answer : Job → State → Call → Answer
+answer j s c = inTurn refused (stateCheck j s) (answerOf j s c)
+
+unfoldable pub after : Job → State → Call → State
+after j s c = inTurn (λ number place. s) (stateCheck j s) (afterOf j s c)
+
+-- the answers to a list of calls, each "handed both as the last one left them"
+unfoldable pub answers : Job → State → List Call → List Answer
+answers j s [] = []
+answers j s (c ∷ cs) = answer j s c ∷ answers j (after j s c) cs
+
+unfoldable pub afterAll : Job → State → List Call → State
+afterAll j s [] = s
+afterAll j s (c ∷ cs) = afterAll j (after j s c) cs
+
+-- ---- a call on lent lists, any whatever: 5, 6, 8 come before 11
+
+unfoldable pub jobChecks : Matrix → List ℤ → (order groups : List ℕ) (count : ℕ) → List Check
+jobChecks m x order groups count = matrixCheck m ∷ displacementCheck (m .n) x ∷ planCheck m order groups count ∷ []
+
+unfoldable pub answerLent : Matrix → List ℤ → (order groups : List ℕ) (count : ℕ) → State → Call → Answer
+answerLent m x order groups count s c = inTurn refused (jobChecks m x order groups count) (answer (jobOf m x order groups count) s c)
+
+unfoldable pub afterLent : Matrix → List ℤ → (order groups : List ℕ) (count : ℕ) → State → Call → State
+afterLent m x order groups count s c = inTurn (λ number place. s) (jobChecks m x order groups count) (after (jobOf m x order groups count) s c)
+
+-- the lent list of forces after the call: "Places past the answer are unchanged"
+unfoldable pub forcesLent : Answer → List ℤ → List ℤ
+forcesLent (forces zs) old = zs ++ drop (length zs) old
+forcesLent (picked taken number place) old = old
+forcesLent (isReady bits count) old = old
+forcesLent (refused number place) old = old

@@ -1,0 +1,90 @@
+-- Demand 3, sentence by sentence: what holds of every run that begins fresh.
+use mathlib.Core.Path.{_≡_}
+use mathlib.Core.Bool.{Bool, true, false}
+use mathlib.Core.List.{List, [], _∷_}
+use Prim.Native.Nat.{ℕ, zero, suc, _+_, _*_, _%_, _≤_, _<_, _^_}
+use lib.ListN.{length, getD, take}
+use lib.IntN.{ℤ, pos}
+use Rattle.matrix.specs.Matrix.{adjacentPairs}
+use Rattle.matrix.specs.Product.{forceAt, product}
+use Rattle.run.specs.Job.{Job, Accepted}
+use Rattle.run.specs.Tree.{tree, leaves}
+use Rattle.run.specs.Updates.{count, next, updates, accesses, leafByLeaf}
+use Rattle.run.specs.Machine.{State, fresh, workers, Outcome, moved, load, store, step, steps, ready, over, original}
+use Rattle.run.specs.Calls.{Call, picks, readySet, forceList, Answer, picked, isReady, forces, refused, answer, answers, afterAll}
+use Rattle.run.specs.Model.{noCounts, modelAnswers, modelCounts}
+
+-- from s to t by the one load or store that document 01 gives worker w next, and nothing else
+pub data OneAccess (j : Job) (s : State) (w : ℕ) : State → Type 0 where
+  loads : count (s .made) w % 2 ≡ 0 → OneAccess j s w (load s w (next j (s .made) w))
+  stores : count (s .made) w % 2 ≡ 1 → OneAccess j s w (store s w (next j (s .made) w))
+
+-- .. by one such access of each of these workers, in turn
+pub data Walk (j : Job) : State → List ℕ → State → Type 0 where
+  stay : {s : State} → Walk j s [] s
+  andThen : {s t e : State} {w : ℕ} {ws : List ℕ} → OneAccess j s w t → Walk j t ws e → Walk j s (w ∷ ws) e
+
+-- how many steps a call took, and a list of calls
+unfoldable pub takenOf : Answer → ℕ
+takenOf (picked taken number place) = taken
+takenOf (isReady bits count) = 0
+takenOf (forces zs) = 0
+takenOf (refused number place) = 0
+
+unfoldable pub takenIn : List Answer → ℕ
+takenIn [] = 0
+takenIn (a ∷ as′) = takenOf a + takenIn as′
+
+-- "Each run begins fresh": its state after a list of calls, and its answers
+unfoldable pub runState : Job → List Call → State
+runState j cs = afterAll j (fresh (j .matrix .n)) cs
+
+unfoldable pub runAnswers : Job → List Call → List Answer
+runAnswers j cs = answers j (fresh (j .matrix .n)) cs
+
+unfoldable pub finishedRun : Job → List Call → Bool
+finishedRun j cs = over j (runState j cs .made)
+
+-- "its force list, which is its sums put in original order"
+unfoldable pub runForces : Job → List Call → List ℤ
+runForces j cs = original j (runState j cs .sums)
+
+-- the steps of a whole run: "two for each freedom and four for each joined pair"
+unfoldable pub wholeRun : Job → ℕ
+wholeRun j = 2 * j .matrix .n + 4 * adjacentPairs (j .matrix)
+
+pub record EveryRun (j : Job) (cs : List Call) : Type 0 where
+  -- "the answers of all the calls .. are those of document 01's book for that list" (so 11 and 14 are never met)
+  pub answered : runAnswers j cs ≡ modelAnswers j noCounts cs
+  -- "and the count of moves that each worker has made after them"
+  pub counted : runState j cs .made ≡ modelCounts j noCounts cs
+  -- "each pick taken makes just the one load or store on the sums that document 01 gives its worker next": a next call with picks ws
+  pub one-each : (ws : List ℕ) → Walk j (runState j cs) (take (steps j (runState j cs) ws .taken) ws) (steps j (runState j cs) ws .state)
+  -- "A run is finished exactly when the picks taken are two for each freedom and four for each joined pair"
+  pub enough : finishedRun j cs ≡ true → takenIn (runAnswers j cs) ≡ wholeRun j
+  pub only-then : takenIn (runAnswers j cs) ≡ wholeRun j → finishedRun j cs ≡ true
+  -- "its force list .. is then its own full product, entry by entry"
+  pub forced : finishedRun j cs ≡ true → (room : ℕ) → j .matrix .n ≤ room → answer j (runState j cs) (forceList room) ≡ forces (runForces j cs)
+  pub entries : finishedRun j cs ≡ true → (i : ℕ) → i < j .matrix .n → getD (runForces j cs) i (pos 0) ≡ forceAt (j .matrix) (j .displacements) i
+  pub whole : finishedRun j cs ≡ true → runForces j cs ≡ product (j .matrix) (j .displacements)
+  -- "Until a run is finished some worker can move"
+  pub can-move : finishedRun j cs ≡ false → (w : ℕ) × (w < workers j) × (t : State) × (step j (runState j cs) w ≡ moved t)
+  -- "it is empty only in a finished run, if begun fresh"
+  pub ready-set : finishedRun j cs ≡ false → 1 ≤ length (ready j (runState j cs .made))
+
+-- "Two finished runs over equally many freedoms, whatever their matrices, movements, plans, workers and picks, leave equal force lists exactly when their two full products are equal"
+pub record EqualForces (j k : Job) (cs ds : List Call) : Type 0 where
+  pub products : runForces j cs ≡ runForces k ds → product (j .matrix) (j .displacements) ≡ product (k .matrix) (k .displacements)
+  pub lists : product (j .matrix) (j .displacements) ≡ product (k .matrix) (k .displacements) → runForces j cs ≡ runForces k ds
+
+-- what the definitions over plan positions come to
+pub record Plain (j : Job) : Type 0 where
+  -- "A worker's moves are its leaves in order, row by row in plan order"
+  pub leaf-order : (w : ℕ) → updates j w ≡ leafByLeaf j w (leaves (tree (j .plan .groups)))
+  -- "moves made (32 bits)": every count fits
+  pub small : (w : ℕ) → w < workers j → accesses j w < 2 ^ 32
+
+pub record Demand3 : Type 0 where
+  pub plain : (j : Job) → Accepted j → Plain j
+  pub every-run : (j : Job) → Accepted j → (cs : List Call) → EveryRun j cs
+  pub equal-forces : (j k : Job) → Accepted j → Accepted k → (cs ds : List Call) → j .matrix .n ≡ k .matrix .n → finishedRun j cs ≡ true → finishedRun k ds ≡ true → EqualForces j k cs ds

@@ -1,0 +1,1 @@
+// The run of a plan, one load or store a step: picks, ready set and force list.

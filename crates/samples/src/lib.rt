@@ -1,0 +1,1 @@
+// Document 01's samples: see specs/Samples.antt.
