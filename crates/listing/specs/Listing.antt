@@ -4,7 +4,8 @@ use mathlib.Core.List.{List, [], _∷_, _++_, map}
 use Prim.Native.Nat.{ℕ, zero, suc, _+_}
 use lib.Dec.{eqb, ltb}
 use lib.ListN.{length, drop, getD}
-use Rattle.base.specs.Lists.{concat, isEmpty}
+use Rattle.base.specs.Lists.{concat}
+use Rattle.base.specs.Ascii.{ascii}
 use Rattle.base.specs.Refusals as no
 use Rattle.matrix.specs.Matrix.{Matrix}
 use Rattle.market.specs.Bytes.{isEnd, isSpace, blank, lineFeed}
@@ -51,22 +52,14 @@ spaced ns = concat (map (λ n. blank ∷ natural n) ns)
 
 -- "refused", number, place, with single spaces
 unfoldable pub refusedLine : (number place : ℕ) → List ℕ
-refusedLine number place = (114 ∷ 101 ∷ 102 ∷ 117 ∷ 115 ∷ 101 ∷ 100 ∷ []) ++ spaced (number ∷ place ∷ []) ++ lineFeed ∷ []
+refusedLine number place = ascii "refused" ++ spaced (number ∷ place ∷ []) ++ lineFeed ∷ []
 
 -- "`order` giving original numbers by plan position"
 unfoldable pub orderLine : List ℕ → List ℕ
-orderLine order = (111 ∷ 114 ∷ 100 ∷ 101 ∷ 114 ∷ []) ++ spaced order ++ lineFeed ∷ []
+orderLine order = ascii "order" ++ spaced order ++ lineFeed ∷ []
 
--- "group start length first workers colour parent"
 unfoldable pub titleLine : List ℕ
-titleLine =
-    103 ∷ 114 ∷ 111 ∷ 117 ∷ 112 ∷ 32
-    ∷ 115 ∷ 116 ∷ 97 ∷ 114 ∷ 116 ∷ 32
-    ∷ 108 ∷ 101 ∷ 110 ∷ 103 ∷ 116 ∷ 104 ∷ 32
-    ∷ 102 ∷ 105 ∷ 114 ∷ 115 ∷ 116 ∷ 32
-    ∷ 119 ∷ 111 ∷ 114 ∷ 107 ∷ 101 ∷ 114 ∷ 115 ∷ 32
-    ∷ 99 ∷ 111 ∷ 108 ∷ 111 ∷ 117 ∷ 114 ∷ 32
-    ∷ 112 ∷ 97 ∷ 114 ∷ 101 ∷ 110 ∷ 116 ∷ 10 ∷ []
+titleLine = ascii "group start length first workers colour parent\n"
 
 -- "each later line a record's six fields after its index"
 unfoldable pub groupLines : ℕ → List Group → List ℕ

@@ -1,8 +1,9 @@
 -- Bytes and their classes, and line 1 of a matrix text.
 use mathlib.Core.Bool.{Bool, _&&_, cond}
-use mathlib.Core.List.{List, [], _∷_}
+use mathlib.Core.List.{List}
 use Prim.Native.Nat.{ℕ}
 use lib.Dec.{leb, eqb}
+use Rattle.base.specs.Ascii.{ascii}
 
 abbrev pub lineFeed : ℕ
 lineFeed = 10
@@ -40,9 +41,4 @@ isEnd b = eqb (classOf b) 4
 
 -- "Line 1 is `%%MatrixMarket matrix coordinate integer symmetric`", with its line feed
 unfoldable pub header : List ℕ
-header =
-    37 ∷ 37 ∷ 77 ∷ 97 ∷ 116 ∷ 114 ∷ 105 ∷ 120 ∷ 77 ∷ 97 ∷ 114 ∷ 107 ∷ 101 ∷ 116 ∷ 32
-    ∷ 109 ∷ 97 ∷ 116 ∷ 114 ∷ 105 ∷ 120 ∷ 32
-    ∷ 99 ∷ 111 ∷ 111 ∷ 114 ∷ 100 ∷ 105 ∷ 110 ∷ 97 ∷ 116 ∷ 101 ∷ 32
-    ∷ 105 ∷ 110 ∷ 116 ∷ 101 ∷ 103 ∷ 101 ∷ 114 ∷ 32
-    ∷ 115 ∷ 121 ∷ 109 ∷ 109 ∷ 101 ∷ 116 ∷ 114 ∷ 105 ∷ 99 ∷ 10 ∷ []
+header = ascii "%%MatrixMarket matrix coordinate integer symmetric\n"

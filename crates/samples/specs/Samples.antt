@@ -1,0 +1,210 @@
+-- Document 01's samples: one table, a row a sample, and one fact: no row fails.
+use mathlib.Core.Path.{_≡_, refl}
+use mathlib.Core.Bool.{Bool, true, false, _&&_}
+use mathlib.Core.List.{List, [], _∷_, _++_, map}
+use Prim.Native.Nat.{ℕ, zero, suc, _+_, _*_, _-_}
+use Prim.Native.String.{String}
+use lib.Dec.{eqb}
+use lib.IntN.{ℤ, pos, negsuc}
+use lib.ListN.{length, take, replicate}
+use lib.Seq.{slice}
+use Rattle.base.specs.Lists.{filter, concat, range, trim, sumBelow, bit}
+use Rattle.base.specs.Ascii.{ascii}
+use Rattle.base.specs.Integers.{sumℤ, within, same, fits64}
+use Rattle.base.specs.Replies.{Reply, accepted, refused, inTurn, lent}
+use Rattle.matrix.specs.Matrix.{Matrix, partOf, columnsOf, valuesOf, lookup, entry, neighbours, adjacent, adjacentPairs, ascending, mirrored, isRow, lowerEntries, isMatrix, matrixCheck, displacement, firstPast, areDisplacements, displacementCheck}
+use Rattle.matrix.specs.Product.{forceAt, product, productReply}
+use Rattle.market.specs.Bytes.{classOf, header}
+use Rattle.market.specs.Fields.{digits, isNumber, valueOf, number, spaces, field, value, valueField, fields}
+use Rattle.market.specs.Parse.{Triplet, Parsed, matrixText, rejected, entries, sizeLine, comments, parse}
+use Rattle.market.specs.FullRows.{full, cell, rowOf, rowsOf, startsFrom, rowStarts, columns, values, matrixOf, readMatrix, readReply}
+use Rattle.market.specs.Text.{decimal, textOf, columnOf, lower, written, writeReply}
+use Rattle.plan.specs.Groups.{Group, Plan, fields as groupFields, ofFields, flat, records, planOf}
+use Rattle.plan.specs.Sound.{eachOnce, depthFirst, children, tiled, apart, rowsOf as groupRows, likeApart, childrenSound, allSound, sound, isSound, isPlan, planCheck, checkReply}
+use Rattle.levels.specs.Levels.{near, region, root, isNext, levelsFrom, levels, ownLevels}
+use Rattle.planner.specs.Loads.{weight, load, Extent, endsFrom, best, nearest, off, serves, extentOf, extentFrom, extent, cutAt, cut}
+use Rattle.planner.specs.Planner.{nothing, _then_, leaf, pairs, planPairs, splits, split, planGroup, planRows, plan, areParameters, planReply}
+use Rattle.run.specs.Job.{Job, Accepted, rowAt, jobOf}
+use Rattle.run.specs.Tree.{forest, tree, leaves, holds, ownerIn, unfinished, redOpen, blocked}
+use Rattle.run.specs.Updates.{entryAt, displacementAt, later, withEach, rowUpdates, owner, when, upTo, updates, accesses, finished, noUpdate, next, waits}
+use Rattle.run.specs.Machine.{State, fresh, workersOf, workers, reason, refusal, onward, load as loadSum, total, store, access, move, stepIf, step, oneMore, steps, readyBelow, ready, bits, allMade, over, positionOf, original, countsFine, isState}
+use Rattle.run.specs.Calls.{Call, picks, readySet, forceList, Answer, picked, isReady, forces, refused as refusedCall, placeOf, pickedOf, readyOf, forcesOf, answerOf, afterOf, stateCheck, answer, after, answers, afterAll, jobChecks, answerLent, afterLent, forcesLent}
+use Rattle.run.specs.Model.{noCounts, oneNoted, note, modelAnswer, modelAfter, modelAnswers, modelCounts}
+use Rattle.run.specs.EveryRun.{takenOf, takenIn, wholeRun}
+use Rattle.listing.specs.Listing.{firstLine, restOf, last, second, parametersOf, spaced, refusedLine, orderLine, titleLine, groupLines, planListing, planned, judged, listing}
+
+-- ---- every answer as a list of numbers, so that one test compares them all
+
+abbrev numbers : List ℕ → List ℤ
+numbers ns = map pos ns
+
+abbrev ofReply : Reply → List ℤ
+ofReply (accepted k) = pos 0 ∷ pos k ∷ []
+ofReply (refused q p) = pos q ∷ pos p ∷ []
+
+abbrev ofTriplet : Triplet → List ℤ
+ofTriplet e = pos (e .row) ∷ pos (e .column) ∷ e .value ∷ []
+
+abbrev ofParsed : Parsed → List ℤ
+ofParsed (matrixText n es) = pos 0 ∷ pos n ∷ concat (map ofTriplet es)
+ofParsed (rejected q p) = pos q ∷ pos p ∷ []
+
+abbrev ofMatrix : Matrix → List ℤ
+ofMatrix m = numbers (m .starts ++ m .columns) ++ m .values
+
+abbrev ofPlan : Plan → List ℤ
+ofPlan p = numbers (p .order ++ flat (p .groups))
+
+-- each level's length, then its rows
+abbrev ofLevels : List (List ℕ) → List ℤ
+ofLevels ls = concat (map (λ l. pos (length l) ∷ numbers l) ls)
+
+abbrev ofExtent : Extent → List ℤ
+ofExtent e = pos (e .levels) ∷ pos (e .workers) ∷ []
+
+abbrev ofAnswer : Answer → List ℤ
+ofAnswer (picked taken number place) = pos 1 ∷ pos taken ∷ pos number ∷ pos place ∷ []
+ofAnswer (isReady bits count) = pos 2 ∷ pos bits ∷ pos count ∷ []
+ofAnswer (forces zs) = pos 3 ∷ zs
+ofAnswer (refusedCall number place) = pos 4 ∷ pos number ∷ pos place ∷ []
+
+abbrev ofAnswers : List Answer → List ℤ
+ofAnswers as′ = concat (map ofAnswer as′)
+
+abbrev ofTest : Bool → List ℤ
+ofTest b = pos (bit b) ∷ []
+
+infix 10 _is_
+abbrev _is_ : (found expected : List ℤ) → Bool
+[] is [] = true
+[] is (y ∷ ys) = false
+(x ∷ xs) is [] = false
+(x ∷ xs) is (y ∷ ys) = same x y && (xs is ys)
+
+-- ---- the nets of the samples
+
+-- line 1 and these lines
+abbrev text : String → List ℕ
+text lines = header ++ ascii lines
+
+abbrev matrixIn : String → Matrix
+matrixIn lines = readMatrix (parse (text lines))
+
+-- "eight freedoms in a chain (diagonal 2, neighbours −1)"
+abbrev chainText : String
+chainText = "8 8 15\n1 1 2\n2 1 -1\n2 2 2\n3 2 -1\n3 3 2\n4 3 -1\n4 4 2\n5 4 -1\n5 5 2\n6 5 -1\n6 6 2\n7 6 -1\n7 7 2\n8 7 -1\n8 8 2\n"
+
+abbrev chain : Matrix
+chain = matrixIn chainText
+
+abbrev job : Matrix → List ℤ → (w p : ℕ) → Job
+job m x w p = record { matrix = m; displacements = x; plan = plan m w p }
+
+abbrev chainJob : Job
+chainJob = job chain (replicate 8 (pos 1)) 2 60
+
+-- "n = 1, value 5, movement −3"
+abbrev lone : Job
+lone = job (matrixIn "1 1 1\n1 1 5\n") (negsuc 2 ∷ []) 1 60
+
+abbrev unjoined : Matrix
+unjoined = matrixIn "8 8 0\n"
+
+abbrev two : Matrix
+two = matrixIn "2 2 1\n2 1 7\n"
+
+-- a stored zero joins
+abbrev zeroJoin : Matrix
+zeroJoin = matrixIn "2 2 1\n2 1 0\n"
+
+-- rows 0, 2 and 3, adjacent only to 1
+abbrev star : Matrix
+star = matrixIn "4 4 3\n2 1 1\n3 2 1\n4 2 1\n"
+
+-- "level loads 1, 2, .. 16, 15, .. 1"
+abbrev hill : List ℕ
+hill = range 1 16 ++ map (λ k. 16 - k) (range 1 15)
+
+abbrev groups8 : List ℤ
+groups8 = numbers (
+    0 ∷ 8 ∷ 0 ∷ 2 ∷ 0 ∷ 0
+    ∷ 0 ∷ 2 ∷ 0 ∷ 1 ∷ 1 ∷ 0
+    ∷ 2 ∷ 2 ∷ 0 ∷ 1 ∷ 2 ∷ 0
+    ∷ 4 ∷ 2 ∷ 1 ∷ 1 ∷ 1 ∷ 0
+    ∷ 6 ∷ 2 ∷ 1 ∷ 1 ∷ 2 ∷ 0 ∷ [])
+
+abbrev chainListing : List ℕ
+chainListing = ascii "order 0 1 2 3 4 5 6 7\ngroup start length first workers colour parent\n0 0 8 0 2 0 0\n1 0 2 0 1 1 0\n2 2 2 0 1 2 0\n3 4 2 1 1 1 0\n4 6 2 1 1 2 0\n"
+
+-- a whole run of the chain, with each refusal that it can meet
+abbrev chainCalls : List Call
+chainCalls =
+    readySet ∷ picks (replicate 13 0) ∷ readySet ∷ forceList 8 ∷ picks (2 ∷ []) ∷ picks (replicate 20 1)
+    ∷ picks (replicate 12 0) ∷ readySet ∷ picks (1 ∷ []) ∷ forceList 7 ∷ forceList 8 ∷ []
+
+abbrev chainAnswers : List Answer
+chainAnswers =
+    isReady 3 2 ∷ picked 12 13 12 ∷ isReady 2 1 ∷ refusedCall 15 0 ∷ picked 0 10 0 ∷ picked 20 0 0
+    ∷ picked 12 0 0 ∷ isReady 0 0 ∷ picked 0 12 0 ∷ refusedCall 9 8
+    ∷ forces (numbers (1 ∷ 0 ∷ 0 ∷ 0 ∷ 0 ∷ 0 ∷ 0 ∷ 1 ∷ [])) ∷ []
+
+abbrev parameterReply : (w p : ℕ) → List ℤ
+parameterReply w p = ofReply (planReply two w p 2 6)
+
+abbrev samples : List Bool
+samples =
+    -- P: the chain's plan, and as `netplan` prints it
+    (ofPlan (chainJob .plan) is numbers (range 0 8) ++ groups8)
+    ∷ (numbers (listing (ascii "2 60\n" ++ text chainText)) is numbers chainListing)
+    -- P: "its moves are 24 for worker 0, 20 for worker 1"
+    ∷ (numbers (map (accesses chainJob) (range 0 3)) is numbers (24 ∷ 20 ∷ 0 ∷ []))
+    -- P: "fresh, one list of 13 picks of worker 0: 12 are taken, then 13 at 12"
+    ∷ (ofAnswer (answer chainJob (fresh 8) (picks (replicate 13 0))) is ofAnswer (picked 12 13 12))
+    -- P: "all movements 1: forces 1, 0, 0, 0, 0, 0, 0, 1"
+    ∷ (product chain (replicate 8 (pos 1)) is numbers (1 ∷ 0 ∷ 0 ∷ 0 ∷ 0 ∷ 0 ∷ 0 ∷ 1 ∷ []))
+    -- P: "n = 1, value 5, movement −3: force −15, two moves, one leaf"
+    ∷ (product (lone .matrix) (lone .displacements) is negsuc 14 ∷ [])
+    ∷ (numbers (accesses lone 0 ∷ length (leaves (tree (lone .plan .groups))) ∷ []) is numbers (2 ∷ 1 ∷ []))
+    ∷ (ofAnswers (answers lone (fresh 1) (picks (0 ∷ 0 ∷ []) ∷ forceList 1 ∷ [])) is ofAnswers (picked 2 0 0 ∷ forces (negsuc 14 ∷ []) ∷ []))
+    -- P: "eight unjoined freedoms at `2 60`: levels 0, 2, .. 14; same groups as the chain"
+    ∷ (ofLevels (ownLevels (neighbours unjoined) 8 (range 0 8)) is numbers (1 ∷ 0 ∷ 0 ∷ 1 ∷ 1 ∷ 0 ∷ 1 ∷ 2 ∷ 0 ∷ 1 ∷ 3 ∷ 0 ∷ 1 ∷ 4 ∷ 0 ∷ 1 ∷ 5 ∷ 0 ∷ 1 ∷ 6 ∷ 0 ∷ 1 ∷ 7 ∷ []))
+    ∷ (ofPlan (plan unjoined 2 60) is numbers (range 0 8) ++ groups8)
+    -- P: "two joined freedoms, 16 workers: one leaf"
+    ∷ (ofPlan (plan two 16 60) is numbers (0 ∷ 1 ∷ 0 ∷ 2 ∷ 0 ∷ 16 ∷ 0 ∷ 0 ∷ []))
+    -- P: "level loads 1, 2, .. 16, 15, .. 1, w = 8, p = 60: first pair is levels 0 to 6 (28 of 256), cut before level 5 (15 against 13)"
+    ∷ (ofExtent (extent 8 256 60 8 hill) is numbers (7 ∷ 1 ∷ []))
+    ∷ (numbers (cut (take 7 hill) ∷ []) is numbers (5 ∷ []))
+    -- P: "a = 1.5 gives b = 2". P: "a = 0.6 at p = 60 doesn't serve"
+    ∷ (numbers (nearest 3 1 2 ∷ []) is numbers (2 ∷ []))
+    ∷ (ofTest (serves 3 1 5 60) is ofTest false)
+    -- P: "value `-0` gives 2; `0` is read and joins"
+    ∷ (ofParsed (parse (text "2 2 1\n2 1 -0\n")) is numbers (2 ∷ 3 ∷ []))
+    ∷ (ofParsed (parse (text "2 2 1\n2 1 0\n")) is numbers (0 ∷ 2 ∷ 1 ∷ 0 ∷ 0 ∷ []))
+    ∷ (ofTest (adjacent zeroJoin 0 1 && isMatrix zeroJoin) is ofTest true)
+    ∷ (numbers (adjacentPairs zeroJoin ∷ []) is numbers (1 ∷ []))
+    -- "n 4,096 passes, 4,097 gives 3; p 50 and 99 pass, 49 and 100 give 7; an empty text gives 1 at place 1"
+    ∷ (ofParsed (parse (text "4096 4096 0\n")) is numbers (0 ∷ 4096 ∷ []))
+    ∷ (ofParsed (parse (text "4097 4097 0\n")) is numbers (3 ∷ 2 ∷ []))
+    ∷ (concat (map (parameterReply 2) (49 ∷ 50 ∷ 99 ∷ 100 ∷ [])) is numbers (7 ∷ 0 ∷ 0 ∷ 1 ∷ 0 ∷ 1 ∷ 7 ∷ 0 ∷ []))
+    ∷ (ofParsed (parse []) is numbers (1 ∷ 1 ∷ []))
+    -- "freedoms 0, 2 and 3 of T, joined only to outsider 1, have levels 0, 2 and 2"
+    ∷ (ofLevels (ownLevels (neighbours star) 4 (0 ∷ 2 ∷ 3 ∷ [])) is numbers (1 ∷ 0 ∷ 0 ∷ 2 ∷ 2 ∷ 3 ∷ []))
+    -- a whole run of the chain: the machine's answers and the model's; 2 picks for each row and 4 for each adjacent pair
+    ∷ (ofAnswers (answers chainJob (fresh 8) chainCalls) is ofAnswers chainAnswers)
+    ∷ (ofAnswers (modelAnswers chainJob noCounts chainCalls) is ofAnswers chainAnswers)
+    ∷ (numbers (takenIn chainAnswers ∷ []) is numbers (wholeRun chainJob ∷ []))
+    -- the chain is taken: a matrix, displacements, a sound plan
+    ∷ (ofTest (isMatrix chain && areDisplacements 8 (chainJob .displacements) && isSound chain (chainJob .plan)) is ofTest true)
+    -- "Reading its text returns the matrix"
+    ∷ (ofMatrix (readMatrix (parse (written chain))) is ofMatrix chain)
+    ∷ []
+
+-- the places of the tests that fail
+abbrev failing : ℕ → List Bool → List ℕ
+failing k [] = []
+failing k (true ∷ bs) = failing (suc k) bs
+failing k (false ∷ bs) = k ∷ failing (suc k) bs
+
+all-hold : failing 0 samples ≡ []
+unfolding sumBelow sumℤ within same fits64 inTurn partOf columnsOf valuesOf lookup entry neighbours adjacent adjacentPairs ascending mirrored isRow lowerEntries isMatrix matrixCheck displacement areDisplacements forceAt product classOf header digits isNumber valueOf number spaces field value valueField fields entries sizeLine comments parse full cell rowOf rowsOf startsFrom rowStarts columns values matrixOf readMatrix decimal textOf columnOf lower written groupFields flat eachOnce depthFirst children tiled apart groupRows likeApart childrenSound allSound sound isSound near region root isNext levelsFrom levels ownLevels weight load endsFrom best nearest off serves extentOf extentFrom extent cutAt cut nothing _then_ leaf pairs planPairs splits split planGroup planRows plan areParameters planReply rowAt forest tree leaves holds ownerIn unfinished redOpen blocked entryAt displacementAt later withEach rowUpdates owner when upTo updates accesses finished noUpdate next waits fresh workersOf workers reason refusal onward loadSum total store access move stepIf step oneMore steps readyBelow ready bits allMade over positionOf original countsFine isState placeOf pickedOf readyOf forcesOf answerOf afterOf stateCheck answer after answers afterAll noCounts oneNoted note modelAnswer modelAfter modelAnswers modelCounts takenOf takenIn wholeRun firstLine restOf last second parametersOf spaced refusedLine orderLine titleLine groupLines planListing planned judged listing
+all-hold = refl
