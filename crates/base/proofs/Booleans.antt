@@ -1,0 +1,73 @@
+-- Laws of tests.
+use mathlib.Core.Path.{_≡_, refl, sym, _∙_}
+use mathlib.Core.Logic.{_⊎_, inl, inr, _≢_}
+use mathlib.Core.Bool.{Bool, true, false, not, _&&_, _||_, true≢false}
+use mathlib.Core.List.{List, [], _∷_}
+use Prim.Native.Nat.{ℕ, zero, suc}
+use lib.Dec.{eqb}
+use lib.ListN.{getD}
+use borrow.Author.Tests.{eqb-true, eqb-false}
+
+pub and-false : (b : Bool) → b && false ≡ false
+and-false true = refl
+and-false false = refl
+
+pub and-left : (a b : Bool) → a && b ≡ true → a ≡ true
+and-left true b h = refl
+and-left false b h = h
+
+pub and-right : (a b : Bool) → a && b ≡ true → b ≡ true
+and-right true b h = h
+and-right false b h = absurd (true≢false (sym h))
+
+pub or-true : (b : Bool) → b || true ≡ true
+or-true true = refl
+or-true false = refl
+
+pub or-cases : (a b : Bool) → a || b ≡ true → (a ≡ true) ⊎ (b ≡ true)
+or-cases true b h = inl refl
+or-cases false b h = inr h
+
+pub not-both : (b : Bool) → b ≡ true → not b ≡ true → ⊥
+not-both true p q = true≢false (sym q)
+not-both false p q = true≢false (sym p)
+
+pub or-left-false : (a b : Bool) → a || b ≡ false → a ≡ false
+or-left-false true b h = absurd (true≢false h)
+or-left-false false b h = refl
+
+pub or-right-false : (a b : Bool) → a || b ≡ false → b ≡ false
+or-right-false true b h = absurd (true≢false h)
+or-right-false false b h = h
+
+pub or-mono : (a b c d : Bool) → (a ≡ true → c ≡ true) → (b ≡ true → d ≡ true) → a || b ≡ true → c || d ≡ true
+or-mono true b c d f g h = rw (f refl) refl
+or-mono false b c d f g h = rw (g h) (or-true c)
+
+pub and-mono : (a b c d : Bool) → (a ≡ true → c ≡ true) → (b ≡ true → d ≡ true) → a && b ≡ true → c && d ≡ true
+and-mono true b c d f g h = rw (f refl) (g h)
+and-mono false b c d f g h = absurd (true≢false (sym h))
+
+pub clash : {b : Bool} → b ≡ true → b ≡ false → ⊥
+clash p q = true≢false (sym p ∙ q)
+
+pub same-or : (v w : ℕ) → (v ≡ w) ⊎ (v ≢ w)
+same-or v w = go (eqb v w) refl
+  where
+    go : (b : Bool) → eqb v w ≡ b → (v ≡ w) ⊎ (v ≢ w)
+    go true e = inl (eqb-true v w e)
+    go false e = inr (eqb-false v w e)
+
+-- a && b && c ..
+abbrev pub conj : Bool → List Bool → Bool
+conj a [] = a
+conj a (b ∷ bs) = conj (a && b) bs
+
+pub conj-first : (a : Bool) (bs : List Bool) → conj a bs ≡ true → a ≡ true
+conj-first a [] h = h
+conj-first a (b ∷ bs) h = and-left a b (conj-first (a && b) bs h)
+
+pub conj-at : (a : Bool) (bs : List Bool) → conj a bs ≡ true → (k : ℕ) → getD bs k true ≡ true
+conj-at a [] h k = refl
+conj-at a (b ∷ bs) h zero = and-right a b (conj-first (a && b) bs h)
+conj-at a (b ∷ bs) h (suc k) = conj-at (a && b) bs h k

@@ -1,0 +1,5 @@
+pub mod Booleans
+pub mod Lists
+pub mod Counts
+pub mod Integers
+pub mod Sums

@@ -1,0 +1,171 @@
+-- Laws of lists: members, filters, ranges and concatenations.
+use mathlib.Core.Path.{_≡_, refl, sym, ap, _∙_, subst}
+use mathlib.Core.Logic.{_⊎_, inl, inr, _≢_}
+use mathlib.Core.Bool.{Bool, true, false, not, _&&_, _||_, true≢false}
+use mathlib.Core.List.{List, [], _∷_, _++_, map, append-assoc}
+use Prim.Native.Nat.{ℕ, zero, suc, _+_, _≤_, _<_}
+use native.Mathlib.Omega.{arith}
+use lib.Dec.{eqb}
+use lib.ListN.{length, take, drop, getD}
+use borrow.Author.Tests.{eqb-true, eqb-false, eq-eqb}
+use Rattle.base.specs.Lists.{filter, keep, any, all, isIn, concat, range, trim, trimCons}
+use Rattle.base.proofs.Booleans.{and-false, and-left, and-right, or-true, or-cases}
+
+module _ {ℓ} {A : Type ℓ} where
+  pub filter-append : (p : A → Bool) (xs ys : List A) → filter p (xs ++ ys) ≡ filter p xs ++ filter p ys
+  filter-append p [] ys = refl
+  filter-append p (x ∷ xs) ys = go (p x) (filter-append p xs ys)
+    where
+      go : (b : Bool) → filter p (xs ++ ys) ≡ filter p xs ++ filter p ys → keep b x (filter p (xs ++ ys)) ≡ keep b x (filter p xs) ++ filter p ys
+      go true ih = rw ih refl
+      go false ih = ih
+
+  pub concat-append : (xs ys : List (List A)) → concat (xs ++ ys) ≡ concat xs ++ concat ys
+  concat-append [] ys = refl
+  concat-append (x ∷ xs) ys = ap (λ (r : List A). x ++ r) (concat-append xs ys) ∙ sym (append-assoc x (concat xs) (concat ys))
+
+  pub concat-filter : (p : A → Bool) (ls : List (List A)) → concat (map (filter p) ls) ≡ filter p (concat ls)
+  concat-filter p [] = refl
+  concat-filter p (l ∷ ls) = ap (λ (r : List A). filter p l ++ r) (concat-filter p ls) ∙ sym (filter-append p l (concat ls))
+
+  pub concat-trim : (ls : List (List A)) → concat (trim ls) ≡ concat ls
+  concat-trim [] = refl
+  concat-trim (l ∷ ls) = go l (trim ls) (concat-trim ls)
+    where
+      go : (x : List A) (ys : List (List A)) → concat ys ≡ concat ls → concat (trimCons x ys) ≡ x ++ concat ls
+      go [] [] e = e
+      go [] (y ∷ ys) e = e
+      go (x ∷ xs) ys e = rw e refl
+
+  pub length-split : (p : A → Bool) (xs : List A) → length (filter p xs) + length (filter (λ v. not (p v)) xs) ≡ length xs
+  length-split p [] = refl
+  length-split p (x ∷ xs) = go (p x) (length-split p xs)
+    where
+      go : (b : Bool) → length (filter p xs) + length (filter (λ v. not (p v)) xs) ≡ length xs
+          → length (keep b x (filter p xs)) + length (keep (not b) x (filter (λ v. not (p v)) xs)) ≡ suc (length xs)
+      go true ih = omega arith
+      go false ih = omega arith
+
+  pub length-filter-le : (p : A → Bool) (xs : List A) → length (filter p xs) ≤ length xs
+  length-filter-le p xs = omega (arith, length-split p xs)
+
+  pub all-get : (p : A → Bool) (xs : List A) (i : ℕ) (d : A) → all p xs ≡ true → i < length xs → p (getD xs i d) ≡ true
+  all-get p [] i d h l = absurd (omega arith)
+  all-get p (x ∷ xs) zero d h l = and-left (p x) (all p xs) h
+  all-get p (x ∷ xs) (suc i) d h l = all-get p xs i d (and-right (p x) (all p xs) h) (omega arith)
+
+  pub get-all : (p : A → Bool) (xs : List A) (d : A) → ((i : ℕ) → i < length xs → p (getD xs i d) ≡ true) → all p xs ≡ true
+  get-all p [] d h = refl
+  get-all p (x ∷ xs) d h = rw (h 0 (omega arith)) (get-all p xs d (λ i l. h (suc i) (omega arith)))
+
+-- membership in a filtered list
+pub isIn-filter : (p : ℕ → Bool) (xs : List ℕ) (v : ℕ) → isIn (filter p xs) v ≡ isIn xs v && p v
+isIn-filter p [] v = refl
+isIn-filter p (x ∷ xs) v = go (p x) (eqb v x) refl refl (isIn-filter p xs v)
+  where
+    go : (b c : Bool) → p x ≡ b → eqb v x ≡ c → isIn (filter p xs) v ≡ isIn xs v && p v
+        → isIn (keep b x (filter p xs)) v ≡ (c || isIn xs v) && p v
+    go true true e f ih = rw f (sym (subst (λ (y : ℕ). p y ≡ true) (sym (eqb-true v x f)) e))
+    go true false e f ih = rw f ih
+    go false true e f ih =
+        let pv : p v ≡ false = subst (λ (y : ℕ). p y ≡ false) (sym (eqb-true v x f)) e in
+        ih ∙ rw pv (and-false (isIn xs v))
+    go false false e f ih = ih
+
+pub isIn-append : (xs ys : List ℕ) (v : ℕ) → isIn (xs ++ ys) v ≡ isIn xs v || isIn ys v
+isIn-append [] ys v = refl
+isIn-append (x ∷ xs) ys v = ap (λ (b : Bool). eqb v x || b) (isIn-append xs ys v) ∙ assoc (eqb v x) (isIn xs v) (isIn ys v)
+  where
+    assoc : (a b c : Bool) → a || (b || c) ≡ (a || b) || c
+    assoc true b c = refl
+    assoc false b c = refl
+
+-- an element that passes makes any pass
+pub any-of : (p : ℕ → Bool) (xs : List ℕ) (v : ℕ) → isIn xs v ≡ true → p v ≡ true → any p xs ≡ true
+any-of p [] v h e = h
+any-of p (x ∷ xs) v h e = go (or-cases (eqb v x) (isIn xs v) h) (λ k. any-of p xs v k e)
+  where
+    go : (eqb v x ≡ true) ⊎ (isIn xs v ≡ true) → (isIn xs v ≡ true → any p xs ≡ true) → p x || any p xs ≡ true
+    go (inl f) ih = rw (subst (λ (y : ℕ). p y ≡ true) (eqb-true v x f) e)
+    go (inr k) ih = rw (ih k) (or-true (p x))
+
+-- a member of a list of lists, in the list at its place
+pub isIn-concat : (ls : List (List ℕ)) (v : ℕ) → isIn (concat ls) v ≡ true → (i : ℕ) × (isIn (getD ls i []) v ≡ true)
+isIn-concat [] v h = (0, h)
+isIn-concat (l ∷ ls) v h = go (or-cases (isIn l v) (isIn (concat ls) v) (sym (isIn-append l (concat ls) v) ∙ h)) (λ k. isIn-concat ls v k)
+  where
+    go : (isIn l v ≡ true) ⊎ (isIn (concat ls) v ≡ true) → (isIn (concat ls) v ≡ true → (i : ℕ) × (isIn (getD ls i []) v ≡ true))
+        → (i : ℕ) × (isIn (getD (l ∷ ls) i []) v ≡ true)
+    go (inl k) ih = (0, k)
+    go (inr k) ih = let (i, m) = ih k in (suc i, m)
+
+pub filter-in : (p : ℕ → Bool) (xs : List ℕ) (v : ℕ) → isIn (filter p xs) v ≡ true → isIn xs v ≡ true
+filter-in p xs v h = and-left (isIn xs v) (p v) (sym (isIn-filter p xs v) ∙ h)
+
+pub filter-passes : (p : ℕ → Bool) (xs : List ℕ) (v : ℕ) → isIn (filter p xs) v ≡ true → p v ≡ true
+filter-passes p xs v h = and-right (isIn xs v) (p v) (sym (isIn-filter p xs v) ∙ h)
+
+pub filter-of : (p : ℕ → Bool) (xs : List ℕ) (v : ℕ) → isIn xs v ≡ true → p v ≡ true → isIn (filter p xs) v ≡ true
+filter-of p xs v h e = isIn-filter p xs v ∙ rw (h, e)
+
+pub in-pos : (xs : List ℕ) (v : ℕ) → isIn xs v ≡ true → 1 ≤ length xs
+in-pos [] v h = absurd (true≢false (sym h))
+in-pos (x ∷ xs) v h = omega arith
+
+pub any-get : (p : ℕ → Bool) (xs : List ℕ) → any p xs ≡ true → (t : ℕ) × (isIn xs t ≡ true) × (p t ≡ true)
+any-get p [] h = absurd (true≢false (sym h))
+any-get p (x ∷ xs) h = go (or-cases (p x) (any p xs) h) (λ k. any-get p xs k)
+  where
+    go : (p x ≡ true) ⊎ (any p xs ≡ true) → (any p xs ≡ true → (t : ℕ) × (isIn xs t ≡ true) × (p t ≡ true))
+        → (t : ℕ) × (isIn (x ∷ xs) t ≡ true) × (p t ≡ true)
+    go (inl e) ih = (x, rw (eq-eqb x x refl) refl, e)
+    go (inr k) ih = let (t, a, b) = ih k in (t, rw a (or-true (eqb t x)), b)
+
+pub length-range : (k n : ℕ) → length (range k n) ≡ n
+length-range k zero = refl
+length-range k (suc n) = ap suc (length-range (suc k) n)
+
+pub isIn-range : (k n v : ℕ) → k ≤ v → v < k + n → isIn (range k n) v ≡ true
+isIn-range k zero v a b = absurd (omega arith)
+isIn-range k (suc n) v a b = go (eqb v k) refl (λ c. isIn-range (suc k) n v c (omega arith))
+  where
+    go : (c : Bool) → eqb v k ≡ c → (suc k ≤ v → isIn (range (suc k) n) v ≡ true) → eqb v k || isIn (range (suc k) n) v ≡ true
+    go true e ih = rw e refl
+    go false e ih = let ne : v ≢ k = eqb-false v k e in rw e (ih (omega arith))
+
+-- who is in a trimmed list of lists is in the list at the same place
+pub trim-at : (ls : List (List ℕ)) (i v : ℕ) → isIn (getD (trim ls) i []) v ≡ true → isIn (getD ls i []) v ≡ true
+trim-at [] i v h = h
+trim-at (l ∷ ls) i v h = go l (trim ls) i h (λ j k. trim-at ls j v k)
+  where
+    go : (x : List ℕ) (ys : List (List ℕ)) (i : ℕ) → isIn (getD (trimCons x ys) i []) v ≡ true
+        → ((j : ℕ) → isIn (getD ys j []) v ≡ true → isIn (getD ls j []) v ≡ true) → isIn (getD (x ∷ ls) i []) v ≡ true
+    go [] [] i h ih = absurd (true≢false (sym h))
+    go [] (y ∷ ys) zero h ih = h
+    go [] (y ∷ ys) (suc i) h ih = ih i h
+    go (x ∷ xs) ys zero h ih = h
+    go (x ∷ xs) ys (suc i) h ih = ih i h
+
+pub range-in : (v k m : ℕ) → isIn (range k m) v ≡ true → (k ≤ v) × (v < k + m)
+range-in v k zero h = absurd (true≢false (sym h))
+range-in v k (suc m) h = go (or-cases (eqb v k) (isIn (range (suc k) m) v) h) (range-in v (suc k) m)
+  where
+    go : (eqb v k ≡ true) ⊎ (isIn (range (suc k) m) v ≡ true) → (isIn (range (suc k) m) v ≡ true → (suc k ≤ v) × (v < suc k + m)) → (k ≤ v) × (v < k + suc m)
+    go (inl e) ih = let q : v ≡ k = eqb-true v k e in omega arith
+    go (inr e) ih = let i = ih e in omega arith
+
+pub range-snoc : (k m : ℕ) → range k (suc m) ≡ range k m ++ ((k + m) ∷ [])
+range-snoc k zero = (let e : k ≡ k + 0 = omega arith in ap (λ (y : ℕ). y ∷ []) e)
+range-snoc k (suc m) = ap (λ (l : List ℕ). k ∷ l) (range-snoc (suc k) m ∙ (let e : suc k + m ≡ k + suc m = omega arith in ap (λ (y : ℕ). range (suc k) m ++ (y ∷ [])) e))
+
+pub all-of : (p : ℕ → Bool) (xs : List ℕ) (v : ℕ) → all p xs ≡ true → isIn xs v ≡ true → p v ≡ true
+all-of p [] v h m = absurd (true≢false (sym m))
+all-of p (x ∷ xs) v h m = go (or-cases (eqb v x) (isIn xs v) m) (all-of p xs v (and-right (p x) (all p xs) h))
+  where
+    go : (eqb v x ≡ true) ⊎ (isIn xs v ≡ true) → (isIn xs v ≡ true → p v ≡ true) → p v ≡ true
+    go (inl e) ih = subst (λ (y : ℕ). p y ≡ true) (sym (eqb-true v x e)) (and-left (p x) (all p xs) h)
+    go (inr k) ih = ih k
+
+-- every number of a range passes
+pub all-range : (p : ℕ → Bool) (n i : ℕ) → all p (range 0 n) ≡ true → i < n → p i ≡ true
+all-range p n i h l = all-of p (range 0 n) i h (isIn-range 0 n i (omega arith) (omega arith))

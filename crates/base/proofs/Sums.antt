@@ -1,0 +1,105 @@
+-- Laws of sums over f 0 .. f (n - 1), of natural numbers and of integers.
+use mathlib.Core.Path.{_≡_, refl, sym, ap, _∙_, subst}
+use mathlib.Core.Logic.{_⊎_, inl, inr, _≢_}
+use Prim.Native.Nat.{ℕ, zero, suc, _+_, _*_, _≤_, _<_}
+use native.Mathlib.Omega.{arith}
+use lib.IntN.{ℤ, pos, natAbs, _+ℤ_, +ℤ-assoc, +ℤ-comm}
+use Rattle.base.specs.Lists.{sumBelow}
+use Rattle.base.specs.Integers.{sumℤ}
+use Rattle.base.proofs.Booleans.{same-or}
+use Rattle.base.proofs.Integers.{abs-add}
+
+-- ---- integers
+
+pub sum-same : (f g : ℕ → ℤ) (k : ℕ) → ((v : ℕ) → v < k → f v ≡ g v) → sumℤ f k ≡ sumℤ g k
+unfolding sumℤ
+sum-same f g zero h = refl
+sum-same f g (suc k) h = rw (sum-same f g k (λ v l. h v (omega arith)), h k (omega arith))
+
+-- one term more by a
+pub sum-more : (f g : ℕ → ℤ) (a : ℤ) (k w : ℕ) → w < k → g w ≡ f w +ℤ a → ((v : ℕ) → v ≢ w → g v ≡ f v) → sumℤ g k ≡ sumℤ f k +ℤ a
+unfolding sumℤ
+sum-more f g a zero w l e h = absurd (omega arith)
+sum-more f g a (suc k) w l e h = go (same-or k w) (λ m. sum-more f g a k w m e h)
+  where
+    go : (k ≡ w) ⊎ (k ≢ w) → (w < k → sumℤ g k ≡ sumℤ f k +ℤ a) → sumℤ g k +ℤ g k ≡ (sumℤ f k +ℤ f k) +ℤ a
+    go (inl q) ih =
+        let r : sumℤ g k ≡ sumℤ f k = sum-same g f k (λ v m. h v (λ z. omega arith)) in
+        ap (λ (z : ℤ). z +ℤ g k) r ∙ ap (λ (z : ℤ). sumℤ f k +ℤ z) (subst (λ (y : ℕ). g y ≡ f y +ℤ a) (sym q) e) ∙ sym (+ℤ-assoc (sumℤ f k) (f k) a)
+    go (inr q) ih =
+        ap (λ (z : ℤ). z +ℤ g k) (ih (omega arith)) ∙ ap (λ (z : ℤ). (sumℤ f k +ℤ a) +ℤ z) (h k q)
+        ∙ +ℤ-assoc (sumℤ f k) a (f k) ∙ ap (λ (z : ℤ). sumℤ f k +ℤ z) (+ℤ-comm a (f k)) ∙ sym (+ℤ-assoc (sumℤ f k) (f k) a)
+
+pub sum-zero : (f : ℕ → ℤ) (k : ℕ) → ((v : ℕ) → f v ≡ pos 0) → sumℤ f k ≡ pos 0
+unfolding sumℤ
+sum-zero f zero h = refl
+sum-zero f (suc k) h = rw (sum-zero f k h, h k) refl
+
+pub sum-first : (f : ℕ → ℤ) (n : ℕ) → sumℤ f (suc n) ≡ f 0 +ℤ sumℤ (λ i. f (suc i)) n
+unfolding sumℤ
+sum-first f zero = +ℤ-comm (pos 0) (f 0)
+sum-first f (suc n) = ap (λ (z : ℤ). z +ℤ f (suc n)) (sum-first f n) ∙ +ℤ-assoc (f 0) (sumℤ (λ i. f (suc i)) n) (f (suc n))
+
+-- ---- natural numbers
+
+pub sum-below-same : (f g : ℕ → ℕ) (n : ℕ) → ((i : ℕ) → i < n → f i ≡ g i) → sumBelow f n ≡ sumBelow g n
+unfolding sumBelow
+sum-below-same f g zero h = refl
+sum-below-same f g (suc n) h = omega (arith, sum-below-same f g n (λ i l. h i (omega arith)), h n (omega arith))
+
+pub sum-below-le : (f g : ℕ → ℕ) (n : ℕ) → ((i : ℕ) → i < n → f i ≤ g i) → sumBelow f n ≤ sumBelow g n
+unfolding sumBelow
+sum-below-le f g zero h = omega arith
+sum-below-le f g (suc n) h = omega (arith, sum-below-le f g n (λ i l. h i (omega arith)), h n (omega arith))
+
+pub sum-below-bound : (f : ℕ → ℕ) (n m : ℕ) → ((i : ℕ) → i < n → f i ≤ m) → sumBelow f n ≤ n * m
+unfolding sumBelow
+sum-below-bound f zero m h = omega arith
+sum-below-bound f (suc n) m h = omega (arith, sum-below-bound f n m (λ i l. h i (omega arith)), h n (omega arith))
+
+pub sum-below-more : (f g : ℕ → ℕ) (a k w : ℕ) → w < k → g w ≡ f w + a → ((v : ℕ) → v ≢ w → g v ≡ f v) → sumBelow g k ≡ sumBelow f k + a
+unfolding sumBelow
+sum-below-more f g a zero w l e h = absurd (omega arith)
+sum-below-more f g a (suc k) w l e h = go (same-or k w) (λ m. sum-below-more f g a k w m e h)
+  where
+    go : (k ≡ w) ⊎ (k ≢ w) → (w < k → sumBelow g k ≡ sumBelow f k + a) → sumBelow g k + g k ≡ sumBelow f k + f k + a
+    go (inl q) ih =
+        let r : sumBelow g k ≡ sumBelow f k = sum-below-same g f k (λ v m. h v (λ z. omega arith)) in
+        let s : g k ≡ f k + a = subst (λ (y : ℕ). g y ≡ f y + a) (sym q) e in
+        omega arith
+    go (inr q) ih = omega (arith, ih (omega arith), h k q)
+
+pub sum-below-add : (f g : ℕ → ℕ) (n : ℕ) → sumBelow (λ i. f i + g i) n ≡ sumBelow f n + sumBelow g n
+unfolding sumBelow
+sum-below-add f g zero = refl
+sum-below-add f g (suc n) = omega (arith, sum-below-add f g n)
+
+pub sum-below-twice : (f : ℕ → ℕ) (n : ℕ) → sumBelow (λ i. 2 * f i) n ≡ 2 * sumBelow f n
+unfolding sumBelow
+sum-below-twice f zero = refl
+sum-below-twice f (suc n) = omega (arith, sum-below-twice f n)
+
+pub sum-below-ones : (f : ℕ → ℕ) (n : ℕ) → sumBelow (λ i. 1 + 2 * f i) n ≡ n + 2 * sumBelow f n
+unfolding sumBelow
+sum-below-ones f zero = refl
+sum-below-ones f (suc n) = omega (arith, sum-below-ones f n)
+
+-- equal sums of numbers below others
+pub sum-below-equal : (f g : ℕ → ℕ) (n : ℕ) → ((i : ℕ) → f i ≤ g i) → sumBelow f n ≡ sumBelow g n → (i : ℕ) → i < n → f i ≡ g i
+unfolding sumBelow
+sum-below-equal f g zero h e i l = absurd (omega arith)
+sum-below-equal f g (suc n) h e i l = go (same-or i n) (λ m. sum-below-equal f g n h (omega (arith, sum-below-le f g n (λ i l. h i), h n)) i m)
+  where
+    go : (i ≡ n) ⊎ (i ≢ n) → (i < n → f i ≡ g i) → f i ≡ g i
+    go (inl q) ih = subst (λ (y : ℕ). f y ≡ g y) (sym q) (omega (arith, sum-below-le f g n (λ i l. h i), h n))
+    go (inr q) ih = ih (omega arith)
+
+pub pos-sum : (f : ℕ → ℕ) (n : ℕ) → sumℤ (λ i. pos (f i)) n ≡ pos (sumBelow f n)
+unfolding sumℤ sumBelow
+pos-sum f zero = refl
+pos-sum f (suc n) = rw (pos-sum f n) refl
+
+pub abs-sum : (f : ℕ → ℤ) (n : ℕ) → natAbs (sumℤ f n) ≤ sumBelow (λ i. natAbs (f i)) n
+unfolding sumℤ sumBelow
+abs-sum f zero = omega arith
+abs-sum f (suc n) = omega (arith, abs-add (sumℤ f n) (f n), abs-sum f n)
