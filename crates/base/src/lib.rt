@@ -8,17 +8,31 @@ pub enum Answer {
 
 // The number of each refusal, as specs/Refusals.antt has it.
 pub const HEADER: u32 = 1;
+
 pub const FORM: u32 = 2;
+
 pub const SIZE: u32 = 3;
+
 pub const ENTRY: u32 = 4;
+
 pub const MATRIX: u32 = 5;
+
 pub const DISPLACEMENT: u32 = 6;
+
 pub const PARAMETER: u32 = 7;
+
 pub const UNSOUND: u32 = 8;
+
 pub const SHORT: u32 = 9;
+
 pub const STRANGER: u32 = 10;
+
 pub const STATE: u32 = 11;
+
 pub const DONE: u32 = 12;
+
 pub const WAITING: u32 = 13;
+
 pub const OVERFLOW: u32 = 14;
+
 pub const EARLY: u32 = 15;
