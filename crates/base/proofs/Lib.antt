@@ -3,3 +3,4 @@ pub mod Lists
 pub mod Counts
 pub mod Integers
 pub mod Sums
+pub mod Graph

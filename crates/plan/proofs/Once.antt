@@ -31,11 +31,17 @@ total-nil (suc n) = omega (arith, total-nil n)
 
 total-cons : (n x : ℕ) (xs : List ℕ) (b : Bool) → ltb x n ≡ b → total n (x ∷ xs) ≡ bit b + total n xs
 total-cons n x xs true e =
-    omega (arith, sum-below-more (λ v. count v xs) (λ v. bit (eqb v x) + count v xs) 1 n x (ltb-true x n e)
-        (rw (eq-eqb x x refl) (omega arith)) (λ v d. rw (ne-eqb v x d) (omega arith)))
+    omega (
+      arith,
+      sum-below-more (λ v. count v xs) (λ v. bit (eqb v x) + count v xs) 1 n x (ltb-true x n e)
+          (rw (eq-eqb x x refl) (omega arith)) (λ v d. rw (ne-eqb v x d) (omega arith)),
+    )
 total-cons n x xs false e =
-    omega (arith, sum-below-same (λ v. bit (eqb v x) + count v xs) (λ v. count v xs) n
-        (λ v l. rw (ne-eqb v x (λ q. omega (arith, ltb-false x n e))) (omega arith)))
+    omega (
+      arith,
+      sum-below-same (λ v. bit (eqb v x) + count v xs) (λ v. count v xs) n
+          (λ v l. rw (ne-eqb v x (λ q. omega (arith, ltb-false x n e))) (omega arith)),
+    )
 
 total-le : (n : ℕ) (xs : List ℕ) → total n xs ≤ length xs
 total-le n [] = omega (arith, total-nil n)
@@ -78,10 +84,11 @@ pub record Once (n : ℕ) (xs : List ℕ) : Type 0 where
 pub once : (n : ℕ) (xs : List ℕ) → eachOnce n xs ≡ true → Once n xs
 unfolding eachOnce
 once n xs h = record {
-    long = long;
-    member = member;
-    one = λ v l. omega (arith, long, some v l, total-one n v xs some l, total-le n xs);
-    low = total-low n xs (omega (arith, long, total-ge n xs some)) }
+  long = long;
+  member = member;
+  one = λ v l. omega (arith, long, some v l, total-one n v xs some l, total-le n xs);
+  low = total-low n xs (omega (arith, long, total-ge n xs some));
+}
   where
     long : length xs ≡ n
     long = eqb-true (length xs) n (and-left (eqb (length xs) n) (all (isIn xs) (range 0 n)) h)

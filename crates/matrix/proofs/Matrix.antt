@@ -1,0 +1,194 @@
+-- What it says that a matrix is one, and its laws: columns below n, adjacent rows both ways, symmetric and small entries.
+use mathlib.Core.Path.{_≡_, refl, sym, _∙_}
+use mathlib.Core.Logic.{_≢_}
+use mathlib.Core.Bool.{Bool, true, false, not, _&&_, cond, true≢false}
+use mathlib.Core.List.{List, [], _∷_}
+use Prim.Native.Nat.{ℕ, zero, suc, _≤_, _<_}
+use lib.Dec.{eqb, ltb, leb}
+use lib.IntN.{ℤ, pos, natAbs}
+use lib.ListN.{length, getD}
+use borrow.Author.Tests.{eqb-true, eqb-false, eq-eqb, ne-eqb, leb-true, ltb-true, not-true}
+use Rattle.base.specs.Lists.{all, isIn, range}
+use Rattle.base.specs.Integers.{within, same}
+use Rattle.base.proofs.Booleans.{and-false, and-left, and-right, or-left-false, or-right-false, clash, conj-first, conj-at}
+use Rattle.base.proofs.Lists.{isIn-filter, all-of, all-range}
+use Rattle.base.proofs.Integers.{same-true}
+use Rattle.base.proofs.Graph.{Graph}
+use Rattle.matrix.specs.Limits.{maxRows, maxEntries, maxValue, maxDisplacement}
+use Rattle.matrix.specs.Matrix.{Matrix, partOf, columnsOf, valuesOf, lookup, entry, neighbours, ascending, mirrored, isRow, lowerEntries, isMatrix, displacement, areDisplacements}
+
+-- ---- a value of a list
+
+-- the value beside a column passes a test that 0 and all values pass
+lookup-all : (p : ℤ → Bool) (j : ℕ) (cs : List ℕ) (vs : List ℤ) → p (pos 0) ≡ true → all p vs ≡ true → p (lookup j cs vs) ≡ true
+unfolding lookup
+lookup-all p j [] vs z h = z
+lookup-all p j (c ∷ cs) [] z h = z
+lookup-all p j (c ∷ cs) (v ∷ vs) z h = go (eqb j c) (lookup-all p j cs vs z (and-right (p v) (all p vs) h))
+  where
+    go : (b : Bool) → p (lookup j cs vs) ≡ true → p (cond b v (lookup j cs vs)) ≡ true
+    go true ih = and-left (p v) (all p vs) h
+    go false ih = ih
+
+lookup-none : (j : ℕ) (cs : List ℕ) (vs : List ℤ) → isIn cs j ≡ false → lookup j cs vs ≡ pos 0
+unfolding lookup
+lookup-none j [] vs h = refl
+lookup-none j (c ∷ cs) [] h = refl
+lookup-none j (c ∷ cs) (v ∷ vs) h = rw (or-left-false (eqb j c) (isIn cs j) h) (lookup-none j cs vs (or-right-false (eqb j c) (isIn cs j) h))
+
+getD-all : (p : ℤ → Bool) (i : ℕ) (vs : List ℤ) → p (pos 0) ≡ true → all p vs ≡ true → p (getD vs i (pos 0)) ≡ true
+getD-all p i [] z h = z
+getD-all p zero (v ∷ vs) z h = and-left (p v) (all p vs) h
+getD-all p (suc i) (v ∷ vs) z h = getD-all p i vs z (and-right (p v) (all p vs) h)
+
+-- ---- any matrix
+
+-- a column of a row that is not stored
+pub absent-column : (m : Matrix) (i j : ℕ) → isIn (columnsOf m i) j ≡ false → entry m i j ≡ pos 0
+unfolding entry
+absent-column m i j h = lookup-none j (columnsOf m i) (valuesOf m i) h
+
+-- adjacent to row i: its other columns
+pub neighbours-is : (m : Matrix) (i j : ℕ) → isIn (neighbours m i) j ≡ isIn (columnsOf m i) j && not (eqb j i)
+unfolding neighbours
+neighbours-is m i j = isIn-filter (λ u. not (eqb u i)) (columnsOf m i) j
+
+pub neighbour-column : (m : Matrix) (i j : ℕ) → isIn (neighbours m i) j ≡ true → isIn (columnsOf m i) j ≡ true
+neighbour-column m i j h = and-left (isIn (columnsOf m i) j) (not (eqb j i)) (sym (neighbours-is m i j) ∙ h)
+
+pub neighbour-other : (m : Matrix) (i j : ℕ) → isIn (neighbours m i) j ≡ true → j ≢ i
+neighbour-other m i j h = eqb-false j i (not-true (eqb j i) (and-right (isIn (columnsOf m i) j) (not (eqb j i)) (sym (neighbours-is m i j) ∙ h)))
+
+pub column-neighbour : (m : Matrix) (i j : ℕ) → isIn (columnsOf m i) j ≡ true → j ≢ i → isIn (neighbours m i) j ≡ true
+column-neighbour m i j h d = neighbours-is m i j ∙ rw (h, ne-eqb j i d) refl
+
+-- no row is adjacent to itself
+pub alone : (m : Matrix) (i : ℕ) → isIn (neighbours m i) i ≡ false
+alone m i = neighbours-is m i i ∙ rw (eq-eqb i i refl) (and-false (isIn (columnsOf m i) i))
+
+-- the entry of two different rows that are not adjacent is 0
+pub absent : (m : Matrix) (i j : ℕ) → i ≢ j → isIn (neighbours m i) j ≡ false → entry m i j ≡ pos 0
+absent m i j d h = absent-column m i j (go (isIn (columnsOf m i) j) refl)
+  where
+    go : (b : Bool) → isIn (columnsOf m i) j ≡ b → isIn (columnsOf m i) j ≡ false
+    go true e = absurd (clash (column-neighbour m i j e (λ q. d (sym q))) h)
+    go false e = e
+
+-- a row past n holds nothing
+pub column-row : (m : Matrix) (i j : ℕ) → isIn (columnsOf m i) j ≡ true → i < m .n
+unfolding columnsOf partOf
+column-row m i j h = go (ltb i (m .n)) refl
+  where
+    go : (b : Bool) → ltb i (m .n) ≡ b → i < m .n
+    go true e = ltb-true i (m .n) e
+    go false e = let q : false ≡ true = rw e at h in absurd (true≢false (sym q))
+
+-- ---- what isMatrix says
+
+pub record RowFacts (m : Matrix) (i : ℕ) : Type 0 where
+  pub rises : getD (m .starts) i 0 ≤ getD (m .starts) (suc i) 0
+  pub ascends : ascending (columnsOf m i) ≡ true
+  pub low : (j : ℕ) → isIn (columnsOf m i) j ≡ true → j < m .n
+  pub small : all (within maxValue) (valuesOf m i) ≡ true
+  pub mirror : (j : ℕ) → isIn (columnsOf m i) j ≡ true → (isIn (columnsOf m j) i ≡ true) × (entry m i j ≡ entry m j i)
+
+pub record MatrixFacts (m : Matrix) : Type 0 where
+  pub some : 1 ≤ m .n
+  pub few : m .n ≤ maxRows
+  pub startsLong : suc (m .n) ≤ length (m .starts)
+  pub startsFirst : getD (m .starts) 0 0 ≡ 0
+  pub columnsLong : getD (m .starts) (m .n) 0 ≤ length (m .columns)
+  pub valuesLong : getD (m .starts) (m .n) 0 ≤ length (m .values)
+  pub row : (i : ℕ) → i < m .n → RowFacts m i
+  pub lower : lowerEntries m ≤ maxEntries
+
+abbrev rowTests : Matrix → ℕ → List Bool
+rowTests m i = ascending (columnsOf m i) ∷ all (λ j. ltb j (m .n)) (columnsOf m i) ∷ all (within maxValue) (valuesOf m i) ∷ all (mirrored m i) (columnsOf m i) ∷ []
+
+row-facts : (m : Matrix) (i : ℕ) → isRow m i ≡ true → RowFacts m i
+unfolding isRow mirrored
+row-facts m i h = record {
+  rises = leb-true (getD (m .starts) i 0) (getD (m .starts) (suc i) 0) (conj-first (leb (getD (m .starts) i 0) (getD (m .starts) (suc i) 0)) (rowTests m i) h);
+  ascends = at 0;
+  low = λ j c. ltb-true j (m .n) (all-of (λ j. ltb j (m .n)) (columnsOf m i) j (at 1) c);
+  small = at 2;
+  mirror = λ j c. both j (all-of (mirrored m i) (columnsOf m i) j (at 3) c);
+}
+  where
+    at : (k : ℕ) → getD (rowTests m i) k true ≡ true
+    at k = conj-at (leb (getD (m .starts) i 0) (getD (m .starts) (suc i) 0)) (rowTests m i) h k
+
+    both : (j : ℕ) → mirrored m i j ≡ true → (isIn (columnsOf m j) i ≡ true) × (entry m i j ≡ entry m j i)
+    both j e =
+        let stored = isIn (columnsOf m j) i in
+        let equal = same (entry m i j) (entry m j i) in
+        (and-left stored equal e, same-true (entry m i j) (entry m j i) (and-right stored equal e))
+
+abbrev matrixTests : Matrix → List Bool
+matrixTests m =
+    leb (m .n) maxRows ∷ leb (suc (m .n)) (length (m .starts)) ∷ eqb (getD (m .starts) 0 0) 0
+    ∷ leb (getD (m .starts) (m .n) 0) (length (m .columns)) ∷ leb (getD (m .starts) (m .n) 0) (length (m .values))
+    ∷ all (isRow m) (range 0 (m .n)) ∷ leb (lowerEntries m) maxEntries ∷ []
+
+pub matrix-facts : (m : Matrix) → isMatrix m ≡ true → MatrixFacts m
+unfolding isMatrix
+matrix-facts m h = record {
+  some = leb-true 1 (m .n) (conj-first (leb 1 (m .n)) (matrixTests m) h);
+  few = leb-true (m .n) maxRows (at 0);
+  startsLong = leb-true (suc (m .n)) (length (m .starts)) (at 1);
+  startsFirst = eqb-true (getD (m .starts) 0 0) 0 (at 2);
+  columnsLong = leb-true (getD (m .starts) (m .n) 0) (length (m .columns)) (at 3);
+  valuesLong = leb-true (getD (m .starts) (m .n) 0) (length (m .values)) (at 4);
+  row = λ i l. row-facts m i (all-range (isRow m) (m .n) i (at 5) l);
+  lower = leb-true (lowerEntries m) maxEntries (at 6);
+}
+  where
+    at : (k : ℕ) → getD (matrixTests m) k true ≡ true
+    at k = conj-at (leb 1 (m .n)) (matrixTests m) h k
+
+-- ---- its laws
+
+module _ (m : Matrix) (ok : isMatrix m ≡ true) where
+  facts : MatrixFacts m
+  facts = matrix-facts m ok
+
+  -- a column of a row is below n
+  pub column-low : (i j : ℕ) → isIn (columnsOf m i) j ≡ true → j < m .n
+  column-low i j h = facts .row i (column-row m i j h) .low j h
+
+  -- adjacent both ways
+  pub adjacent-both : (i j : ℕ) → isIn (neighbours m i) j ≡ true → isIn (neighbours m j) i ≡ true
+  adjacent-both i j h =
+      let c = neighbour-column m i j h in
+      column-neighbour m j i (facts .row i (column-row m i j c) .mirror j c .0) (λ q. neighbour-other m i j h (sym q))
+
+  -- the rows with their adjacent rows are a graph
+  pub graph : Graph (neighbours m) (m .n)
+  graph = record {
+    below = λ u v h. column-low v u (neighbour-column m v u h);
+    both = λ u v h. adjacent-both v u h;
+  }
+
+  pub symmetric : (i j : ℕ) → entry m i j ≡ entry m j i
+  symmetric i j = go (isIn (columnsOf m i) j) refl (isIn (columnsOf m j) i) refl
+    where
+      stored : (i j : ℕ) → isIn (columnsOf m i) j ≡ true → entry m i j ≡ entry m j i
+      stored i j e = facts .row i (column-row m i j e) .mirror j e .1
+
+      go : (a : Bool) → isIn (columnsOf m i) j ≡ a → (b : Bool) → isIn (columnsOf m j) i ≡ b → entry m i j ≡ entry m j i
+      go true e b f = stored i j e
+      go false e true f = sym (stored j i f)
+      go false e false f = absent-column m i j e ∙ sym (absent-column m j i f)
+
+  pub small-entry : (i j : ℕ) → natAbs (entry m i j) ≤ maxValue
+  unfolding entry within
+  small-entry i j = go (isIn (columnsOf m i) j) refl
+    where
+      go : (b : Bool) → isIn (columnsOf m i) j ≡ b → natAbs (entry m i j) ≤ maxValue
+      go true e = leb-true (natAbs (entry m i j)) maxValue (lookup-all (within maxValue) j (columnsOf m i) (valuesOf m i) refl (facts .row i (column-row m i j e) .small))
+      go false e = rw (absent-column m i j e) (leb-true 0 maxValue refl)
+
+pub small-displacement : (n : ℕ) (x : List ℤ) → areDisplacements n x ≡ true → (j : ℕ) → natAbs (displacement x j) ≤ maxDisplacement
+unfolding displacement within areDisplacements
+small-displacement n x ok j =
+    leb-true (natAbs (displacement x j)) maxDisplacement (getD-all (within maxDisplacement) j x refl (and-right (eqb (length x) n) (all (within maxDisplacement) x) ok))
