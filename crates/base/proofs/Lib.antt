@@ -4,3 +4,4 @@ pub mod Counts
 pub mod Integers
 pub mod Sums
 pub mod Graph
+pub mod Each
