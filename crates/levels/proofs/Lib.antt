@@ -1,0 +1,6 @@
+pub mod Root
+pub mod Region
+pub mod Proper
+pub mod Close
+pub mod Reached
+pub mod Own

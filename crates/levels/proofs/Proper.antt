@@ -1,0 +1,35 @@
+-- Lists that hold each row at most once.
+use mathlib.Core.Path.{_≡_}
+use mathlib.Core.Bool.{true}
+use mathlib.Core.List.{List, _++_}
+use Prim.Native.Nat.{ℕ, _≤_, _<_}
+use native.Mathlib.Omega.{arith}
+use Rattle.base.specs.Lists.{isIn, range}
+use Rattle.base.proofs.Lists.{range-in}
+use Rattle.base.proofs.Counts.{count, Same, count-append, count-in, in-count, count-range}
+
+-- each row at most once, and below n
+pub record Proper (n : ℕ) (T : List ℕ) : Type 0 where
+  pub once : (v : ℕ) → count v T ≤ 1
+  pub inside : (v : ℕ) → isIn T v ≡ true → v < n
+
+pub proper-range : (n : ℕ) → Proper n (range 0 n)
+proper-range n = record { once = λ v. count-range v 0 n; inside = λ v h. omega (arith, range-in v 0 n h .1) }
+
+pub proper-same : (n : ℕ) (xs ys : List ℕ) → Same xs ys → Proper n ys → Proper n xs
+proper-same n xs ys s pr = record {
+  once = λ v. omega (arith, s v, pr .once v);
+  inside = λ v h. pr .inside v (count-in v ys (omega (arith, s v, in-count v xs h)));
+}
+
+pub proper-left : (n : ℕ) (xs ys : List ℕ) → Proper n (xs ++ ys) → Proper n xs
+proper-left n xs ys pr = record {
+  once = λ v. omega (arith, pr .once v, count-append v xs ys);
+  inside = λ v h. pr .inside v (count-in v (xs ++ ys) (omega (arith, count-append v xs ys, in-count v xs h)));
+}
+
+pub proper-right : (n : ℕ) (xs ys : List ℕ) → Proper n (xs ++ ys) → Proper n ys
+proper-right n xs ys pr = record {
+  once = λ v. omega (arith, pr .once v, count-append v xs ys);
+  inside = λ v h. pr .inside v (count-in v (xs ++ ys) (omega (arith, count-append v xs ys, in-count v ys h)));
+}

@@ -1,0 +1,38 @@
+-- The root of the next component: at most one row, of T and not yet reached; there is one as long as T has one there.
+use mathlib.Core.Path.{_≡_, refl, sym}
+use mathlib.Core.Bool.{true, false, true≢false}
+use mathlib.Core.List.{List, [], _∷_}
+use Prim.Native.Nat.{ℕ, _≤_}
+use native.Mathlib.Omega.{arith}
+use lib.Dec.{eqb}
+use lib.ListN.{length, take, length-take}
+use borrow.Author.Tests.{eq-eqb}
+use Rattle.base.specs.Lists.{filter, isIn}
+use Rattle.base.proofs.Booleans.{or-mono}
+use Rattle.base.proofs.Lists.{filter-in, filter-passes, filter-of}
+use Rattle.levels.specs.Levels.{root}
+
+first-in : (xs : List ℕ) (v : ℕ) → isIn (take 1 xs) v ≡ true → isIn xs v ≡ true
+first-in [] v h = h
+first-in (x ∷ xs) v h = or-mono (eqb v x) false (eqb v x) (isIn xs v) (λ e. e) (λ e. absurd (true≢false (sym e))) h
+
+module _ (adj : ℕ → List ℕ) (T rest : List ℕ) where
+  pub root-one : length (root adj T rest) ≤ 1
+  unfolding root
+  root-one = omega (arith, length-take 1 (filter (isIn T) rest))
+
+  pub root-own : (v : ℕ) → isIn (root adj T rest) v ≡ true → isIn T v ≡ true
+  unfolding root
+  root-own v h = filter-passes (isIn T) rest v (first-in (filter (isIn T) rest) v h)
+
+  pub root-in : (v : ℕ) → isIn (root adj T rest) v ≡ true → isIn rest v ≡ true
+  unfolding root
+  root-in v h = filter-in (isIn T) rest v (first-in (filter (isIn T) rest) v h)
+
+  pub root-some : (t : ℕ) → isIn T t ≡ true → isIn rest t ≡ true → (r : ℕ) × (isIn (root adj T rest) r ≡ true)
+  unfolding root
+  root-some t own h = go (filter (isIn T) rest) (filter-of (isIn T) rest t h own)
+    where
+      go : (xs : List ℕ) → isIn xs t ≡ true → (r : ℕ) × (isIn (take 1 xs) r ≡ true)
+      go [] k = absurd (true≢false (sym k))
+      go (x ∷ xs) k = (x, rw (eq-eqb x x refl) refl)
