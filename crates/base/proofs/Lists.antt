@@ -169,3 +169,8 @@ all-of p (x ∷ xs) v h m = go (or-cases (eqb v x) (isIn xs v) m) (all-of p xs v
 -- every number of a range passes
 pub all-range : (p : ℕ → Bool) (n i : ℕ) → all p (range 0 n) ≡ true → i < n → p i ≡ true
 all-range p n i h l = all-of p (range 0 n) i h (isIn-range 0 n i (omega arith) (omega arith))
+
+-- every member passes
+pub of-all : (p : ℕ → Bool) (xs : List ℕ) → ((v : ℕ) → isIn xs v ≡ true → p v ≡ true) → all p xs ≡ true
+of-all p [] h = refl
+of-all p (x ∷ xs) h = rw (h x (rw (eq-eqb x x refl) refl)) (of-all p xs (λ v i. h v (rw i (or-true (eqb v x)))))

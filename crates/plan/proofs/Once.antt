@@ -1,5 +1,5 @@
 -- What it says that an order has each row once: its length, who stands in it and how often, and that no two places hold the same row.
-use mathlib.Core.Path.{_≡_, refl, sym, subst}
+use mathlib.Core.Path.{_≡_, refl, sym, _∙_, subst}
 use mathlib.Core.Logic.{_⊎_, inl, inr, _≢_}
 use mathlib.Core.Bool.{Bool, true, false}
 use mathlib.Core.List.{List, [], _∷_}
@@ -10,8 +10,8 @@ use lib.ListN.{length, getD}
 use borrow.Author.Tests.{eqb-true, eq-eqb, ne-eqb, ltb-true, ltb-false}
 use Rattle.base.specs.Lists.{all, isIn, range, sumBelow, bit}
 use Rattle.base.proofs.Booleans.{and-left, and-right, same-or}
-use Rattle.base.proofs.Lists.{all-range}
-use Rattle.base.proofs.Counts.{count, in-count}
+use Rattle.base.proofs.Lists.{all-range, of-all, length-range}
+use Rattle.base.proofs.Counts.{count, Same, count-in, in-count, same-length}
 use Rattle.base.proofs.Sums.{sum-below-same, sum-below-more}
 use Rattle.plan.specs.Sound.{eachOnce}
 
@@ -129,3 +129,12 @@ injective n xs o i k a b d e = go (ltb i k) refl
     go : (t : Bool) → ltb i k ≡ t → ⊥
     go true f = twice i k (ltb-true i k f) b e
     go false f = twice k i (omega (arith, ltb-false i k f)) a (sym e)
+
+-- a list that holds what 0 .. n - 1 holds has each once
+pub same-once : (n : ℕ) (xs : List ℕ) → Same xs (range 0 n) → eachOnce n xs ≡ true
+unfolding eachOnce
+same-once n xs s =
+    rw (
+      eq-eqb (length xs) n (same-length xs (range 0 n) s ∙ length-range 0 n),
+      of-all (isIn xs) (range 0 n) (λ v h. count-in v xs (omega (arith, s v, in-count v (range 0 n) h))),
+    ) refl

@@ -1,0 +1,11 @@
+pub mod Extents
+pub mod Tiles
+pub mod Parts
+pub mod Colours
+pub mod Placed
+pub mod Apart
+pub mod Blocks
+pub mod Walks
+pub mod Fine
+pub mod Planned
+pub mod PlannedSound

@@ -1,0 +1,101 @@
+-- The children of a group one by one: of each pair the red part, then the blue part.
+use mathlib.Core.Path.{_≡_, refl, sym, ap, _∙_, subst}
+use mathlib.Core.List.{List, [], _∷_, _++_, append-assoc}
+use Prim.Native.Nat.{ℕ, _+_, _*_, _-_, _≤_}
+use native.Mathlib.Omega.{arith}
+use lib.ListN.{length, take, drop, length-append, take-append-drop}
+use mathlib.Core.Bool.{true}
+use borrow.Author.Tests.{eq-eqb, le-leb}
+use Rattle.base.specs.Lists.{concat}
+use Rattle.base.proofs.Lists.{concat-append}
+use Rattle.plan.specs.Groups.{Group, Plan, red, blue}
+use Rattle.plan.specs.Sound.{tiled}
+use Rattle.planner.specs.Planner.{Pair, Planner, nothing, _then_, planPairs}
+use Rattle.planner.proofs.Tiles.{Tiles, done, more}
+
+-- a child's rows, colour and workers
+pub record Part : Type 0 where
+  pub rows : List ℕ
+  pub colour : ℕ
+  pub first : ℕ
+  pub workers : ℕ
+
+-- the parts of some pairs, whose workers begin at f
+abbrev pub parts : (f : ℕ) → List Pair → List Part
+parts f [] = []
+parts f (c ∷ cs) =
+    record { rows = c .reds; colour = red; first = f; workers = c .workers }
+    ∷ record { rows = c .blues; colour = blue; first = f; workers = c .workers }
+    ∷ parts (f + c .workers) cs
+
+-- the rows of all parts
+abbrev pub allRows : List Part → List ℕ
+allRows [] = []
+allRows (x ∷ xs) = x .rows ++ allRows xs
+
+-- the record of a child of the group at index up, and of all its children
+abbrev pub recordOf : (up start : ℕ) → Part → Group
+recordOf up start x = record { start = start; length = length (x .rows); first = x .first; workers = x .workers; colour = x .colour; parent = up }
+
+abbrev pub recordsOf : (up start : ℕ) → List Part → List Group
+recordsOf up start [] = []
+recordsOf up start (x ∷ xs) = recordOf up start x ∷ recordsOf up (start + length (x .rows)) xs
+
+-- each part with all below it
+abbrev pub planParts : (child : Planner) (up start index : ℕ) → List Part → Plan
+planParts child up start index [] = nothing
+planParts child up start index (x ∷ xs) =
+    let a = child index (recordOf up start x) (x .rows) in
+    a then planParts child up (start + length (x .rows)) (index + length (a .groups)) xs
+
+pub planPairs-parts : (child : Planner) (up start first index : ℕ) (cs : List Pair) → planPairs child up start first index cs ≡ planParts child up start index (parts first cs)
+unfolding planPairs
+planPairs-parts child up start first index [] = refl
+planPairs-parts child up start first index (c ∷ cs) =
+    let a = child index (record { start = start; length = length (c .reds); first = first; workers = c .workers; colour = red; parent = up }) (c .reds) in
+    let mid = start + length (c .reds) in
+    let index₁ = index + length (a .groups) in
+    let b = child index₁ (record { start = mid; length = length (c .blues); first = first; workers = c .workers; colour = blue; parent = up }) (c .blues) in
+    ap (λ (r : Plan). a then b then r) (planPairs-parts child up (mid + length (c .blues)) (first + c .workers) (index₁ + length (b .groups)) cs)
+
+-- ---- what tiles gives
+
+-- the parts hold the levels' rows, in order
+halves : (m : ℕ) (ls : List (List ℕ)) → concat (take m ls) ++ concat (drop m ls) ≡ concat ls
+halves m ls = sym (concat-append (take m ls) (drop m ls)) ∙ ap (λ (l : List (List ℕ)). concat l) (take-append-drop m ls)
+
+pub tiles-rows : {free : ℕ} {ls : List (List ℕ)} {cs : List Pair} (f : ℕ) → Tiles free ls cs → allRows (parts f cs) ≡ concat ls
+tiles-rows f done = refl
+tiles-rows {ls = ls} f (more {cs = cs} c m w a b l pos le ts) =
+    let mine = take c ls in
+    ap (λ (r : List ℕ). concat (take m mine) ++ (concat (drop m mine) ++ r)) (tiles-rows (f + w) ts)
+    ∙ sym (append-assoc (concat (take m mine)) (concat (drop m mine)) (concat (drop c ls)))
+    ∙ ap (λ (r : List ℕ). r ++ concat (drop c ls)) (halves m mine)
+    ∙ halves c ls
+
+-- the records of the parts tile their parent
+pub tiles-tiled : {free : ℕ} {ls : List (List ℕ)} {cs : List Pair} (g : Group) (up s f : ℕ) → Tiles free ls cs
+    → s + length (allRows (parts f cs)) ≡ g .start + g .length → f + free ≡ g .first + g .workers → tiled g s f (recordsOf up s (parts f cs)) ≡ true
+unfolding tiled
+tiles-tiled g up s f done e d = rw (eq-eqb s (g .start + g .length) (omega arith), eq-eqb f (g .first + g .workers) (omega arith)) refl
+tiles-tiled {ls = ls} g up s f (more {cs = cs} c m w a b l pos le ts) e d =
+    let reds = concat (take m (take c ls)) in
+    let blues = concat (drop m (take c ls)) in
+    let later = parts (f + w) cs in
+    let ih = tiles-tiled g up (s + length reds + length blues) (f + w) ts
+    (omega (arith, e, length-append reds (blues ++ allRows later), length-append blues (allRows later))) (omega arith) in
+    rw (eq-eqb s s refl, eq-eqb (s + length reds) (s + length reds) refl, eq-eqb f f refl, le-leb 1 w pos, eq-eqb w w refl, ih) refl
+
+-- ---- how many groups
+
+-- with m groups at most for each worker below a part
+abbrev pub groupsOf : (m : ℕ) → List Part → ℕ
+groupsOf m [] = 0
+groupsOf m (x ∷ xs) = (1 + x .workers * m) + groupsOf m xs
+
+pub tiles-groups : {free : ℕ} {ls : List (List ℕ)} {cs : List Pair} (m f : ℕ) → Tiles free ls cs → groupsOf m (parts f cs) ≤ free * (2 + 2 * m)
+tiles-groups m f done = omega arith
+tiles-groups {free} m f (more {cs = cs} c k w a b l pos le ts) = go (free - w) (groupsOf m (parts (f + w) cs)) (omega arith) (tiles-groups m (f + w) ts)
+  where
+    go : (d q : ℕ) → d + w ≡ free → q ≤ d * (2 + 2 * m) → (1 + w * m) + ((1 + w * m) + q) ≤ free * (2 + 2 * m)
+    go d q e h = subst (λ (x : ℕ). (1 + w * m) + ((1 + w * m) + q) ≤ x * (2 + 2 * m)) e (omega arith)
