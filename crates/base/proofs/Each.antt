@@ -12,10 +12,12 @@ module _ {ℓ} {A : Type ℓ} where
   Pairwise R [] = Unit {0}
   Pairwise R (x ∷ xs) = Each (R x) xs × Pairwise R xs
 
+  -- from one property to another
   pub each-map : (P Q : A → Type 0) → ((x : A) → P x → Q x) → (xs : List A) → Each P xs → Each Q xs
   each-map P Q f [] h = tt
   each-map P Q f (x ∷ xs) h = (f x (h .0), each-map P Q f xs (h .1))
 
+  -- of two lists
   pub each-append : (P : A → Type 0) (xs ys : List A) → Each P xs → Each P ys → Each P (xs ++ ys)
   each-append P [] ys a b = b
   each-append P (x ∷ xs) ys a b = (a .0, each-append P xs ys (a .1) b)

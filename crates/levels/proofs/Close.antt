@@ -31,6 +31,7 @@ module _ (adj : ℕ → List ℕ) (T : List ℕ) where
       not-both _ (any-of (isIn (x ∷ xs)) (adj v) u c hu)
       (filter-passes (λ y. not (isNext adj T (x ∷ xs) rest y)) rest v (unreached k _ _ j v hv))
 
+  -- adjacent rows: the later level is at most one above the earlier
   pub levels-close : (k : ℕ) (last rest : List ℕ) (i j u v : ℕ) → At k last rest i u → At k last rest j v → isIn (adj v) u ≡ true → j ≤ suc i
   unfolding levelsFrom
   levels-close zero last rest i j u v hu hv c = absurd (true≢false (sym hv))
@@ -39,6 +40,7 @@ module _ (adj : ℕ → List ℕ) (T : List ℕ) where
   levels-close (suc k) last rest zero (suc (suc j)) u v hu hv c = absurd (far k _ _ j u v hu hv c)
   levels-close (suc k) last rest (suc i) (suc j) u v hu hv c = suc-le-suc (levels-close k _ _ i j u v hu hv c)
 
+  -- after a level that is not empty, each row of the next is adjacent to one of it
   pub levels-back : (k : ℕ) (last rest : List ℕ) (j v x : ℕ) → At k last rest j x → At k last rest (suc j) v
       → (u : ℕ) × At k last rest j u × (isIn (adj v) u ≡ true)
   unfolding levelsFrom isNext

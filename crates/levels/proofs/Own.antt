@@ -43,6 +43,7 @@ module _ (adj : ℕ → List ℕ) (n : ℕ) (T : List ℕ) (pr : Proper n T) whe
       rw (List·getD-map (filter (isIn T)) (levels adj n T) i []) at (trim-at (map (filter (isIn T)) (levels adj n T)) i v h) in
       (filter-passes (isIn T) (getD (levels adj n T) i []) v k, filter-in (isIn T) (getD (levels adj n T) i []) v k)
 
+  -- the own levels hold T's rows, as often
   pub own-same : Same (concat (ownLevels adj n T)) T
   unfolding ownLevels levels
   own-same v =
@@ -56,6 +57,7 @@ module _ (adj : ℕ → List ℕ) (n : ℕ) (T : List ℕ) (pr : Proper n T) whe
           omega (arith, in-count v (region adj n T) (region-own adj n T v (pr .inside v e) e), count-region adj n T v, in-count v T e, pr .once v)
       go false e = omega (arith, out-count v T e)
 
+  -- rows of own levels more than reach apart are apart
   pub own-apart : Graph adj n → (i j u v : ℕ) → isIn (getD (ownLevels adj n T) i []) u ≡ true → isIn (getD (ownLevels adj n T) j []) v ≡ true
       → i + reach < j → Apart adj u v
   unfolding levels

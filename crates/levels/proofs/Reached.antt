@@ -80,6 +80,7 @@ module _ (adj : ℕ → List ℕ) (T : List ℕ) where
   less k [] rest v f h b = omega (arith, length-split (isNext adj T [] rest) rest, some-le (new [] rest), root-new rest v f h)
   less k (x ∷ xs) rest v f h b = omega (arith, length-split (isNext adj T (x ∷ xs) rest) rest, some-le (new (x ∷ xs) rest))
 
+  -- with enough levels, whoever is not yet reached will be
   pub reached : (k : ℕ) (last rest : List ℕ) → Fed last rest → 2 * length rest + some last ≤ k → (v : ℕ) → isIn rest v ≡ true
       → (j : ℕ) × (isIn (getD (levelsFrom adj k T last rest) j []) v ≡ true)
   unfolding levelsFrom
@@ -94,6 +95,7 @@ module _ (adj : ℕ → List ℕ) (T : List ℕ) where
       go (inl a) ih = (0, a)
       go (inr a) ih = let (j, m) = ih a in (suc j, m)
 
+  -- .. and the levels hold each as often as it is there
   pub levels-count : (k : ℕ) (last rest : List ℕ) → Fed last rest → 2 * length rest + some last ≤ k
       → (v : ℕ) → count v (concat (levelsFrom adj k T last rest)) ≡ count v rest
   unfolding levelsFrom

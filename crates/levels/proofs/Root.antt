@@ -17,18 +17,22 @@ first-in [] v h = h
 first-in (x ∷ xs) v h = or-mono (eqb v x) false (eqb v x) (isIn xs v) (λ e. e) (λ e. absurd (true≢false (sym e))) h
 
 module _ (adj : ℕ → List ℕ) (T rest : List ℕ) where
+  -- at most one row
   pub root-one : length (root adj T rest) ≤ 1
   unfolding root
   root-one = omega (arith, length-take 1 (filter (isIn T) rest))
 
+  -- it is of T
   pub root-own : (v : ℕ) → isIn (root adj T rest) v ≡ true → isIn T v ≡ true
   unfolding root
   root-own v h = filter-passes (isIn T) rest v (first-in (filter (isIn T) rest) v h)
 
+  -- it was not yet reached
   pub root-in : (v : ℕ) → isIn (root adj T rest) v ≡ true → isIn rest v ≡ true
   unfolding root
   root-in v h = filter-in (isIn T) rest v (first-in (filter (isIn T) rest) v h)
 
+  -- while a row of T is not yet reached, there is a root
   pub root-some : (t : ℕ) → isIn T t ≡ true → isIn rest t ≡ true → (r : ℕ) × (isIn (root adj T rest) r ≡ true)
   unfolding root
   root-some t own h = go (filter (isIn T) rest) (filter-of (isIn T) rest t h own)

@@ -53,12 +53,15 @@ pub neighbours-is : (m : Matrix) (i j : ℕ) → isIn (neighbours m i) j ≡ isI
 unfolding neighbours
 neighbours-is m i j = isIn-filter (λ u. not (eqb u i)) (columnsOf m i) j
 
+-- an adjacent row is a column
 pub neighbour-column : (m : Matrix) (i j : ℕ) → isIn (neighbours m i) j ≡ true → isIn (columnsOf m i) j ≡ true
 neighbour-column m i j h = and-left (isIn (columnsOf m i) j) (not (eqb j i)) (sym (neighbours-is m i j) ∙ h)
 
+-- .. and another row
 pub neighbour-other : (m : Matrix) (i j : ℕ) → isIn (neighbours m i) j ≡ true → j ≢ i
 neighbour-other m i j h = eqb-false j i (not-true (eqb j i) (and-right (isIn (columnsOf m i) j) (not (eqb j i)) (sym (neighbours-is m i j) ∙ h)))
 
+-- another column is an adjacent row
 pub column-neighbour : (m : Matrix) (i j : ℕ) → isIn (columnsOf m i) j ≡ true → j ≢ i → isIn (neighbours m i) j ≡ true
 column-neighbour m i j h d = neighbours-is m i j ∙ rw (h, ne-eqb j i d) refl
 
@@ -85,6 +88,7 @@ column-row m i j h = go (ltb i (m .n)) refl
 
 -- ---- what isMatrix says
 
+-- of one row
 pub record RowFacts (m : Matrix) (i : ℕ) : Type 0 where
   pub rises : getD (m .starts) i 0 ≤ getD (m .starts) (suc i) 0
   pub ascends : ascending (columnsOf m i) ≡ true
@@ -92,6 +96,7 @@ pub record RowFacts (m : Matrix) (i : ℕ) : Type 0 where
   pub small : all (within maxValue) (valuesOf m i) ≡ true
   pub mirror : (j : ℕ) → isIn (columnsOf m i) j ≡ true → (isIn (columnsOf m j) i ≡ true) × (entry m i j ≡ entry m j i)
 
+-- of the matrix
 pub record MatrixFacts (m : Matrix) : Type 0 where
   pub some : 1 ≤ m .n
   pub few : m .n ≤ maxRows
@@ -102,6 +107,7 @@ pub record MatrixFacts (m : Matrix) : Type 0 where
   pub row : (i : ℕ) → i < m .n → RowFacts m i
   pub lower : lowerEntries m ≤ maxEntries
 
+-- the tests of a row after the first
 abbrev rowTests : Matrix → ℕ → List Bool
 rowTests m i = ascending (columnsOf m i) ∷ all (λ j. ltb j (m .n)) (columnsOf m i) ∷ all (within maxValue) (valuesOf m i) ∷ all (mirrored m i) (columnsOf m i) ∷ []
 
@@ -124,12 +130,14 @@ row-facts m i h = record {
         let equal = same (entry m i j) (entry m j i) in
         (and-left stored equal e, same-true (entry m i j) (entry m j i) (and-right stored equal e))
 
+-- the tests of a matrix after the first
 abbrev matrixTests : Matrix → List Bool
 matrixTests m =
     leb (m .n) maxRows ∷ leb (suc (m .n)) (length (m .starts)) ∷ eqb (getD (m .starts) 0 0) 0
     ∷ leb (getD (m .starts) (m .n) 0) (length (m .columns)) ∷ leb (getD (m .starts) (m .n) 0) (length (m .values))
     ∷ all (isRow m) (range 0 (m .n)) ∷ leb (lowerEntries m) maxEntries ∷ []
 
+-- the test gives all of this
 pub matrix-facts : (m : Matrix) → isMatrix m ≡ true → MatrixFacts m
 unfolding isMatrix
 matrix-facts m h = record {
@@ -169,6 +177,7 @@ module _ (m : Matrix) (ok : isMatrix m ≡ true) where
     both = λ u v h. adjacent-both v u h;
   }
 
+  -- entries (i, j) and (j, i) are equal
   pub symmetric : (i j : ℕ) → entry m i j ≡ entry m j i
   symmetric i j = go (isIn (columnsOf m i) j) refl (isIn (columnsOf m j) i) refl
     where
@@ -180,6 +189,7 @@ module _ (m : Matrix) (ok : isMatrix m ≡ true) where
       go false e true f = sym (stored j i f)
       go false e false f = absent-column m i j e ∙ sym (absent-column m j i f)
 
+  -- every entry's size is at most the limit
   pub small-entry : (i j : ℕ) → natAbs (entry m i j) ≤ maxValue
   unfolding entry within
   small-entry i j = go (isIn (columnsOf m i) j) refl
@@ -188,6 +198,7 @@ module _ (m : Matrix) (ok : isMatrix m ≡ true) where
       go true e = leb-true (natAbs (entry m i j)) maxValue (lookup-all (within maxValue) j (columnsOf m i) (valuesOf m i) refl (facts .row i (column-row m i j e) .small))
       go false e = rw (absent-column m i j e) (leb-true 0 maxValue refl)
 
+-- every displacement's size is at most the limit
 pub small-displacement : (n : ℕ) (x : List ℤ) → areDisplacements n x ≡ true → (j : ℕ) → natAbs (displacement x j) ≤ maxDisplacement
 unfolding displacement within areDisplacements
 small-displacement n x ok j =

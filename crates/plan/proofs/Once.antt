@@ -81,6 +81,7 @@ pub record Once (n : ℕ) (xs : List ℕ) : Type 0 where
   pub one : (v : ℕ) → v < n → count v xs ≡ 1
   pub low : Low n xs
 
+-- the test gives all of this
 pub once : (n : ℕ) (xs : List ℕ) → eachOnce n xs ≡ true → Once n xs
 unfolding eachOnce
 once n xs h = record {

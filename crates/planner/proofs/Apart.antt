@@ -18,6 +18,7 @@ use Rattle.planner.proofs.Colours.{Across, Like}
 use Rattle.planner.proofs.Placed.{Sub, Covers}
 
 module _ (adj : ℕ → List ℕ) where
+  -- rows that are apart, each from each
   apart-test : (xs ys : List ℕ) → Across (Apart adj) xs ys → apart adj xs ys ≡ true
   unfolding apart
   apart-test xs ys h = go (any (λ u. any (λ v. isIn (adj v) u || any (isIn (adj u)) (adj v)) ys) xs) refl
@@ -47,6 +48,7 @@ module _ (adj : ℕ → List ℕ) where
             (λ u v hu hv. l .0 (eqb-true (x .colour) (y .colour) e) u v (sub u hu) (c .0 v hv))) refl
         go false e = refl
 
+    -- like-coloured parts that are apart, each where its record says
     pub like-apart : (s : ℕ) (xs : List Part) → Covers O s xs → Pairwise (Like (Apart adj)) xs → likeApart adj O (recordsOf up s xs) ≡ true
     unfolding likeApart
     like-apart s [] c l = refl

@@ -46,6 +46,7 @@ module _ (up index : ℕ) (g : Group) (below later : List Group) (lt : up < inde
   under-mine : Each (Under up index (index + suc (length below))) (g ∷ below)
   under-mine = (inl child, each-map (Inside index (index + suc (length below))) (Under up index (index + suc (length below))) (λ h q. inr q) below mine)
 
+  -- the parents of all these records are up, or among them
   pub block-under : Each (Under up index (index + length ((g ∷ below) ++ later))) ((g ∷ below) ++ later)
   block-under =
       let end : index + length ((g ∷ below) ++ later) ≡ index + suc (length below) + length later = omega (arith, length-append (g ∷ below) later) in
@@ -63,6 +64,7 @@ module _ (up index : ℕ) (g : Group) (below later : List Group) (lt : up < inde
 
   -- a world that has all these children has g's, and the later records'
   module _ (world : List Group) (ready : Ready world ((g ∷ below) ++ later) index (index + length ((g ∷ below) ++ later))) where
+    -- the children of g and of all below it
     pub ready-mine : Ready world below index (index + suc (length below))
     ready-mine i lo hi =
         ready i lo (omega (arith, length-append (g ∷ below) later)) ∙ children-append i (g ∷ below) later
@@ -71,11 +73,13 @@ module _ (up index : ℕ) (g : Group) (below later : List Group) (lt : up < inde
         ∙ append-nil (children i (g ∷ below))
         ∙ children-skip i g below (λ q. omega arith)
 
+    -- the children of the later records
     pub ready-theirs : Ready world later (index + suc (length below)) (index + suc (length below) + length later)
     ready-theirs i lo hi =
         ready i (omega arith) (omega (arith, length-append (g ∷ below) later)) ∙ children-append i (g ∷ below) later
         ∙ ap (λ (l : List Group). l ++ children i later) (outside up index (index + suc (length below)) i (g ∷ below) under-mine (λ q. omega arith) (inr lo))
 
+-- every group of a list, and of the list after it
 pub all-append : (adj : ℕ → List ℕ) (O : List ℕ) (world : List Group) (i : ℕ) (xs ys : List Group)
     → allSound adj O world i xs ≡ true → allSound adj O world (i + length xs) ys ≡ true → allSound adj O world i (xs ++ ys) ≡ true
 unfolding allSound

@@ -64,6 +64,7 @@ module _ (A : ℕ → ℕ → Type 0) where
   abbrev pub Separated : List (List ℕ) → Type 0
   Separated ls = (i j u v : ℕ) → isIn (getD ls i []) u ≡ true → isIn (getD ls j []) v ≡ true → i + reach < j → A u v
 
+  -- each row of xs is so related to each row of ys
   abbrev pub Across : List ℕ → List ℕ → Type 0
   Across xs ys = (u v : ℕ) → isIn xs u ≡ true → isIn ys v ≡ true → A u v
 
@@ -71,6 +72,7 @@ module _ (A : ℕ → ℕ → Type 0) where
   abbrev pub Like : Part → Part → Type 0
   Like x y = x .colour ≡ y .colour → Across (x .rows) (y .rows)
 
+  -- the parts of a tiling
   pub tiles-apart : {free : ℕ} {ls : List (List ℕ)} {cs : List Pair} (f : ℕ) → Tiles free ls cs → Separated ls → Pairwise Like (parts f cs)
   tiles-apart f done sep = tt
   tiles-apart {ls = ls} f (more {cs = cs} c m w a b l pos le ts) sep =

@@ -16,6 +16,7 @@ use Rattle.planner.specs.Loads.{End, Extent, endsFrom, best, nearest, of
 
 -- ---- ends
 
+-- what every end has, each that is left has
 each-fromFirst : (P : End → Type 0) (t : End → Bool) (es : List End) → Each P es → Each P (fromFirst t es)
 each-fromFirst P t [] h = tt
 each-fromFirst P t (e ∷ es) h = go (t e) (each-fromFirst P t es (h .1))
@@ -34,6 +35,7 @@ best-is P score e (f ∷ fs) x h = best-is P score _ fs (go (ltb (score f) (scor
     go true = h .0
     go false = x
 
+-- from a to b levels
 abbrev Between : ℕ → ℕ → End → Type 0
 Between a b e = (a ≤ e .levels) × (e .levels ≤ b)
 
@@ -49,6 +51,7 @@ ends-between (suc d) k s (q ∷ qs) =
 
 -- ---- the cut
 
+-- each colour has at least reach levels
 pub cut-levels : (qs : List ℕ) → 2 * reach ≤ length qs → (reach ≤ cut qs) × (cut qs + reach ≤ length qs)
 unfolding cut cutAt
 cut-levels qs long = go (drop (reach - 1) (endsFrom 0 0 (take (length qs - reach) qs))) (ends-between (reach - 1) 0 0 (take (length qs - reach) qs))
@@ -70,6 +73,7 @@ pub record Taken (all free : ℕ) (e : Extent) : Type 0 where
   pub some : 1 ≤ e .workers
   pub rest : ((e .levels ≡ all) × (e .workers ≡ free)) ⊎ ((e .levels + 2 * reach ≤ all) × (e .workers < free))
 
+-- the pair that ends at e
 extentOf-taken : (b all free : ℕ) (e : End) → 1 ≤ free → 2 * reach ≤ all → 1 ≤ b → Between (2 * reach) all e → Taken all free (extentOf b all free e)
 unfolding extentOf
 extentOf-taken b all free e f long pos h = go (ltb (all - e .levels) (2 * reach) || leb free b) refl
@@ -82,6 +86,7 @@ extentOf-taken b all free e f long pos h = go (ltb (all - e .levels) (2 * reach)
         let y = leb-false free b (or-right-false (ltb (all - e .levels) (2 * reach)) (leb free b) q) in
         record { long = h .0; some = pos; rest = inr (omega arith, y) }
 
+-- the next pair
 pub extent-taken : (w R p free : ℕ) (qs : List ℕ) → 1 ≤ free → 2 * reach ≤ length qs → Taken (length qs) free (extent w R p free qs)
 unfolding extent extentFrom nearest
 extent-taken w R p free qs f long =

@@ -42,6 +42,7 @@ module _ (adj : ℕ → List ℕ) where
     pub walked : (es anc : List ℕ) (tail : List Group) → Above up es → suc (length anc) + stages ≤ maxDepth → Walked up es anc index gs tail
     pub few : length gs ≤ groupsOf (perWorker stages) xs
 
+  -- no child
   pub kids-none : (stages up start index : ℕ) → Kids stages up start index [] [] []
   unfolding children allSound
   kids-none stages up start index = record {
@@ -92,6 +93,7 @@ module _ (adj : ℕ → List ℕ) where
     few = omega arith;
   }
 
+  -- children that tile and are apart
   children-sound : (O : List ℕ) (g : Group) (ks : List Group) → tiled g (g .start) (g .first) ks ≡ true → likeApart adj O ks ≡ true → childrenSound adj O g ks ≡ true
   unfolding childrenSound
   children-sound O g [] a b = refl

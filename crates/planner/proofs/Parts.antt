@@ -33,10 +33,11 @@ abbrev pub allRows : List Part → List ℕ
 allRows [] = []
 allRows (x ∷ xs) = x .rows ++ allRows xs
 
--- the record of a child of the group at index up, and of all its children
+-- the record of a child of the group at index up
 abbrev pub recordOf : (up start : ℕ) → Part → Group
 recordOf up start x = record { start = start; length = length (x .rows); first = x .first; workers = x .workers; colour = x .colour; parent = up }
 
+-- .. and of all its children
 abbrev pub recordsOf : (up start : ℕ) → List Part → List Group
 recordsOf up start [] = []
 recordsOf up start (x ∷ xs) = recordOf up start x ∷ recordsOf up (start + length (x .rows)) xs
@@ -48,6 +49,7 @@ planParts child up start index (x ∷ xs) =
     let a = child index (recordOf up start x) (x .rows) in
     a then planParts child up (start + length (x .rows)) (index + length (a .groups)) xs
 
+-- planning pairs is planning their parts
 pub planPairs-parts : (child : Planner) (up start first index : ℕ) (cs : List Pair) → planPairs child up start first index cs ≡ planParts child up start index (parts first cs)
 unfolding planPairs
 planPairs-parts child up start first index [] = refl
@@ -60,10 +62,11 @@ planPairs-parts child up start first index (c ∷ cs) =
 
 -- ---- what tiles gives
 
--- the parts hold the levels' rows, in order
+-- some first lists, and the others
 halves : (m : ℕ) (ls : List (List ℕ)) → concat (take m ls) ++ concat (drop m ls) ≡ concat ls
 halves m ls = sym (concat-append (take m ls) (drop m ls)) ∙ ap (λ (l : List (List ℕ)). concat l) (take-append-drop m ls)
 
+-- the parts hold the levels' rows, in order
 pub tiles-rows : {free : ℕ} {ls : List (List ℕ)} {cs : List Pair} (f : ℕ) → Tiles free ls cs → allRows (parts f cs) ≡ concat ls
 tiles-rows f done = refl
 tiles-rows {ls = ls} f (more {cs = cs} c m w a b l pos le ts) =
@@ -88,11 +91,12 @@ tiles-tiled {ls = ls} g up s f (more {cs = cs} c m w a b l pos le ts) e d =
 
 -- ---- how many groups
 
--- with m groups at most for each worker below a part
+-- with at most m groups for each worker below a part
 abbrev pub groupsOf : (m : ℕ) → List Part → ℕ
 groupsOf m [] = 0
 groupsOf m (x ∷ xs) = (1 + x .workers * m) + groupsOf m xs
 
+-- in a tiling that is at most 2 + 2 m for each worker
 pub tiles-groups : {free : ℕ} {ls : List (List ℕ)} {cs : List Pair} (m f : ℕ) → Tiles free ls cs → groupsOf m (parts f cs) ≤ free * (2 + 2 * m)
 tiles-groups m f done = omega arith
 tiles-groups {free} m f (more {cs = cs} c k w a b l pos le ts) = go (free - w) (groupsOf m (parts (f + w) cs)) (omega arith) (tiles-groups m (f + w) ts)

@@ -14,12 +14,14 @@ use Rattle.planner.proofs.Parts.{Part}
 abbrev pub Placed : List ℕ → ℕ → List ℕ → Type 0
 Placed O s xs = take (length xs) (drop s O) ≡ xs
 
+-- the first part of a placed list stands where the list does
 pub placed-left : (O : List ℕ) (s : ℕ) (xs ys : List ℕ) → Placed O s (xs ++ ys) → Placed O s xs
 placed-left O s xs ys h =
     sym (take-take (length xs) (length (xs ++ ys)) (drop s O) (omega (arith, length-append xs ys)))
     ∙ ap (λ (l : List ℕ). take (length xs) l) h
     ∙ take-append-seam xs ys
 
+-- .. and the rest right after it
 pub placed-right : (O : List ℕ) (s : ℕ) (xs ys : List ℕ) → Placed O s (xs ++ ys) → Placed O (s + length xs) ys
 placed-right O s xs ys h =
     let L = drop s O in

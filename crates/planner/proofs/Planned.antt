@@ -35,6 +35,7 @@ module _ (adj : ℕ → List ℕ) (n : ℕ) where
   abbrev Plans : (stages : ℕ) → Planner → Type 0
   Plans stages child = (index : ℕ) (g : Group) (T : List ℕ) → Proper n T → g .length ≡ length T → Planned stages index g T (child index g T)
 
+  -- the parts of a group, each planned
   parts-kids : (stages : ℕ) (child : Planner) → Plans stages child → (up start index : ℕ) (xs : List Part) → up < index → Proper n (allRows xs)
       → let pl = planParts child up start index xs in Kids adj stages up start index xs (pl .order) (pl .groups)
   unfolding nothing _then_
@@ -50,6 +51,7 @@ module _ (adj : ℕ → List ℕ) (n : ℕ) where
       (subst (λ (gs : List Group). Kids adj stages up (start + length (x .rows)) (index + length gs) xs (r .order) (r .groups)) shape rest))
 
   module _ (graph : Graph adj n) (p : ℕ) where
+    -- a group that is split
     split-planned : (stages : ℕ) (child : Planner) → Plans stages child → (index : ℕ) (g : Group) (T : List ℕ) → Proper n T → g .length ≡ length T
         → splits g (ownLevels adj n T) ≡ true → Planned (suc stages) index g T (split adj child p index g (ownLevels adj n T))
     unfolding splits split leaf _then_
@@ -71,6 +73,7 @@ module _ (adj : ℕ → List ℕ) (n : ℕ) where
         (tiles-groups (perWorker stages) (g .first) tile)) in
         (pl .groups, refl, fine)
 
+    -- every group
     group-planned : (stages : ℕ) → Plans stages (planGroup adj n p stages)
     unfolding planGroup leaf
     group-planned zero index g T pr len = ([], refl, fine-leaf adj zero index g T)
@@ -83,16 +86,18 @@ module _ (adj : ℕ → List ℕ) (n : ℕ) where
 
     -- ---- the whole
 
-    -- its record, and its rows in their order
+    -- its record
     abbrev wholeOf : (w : ℕ) → Group
     wholeOf w = record { start = 0; length = n; first = 0; workers = w; colour = whole; parent = 0 }
 
+    -- its rows in their order
     abbrev sorted : List ℕ
     sorted = concat (ownLevels adj n (range 0 n))
 
     sorted-same : Same sorted (range 0 n)
     sorted-same = own-same adj n (range 0 n) (proper-range n)
 
+    -- the whole
     rows-planned : (w : ℕ) → Planned maxDepth 0 (wholeOf w) sorted (planRows adj n p w)
     unfolding planRows
     rows-planned w =
@@ -103,6 +108,7 @@ module _ (adj : ℕ → List ℕ) (n : ℕ) where
     pub rows-few : (w : ℕ) → w ≤ maxWorkers → length (planRows adj n p w .groups) ≤ 481
     rows-few w hi = let (below, shape, fine) = rows-planned w in omega (arith, ap (λ (gs : List Group). length gs) shape, fine .few)
 
+    -- the plan passes the test of soundness
     pub rows-sound : (w : ℕ) → 1 ≤ w → w ≤ maxWorkers → sound adj n (planRows adj n p w .order) (planRows adj n p w .groups) ≡ true
     unfolding sound depthFirst
     rows-sound w lo hi =

@@ -20,6 +20,7 @@ workers-between w p ok =
     let tests = leb w maxWorkers ∷ leb 50 p ∷ leb p 99 ∷ [] in
     (leb-true 1 w (conj-first (leb 1 w) tests ok), leb-true w maxWorkers (conj-at (leb 1 w) tests ok 0))
 
+-- the theorem
 pub planned-sound : PlannedSound
 unfolding isSound plan
 planned-sound = record {

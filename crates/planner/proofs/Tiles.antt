@@ -18,6 +18,7 @@ pub data Tiles : (free : ℕ) → List (List ℕ) → List Pair → Type 0 where
       → Tiles free ls (record { reds = concat (take m (take c ls)); blues = concat (drop m (take c ls)); workers = w } ∷ cs)
 
 module _ (adj : ℕ → List ℕ) where
+  -- the cut of a pair of c levels
   cut-taken : (c : ℕ) (ls : List (List ℕ)) → 2 * reach ≤ c → c ≤ length ls
       → (reach ≤ cut (map (load adj) (take c ls))) × (cut (map (load adj) (take c ls)) + reach ≤ c)
   cut-taken c ls a b =
@@ -25,12 +26,14 @@ module _ (adj : ℕ → List ℕ) where
       let q = cut-levels (map (load adj) (take c ls)) (omega arith) in
       (q .0, omega (arith, q .1))
 
+  -- where nothing is left, no pair is
   pairs-none : (k w R p free : ℕ) (ls : List (List ℕ)) → free ≡ 0 → length ls ≡ 0 → Tiles free ls (pairs adj k w R p free ls)
   unfolding pairs
   pairs-none k w R p free (l ∷ ls) e d = absurd (omega arith)
   pairs-none zero w R p free [] e d = subst (λ (f : ℕ). Tiles f [] []) (sym e) done
   pairs-none (suc k) w R p free [] e d = subst (λ (f : ℕ). Tiles f [] []) (sym e) done
 
+  -- the planner's pairs
   pub pairs-tile : (k w R p free : ℕ) (ls : List (List ℕ)) → 1 ≤ free → 2 * reach ≤ length ls → length ls ≤ k → Tiles free ls (pairs adj k w R p free ls)
   unfolding pairs
   pairs-tile zero w R p free ls f long b = absurd (omega arith)

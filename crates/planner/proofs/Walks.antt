@@ -19,6 +19,7 @@ above-snoc : (q r : ℕ) (es : List ℕ) → q < r → Above r es → Above q (e
 above-snoc q r [] lt h = (lt, tt)
 above-snoc q r (e ∷ es) lt h = (omega (arith, h .0), above-snoc q r es lt (h .1))
 
+-- the path is cut back to the parent
 find-up : (q : ℕ) (es anc : List ℕ) → Above q es → fromFirst (eqb q) (es ++ (q ∷ anc)) ≡ q ∷ anc
 find-up q [] anc h = rw (eq-eqb q q refl) refl
 find-up q (e ∷ es) anc h = rw (ne-eqb q e (λ x. omega (arith, h .0))) (find-up q es anc (h .1))
@@ -37,6 +38,7 @@ abbrev pub Walked : (up : ℕ) (es anc : List ℕ) (index : ℕ) (gs tail : List
 Walked up es anc index gs tail =
     (out : List ℕ) × Above up out × (depthFirst (es ++ (up ∷ anc)) index (gs ++ tail) ≡ depthFirst (out ++ (up ∷ anc)) (index + length gs) tail)
 
+-- no record
 pub walk-none : (up : ℕ) (es anc : List ℕ) (index : ℕ) (tail : List Group) → Above up es → Walked up es anc index [] tail
 walk-none up es anc index tail h = (es, h, ap (λ (k : ℕ). depthFirst (es ++ (up ∷ anc)) k tail) (omega arith))
 
@@ -52,6 +54,7 @@ walk-child up index es anc g below tail lt e h b (out, ab, w) = (
       ∙ ap (λ (k : ℕ). depthFirst ((out ++ (index ∷ [])) ++ (up ∷ anc)) k tail) (omega arith),
 )
 
+-- some records, and those after them
 pub walk-then : (up : ℕ) (es anc : List ℕ) (index : ℕ) (gs hs tail : List Group) → Walked up es anc index gs (hs ++ tail)
     → ((out : List ℕ) → Above up out → Walked up out anc (index + length gs) hs tail) → Walked up es anc index (gs ++ hs) tail
 walk-then up es anc index gs hs tail (mid, am, w) next =
