@@ -1,0 +1,5 @@
+pub mod Amounts
+pub mod Facts
+pub mod Invariant
+pub mod Able
+pub mod Kept
