@@ -174,3 +174,15 @@ all-range p n i h l = all-of p (range 0 n) i h (isIn-range 0 n i (omega arith) (
 pub of-all : (p : ℕ → Bool) (xs : List ℕ) → ((v : ℕ) → isIn xs v ≡ true → p v ≡ true) → all p xs ≡ true
 of-all p [] h = refl
 of-all p (x ∷ xs) h = rw (h x (rw (eq-eqb x x refl) refl)) (of-all p xs (λ v i. h v (rw i (or-true (eqb v x)))))
+
+module _ {ℓ} {A : Type ℓ} where
+  -- two functions that agree on a range
+  pub map-range-same : (f g : ℕ → A) (k m : ℕ) → ((i : ℕ) → k ≤ i → i < k + m → f i ≡ g i) → map f (range k m) ≡ map g (range k m)
+  map-range-same f g k zero h = refl
+  map-range-same f g k (suc m) h = rw (h k (omega arith) (omega arith), map-range-same f g (suc k) m (λ i a b. h i (omega arith) (omega arith)))
+
+  -- element i of a list made number by number
+  pub map-range-at : (f : ℕ → A) (k m i : ℕ) (d : A) → i < m → getD (map f (range k m)) i d ≡ f (k + i)
+  map-range-at f k zero i d l = absurd (omega arith)
+  map-range-at f k (suc m) zero d l = (let e : k ≡ k + 0 = omega arith in ap f e)
+  map-range-at f k (suc m) (suc i) d l = map-range-at f (suc k) m i d (omega arith) ∙ (let e : suc k + i ≡ k + suc i = omega arith in ap f e)

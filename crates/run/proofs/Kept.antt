@@ -126,13 +126,14 @@ module _ (j : Job) (F : Facts j) (s : State) (I : Inv j s) (w : ℕ) (able : Abl
     added t = sum-more (soFar j (s .made) t) (soFar j new t) (share (λ z. z) t u) (workers j) w (able .inPlan) (mine t)
         (λ v d. ap (λ (y : ℕ). landed t (take y (updates j v))) (sym (new-other-half v d)))
 
+    -- the sum to store is the sum of the amounts after the store
     pub stored : total s w u ≡ sumℤ (soFar j new (u .target)) (workers j)
     unfolding total
     stored = ap (λ (z : ℤ). z +ℤ u .amount) (I .holding w (able .inPlan) odd ∙ I .right (u .target) target-in)
         ∙ sym (added (u .target) ∙ ap (λ (b : Bool). sumℤ (soFar j (s .made) (u .target)) (workers j) +ℤ cond b (u .amount) (pos 0)) (eq-eqb (u .target) (u .target) refl))
 
-    pub store-fits64 : fits64 (total s w u) ≡ true
-    store-fits64 = rw stored (F .fitting (u .target) (λ v. count new v / 2) target-in)
+    pub store-fits : fits64 (total s w u) ≡ true
+    store-fits = rw stored (F .fitting (u .target) (λ v. count new v / 2) target-in)
 
     pub inv-store : Inv j (store s w u)
     unfolding store onward

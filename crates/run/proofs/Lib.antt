@@ -3,3 +3,7 @@ pub mod Facts
 pub mod Invariant
 pub mod Able
 pub mod Kept
+pub mod Schedule
+pub mod Taken
+pub mod Finished
+pub mod AsModel

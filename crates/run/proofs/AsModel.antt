@@ -1,0 +1,67 @@
+-- The answers of all calls are the model's: 11 is never met.
+use mathlib.Core.Path.{_≡_, refl, ap}
+use mathlib.Core.Bool.{Bool, true, false}
+use mathlib.Core.List.{List, [], _∷_}
+use Prim.Native.Nat.{ℕ, zero, suc, _≤_}
+use lib.ListN.{length}
+use lib.Dec.{leb}
+use borrow.Author.Tests.{eq-eqb, le-leb}
+use Rattle.base.specs.Replies.{inTurn}
+use Rattle.matrix.specs.Product.{product}
+use Rattle.plan.specs.Sound.{maxWorkers}
+use Rattle.run.specs.Job.{Job}
+use Rattle.run.specs.Updates.{count, accesses}
+use Rattle.run.specs.Machine.{State, over, original, countsFine, isState}
+use Rattle.run.specs.Calls.{Call, picks, readySet, forceList, Answer, forcesOf, stateCheck, answerOf, afterOf, answer, after, answers, afterAll}
+use Rattle.run.specs.Model.{modelAnswer, modelAfter, modelAnswers, modelCounts}
+use Rattle.run.proofs.Facts.{Facts}
+use Rattle.run.proofs.Invariant.{Inv}
+use Rattle.run.proofs.Taken.{steps-model}
+use Rattle.run.proofs.Finished.{forces-product}
+
+module _ (j : Job) (F : Facts j) where
+  -- the answer to a force-list call
+  forces-model : (s : State) → Inv j s → (room : ℕ) (b : Bool) → over j (s .made) ≡ b
+      → forcesOf b (leb (j .matrix .n) room) (j .matrix .n) (original j (s .sums)) ≡ forcesOf b (leb (j .matrix .n) room) (j .matrix .n) (product (j .matrix) (j .displacements))
+  unfolding forcesOf
+  forces-model s I room true e = rw (forces-product j F s I e) refl
+  forces-model s I room false e = refl
+
+  -- one call
+  pub record Kept (s : State) (c : Call) : Type 0 where
+    pub inv : Inv j (after j s c)
+    pub made : after j s c .made ≡ modelAfter j (s .made) c
+    pub same : answer j s c ≡ modelAnswer j (s .made) c
+
+  -- no count passes its worker's accesses
+  counts-fine : (made : List ℕ) → ((w : ℕ) → count made w ≤ accesses j w) → (k : ℕ) → countsFine j made k ≡ true
+  unfolding countsFine
+  counts-fine made h zero = refl
+  counts-fine made h (suc k) = rw (le-leb (count made k) (accesses j k) (h k), counts-fine made h k) refl
+
+  -- 11 is never met
+  pub fine : (s : State) → Inv j s → isState j s ≡ true
+  unfolding isState
+  fine s I = rw (eq-eqb (length (s .sums)) (j .matrix .n) (I .sums-length)) (counts-fine (s .made) (I .bounded) maxWorkers)
+
+  -- a call from a state with the invariant keeps it, and is answered as the model answers
+  pub call-model : (s : State) → Inv j s → (c : Call) → Kept s c
+  unfolding answer after stateCheck inTurn answerOf afterOf modelAnswer modelAfter
+  call-model s I (picks ws) = let a = steps-model j F s I ws in record { inv = rw (fine s I) (a .inv); made = rw (fine s I) (a .made); same = rw (fine s I, a .count, a .number) refl }
+  call-model s I readySet = record { inv = rw (fine s I) I; made = rw (fine s I) refl; same = rw (fine s I) refl }
+  call-model s I (forceList room) = record { inv = rw (fine s I) I; made = rw (fine s I) refl; same = rw (fine s I) (forces-model s I room (over j (s .made)) refl) }
+
+  -- a list of calls
+  pub record AllKept (s : State) (cs : List Call) : Type 0 where
+    pub inv : Inv j (afterAll j s cs)
+    pub made : afterAll j s cs .made ≡ modelCounts j (s .made) cs
+    pub same : answers j s cs ≡ modelAnswers j (s .made) cs
+
+  -- .. and so all calls of a list
+  pub calls-model : (s : State) → Inv j s → (cs : List Call) → AllKept s cs
+  unfolding answers afterAll modelAnswers modelCounts
+  calls-model s I [] = record { inv = I; made = refl; same = refl }
+  calls-model s I (c ∷ cs) =
+      let k = call-model s I c in
+      let r = calls-model (after j s c) (k .inv) cs in
+      record { inv = r .inv; made = rw (← k .made) (r .made); same = rw (← k .made, k .same) (ap (λ (l : List Answer). modelAnswer j (s .made) c ∷ l) (r .same)) }
