@@ -7,3 +7,8 @@ pub mod Schedule
 pub mod Taken
 pub mod Finished
 pub mod AsModel
+pub mod Holds
+pub mod Blocked
+pub mod SoundTree
+pub mod Apart
+pub mod Exclude
