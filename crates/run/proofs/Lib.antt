@@ -12,3 +12,6 @@ pub mod Blocked
 pub mod SoundTree
 pub mod Apart
 pub mod Exclude
+pub mod Records
+pub mod Pair
+pub mod Forest
