@@ -11,8 +11,10 @@ use lib.Dec.{eqb, leb}
 use borrow.Author.Tests.{eqb-true, leb-true}
 use Rattle.base.specs.Lists.{filter, keep}
 use Rattle.base.proofs.Booleans.{and-left, and-right, conj-first, conj-at}
-use Rattle.plan.specs.Groups.{Group, whole, red, blue}
+use Rattle.matrix.specs.Matrix.{neighbours}
+use Rattle.plan.specs.Groups.{Group, whole}
 use Rattle.plan.specs.Sound.{maxWorkers, maxGroups, eachOnce, depthFirst, children, tiled, likeApart, childrenSound, allSound, sound}
+use Rattle.run.specs.Job.{Job}
 use Rattle.run.specs.Tree.{Tree, none, node, forest, tree}
 use Rattle.run.specs.Machine.{workersOf}
 use Rattle.run.proofs.SoundTree.{tops, Tiles, Tiled, Pairs, Paired}
@@ -134,3 +136,7 @@ whole-of adj n order (g ∷ gs) h =
 
     rest : allSound adj order gs 0 (g ∷ gs) ≡ true → allSound adj order gs 1 gs ≡ true
     rest a = (and-right (childrenSound adj order g (children 0 gs)) (allSound adj order gs (0 + 1) gs) a)
+
+-- the plan of a job is such
+abbrev pub WholePlan : Job → Type 0
+WholePlan j = Whole (neighbours (j .matrix)) (j .matrix .n) (j .plan .order) (j .plan .groups)

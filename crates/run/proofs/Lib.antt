@@ -15,3 +15,8 @@ pub mod Exclude
 pub mod Records
 pub mod Pair
 pub mod Forest
+pub mod RowUpdates
+pub mod Work
+pub mod Owners
+pub mod Next
+pub mod Exclusion

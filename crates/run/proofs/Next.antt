@@ -1,0 +1,106 @@
+-- A worker's next update: its row, its target, and that its leaf is not finished.
+use mathlib.Core.Path.{_≡_, refl, sym, ap, _∙_, subst}
+use mathlib.Core.Logic.{_⊎_, inl, inr}
+use mathlib.Core.Bool.{Bool, true, false, not}
+use mathlib.Core.List.{List}
+use Prim.Native.Nat.{ℕ, suc, _+_, _*_, _-_, _/_, _≤_, _<_}
+use native.Mathlib.Omega.{arith}
+use lib.ListN.{length, getD}
+use borrow.Author.Tests.{le-leb, lt-leb, leb-true, not-true}
+use Rattle.base.specs.Lists.{isIn}
+use Rattle.base.proofs.Booleans.{clash}
+use Rattle.matrix.specs.Matrix.{neighbours, adjacent}
+use Rattle.plan.specs.Groups.{Group}
+use Rattle.run.specs.Job.{Job, rowAt}
+use Rattle.run.specs.Tree.{Tree, tree, holds, blocked}
+use Rattle.run.specs.Updates.{Update, later, updates, accesses, count, finished, noUpdate, next, waits}
+use Rattle.run.proofs.Holds.{holds-in}
+use Rattle.run.proofs.Blocked.{blocked-mono}
+use Rattle.run.proofs.Apart.{Touch}
+use Rattle.run.proofs.RowUpdates.{row-row, row-target, later-in}
+use Rattle.run.proofs.Work.{cum, cum-mono, At, locate}
+
+module _ (j : Job) where
+  -- ---- update number k of worker w, wherever it is
+
+  module _ {w k : ℕ} (a : At j w (j .matrix .n) k) where
+    at-row : getD (updates j w) k noUpdate .row ≡ a .row
+    unfolding updates
+    at-row = ap (λ (u : Update). u .row) (a .is) ∙ row-row j (a .row) (k - cum j w (a .row)) (a .inside)
+
+    -- its target is the sum of its row or of an adjacent one
+    at-touch : Touch (neighbours (j .matrix)) (j .plan .order) (a .row) (getD (updates j w) k noUpdate .target)
+    unfolding updates rowAt adjacent
+    at-touch = subst (λ (u : Update). Touch (neighbours (j .matrix)) (j .plan .order) (a .row) (u .target)) (sym (a .is)) (go (row-target j (a .row) (k - cum j w (a .row)) (a .inside)))
+      where
+        go : {t : ℕ} → (t ≡ a .row) ⊎ (isIn (later j (a .row)) t ≡ true) → Touch (neighbours (j .matrix)) (j .plan .order) (a .row) t
+        go (inl e) = inl e
+        go {t} (inr e) = inr (later-in j (a .row) t e .2)
+
+    at-below : getD (updates j w) k noUpdate .target < j .matrix .n
+    unfolding updates
+    at-below = subst (λ (u : Update). u .target < j .matrix .n) (sym (a .is)) (go (row-target j (a .row) (k - cum j w (a .row)) (a .inside)))
+      where
+        go : {t : ℕ} → (t ≡ a .row) ⊎ (isIn (later j (a .row)) t ≡ true) → t < j .matrix .n
+        go (inl e) = omega (arith, a .below)
+        go {t} (inr e) = later-in j (a .row) t e .1
+
+  -- every update is of a row's sum
+  pub target-below : (w k : ℕ) → k < length (updates j w) → getD (updates j w) k noUpdate .target < j .matrix .n
+  unfolding updates
+  target-below w k l = at-below (locate j w (j .matrix .n) k l)
+
+  -- ---- the next one
+
+  module _ (made : List ℕ) (w : ℕ) (left : count made w < accesses j w) where
+    pub next-at : At j w (j .matrix .n) (count made w / 2)
+    unfolding accesses updates
+    next-at = locate j w (j .matrix .n) (count made w / 2) (omega arith)
+
+    pub next-row : next j made w .row ≡ next-at .row
+    unfolding next
+    next-row = at-row next-at
+
+    pub next-touch : Touch (neighbours (j .matrix)) (j .plan .order) (next-at .row) (next j made w .target)
+    unfolding next
+    next-touch = at-touch next-at
+
+    -- the leaf that holds its row, if it is w's, is not finished
+    pub live : (g : Group) → holds g (next-at .row) ≡ true → g .first ≡ w → finished j made g ≡ false
+    unfolding finished
+    live g h e =
+        lt-leb (2 * cum j (g .first) (g .start + g .length)) (count made (g .first))
+        (subst (λ (y : ℕ). count made y < 2 * cum j y (g .start + g .length)) (sym e)
+          (omega (arith, next-at .high, cum-mono j w (suc (next-at .row)) (g .start + g .length) (holds-in g (next-at .row) h .1))))
+
+  -- ---- counts grow
+
+  module _ (made new : List ℕ) (grows : (v : ℕ) → count made v ≤ count new v) where
+    -- a finished leaf stays finished
+    finished-more : (g : Group) → finished j made g ≡ true → finished j new g ≡ true
+    unfolding finished
+    finished-more g h =
+        let m = 2 * cum j (g .first) (g .start + g .length) in
+        le-leb m (count new (g .first)) (omega (arith, leb-true m (count made (g .first)) h, grows (g .first)))
+
+    unfinished-less : (g : Group) → not (finished j new g) ≡ true → not (finished j made g) ≡ true
+    unfinished-less g x = go (finished j made g) refl
+      where
+        go : (b : Bool) → finished j made g ≡ b → not b ≡ true
+        go true y = absurd (clash (finished-more g y) (not-true (finished j new g) x))
+        go false y = refl
+
+    -- who does not wait does not wait later on in the same update
+    pub lasts : (w : ℕ) → count made w / 2 ≡ count new w / 2 → waits j made w ≡ false → waits j new w ≡ false
+    unfolding waits next
+    lasts w e h = rw (← e) (go (blocked (finished j new) q T T) refl)
+      where
+        q : ℕ
+        q = getD (updates j w) (count made w / 2) noUpdate .row
+
+        T : Tree
+        T = tree (j .plan .groups)
+
+        go : (b : Bool) → blocked (finished j new) q T T ≡ b → blocked (finished j new) q T T ≡ false
+        go true x = absurd (clash (blocked-mono (finished j made) (finished j new) unfinished-less q T T x) h)
+        go false x = x
