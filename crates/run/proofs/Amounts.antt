@@ -1,12 +1,12 @@
 -- What the updates of a list add to one sum.
 use mathlib.Core.Path.{_≡_, sym, ap, _∙_}
 use mathlib.Core.Bool.{cond}
-use mathlib.Core.List.{List, [], _∷_}
+use mathlib.Core.List.{List, [], _∷_, _++_}
 use Prim.Native.Nat.{ℕ, zero, suc, _<_}
 use native.Mathlib.Omega.{arith}
 use lib.ListN.{length, getD, take}
 use lib.Dec.{eqb}
-use lib.IntN.{ℤ, pos, _+ℤ_, +ℤ-assoc, +ℤ-comm}
+use lib.IntN.{ℤ, pos, _+ℤ_, +ℤ-assoc, +ℤ-comm, +ℤ-idl}
 use Rattle.run.specs.Updates.{Update, noUpdate}
 
 -- the amount of an update, put through φ, if its target is t; else 0
@@ -30,3 +30,9 @@ landed-next φ t [] k l = absurd (omega arith)
 landed-next φ t (u ∷ us) zero l = +ℤ-comm (share φ t u) (pos 0)
 landed-next φ t (u ∷ us) (suc k) l =
     ap (λ (z : ℤ). share φ t u +ℤ z) (landed-next φ t us k (omega arith)) ∙ sym (+ℤ-assoc (share φ t u) (landedBy φ t (take k us)) (share φ t (getD us k noUpdate)))
+
+-- two lists one after the other
+pub landed-append : (φ : ℤ → ℤ) (t : ℕ) (us vs : List Update) → landedBy φ t (us ++ vs) ≡ landedBy φ t us +ℤ landedBy φ t vs
+unfolding landedBy
+landed-append φ t [] vs = sym (+ℤ-idl (landedBy φ t vs))
+landed-append φ t (u ∷ us) vs = ap (λ (z : ℤ). share φ t u +ℤ z) (landed-append φ t us vs) ∙ sym (+ℤ-assoc (share φ t u) (landedBy φ t us) (landedBy φ t vs))

@@ -20,3 +20,7 @@ pub mod Work
 pub mod Owners
 pub mod Next
 pub mod Exclusion
+pub mod Positions
+pub mod OrderSums
+pub mod RowShares
+pub mod Total
