@@ -71,3 +71,7 @@ pub conj-at : (a : Bool) (bs : List Bool) → conj a bs ≡ true → (k : ℕ) �
 conj-at a [] h k = refl
 conj-at a (b ∷ bs) h zero = and-right a b (conj-first (a && b) bs h)
 conj-at a (b ∷ bs) h (suc k) = conj-at (a && b) bs h k
+
+pub or-false : (b : Bool) → b || false ≡ b
+or-false true = refl
+or-false false = refl

@@ -1,10 +1,10 @@
 -- Who is blocked: what changes when more leaves are finished, and what not to be blocked says.
-use mathlib.Core.Path.{_≡_, sym, ap, _∙_}
+use mathlib.Core.Path.{_≡_, refl, sym, ap, _∙_}
 use mathlib.Core.Bool.{Bool, true, false, not, _&&_, _||_}
 use Prim.Native.Nat.{ℕ}
 use lib.Dec.{eqb}
 use borrow.Author.Tests.{eq-eqb}
-use Rattle.base.proofs.Booleans.{or-left-false, or-right-false, or-mono, and-mono}
+use Rattle.base.proofs.Booleans.{and-false, or-false, or-left-false, or-right-false, or-mono, and-mono}
 use Rattle.plan.specs.Groups.{Group, red, blue}
 use Rattle.run.specs.Tree.{Tree, none, node, holds, unfinished, redOpen, blocked}
 
@@ -58,3 +58,20 @@ module _ (fin : Group → Bool) where
   pub not-blocked-next : (g : Group) (below next all : Tree) (q : ℕ) → blocked fin q all (node g below next) ≡ false → blocked fin q all next ≡ false
   unfolding blocked
   not-blocked-next g below next all q h = or-right-false (holds g q && (eqb (g .colour) blue && redOpen fin all || blocked fin q below below)) (blocked fin q all next) h
+
+  -- a position that the group does not hold, and the later siblings do not block
+  pub free-next : (all : Tree) (g : Group) (below next : Tree) (q : ℕ) → holds g q ≡ false → blocked fin q all next ≡ false → blocked fin q all (node g below next) ≡ false
+  unfolding blocked
+  free-next all g below next q h k = rw (h, k) refl
+
+  -- a position that neither the group, nor its children, nor the later siblings block
+  pub free-here : (all : Tree) (g : Group) (below next : Tree) (q : ℕ) → (eqb (g .colour) blue && redOpen fin all) ≡ false → blocked fin q below below ≡ false → blocked fin q all next ≡ false
+      → blocked fin q all (node g below next) ≡ false
+  unfolding blocked
+  free-here all g below next q h k l = rw (h, k, l) (or-false (holds g q && false) ∙ and-false (holds g q))
+
+  -- an unfinished leaf is in the first group or in the later siblings
+  pub unfinished-split : (g : Group) (below next : Tree) → unfinished fin (node g below next) ≡ unfinished fin (node g below none) || unfinished fin next
+  unfolding unfinished
+  unfinished-split g none next = ap (λ (b : Bool). b || unfinished fin next) (sym (or-false (not (fin g))))
+  unfinished-split g (node k kb kn) next = ap (λ (b : Bool). b || unfinished fin next) (sym (or-false (unfinished fin (node k kb kn))))

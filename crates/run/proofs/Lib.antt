@@ -24,3 +24,6 @@ pub mod Positions
 pub mod OrderSums
 pub mod RowShares
 pub mod Total
+pub mod Bound
+pub mod Past
+pub mod Seek
