@@ -27,3 +27,4 @@ pub mod Total
 pub mod Bound
 pub mod Past
 pub mod Seek
+pub mod Progress

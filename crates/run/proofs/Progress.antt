@@ -1,0 +1,137 @@
+-- Until a run is finished some worker can move, and the ready set is not empty.
+use mathlib.Core.Path.{_≡_, refl, sym, ap, _∙_, subst}
+use mathlib.Core.Logic.{_⊎_, inl, inr, _≢_}
+use mathlib.Core.Bool.{Bool, true, false, _&&_, cond, true≢false}
+use mathlib.Core.List.{List, _∷_}
+use Prim.Native.Nat.{ℕ, zero, suc, _+_, _/_, _≤_, _<_}
+use native.Mathlib.Omega.{arith}
+use lib.ListN.{length}
+use lib.Dec.{eqb, ltb, leb}
+use borrow.Author.Tests.{eq-eqb, ne-eqb, ltb-true, ltb-false, leb-true, leb-false}
+use Rattle.base.proofs.Booleans.{same-or}
+use Rattle.matrix.specs.Matrix.{neighbours}
+use Rattle.plan.specs.Groups.{Group, blue}
+use Rattle.run.specs.Job.{Job}
+use Rattle.run.specs.Tree.{Tree, none, node, ownerIn, unfinished, redOpen, blocked}
+use Rattle.run.specs.Updates.{count, accesses, updates, upTo, finished, waits}
+use Rattle.run.specs.Machine.{workers, refusal, readyBelow, ready, allMade, over}
+use Rattle.run.proofs.Able.{Able, able-refusal}
+use Rattle.run.proofs.Holds.{holds-in}
+use Rattle.run.proofs.Blocked.{free-here}
+use Rattle.run.proofs.SoundTree.{Tiled}
+use Rattle.run.proofs.Exclude.{live-unfinished}
+use Rattle.run.proofs.Forest.{WholePlan}
+use Rattle.run.proofs.Work.{cum-mono, At}
+use Rattle.run.proofs.Owners.{held, own}
+use Rattle.run.proofs.Next.{next-at, next-row, live}
+use Rattle.run.proofs.Past.{Past}
+use Rattle.run.proofs.Seek.{FoundIn, Ready, dive, seek}
+
+module _ (j : Job) (made : List ℕ) (W : WholePlan j) where
+  abbrev fin : Group → Bool
+  fin = finished j made
+
+  abbrev top : Group
+  top = W .top
+
+  -- a worker with an access left has an unfinished leaf
+  opened : (v : ℕ) → count made v < accesses j v → unfinished fin (node top (W .below) none) ≡ true
+  unfolding unfinished ownerIn
+  opened v h = go (W .below) (W .under .tiles) (sym (own j W q low) ∙ next-at j made v h .mine)
+    where
+      q : ℕ
+      q = next-at j made v h .row
+
+      low : q < j .matrix .n
+      low = next-at j made v h .below
+
+      go : (B : Tree) → Tiled (neighbours (j .matrix)) (j .plan .order) top B → ownerIn (top .first) q B ≡ v → unfinished fin (node top B none) ≡ true
+      go none i o = rw (live j made v h top (held j W q low) o) refl
+      go (node k kb kn) i o =
+          rw (live-unfinished (neighbours (j .matrix)) (j .plan .order) fin (node k kb kn) (top .first) (top .start) (top .start + top .length) q v (i .0)
+            (holds-in top q (held j W q low) .0) (holds-in top q (held j W q low) .1) o (live j made v h)) refl
+
+  -- so some worker can go on
+  found : (v : ℕ) → count made v < accesses j v → FoundIn j made top (W .below)
+  unfolding upTo
+  found v h =
+      dive j made top (W .below) (W .under .tiles) (W .under .pairs) (W .some) ready-all (opened v h)
+      (λ m t p w. seek j made (W .below) (W .below) m (top .first) (top .start) (top .start + top .length) (top .first) (top .first + top .workers) t p
+        (λ q x y. sym (own j W q (omega (arith, W .start, W .length)))) ready-all w)
+    where
+      ready-all : Ready j made (top .first) (top .first + top .workers) (top .start)
+      ready-all w x y = subst (Past j made w) (sym (W .start)) (omega arith)
+
+  -- .. and may move
+  pub someone : (v : ℕ) → count made v < accesses j v → (w : ℕ) × Able j made w
+  unfolding workers accesses updates waits blocked
+  someone v h = (w, record { inPlan = in-plan; left = left; going = going })
+    where
+      k : FoundIn j made top (W .below)
+      k = found v h
+
+      w : ℕ
+      w = k .worker
+
+      in-plan : w < workers j
+      in-plan = rw (W .crew) (omega (arith, k .to-l, W .first))
+
+      left : count made w < accesses j w
+      left = omega (arith, k .high, cum-mono j w (k .b) (j .matrix .n) (omega (arith, k .to-e, W .start, W .length)))
+
+      at : At j w (j .matrix .n) (count made w / 2)
+      at = next-at j made w left
+
+      from-a : k .a ≤ at .row
+      from-a = go (ltb (at .row) (k .a)) refl
+        where
+          go : (b : Bool) → ltb (at .row) (k .a) ≡ b → k .a ≤ at .row
+          go true e = absurd (omega (arith, cum-mono j w (suc (at .row)) (k .a) (ltb-true (at .row) (k .a) e), k .low, at .high))
+          go false e = ltb-false (at .row) (k .a) e
+
+      to-b : at .row < k .b
+      to-b = go (leb (k .b) (at .row)) refl
+        where
+          go : (b : Bool) → leb (k .b) (at .row) ≡ b → at .row < k .b
+          go true e = absurd (omega (arith, cum-mono j w (k .b) (at .row) (leb-true (k .b) (at .row) e), k .high, at .low))
+          go false e = leb-false (k .b) (at .row) e
+
+      going : waits j made w ≡ false
+      going =
+          rw (next-row j made w left, W .is)
+          (free-here fin (node top (W .below) none) top (W .below) none (at .row)
+            (ap (λ (b : Bool). b && redOpen fin (node top (W .below) none)) (ne-eqb (top .colour) blue (λ e. omega (arith, W .colour)))) (k .free (at .row) from-a to-b) refl)
+
+  -- ---- the ready set
+
+  undone : (k : ℕ) → allMade j made k ≡ false → (v : ℕ) × (count made v < accesses j v)
+  unfolding allMade
+  undone zero h = absurd (true≢false h)
+  undone (suc k) h = go (leb (accesses j k) (count made k)) refl (undone k)
+    where
+      go : (b : Bool) → leb (accesses j k) (count made k) ≡ b → (allMade j made k ≡ false → (v : ℕ) × (count made v < accesses j v)) → (v : ℕ) × (count made v < accesses j v)
+      go true e ih = ih (sym (ap (λ (b : Bool). b && allMade j made k) e) ∙ h)
+      go false e ih = (k, leb-false (accesses j k) (count made k) e)
+
+  -- until the run is finished some worker may move
+  pub some-able : over j made ≡ false → (w : ℕ) × Able j made w
+  unfolding over
+  some-able h = let (v, l) = undone (workers j) h in someone v l
+
+  ready-some : (w k : ℕ) → w < k → refusal j made w ≡ 0 → 1 ≤ length (readyBelow j made k)
+  unfolding readyBelow
+  ready-some w zero l e = absurd (omega arith)
+  ready-some w (suc k) l e = go (same-or w k) (λ m. ready-some w k m e)
+    where
+      go : (w ≡ k) ⊎ (w ≢ k) → (w < k → 1 ≤ length (readyBelow j made k)) → 1 ≤ length (cond (eqb (refusal j made k) 0) (k ∷ readyBelow j made k) (readyBelow j made k))
+      go (inl q) ih = rw (eq-eqb (refusal j made k) 0 (subst (λ (y : ℕ). refusal j made y ≡ 0) q e)) (omega arith)
+      go (inr q) ih = by (eqb (refusal j made k) 0)
+        where
+          by : (b : Bool) → 1 ≤ length (cond b (k ∷ readyBelow j made k) (readyBelow j made k))
+          by true = omega arith
+          by false = ih (omega arith)
+
+  -- .. and the ready set is not empty
+  pub progress : over j made ≡ false → 1 ≤ length (ready j made)
+  unfolding ready
+  progress h = let (w, a) = some-able h in ready-some w (workers j) (a .inPlan) (able-refusal j made w a)
