@@ -28,3 +28,4 @@ pub mod Bound
 pub mod Past
 pub mod Seek
 pub mod Progress
+pub mod Counting
