@@ -186,3 +186,7 @@ module _ {ℓ} {A : Type ℓ} where
   map-range-at f k zero i d l = absurd (omega arith)
   map-range-at f k (suc m) zero d l = (let e : k ≡ k + 0 = omega arith in ap f e)
   map-range-at f k (suc m) (suc i) d l = map-range-at f (suc k) m i d (omega arith) ∙ (let e : suc k + i ≡ k + suc i = omega arith in ap f e)
+
+  -- .. from 0 on
+  pub map-range-zero : (f : ℕ → A) (m i : ℕ) (d : A) → i < m → getD (map f (range 0 m)) i d ≡ f i
+  map-range-zero f m i d l = map-range-at f 0 m i d l ∙ (let e : 0 + i ≡ i = omega arith in ap f e)

@@ -29,3 +29,8 @@ pub mod Past
 pub mod Seek
 pub mod Progress
 pub mod Counting
+pub mod LeafOrder
+pub mod Tally
+pub mod Small
+pub mod Accepted
+pub mod EveryRun

@@ -1,0 +1,79 @@
+-- The model's counts together are the steps that its answers say were taken.
+use mathlib.Core.Path.{_≡_, refl, _∙_}
+use mathlib.Core.Bool.{Bool, true, false}
+use mathlib.Core.List.{List, [], _∷_}
+use Prim.Native.Nat.{ℕ, zero, suc, _+_, _≤_, _<_}
+use native.Mathlib.Omega.{arith}
+use lib.ListN.{length, set, replicate, length-set}
+use lib.Seq.{getD-set-same, getD-set-other}
+use lib.Dec.{leb}
+use lib.IntN.{ℤ}
+use Rattle.base.specs.Lists.{sumBelow}
+use Rattle.base.proofs.Sums.{sum-below-more}
+use Rattle.matrix.specs.Product.{product}
+use Rattle.plan.specs.Sound.{maxWorkers}
+use Rattle.run.specs.Job.{Job}
+use Rattle.run.specs.Updates.{count}
+use Rattle.run.specs.Machine.{workers, refusal, onward, over}
+use Rattle.run.specs.Calls.{Call, picks, readySet, forceList, pickedOf, readyOf, forcesOf}
+use Rattle.run.specs.Model.{noCounts, oneNoted, note, modelAnswer, modelAfter, modelAnswers, modelCounts}
+use Rattle.run.specs.EveryRun.{takenOf, takenIn}
+use Rattle.run.proofs.Invariant.{zero-count}
+use Rattle.run.proofs.Able.{able}
+use Rattle.run.proofs.Schedule.{note-on, note-end}
+
+module _ (j : Job) (few : workers j ≤ maxWorkers) where
+  -- how many accesses the plan's workers have made
+  abbrev pub madeIn : List ℕ → ℕ
+  madeIn made = sumBelow (count made) (workers j)
+
+  -- from the counts `made` to `new` by k steps
+  record Tally (made new : List ℕ) (k : ℕ) : Type 0 where
+    more : madeIn new ≡ madeIn made + k
+    long : length new ≡ maxWorkers
+
+  one-more : (made : List ℕ) (w : ℕ) → length made ≡ maxWorkers → w < workers j → madeIn (onward made w) ≡ madeIn made + 1
+  unfolding onward
+  one-more made w l h =
+      sum-below-more (count made) (count (set made w (suc (count made w)))) 1 (workers j) w h
+      (getD-set-same made w (suc (count made w)) 0 (omega arith) ∙ (let e : suc (count made w) ≡ count made w + 1 = omega arith in e))
+      (λ v d. getD-set-other made w v (suc (count made w)) 0 d)
+
+  -- a schedule
+  noted : (made ws : List ℕ) → length made ≡ maxWorkers → Tally made (note j made ws .made) (note j made ws .taken)
+  unfolding note oneNoted onward
+  noted made [] l = record { more = omega arith; long = l }
+  noted made (w ∷ ws) l = go (refusal j made w) refl (noted (onward made w) ws (length-set made w (suc (count made w)) ∙ l))
+    where
+      go : (k : ℕ) → refusal j made w ≡ k → Tally (onward made w) (note j (onward made w) ws .made) (note j (onward made w) ws .taken)
+          → Tally made (note j made (w ∷ ws) .made) (note j made (w ∷ ws) .taken)
+      go zero e ih = rw (note-on j made w ws e) (record { more = omega (arith, ih .more, one-more made w l (able j made w e .inPlan)); long = ih .long })
+      go (suc k) e ih = rw (note-end j made w ws k e) (record { more = omega arith; long = l })
+
+  -- a call
+  called : (made : List ℕ) (c : Call) → length made ≡ maxWorkers → Tally made (modelAfter j made c) (takenOf (modelAnswer j made c))
+  unfolding modelAfter modelAnswer takenOf pickedOf readyOf forcesOf
+  called made (picks ws) l = noted made ws l
+  called made readySet l = record { more = omega arith; long = l }
+  called made (forceList room) l =
+      record { more = omega (arith, none (over j made) (leb (j .matrix .n) room) (j .matrix .n) (product (j .matrix) (j .displacements))); long = l }
+    where
+      none : (a b : Bool) (n : ℕ) (zs : List ℤ) → takenOf (forcesOf a b n zs) ≡ 0
+      none false b n zs = refl
+      none true false n zs = refl
+      none true true n zs = refl
+
+  -- a list of calls
+  tallied : (made : List ℕ) (cs : List Call) → length made ≡ maxWorkers → madeIn (modelCounts j made cs) ≡ madeIn made + takenIn (modelAnswers j made cs)
+  unfolding modelCounts modelAnswers takenIn
+  tallied made [] l = omega arith
+  tallied made (c ∷ cs) l = let t = called made c l in omega (arith, t .more, tallied (modelAfter j made c) cs (t .long))
+
+  -- .. from the start
+  pub taken-all : (cs : List Call) → madeIn (modelCounts j noCounts cs) ≡ takenIn (modelAnswers j noCounts cs)
+  unfolding noCounts sumBelow
+  taken-all cs = omega (arith, tallied (replicate maxWorkers 0) cs refl, none (workers j))
+    where
+      none : (k : ℕ) → sumBelow (count (replicate maxWorkers 0)) k ≡ 0
+      none zero = refl
+      none (suc k) = omega (arith, none k, zero-count k)
