@@ -14,12 +14,13 @@ use Rattle.base.proofs.Booleans.{and-left, and-right, conj-first, conj-at}
 use Rattle.matrix.specs.Matrix.{neighbours}
 use Rattle.plan.specs.Groups.{Group, whole}
 use Rattle.plan.specs.Sound.{maxWorkers, maxGroups, eachOnce, depthFirst, children, tiled, likeApart, childrenSound, allSound, sound}
+use Rattle.plan.proofs.Children.{children-skip}
+use Rattle.plan.proofs.Records.{Down, down}
+use Rattle.plan.proofs.Pair.{pair-of}
 use Rattle.run.specs.Job.{Job}
 use Rattle.run.specs.Tree.{Tree, none, node, forest, tree}
 use Rattle.run.specs.Machine.{workersOf}
 use Rattle.run.proofs.SoundTree.{tops, Tiles, Tiled, Pairs, Paired}
-use Rattle.run.proofs.Records.{children-skip, Down, down}
-use Rattle.run.proofs.Pair.{pair-of}
 
 -- the first siblings of a forest are the children of its group
 tops-children : (up i : ℕ) (gs : List Group) → tops (forest up i gs) ≡ children up gs

@@ -12,8 +12,6 @@ pub mod Blocked
 pub mod SoundTree
 pub mod Apart
 pub mod Exclude
-pub mod Records
-pub mod Pair
 pub mod Forest
 pub mod RowUpdates
 pub mod Work
