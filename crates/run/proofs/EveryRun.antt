@@ -33,20 +33,20 @@ module _ (j : Job) (ok : Accepted j) (cs : List Call) where
   kept : AllKept j (facts j ok) (fresh (j .matrix .n)) cs
   kept = calls-model j (facts j ok) (fresh (j .matrix .n)) (inv-fresh j) cs
 
-  inv : Inv j (runState j cs)
+  pub inv : Inv j (runState j cs)
   unfolding runState
   inv = kept .inv
 
-  counted : runState j cs .made ≡ modelCounts j noCounts cs
+  pub counted : runState j cs .made ≡ modelCounts j noCounts cs
   unfolding runState fresh noCounts
   counted = kept .made
 
-  answered : runAnswers j cs ≡ modelAnswers j noCounts cs
+  pub answered : runAnswers j cs ≡ modelAnswers j noCounts cs
   unfolding runAnswers fresh noCounts
   answered = kept .same
 
   -- the counts together are the steps taken
-  taken-is : madeIn j (facts j ok .few) (runState j cs .made) ≡ takenIn (runAnswers j cs)
+  pub taken-is : madeIn j (facts j ok .few) (runState j cs .made) ≡ takenIn (runAnswers j cs)
   taken-is = rw (counted, answered) (taken-all j (facts j ok .few) cs)
 
   whole : finishedRun j cs ≡ true → runForces j cs ≡ product (j .matrix) (j .displacements)

@@ -32,3 +32,4 @@ pub mod Tally
 pub mod Small
 pub mod Accepted
 pub mod EveryRun
+pub mod Consequences

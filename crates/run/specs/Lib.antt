@@ -5,3 +5,4 @@ pub mod Machine
 pub mod Calls
 pub mod Model
 pub mod EveryRun
+pub mod Consequences
