@@ -75,3 +75,8 @@ conj-at a (b ∷ bs) h (suc k) = conj-at (a && b) bs h k
 pub or-false : (b : Bool) → b || false ≡ b
 or-false true = refl
 or-false false = refl
+
+-- a test that cannot hold
+pub is-false : {b : Bool} → (b ≡ true → ⊥) → b ≡ false
+is-false {b = true} h = absurd (h refl)
+is-false {b = false} h = refl

@@ -5,33 +5,39 @@ use mathlib.Core.List.{List}
 use Prim.Native.Nat.{ℕ, _<_}
 use native.Mathlib.Omega.{arith}
 use lib.Dec.{ltb, leb}
-use borrow.Author.Tests.{ltb-true, lt-ltb, leb-false, lt-leb}
+use borrow.Author.Tests.{ltb-true, ltb-false, lt-ltb, le-ltb, leb-true, leb-false, le-leb, lt-leb}
 use Rattle.run.specs.Job.{Job}
 use Rattle.run.specs.Updates.{count, accesses, waits}
 use Rattle.run.specs.Machine.{workers, reason, refusal}
+use Rattle.run.specs.InOrder.{InOrder}
 
--- nothing refuses only who is in the plan, not done and not waiting
-pub reason-none : (a b c : Bool) → reason a b c ≡ 0 → (a ≡ true) × (b ≡ false) × (c ≡ false)
-unfolding reason
-reason-none false b c e = absurd (omega arith)
-reason-none true true c e = absurd (omega arith)
-reason-none true false true e = absurd (omega arith)
-reason-none true false false e = (refl, refl, refl)
+module _ (j : Job) (made : List ℕ) (w : ℕ) where
+  -- the refusals by the counts, in their order
+  pub in-order : InOrder j made w
+  unfolding refusal reason
+  in-order = record {
+    stranger = λ l. rw (le-ltb w (workers j) l) refl;
+    done = λ l m. rw (lt-ltb w (workers j) l, le-leb (accesses j w) (count made w) m) refl;
+    waiting = λ l m h. rw (lt-ltb w (workers j) l, lt-leb (accesses j w) (count made w) m, h) refl;
+    taken = λ l m h. rw (lt-ltb w (workers j) l, lt-leb (accesses j w) (count made w) m, h) refl;
+  }
 
--- w is a worker of the plan, has an access left, and does not wait
-pub record Able (j : Job) (made : List ℕ) (w : ℕ) : Type 0 where
-  pub inPlan : w < workers j
-  pub left : count made w < accesses j w
-  pub going : waits j made w ≡ false
+  -- w is a worker of the plan, has an access left, and does not wait
+  pub record Able : Type 0 where
+    pub inPlan : w < workers j
+    pub left : count made w < accesses j w
+    pub going : waits j made w ≡ false
 
--- a step that the counts do not refuse
-pub able : (j : Job) (made : List ℕ) (w : ℕ) → refusal j made w ≡ 0 → Able j made w
-unfolding refusal
-able j made w e =
-    let (a, b, c) = reason-none (ltb w (workers j)) (leb (accesses j w) (count made w)) (waits j made w) e in
-    record { inPlan = ltb-true w (workers j) a; left = leb-false (accesses j w) (count made w) b; going = c }
+  -- who is able is not refused
+  pub able-refusal : Able → refusal j made w ≡ 0
+  able-refusal a = in-order .taken (a .inPlan) (a .left) (a .going)
 
--- .. and the other way
-pub able-refusal : (j : Job) (made : List ℕ) (w : ℕ) → Able j made w → refusal j made w ≡ 0
-unfolding refusal reason
-able-refusal j made w h = rw (lt-ltb w (workers j) (h .inPlan), lt-leb (accesses j w) (count made w) (h .left), h .going) refl
+  -- .. and the other way
+  pub able : refusal j made w ≡ 0 → Able
+  able e = go (ltb w (workers j)) refl (leb (accesses j w) (count made w)) refl (waits j made w) refl
+    where
+      go : (a : Bool) → ltb w (workers j) ≡ a → (b : Bool) → leb (accesses j w) (count made w) ≡ b → (c : Bool) → waits j made w ≡ c → Able
+      go false x b y c z = absurd (omega (arith, e, in-order .stranger (ltb-false w (workers j) x)))
+      go true x true y c z = absurd (omega (arith, e, in-order .done (ltb-true w (workers j) x) (leb-true (accesses j w) (count made w) y)))
+      go true x false y true z = absurd (omega (arith, e, in-order .waiting (ltb-true w (workers j) x) (leb-false (accesses j w) (count made w) y) z))
+      go true x false y false z = record { inPlan = ltb-true w (workers j) x; left = leb-false (accesses j w) (count made w) y; going = z }

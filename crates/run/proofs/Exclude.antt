@@ -15,7 +15,8 @@ use Rattle.plan.specs.Groups.{Group, red, blue}
 use Rattle.plan.specs.Sound.{apart, rowsOf, likeApart}
 use Rattle.run.specs.Tree.{Tree, none, node, holds, ownerIn, unfinished, redOpen, blocked}
 use Rattle.run.proofs.Holds.{holds-in, holds-past, owner-here, owner-next}
-use Rattle.run.proofs.Blocked.{not-blocked, not-blocked-next}
+use Rattle.run.proofs.Open.{red-here, red-next}
+use Rattle.run.proofs.Blocked.{not-blocked-blue, not-blocked-below, not-blocked-next}
 use Rattle.run.proofs.SoundTree.{tops, Coloured, Tiles, Tiled}
 use Rattle.run.proofs.Apart.{Clear, clear-sym, apart-clear}
 
@@ -57,7 +58,7 @@ module _ (adj : ℕ → List ℕ) (order : List ℕ) (fin : Group → Bool) wher
     active-below h = record {
       low = holds-in g q h .0; high = holds-in g q h .1; inside = a .inside;
       owned = sym (owner-here g below next leader q h) ∙ a .owned; live = a .live;
-      free = not-blocked fin g below next all q (a .free) h .1;
+      free = not-blocked-below fin g below next all q (a .free) h;
     }
 
     -- seen from the later siblings, if the first does not hold it
@@ -70,15 +71,14 @@ module _ (adj : ℕ → List ℕ) (order : List ℕ) (fin : Group → Bool) wher
 
     -- a red group that holds it is open
     active-red : Tiled adj order g below → holds g q ≡ true → g .colour ≡ red → redOpen fin (node g below next) ≡ true
-    unfolding redOpen
     active-red t h c =
         let own : ownerIn leader q (node g below none) ≡ w = owner-here g below none leader q h ∙ sym (owner-here g below next leader q h) ∙ a .owned in
         let u = live-unfinished (node g below none) leader (g .start) (g .start + g .length) q w (refl, inl c, t, refl) (holds-in g q h .0) (holds-in g q h .1) own (a .live) in
-        rw (eq-eqb (g .colour) red c, u) refl
+        red-here fin g below next c u
 
     -- a blue group that holds it has no open red sibling
     active-blue : holds g q ≡ true → g .colour ≡ blue → redOpen fin all ≡ false
-    active-blue h c = not-blocked fin g below next all q (a .free) h .0 c
+    active-blue h c = not-blocked-blue fin g below next all q (a .free) h c
 
   module _ {n : ℕ} (G : Graph adj n) where
     -- p in the group g, q in a later sibling: of one colour they are apart, of two the red one's group is open and the blue one waits
@@ -87,12 +87,12 @@ module _ (adj : ℕ → List ℕ) (order : List ℕ) (fin : Group → Bool) wher
         → (T : Tree) (leader s e q w : ℕ) → Tiles adj order T s e
         → any (λ h. eqb (g .colour) (h .colour) && not (apart adj (rowsOf order g) (rowsOf order h))) (tops T) ≡ false
         → (redOpen fin T ≡ true → redOpen fin all ≡ true) → Active T all leader s e q w → Clear adj order p q
-    unfolding tops redOpen
+    unfolding tops
     cross g p hp lp cg all red blue none leader s e q w t k up a = absurd (omega (arith, a .low, a .high))
     cross g p hp lp cg all red blue (node h below next) leader s e q w t k up a =
         go (holds h q) refl
         (λ b. cross g p hp lp cg all red blue next leader (s + h .length) e q w (t .3) (or-right-false (like h) (any like (tops next)) k)
-          (λ z. up (rw z (or-true (eqb (h .colour) 1 && unfinished fin (node h below none))))) b)
+          (λ z. up (red-next fin h below next z)) b)
       where
         like : Group → Bool
         like h = eqb (g .colour) (h .colour) && not (apart adj (rowsOf order g) (rowsOf order h))
@@ -117,7 +117,7 @@ module _ (adj : ℕ → List ℕ) (order : List ℕ) (fin : Group → Bool) wher
     pub clear : (T all : Tree) (leader s e p q v w : ℕ) → Tiles adj order T s e → likeApart adj order (tops T) ≡ true
         → (redOpen fin T ≡ true → redOpen fin all ≡ true) → v ≢ w
         → Active T all leader s e p v → Active T all leader s e q w → Clear adj order p q
-    unfolding tops redOpen likeApart
+    unfolding tops likeApart
     clear none all leader s e p q v w t k up d a b = absurd (omega (arith, a .low, a .high))
     clear (node g below next) all leader s e p q v w t k up d a b =
         go (holds g p) refl (holds g q) refl
@@ -134,7 +134,7 @@ module _ (adj : ℕ → List ℕ) (order : List ℕ) (fin : Group → Bool) wher
         apart-next = and-right (not (any like (tops next))) (likeApart adj order (tops next)) k
 
         up-next : redOpen fin next ≡ true → redOpen fin all ≡ true
-        up-next z = up (rw z (or-true (eqb (g .colour) red && unfinished fin (node g below none))))
+        up-next z = up (red-next fin g below next z)
 
         -- p in this group, q in a later one
         here : (p q v w : ℕ) → Active (node g below next) all leader s e p v → holds g p ≡ true → Active (node g below next) all leader s e q w → holds g q ≡ false → Clear adj order p q

@@ -12,7 +12,7 @@ use Rattle.run.specs.Job.{Job}
 use Rattle.run.specs.Tree.{Tree, none, node, ownerIn, blocked}
 use Rattle.run.specs.Updates.{owner, accesses, count, finished, next, waits}
 use Rattle.run.proofs.Holds.{holds-in}
-use Rattle.run.proofs.Blocked.{not-blocked}
+use Rattle.run.proofs.Blocked.{not-blocked-below}
 use Rattle.run.proofs.SoundTree.{Tiled}
 use Rattle.run.proofs.Apart.{Touch, Clear}
 use Rattle.run.proofs.Exclude.{Active, clear}
@@ -33,8 +33,8 @@ module _ (j : Job) (W : WholePlan j) (long : length (j .plan .order) ≡ j .matr
     inside = omega (arith, low, long);
     owned = sym (own j W q low) ∙ next-at j made w l .mine;
     live = live j made w l;
-    free = not-blocked (finished j made) (W .top) (W .below) none (node (W .top) (W .below) none) q
-      (subst (λ (T : Tree). blocked (finished j made) q T T ≡ false) (W .is) (rw (next-row j made w l) at h)) (held j W q low) .1;
+    free = not-blocked-below (finished j made) (W .top) (W .below) none (node (W .top) (W .below) none) q
+      (subst (λ (T : Tree). blocked (finished j made) q T T ≡ false) (W .is) (rw (next-row j made w l) at h)) (held j W q low);
   }
     where
       q : ℕ

@@ -8,6 +8,7 @@ pub mod Taken
 pub mod Finished
 pub mod AsModel
 pub mod Holds
+pub mod Open
 pub mod Blocked
 pub mod SoundTree
 pub mod Apart
@@ -15,6 +16,7 @@ pub mod Exclude
 pub mod Forest
 pub mod RowUpdates
 pub mod Work
+pub mod Leaves
 pub mod Owners
 pub mod Next
 pub mod Exclusion

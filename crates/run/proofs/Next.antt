@@ -1,24 +1,25 @@
 -- A worker's next update: its row, its target, and that its leaf is not finished.
 use mathlib.Core.Path.{_≡_, refl, sym, ap, _∙_, subst}
 use mathlib.Core.Logic.{_⊎_, inl, inr}
-use mathlib.Core.Bool.{Bool, true, false, not}
+use mathlib.Core.Bool.{true, false, not}
 use mathlib.Core.List.{List}
 use Prim.Native.Nat.{ℕ, suc, _+_, _*_, _-_, _/_, _≤_, _<_}
 use native.Mathlib.Omega.{arith}
 use lib.ListN.{length, getD}
-use borrow.Author.Tests.{le-leb, lt-leb, leb-true, not-true}
+use borrow.Author.Tests.{not-true}
 use Rattle.base.specs.Lists.{isIn}
-use Rattle.base.proofs.Booleans.{clash}
+use Rattle.base.proofs.Booleans.{clash, is-false}
 use Rattle.matrix.specs.Matrix.{neighbours, adjacent}
 use Rattle.plan.specs.Groups.{Group}
 use Rattle.run.specs.Job.{Job, rowAt}
-use Rattle.run.specs.Tree.{Tree, tree, holds, blocked}
+use Rattle.run.specs.Tree.{Tree, tree, holds}
 use Rattle.run.specs.Updates.{Update, later, updates, accesses, count, finished, noUpdate, next, waits}
 use Rattle.run.proofs.Holds.{holds-in}
 use Rattle.run.proofs.Blocked.{blocked-mono}
 use Rattle.run.proofs.Apart.{Touch}
 use Rattle.run.proofs.RowUpdates.{row-row, row-target, later-in}
 use Rattle.run.proofs.Work.{cum, cum-mono, At, locate}
+use Rattle.run.proofs.Leaves.{past-finished, finished-past, left-unfinished}
 
 module _ (j : Job) where
   -- ---- update number k of worker w, wherever it is
@@ -67,9 +68,8 @@ module _ (j : Job) where
 
     -- the leaf that holds its row, if it is w's, is not finished
     pub live : (g : Group) → holds g (next-at .row) ≡ true → g .first ≡ w → finished j made g ≡ false
-    unfolding finished
     live g h e =
-        lt-leb (2 * cum j (g .first) (g .start + g .length)) (count made (g .first))
+        left-unfinished j made g
         (subst (λ (y : ℕ). count made y < 2 * cum j y (g .start + g .length)) (sym e)
           (omega (arith, next-at .high, cum-mono j w (suc (next-at .row)) (g .start + g .length) (holds-in g (next-at .row) h .1))))
 
@@ -78,29 +78,18 @@ module _ (j : Job) where
   module _ (made new : List ℕ) (grows : (v : ℕ) → count made v ≤ count new v) where
     -- a finished leaf stays finished
     finished-more : (g : Group) → finished j made g ≡ true → finished j new g ≡ true
-    unfolding finished
-    finished-more g h =
-        let m = 2 * cum j (g .first) (g .start + g .length) in
-        le-leb m (count new (g .first)) (omega (arith, leb-true m (count made (g .first)) h, grows (g .first)))
+    finished-more g h = past-finished j new g (omega (arith, finished-past j made g h, grows (g .first)))
 
     unfinished-less : (g : Group) → not (finished j new g) ≡ true → not (finished j made g) ≡ true
-    unfinished-less g x = go (finished j made g) refl
-      where
-        go : (b : Bool) → finished j made g ≡ b → not b ≡ true
-        go true y = absurd (clash (finished-more g y) (not-true (finished j new g) x))
-        go false y = refl
+    unfinished-less g x = rw (is-false (λ y. clash (finished-more g y) (not-true (finished j new g) x))) refl
 
     -- who does not wait does not wait later on in the same update
     pub lasts : (w : ℕ) → count made w / 2 ≡ count new w / 2 → waits j made w ≡ false → waits j new w ≡ false
     unfolding waits next
-    lasts w e h = rw (← e) (go (blocked (finished j new) q T T) refl)
+    lasts w e h = rw (← e) (is-false (λ b. clash (blocked-mono (finished j made) (finished j new) unfinished-less q T T b) h))
       where
         q : ℕ
         q = getD (updates j w) (count made w / 2) noUpdate .row
 
         T : Tree
         T = tree (j .plan .groups)
-
-        go : (b : Bool) → blocked (finished j new) q T T ≡ b → blocked (finished j new) q T T ≡ false
-        go true x = absurd (clash (blocked-mono (finished j made) (finished j new) unfinished-less q T T x) h)
-        go false x = x

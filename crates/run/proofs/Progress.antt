@@ -7,12 +7,12 @@ use Prim.Native.Nat.{ℕ, zero, suc, _+_, _/_, _≤_, _<_}
 use native.Mathlib.Omega.{arith}
 use lib.ListN.{length}
 use lib.Dec.{eqb, ltb, leb}
-use borrow.Author.Tests.{eq-eqb, ne-eqb, ltb-true, ltb-false, leb-true, leb-false}
+use borrow.Author.Tests.{eq-eqb, ltb-true, ltb-false, leb-true, leb-false}
 use Rattle.base.proofs.Booleans.{same-or}
 use Rattle.matrix.specs.Matrix.{neighbours}
-use Rattle.plan.specs.Groups.{Group, blue}
+use Rattle.plan.specs.Groups.{Group}
 use Rattle.run.specs.Job.{Job}
-use Rattle.run.specs.Tree.{Tree, none, node, ownerIn, unfinished, redOpen, blocked}
+use Rattle.run.specs.Tree.{Tree, none, node, ownerIn, unfinished, blocked}
 use Rattle.run.specs.Updates.{count, accesses, updates, upTo, finished, waits}
 use Rattle.run.specs.Machine.{workers, refusal, readyBelow, ready, allMade, over}
 use Rattle.run.proofs.Able.{Able, able-refusal}
@@ -24,7 +24,7 @@ use Rattle.run.proofs.Forest.{WholePlan}
 use Rattle.run.proofs.Work.{cum-mono, At}
 use Rattle.run.proofs.Owners.{held, own}
 use Rattle.run.proofs.Next.{next-at, next-row, live}
-use Rattle.run.proofs.Past.{Past}
+use Rattle.run.proofs.Leaves.{Past}
 use Rattle.run.proofs.Seek.{FoundIn, Ready, dive, seek}
 
 module _ (j : Job) (made : List ℕ) (W : WholePlan j) where
@@ -99,8 +99,7 @@ module _ (j : Job) (made : List ℕ) (W : WholePlan j) where
       going : waits j made w ≡ false
       going =
           rw (next-row j made w left, W .is)
-          (free-here fin (node top (W .below) none) top (W .below) none (at .row)
-            (ap (λ (b : Bool). b && redOpen fin (node top (W .below) none)) (ne-eqb (top .colour) blue (λ e. omega (arith, W .colour)))) (k .free (at .row) from-a to-b) refl)
+          (free-here fin top (W .below) none (node top (W .below) none) (at .row) (λ e. absurd (omega (arith, W .colour))) (k .free (at .row) from-a to-b) refl)
 
   -- ---- the ready set
 

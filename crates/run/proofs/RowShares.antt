@@ -9,7 +9,7 @@ use lib.Dec.{eqb}
 use lib.IntN.{ℤ, pos, _+ℤ_, _*ℤ_, +ℤ-idl, +ℤ-idr, zero-*ℤ}
 use borrow.Author.Tests.{eqb-true, eq-eqb, ne-eqb}
 use Rattle.base.specs.Lists.{isIn, range, filter, keep}
-use Rattle.base.proofs.Booleans.{or-cases, or-left-false, or-right-false, clash, same-or}
+use Rattle.base.proofs.Booleans.{or-cases, or-left-false, or-right-false, clash, same-or, is-false}
 use Rattle.base.proofs.Lists.{filter-in, filter-of, isIn-range, range-in}
 use Rattle.matrix.specs.Matrix.{adjacent, isMatrix}
 use Rattle.matrix.proofs.Matrix.{absent, symmetric}
@@ -40,11 +40,7 @@ module _ (φ : ℤ → ℤ) (φ0 : φ (pos 0) ≡ pos 0) (j : Job) where
 
   -- no number below k is in a part of k, k + 1, ..
   low-none : (P : ℕ → Bool) (k m t : ℕ) → t < k → isIn (filter P (range k m)) t ≡ false
-  low-none P k m t l = go (isIn (filter P (range k m)) t) refl
-    where
-      go : (b : Bool) → isIn (filter P (range k m)) t ≡ b → isIn (filter P (range k m)) t ≡ false
-      go true e = absurd (omega (arith, range-in t k m (filter-in P (range k m) t e) .0))
-      go false e = e
+  low-none P k m t l = is-false (λ e. absurd (omega (arith, range-in t k m (filter-in P (range k m) t e) .0)))
 
   -- a row that has t among qs
   others-one : (p t : ℕ) (P : ℕ → Bool) (k m : ℕ) → p ≢ t → isIn (filter P (range k m)) t ≡ true → landedBy φ t (withEach j p (filter P (range k m))) ≡ back p t

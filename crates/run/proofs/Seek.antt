@@ -5,20 +5,21 @@ use mathlib.Core.Bool.{Bool, true, false, not, _||_, true≢false}
 use mathlib.Core.List.{List}
 use Prim.Native.Nat.{ℕ, _+_, _*_, _≤_, _<_}
 use native.Mathlib.Omega.{arith}
-use lib.Dec.{eqb}
-use borrow.Author.Tests.{leb-false, not-true}
-use Rattle.base.proofs.Booleans.{and-false, or-false, or-left-false, or-right-false}
+use borrow.Author.Tests.{not-true}
+use Rattle.base.proofs.Booleans.{or-false, or-left-false, or-right-false}
 use Rattle.matrix.specs.Matrix.{neighbours}
-use Rattle.plan.specs.Groups.{Group, blue}
+use Rattle.plan.specs.Groups.{Group}
 use Rattle.run.specs.Job.{Job}
 use Rattle.run.specs.Tree.{Tree, none, node, holds, ownerIn, unfinished, redOpen, blocked}
 use Rattle.run.specs.Updates.{count, owner, finished}
 use Rattle.run.proofs.Holds.{in-holds, holds-past, past-holds, before-holds, owner-here, owner-next}
-use Rattle.run.proofs.Blocked.{free-next, free-here, unfinished-split}
+use Rattle.run.proofs.Open.{unfinished-split}
+use Rattle.run.proofs.Blocked.{free-next, free-here}
 use Rattle.run.proofs.SoundTree.{Tiles, Tiled, tiles-le, Pairs, Paired, pairs-le}
 use Rattle.run.proofs.Work.{cum, cum-const}
 use Rattle.run.proofs.Owners.{owner-range}
-use Rattle.run.proofs.Past.{Agree, agree-below, agree-next, Past, past-all}
+use Rattle.run.proofs.Leaves.{Past, unfinished-left}
+use Rattle.run.proofs.Past.{Agree, agree-below, agree-next, past-all}
 
 module _ (j : Job) (made : List ℕ) where
   abbrev adj : ℕ → List ℕ
@@ -67,11 +68,11 @@ module _ (j : Job) (made : List ℕ) where
   -- one open group whose workers are past its start: it is a leaf, or its children are looked through
   pub dive : (g : Group) (B : Tree) → Tiled adj ord g B → Paired g B → 1 ≤ g .workers → Ready (g .first) (g .first + g .workers) (g .start) → unfinished fin (node g B none) ≡ true
       → ((mode : Bool) → Tiles adj ord B (g .start) (g .start + g .length) → Pairs B (g .first) (g .first + g .workers) → Want mode B B → FoundIn g B) → FoundIn g B
-  unfolding unfinished blocked finished
+  unfolding unfinished blocked
   dive g none t p n r u ih = record {
     worker = g .first; a = g .start; b = g .start + g .length; from-s = omega arith; to-e = omega arith; from-f = omega arith; to-l = omega arith;
     low = r (g .first) (omega arith) (omega arith);
-    high = leb-false _ _ (not-true _ (sym (or-false (not (fin g))) ∙ u));
+    high = unfinished-left j made g (not-true _ (sym (or-false (not (fin g))) ∙ u));
     free = λ q x y. refl;
   }
   dive g (node k kb kn) t p n r u ih = go (redOpen fin (node k kb kn)) refl
@@ -84,7 +85,7 @@ module _ (j : Job) (made : List ℕ) where
   before-free : (all T : Tree) (s e q : ℕ) → Tiles adj ord T s e → q < s → blocked fin q all T ≡ false
   unfolding blocked
   before-free all none s e q t l = refl
-  before-free all (node g B next) s e q t l = rw (before-holds g q (omega (arith, t .0)), before-free all next (s + g .length) e q (t .3) (omega arith)) refl
+  before-free all (node g B next) s e q t l = free-next fin g B next all q (before-holds g q (omega (arith, t .0))) (before-free all next (s + g .length) e q (t .3) (omega arith))
 
   -- the owner of a pair's position does not depend on the later pairs
   own-pair : (r b : Group) (rb bb ks : Tree) (leader s q : ℕ) → r .start ≡ s → b .start ≡ s + r .length → s ≤ q → q < s + r .length + b .length
@@ -151,16 +152,16 @@ module _ (j : Job) (made : List ℕ) where
 
       in-r : FoundIn r rb → Found all (node r rb (node b bb ks)) s e f l
       in-r = widen all (node r rb (node b bb ks)) s e f l (omega (arith, t .0)) (omega (arith, t .0, le-r)) (omega (arith, p .1 .0)) (omega (arith, p .1 .0, le-l))
-          (λ q x z h. free-here fin all r rb (node b bb ks) q (rw (p .0 .0) refl) h (before-free all (node b bb ks) (s + r .length) e q (t .3) (omega (arith, t .0))))
+          (λ q x z h. free-here fin r rb (node b bb ks) all q (λ d. absurd (omega (arith, p .0 .0))) h (before-free all (node b bb ks) (s + r .length) e q (t .3) (omega (arith, t .0))))
 
       in-b : redOpen fin all ≡ false → FoundIn b bb → Found all (node r rb (node b bb ks)) s e f l
       in-b c = widen all (node r rb (node b bb ks)) s e f l (omega (arith, t .3 .0)) (omega (arith, t .3 .0, le-b)) (omega (arith, p .1 .1)) (omega (arith, p .1 .1, p .1 .3, le-l))
-          (λ q x z h. free-next fin all r rb (node b bb ks) q (past-holds r q (omega (arith, t .0, t .3 .0)))
-            (free-here fin all b bb ks q (rw c (and-false (eqb (b .colour) blue))) h (before-free all ks (s + r .length + b .length) e q (t .3 .3) (omega (arith, t .3 .0)))))
+          (λ q x z h. free-next fin r rb (node b bb ks) all q (past-holds r q (omega (arith, t .0, t .3 .0)))
+            (free-here fin b bb ks all q (λ d. c) h (before-free all ks (s + r .length + b .length) e q (t .3 .3) (omega (arith, t .3 .0)))))
 
       in-ks : Found all ks (s + r .length + b .length) e (f + r .workers) l → Found all (node r rb (node b bb ks)) s e f l
       in-ks = widen all (node r rb (node b bb ks)) s e f l (omega arith) (omega arith) (omega arith) (omega arith)
-          (λ q x z h. free-next fin all r rb (node b bb ks) q (past-holds r q (omega (arith, t .0))) (free-next fin all b bb ks q (past-holds b q (omega (arith, t .3 .0))) h))
+          (λ q x z h. free-next fin r rb (node b bb ks) all q (past-holds r q (omega (arith, t .0))) (free-next fin b bb ks all q (past-holds b q (omega (arith, t .3 .0))) h))
 
       red-of : redOpen fin (node r rb (node b bb ks)) ≡ unfinished fin (node r rb none) || redOpen fin ks
       red-of = rw (p .0 .0, p .0 .1) refl

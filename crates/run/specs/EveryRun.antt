@@ -2,7 +2,7 @@
 use mathlib.Core.Path.{_≡_}
 use mathlib.Core.Bool.{Bool, true, false}
 use mathlib.Core.List.{List, [], _∷_}
-use Prim.Native.Nat.{ℕ, zero, suc, _+_, _*_, _%_, _≤_, _<_, _^_}
+use Prim.Native.Nat.{ℕ, _+_, _*_, _%_, _≤_, _<_, _^_}
 use lib.ListN.{length, getD, take}
 use lib.IntN.{ℤ, pos}
 use Rattle.matrix.specs.Matrix.{adjacentPairs}
@@ -10,8 +10,8 @@ use Rattle.matrix.specs.Product.{forceAt, product}
 use Rattle.run.specs.Job.{Job, Accepted}
 use Rattle.run.specs.Tree.{tree, leaves}
 use Rattle.run.specs.Updates.{count, next, updates, accesses, leafByLeaf}
-use Rattle.run.specs.Machine.{State, fresh, workers, Outcome, moved, load, store, step, steps, ready, over, original}
-use Rattle.run.specs.Calls.{Call, picks, readySet, forceList, Answer, picked, isReady, forces, refused, answer, answers, afterAll}
+use Rattle.run.specs.Machine.{State, fresh, workers, moved, load, store, step, steps, ready, over, original}
+use Rattle.run.specs.Calls.{Call, forceList, Answer, picked, isReady, forces, refused, answer, answers, afterAll}
 use Rattle.run.specs.Model.{noCounts, modelAnswers, modelCounts}
 
 -- from s to t by the one load or store that document 01 gives worker w next, and nothing else

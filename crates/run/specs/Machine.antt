@@ -1,10 +1,10 @@
 -- The machine: one step (document 01's pick) is one load or one store.
 use mathlib.Core.Bool.{Bool, true, false, _&&_, cond}
 use mathlib.Core.List.{List, [], _∷_, map}
-use Prim.Native.Nat.{ℕ, zero, suc, _+_, _*_, _^_, _%_}
+use Prim.Native.Nat.{ℕ, zero, suc, _+_, _^_, _%_}
 use lib.ListN.{length, getD, set, replicate}
 use lib.Dec.{eqb, ltb, leb}
-use lib.IntN.{ℤ, pos, negsuc, _+ℤ_}
+use lib.IntN.{ℤ, pos, _+ℤ_}
 use Rattle.base.specs.Lists.{range}
 use Rattle.base.specs.Integers.{fits64}
 use Rattle.base.specs.Refusals as no

@@ -1,7 +1,7 @@
 -- The groups of a plan as a tree. `node g below next`: a group, its children, and its later siblings.
 use mathlib.Core.Bool.{Bool, true, false, not, _&&_, _||_}
 use mathlib.Core.List.{List, [], _∷_, _++_}
-use Prim.Native.Nat.{ℕ, zero, suc, _+_}
+use Prim.Native.Nat.{ℕ, suc, _+_}
 use lib.Dec.{eqb, ltb, leb}
 use Rattle.plan.specs.Groups.{Group, red, blue}
 

@@ -9,7 +9,7 @@ use Rattle.base.specs.Lists.{filter, range}
 use Rattle.matrix.specs.Matrix.{entry, adjacent, displacement}
 use Rattle.plan.specs.Groups.{Group}
 use Rattle.run.specs.Job.{Job, rowAt}
-use Rattle.run.specs.Tree.{Tree, tree, ownerIn, blocked}
+use Rattle.run.specs.Tree.{tree, ownerIn, blocked}
 
 -- a load and its store: the plan position of the row that makes it, the position of its sum, what is added
 pub record Update : Type 0 where
