@@ -1,0 +1,3 @@
+//! Another implementation of document 01, written from its sentences alone, to test and time against.
+
+pub mod oracle;

@@ -1,0 +1,294 @@
+//! The eight calls on byte lists, as C makes them: little-endian numbers, and one answer word.
+//!
+//! The word has the refusal's number in its high half; its low half is the refusal's place or the call's count.
+
+use super::machine::{self, Lent, State};
+use super::matrix::Rows;
+use super::{planner, soundness, text, Refusal, WORKERS};
+
+/// The bytes of a state: sixteen counts of moves, then sixteen held numbers.
+pub const STATE_BYTES: usize = WORKERS * (4 + 8);
+/// More numbers than any accepted matrix or plan has in one list; the rest of a list is not read.
+const MOST_READ: usize = 1 << 17;
+
+/// A matrix text into row starts, columns and values; counts n.
+pub fn read(text: &[u8], row_starts: &mut [u8], columns: &mut [u8], values: &mut [u8]) -> u64 {
+    let mut read = || {
+        let matrix = text::read(text)?;
+        super::room(row_starts.len() / 4, matrix.starts.len())?;
+        super::room(columns.len() / 4, matrix.columns.len())?;
+        super::room(values.len() / 4, matrix.values.len())?;
+        put(row_starts, &matrix.starts, u32::to_le_bytes);
+        put(columns, &matrix.columns, u32::to_le_bytes);
+        put(values, &matrix.values, i32::to_le_bytes);
+        Ok(matrix.n)
+    };
+    word(read())
+}
+
+/// The text of a matrix; counts the bytes written.
+pub fn write(n: u32, row_starts: &[u8], columns: &[u8], values: &[u8], text: &mut [u8]) -> u64 {
+    let lists = Lists::of(n, row_starts, columns, values);
+    word(lists.rows().and_then(|rows| text::write_into(rows, text)))
+}
+
+/// The product of a matrix and movements on one core.
+pub fn product(
+    n: u32,
+    row_starts: &[u8],
+    columns: &[u8],
+    values: &[u8],
+    movements: &[u8],
+    forces: &mut [u8],
+) -> u64 {
+    let lists = Lists::of(n, row_starts, columns, values);
+    let movements = get(movements, usize::MAX, i32::from_le_bytes);
+    let mut product = || {
+        let rows = lists.rows()?;
+        super::matrix::judge_movements(rows.n, &movements)?;
+        super::room(forces.len() / 8, rows.n)?;
+        put(forces, &rows.product(&movements), i64::to_le_bytes);
+        Ok(0)
+    };
+    word(product())
+}
+
+/// The plan of a matrix; counts its groups.
+#[allow(clippy::too_many_arguments)]
+pub fn plan(
+    n: u32,
+    row_starts: &[u8],
+    columns: &[u8],
+    values: &[u8],
+    workers: u32,
+    p: u32,
+    order: &mut [u8],
+    groups: &mut [u8],
+) -> u64 {
+    let lists = Lists::of(n, row_starts, columns, values);
+    let mut plan = || {
+        let rows = lists.rows()?;
+        planner::judge_limits(workers, p)?;
+        let plan = planner::plan(rows, workers, p);
+        super::room(order.len() / 4, rows.n)?;
+        super::room(groups.len() / 4 / 6, plan.groups.len())?;
+        put(order, &plan.order, u32::to_le_bytes);
+        put(groups, plan.groups.as_flattened(), u32::to_le_bytes);
+        Ok(plan.group_count())
+    };
+    word(plan())
+}
+
+/// The check of a plan.
+pub fn check(
+    n: u32,
+    row_starts: &[u8],
+    columns: &[u8],
+    values: &[u8],
+    order: &[u8],
+    groups: &[u8],
+    group_count: u32,
+) -> u64 {
+    let lists = Lists::of(n, row_starts, columns, values);
+    let order = get(order, MOST_READ, u32::from_le_bytes);
+    let groups = get(groups, MOST_READ, u32::from_le_bytes);
+    let checked = lists
+        .rows()
+        .and_then(|rows| soundness::check(rows, &order, &groups, group_count).map(|_| 0));
+    word(checked)
+}
+
+/// Picks of a run; counts those taken.
+#[allow(clippy::too_many_arguments)]
+pub fn picks(
+    n: u32,
+    row_starts: &[u8],
+    columns: &[u8],
+    values: &[u8],
+    movements: &[u8],
+    order: &[u8],
+    groups: &[u8],
+    group_count: u32,
+    state: &mut [u8],
+    sums: &mut [u8],
+    picks: &[u8],
+) -> u64 {
+    let lists =
+        Lists::of(n, row_starts, columns, values).with_plan(movements, order, groups, group_count);
+    let mut run = || {
+        let mut numbers = lists.state(state)?;
+        let mut list = get(sums, usize::MAX, i64::from_le_bytes);
+        let picked = machine::picks(&lists.lent(), &mut numbers, &mut list, picks);
+        let unchanged = [5, 6, 8, 11];
+        if !picked
+            .stopped
+            .is_some_and(|refusal| unchanged.contains(&refusal.number))
+        {
+            put_state(state, &numbers);
+            put(sums, &list, i64::to_le_bytes);
+        }
+        picked.stopped.map_or(Ok(picked.taken), Err)
+    };
+    word(run())
+}
+
+/// The ready set of a run: sixteen bits, plus the count × 65,536.
+#[allow(clippy::too_many_arguments)]
+pub fn ready(
+    n: u32,
+    row_starts: &[u8],
+    columns: &[u8],
+    values: &[u8],
+    movements: &[u8],
+    order: &[u8],
+    groups: &[u8],
+    group_count: u32,
+    state: &[u8],
+    sums: &[u8],
+) -> u64 {
+    let lists =
+        Lists::of(n, row_starts, columns, values).with_plan(movements, order, groups, group_count);
+    let ready = || {
+        let numbers = lists.state(state)?;
+        let list = get(sums, usize::MAX, i64::from_le_bytes);
+        let ready = machine::ready(&lists.lent(), &numbers, &list)?;
+        Ok(ready.count << 16 | u32::from(ready.set))
+    };
+    word(ready())
+}
+
+/// The force list of a finished run.
+#[allow(clippy::too_many_arguments)]
+pub fn forces(
+    n: u32,
+    row_starts: &[u8],
+    columns: &[u8],
+    values: &[u8],
+    movements: &[u8],
+    order: &[u8],
+    groups: &[u8],
+    group_count: u32,
+    state: &[u8],
+    sums: &[u8],
+    forces: &mut [u8],
+) -> u64 {
+    let lists =
+        Lists::of(n, row_starts, columns, values).with_plan(movements, order, groups, group_count);
+    let mut run = || {
+        let numbers = lists.state(state)?;
+        let list = get(sums, usize::MAX, i64::from_le_bytes);
+        let mut out = vec![0; (forces.len() / 8).min(n as usize)];
+        machine::forces(&lists.lent(), &numbers, &list, &mut out)?;
+        put(forces, &out, i64::to_le_bytes);
+        Ok(0)
+    };
+    word(run())
+}
+
+/// The answer word.
+fn word(answer: Result<u32, Refusal>) -> u64 {
+    match answer {
+        Ok(count) => u64::from(count),
+        Err(Refusal { number, place }) => u64::from(number) << 32 | u64::from(place),
+    }
+}
+
+/// The numbers that bytes stand for, at most so many; a trailing part is none.
+fn get<const W: usize, T>(bytes: &[u8], most: usize, number: fn([u8; W]) -> T) -> Vec<T> {
+    let words = bytes.as_chunks().0;
+    let words = &words[..words.len().min(most)];
+    words.iter().map(|&word| number(word)).collect()
+}
+
+/// Puts numbers at the front of a list of bytes that has room for them.
+fn put<const W: usize, T: Copy>(bytes: &mut [u8], numbers: &[T], word: fn(T) -> [u8; W]) {
+    let words = bytes.as_chunks_mut().0;
+    for (place, &number) in words.iter_mut().zip(numbers) {
+        *place = word(number);
+    }
+}
+
+/// The state that 192 bytes stand for.
+fn get_state(bytes: &[u8]) -> Option<State> {
+    if bytes.len() != STATE_BYTES {
+        return None;
+    }
+    let (made, held) = bytes.split_at(WORKERS * 4);
+    Some(State {
+        made: get(made, WORKERS, u32::from_le_bytes).try_into().ok()?,
+        held: get(held, WORKERS, i64::from_le_bytes).try_into().ok()?,
+    })
+}
+
+/// Puts a state into its 192 bytes.
+fn put_state(bytes: &mut [u8], state: &State) {
+    let (made, held) = bytes.split_at_mut(WORKERS * 4);
+    put(made, &state.made, u32::to_le_bytes);
+    put(held, &state.held, i64::to_le_bytes);
+}
+
+/// The lists of numbers that a call's byte lists stand for.
+struct Lists {
+    n: u32,
+    starts: Vec<u32>,
+    columns: Vec<u32>,
+    values: Vec<i32>,
+    movements: Vec<i32>,
+    order: Vec<u32>,
+    groups: Vec<u32>,
+    group_count: u32,
+}
+
+impl Lists {
+    /// The lists of a matrix alone.
+    fn of(n: u32, row_starts: &[u8], columns: &[u8], values: &[u8]) -> Lists {
+        let starts = get(row_starts, MOST_READ, u32::from_le_bytes);
+        let stored = starts.get(n as usize).map_or(0, |&end| end as usize);
+        Lists {
+            n,
+            starts,
+            columns: get(columns, stored.min(MOST_READ), u32::from_le_bytes),
+            values: get(values, stored.min(MOST_READ), i32::from_le_bytes),
+            movements: Vec::new(),
+            order: Vec::new(),
+            groups: Vec::new(),
+            group_count: 0,
+        }
+    }
+
+    /// The same with movements and a plan.
+    fn with_plan(mut self, movements: &[u8], order: &[u8], groups: &[u8], count: u32) -> Lists {
+        self.movements = get(movements, usize::MAX, i32::from_le_bytes);
+        self.order = get(order, MOST_READ, u32::from_le_bytes);
+        self.groups = get(groups, MOST_READ, u32::from_le_bytes);
+        self.group_count = count;
+        self
+    }
+
+    /// The matrix, or 5.
+    fn rows(&self) -> Result<Rows<'_>, Refusal> {
+        Rows::lent(self.n, &self.starts, &self.columns, &self.values)
+    }
+
+    /// What a run's call is lent.
+    fn lent(&self) -> Lent<'_> {
+        Lent {
+            n: self.n,
+            starts: &self.starts,
+            columns: &self.columns,
+            values: &self.values,
+            movements: &self.movements,
+            order: &self.order,
+            groups: &self.groups,
+            group_count: self.group_count,
+        }
+    }
+
+    /// The state of a run's call; one that is not 192 bytes long gives 11 after 5, 6 and 8.
+    fn state(&self, bytes: &[u8]) -> Result<State, Refusal> {
+        match get_state(bytes) {
+            Some(state) => Ok(state),
+            None => Err(self.lent().judge().err().unwrap_or(Refusal::at(11, 0))),
+        }
+    }
+}

@@ -1,0 +1,238 @@
+//! Texts of every legal look, and damage to texts, rows and plans.
+
+use super::matrix::{Entry, Matrix};
+use super::prng::Prng;
+use super::text::LINE_1;
+
+/// Numbers at the borders of what lists of 32 bits may hold.
+const ODD_NUMBERS: [u32; 10] = [0, 1, 2, 15, 16, 4_095, 4_096, 4_097, 0x8000_0000, u32::MAX];
+
+/// Fields and lines that texts are damaged with.
+const ODD_FIELDS: [&str; 18] = [
+    "0",
+    "00",
+    "01",
+    "-0",
+    "-1",
+    "--1",
+    "+1",
+    "4096",
+    "4097",
+    "32768",
+    "32769",
+    "1000000000",
+    "1000000001",
+    "-1000000001",
+    "4294967297",
+    "9999999999",
+    "-9999999999",
+    "10000000000",
+];
+
+/// A legal text of a matrix: entries in any order, spaces and `%` lines as may be.
+pub fn random_text(rng: &mut Prng, matrix: &Matrix) -> Vec<u8> {
+    let mut out = LINE_1.to_vec();
+    while rng.chance(30) {
+        out.push(b'%');
+        let remark = rng.below(6);
+        out.extend((0..remark).map(|_| rng.one_of(b"% 1-x\xff\x00\r\t")));
+        out.push(b'\n');
+    }
+    let mut entries = matrix.entries();
+    if rng.chance(60) {
+        rng.shuffle(&mut entries);
+    }
+    let wide = rng.chance(30);
+    let n = i64::from(matrix.n);
+    random_line(rng, &mut out, wide, [n, n, entries.len() as i64]);
+    for Entry { row, column, value } in entries {
+        let numbers = [i64::from(row) + 1, i64::from(column) + 1, i64::from(value)];
+        random_line(rng, &mut out, wide, numbers);
+    }
+    out
+}
+
+/// Appends a line of three numbers, with more than one space between them if `wide`.
+fn random_line(rng: &mut Prng, out: &mut Vec<u8>, wide: bool, numbers: [i64; 3]) {
+    for (k, number) in numbers.into_iter().enumerate() {
+        let spaces = match k {
+            0 => 0,
+            _ if wide => 1 + rng.below(3),
+            _ => 1,
+        };
+        out.extend(std::iter::repeat_n(b' ', spaces));
+        out.extend(number.to_string().bytes());
+    }
+    out.push(b'\n');
+}
+
+/// Damages a text once: a byte, a field, or whole lines.
+pub fn damage_text(rng: &mut Prng, text: &mut Vec<u8>) {
+    if text.is_empty() || rng.chance(40) {
+        return damage_byte(rng, text);
+    }
+    let mut lines: Vec<Vec<u8>> = text
+        .split_inclusive(|&byte| byte == b'\n')
+        .map(<[u8]>::to_vec)
+        .collect();
+    let first = usize::from(lines.len() > 1 && rng.chance(95));
+    let line = first + rng.below(lines.len() - first);
+    match rng.below(7) {
+        0 => lines.insert(line, lines[rng.below(lines.len())].clone()),
+        1 => drop(lines.remove(line)),
+        2 => {
+            let other = first + rng.below(lines.len() - first);
+            lines.swap(line, other);
+        }
+        3 => {
+            let other = first + rng.below(lines.len() - first);
+            lines[line] = lines[other].clone();
+        }
+        _ => damage_field(rng, &mut lines[line]),
+    }
+    *text = lines.concat();
+}
+
+/// Changes, puts in or takes out one byte, or cuts the text.
+fn damage_byte(rng: &mut Prng, text: &mut Vec<u8>) {
+    let tail = text.len().saturating_sub(LINE_1.len());
+    let from = if rng.chance(97) { text.len() - tail } else { 0 };
+    let at = from + rng.below(text.len() - from + 1);
+    let byte = rng.one_of(b"0123456789 \n-+%\r\t.\x00\xff");
+    match rng.below(5) {
+        0 => text.truncate(at),
+        1 if at < text.len() => drop(text.remove(at)),
+        2 if at < text.len() => text[at] = byte,
+        _ => text.insert(at, byte),
+    }
+}
+
+/// Puts an odd number in place of a field of a line.
+fn damage_field(rng: &mut Prng, line: &mut Vec<u8>) {
+    let whole = line.ends_with(b"\n");
+    let body = &line[..line.len() - usize::from(whole)];
+    let mut fields: Vec<Vec<u8>> = body
+        .split(|&byte| byte == b' ')
+        .map(<[u8]>::to_vec)
+        .collect();
+    let field = rng.below(fields.len());
+    let small = 1 + rng.below(6);
+    fields[field] = match rng.below(3) {
+        0 => small.to_string().into_bytes(),
+        _ => rng.one_of(&ODD_FIELDS).as_bytes().to_vec(),
+    };
+    *line = fields.join(&b' ');
+    if whole {
+        line.push(b'\n');
+    }
+}
+
+/// Changes one number of a list: to its neighbour, to another of the list, or to an odd one.
+fn damage_number(rng: &mut Prng, list: &mut [u32]) {
+    if list.is_empty() {
+        return;
+    }
+    let at = rng.below(list.len());
+    list[at] = match rng.below(5) {
+        0 => list[at].wrapping_add(1),
+        1 => list[at].wrapping_sub(1),
+        2 | 3 => list[rng.below(list.len())],
+        _ => rng.one_of(&ODD_NUMBERS),
+    };
+}
+
+/// Damages the lists of a matrix once; some damage does no harm.
+pub fn damage_matrix(rng: &mut Prng, matrix: &mut Matrix) {
+    match rng.below(9) {
+        0 => matrix.n = rng.one_of(&ODD_NUMBERS),
+        1 => matrix.n = matrix.n.wrapping_add(rng.below(3) as u32).wrapping_sub(1),
+        2 => damage_number(rng, &mut matrix.starts),
+        3 | 4 => damage_number(rng, &mut matrix.columns),
+        5 if !matrix.values.is_empty() => {
+            let at = rng.below(matrix.values.len());
+            let odd = [0, 1, 1_000_000_001, -1_000_000_001, i32::MIN, i32::MAX];
+            matrix.values[at] = rng.one_of(&odd);
+        }
+        6 => damage_length(rng, &mut matrix.starts),
+        7 => damage_length(rng, &mut matrix.columns),
+        _ => damage_length(rng, &mut matrix.values),
+    }
+}
+
+/// Shortens a list by one, or lengthens it.
+fn damage_length<T: Default>(rng: &mut Prng, list: &mut Vec<T>) {
+    if rng.chance(60) {
+        list.pop();
+    } else {
+        list.push(T::default());
+    }
+}
+
+/// Damages the lists of a plan once; some damage does no harm.
+pub fn damage_plan(
+    rng: &mut Prng,
+    order: &mut Vec<u32>,
+    groups: &mut Vec<u32>,
+    group_count: &mut u32,
+) {
+    match rng.below(12) {
+        0 => damage_number(rng, order),
+        1 => damage_length(rng, order),
+        2 => damage_length(rng, groups),
+        3 => {
+            *group_count = group_count
+                .wrapping_add(rng.below(3) as u32)
+                .wrapping_sub(1)
+        }
+        4 => *group_count = rng.one_of(&[0, 1, 481, 482, 512, 513, u32::MAX]),
+        5 => swap_places(rng, order),
+        6 => swap_records(rng, groups),
+        7 | 8 => shift_border(rng, groups),
+        _ => damage_number(rng, groups),
+    }
+}
+
+/// Swaps two numbers of a list.
+fn swap_places(rng: &mut Prng, list: &mut [u32]) {
+    if !list.is_empty() {
+        let (one, two) = (rng.below(list.len()), rng.below(list.len()));
+        list.swap(one, two);
+    }
+}
+
+/// Swaps two records, or gives one record another's fields.
+fn swap_records(rng: &mut Prng, groups: &mut [u32]) {
+    let records = groups.as_chunks_mut::<6>().0;
+    if records.is_empty() {
+        return;
+    }
+    let (one, two) = (rng.below(records.len()), rng.below(records.len()));
+    if rng.chance(50) {
+        records.swap(one, two);
+    } else {
+        records[one] = records[two];
+    }
+}
+
+/// Shifts a plan position where records meet, in all of them, so that stretches still tile.
+fn shift_border(rng: &mut Prng, groups: &mut [u32]) {
+    let records = groups.as_chunks_mut::<6>().0;
+    if records.is_empty() {
+        return;
+    }
+    let border = records[rng.below(records.len())][0];
+    let shift = 1 + rng.below(3) as u32;
+    for record in records {
+        let end = record[0].wrapping_add(record[1]);
+        let start = record[0];
+        let moved = |place: u32| {
+            if place == border && place > 0 {
+                place.wrapping_add(shift)
+            } else {
+                place
+            }
+        };
+        record[0] = moved(start);
+        record[1] = moved(end).wrapping_sub(moved(start));
+    }
+}

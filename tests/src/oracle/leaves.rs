@@ -1,0 +1,144 @@
+//! The leaves of a sound plan as workers run them: their moves, and what must be finished before each.
+
+use super::matrix::Rows;
+use super::soundness::{SoundPlan, BLUE, RED};
+use super::WORKERS;
+
+/// A leaf, run by its first worker.
+#[derive(Clone, Debug)]
+pub struct Leaf {
+    pub worker: usize,
+    /// Its plan positions, from start up to end.
+    pub start: usize,
+    pub end: usize,
+    /// Its worker's moves made before it, and those made when it is finished.
+    pub moves_before: u32,
+    pub moves_end: u32,
+    /// The moves each worker must have made lest the leaf's worker wait.
+    pub awaited: [u32; WORKERS],
+}
+
+impl Leaf {
+    /// Whether a worker whose next move is in this leaf waits.
+    pub fn waits(&self, made: &[u32; WORKERS]) -> bool {
+        (0..WORKERS).any(|worker| made[worker] < self.awaited[worker])
+    }
+}
+
+/// All leaves of a plan, and the moves of each worker.
+pub struct Leaves {
+    /// The leaves in plan order.
+    pub leaves: Vec<Leaf>,
+    /// Each worker's moves, 0 outside the plan.
+    pub moves: [u32; WORKERS],
+    /// The number of the plan's workers.
+    pub workers: usize,
+    /// Joined rows later in plan order, of all rows before a plan position.
+    later: Vec<u32>,
+}
+
+impl Leaves {
+    /// The leaves of a sound plan.
+    pub fn of(matrix: Rows, plan: &SoundPlan) -> Leaves {
+        let later = later_before(matrix, plan);
+        let mut moves = [0; WORKERS];
+        let mut leaves = Vec::with_capacity(plan.leaves.len());
+        for &index in &plan.leaves {
+            let record = &plan.records[index];
+            let (start, end) = (record.start, record.start + record.length);
+            let worker = record.first_worker;
+            let moves_before = moves[worker];
+            moves[worker] += moves_between(&later, start, end);
+            leaves.push(Leaf {
+                worker,
+                start,
+                end,
+                moves_before,
+                moves_end: moves[worker],
+                awaited: [0; WORKERS],
+            });
+        }
+        await_reds(plan, &mut leaves);
+        Leaves {
+            leaves,
+            moves,
+            workers: plan.workers(),
+            later,
+        }
+    }
+
+    /// The index of the leaf of a worker's next move, from leaf `from` on; a leaf without moves has none.
+    pub fn next_leaf(&self, worker: usize, made: u32, from: usize) -> Option<usize> {
+        let leaves = &self.leaves[from..];
+        let next = |leaf: &Leaf| leaf.worker == worker && leaf.moves_end > made;
+        leaves.iter().position(next).map(|k| from + k)
+    }
+
+    /// The row, as plan position, of a leaf's worker's next move, and the moves made in it.
+    pub fn row_of_move(&self, leaf: &Leaf, made: u32) -> (usize, u32) {
+        let before = |place| leaf.moves_before + moves_between(&self.later, leaf.start, place);
+        let (mut row, mut end) = (leaf.start, leaf.end);
+        while end - row > 1 {
+            let middle = (row + end) / 2;
+            if before(middle) <= made {
+                row = middle;
+            } else {
+                end = middle;
+            }
+        }
+        (row, made - before(row))
+    }
+}
+
+/// The moves of the rows from one plan position up to another: two a row, four for each joined row later.
+fn moves_between(later: &[u32], start: usize, end: usize) -> u32 {
+    2 * (end - start) as u32 + 4 * (later[end] - later[start])
+}
+
+/// Joined rows later in plan order, counted for all rows before each of n + 1 plan positions.
+fn later_before(matrix: Rows, plan: &SoundPlan) -> Vec<u32> {
+    let mut later = vec![0; matrix.n + 1];
+    for freedom in 0..matrix.n {
+        let place = plan.places[freedom];
+        let joined = matrix.columns(freedom).iter();
+        let count: u32 = joined
+            .map(|&other| u32::from(plan.places[other as usize] > place))
+            .sum();
+        later[place as usize + 1] = count;
+    }
+    for place in 0..matrix.n {
+        later[place + 1] += later[place];
+    }
+    later
+}
+
+/// Fills what each leaf awaits: every leaf in a red sibling of each blue group that the leaf lies in, or is.
+fn await_reds(plan: &SoundPlan, leaves: &mut [Leaf]) {
+    let mut reds = vec![[0; WORKERS]; plan.records.len()];
+    for (leaf, &index) in leaves.iter().zip(&plan.leaves) {
+        for parent in parents_of(plan, index, RED) {
+            reds[parent][leaf.worker] = leaf.moves_end;
+        }
+    }
+    for (leaf, &index) in leaves.iter_mut().zip(&plan.leaves) {
+        for parent in parents_of(plan, index, BLUE) {
+            for (awaited, red) in leaf.awaited.iter_mut().zip(reds[parent]) {
+                *awaited = red.max(*awaited);
+            }
+        }
+    }
+}
+
+/// The parents of those groups of a colour that a group lies in, or is.
+fn parents_of(plan: &SoundPlan, group: usize, colour: u32) -> Vec<usize> {
+    let mut parents = Vec::new();
+    let mut group = group;
+    while group != 0 {
+        let record = &plan.records[group];
+        if record.colour == colour {
+            parents.push(record.parent);
+        }
+        group = record.parent;
+    }
+    parents
+}

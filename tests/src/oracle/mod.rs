@@ -1,0 +1,41 @@
+//! Document 01 a second time, in plain Rust with lists on the heap.
+
+pub mod book;
+pub mod calls;
+pub mod damage;
+pub mod leaves;
+pub mod machine;
+pub mod matrix;
+pub mod netplan;
+pub mod nets;
+pub mod planner;
+pub mod plans;
+pub mod prng;
+pub mod soundness;
+pub mod text;
+
+/// The most workers of a plan, and the workers that a state has room for.
+pub const WORKERS: usize = 16;
+
+/// A refusal: "Each is a number and a place (0 unless named)".
+#[derive(Clone, Copy, Debug, PartialEq, Eq)]
+pub struct Refusal {
+    pub number: u32,
+    pub place: u32,
+}
+
+impl Refusal {
+    /// The refusal of a number at a place.
+    pub const fn at(number: u32, place: usize) -> Refusal {
+        let place = place as u32;
+        Refusal { number, place }
+    }
+}
+
+/// Refusal 9 at the length needed if a lent list has room for less.
+pub fn room(lent: usize, needed: usize) -> Result<(), Refusal> {
+    if lent < needed {
+        return Err(Refusal::at(9, needed));
+    }
+    Ok(())
+}
