@@ -1,1 +1,2 @@
 // A symmetric matrix of whole numbers in full rows, its check, and its product with displacements.
+mod row;

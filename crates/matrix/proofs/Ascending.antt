@@ -1,0 +1,109 @@
+-- Ascending columns: the place of a column among them, and the value beside it.
+use mathlib.Core.Path.{_≡_, refl, sym, ap, _∙_, subst}
+use mathlib.Core.Logic.{_⊎_, inl, inr, _≢_}
+use mathlib.Core.Bool.{Bool, true, false, _||_, cond, true≢false}
+use mathlib.Core.List.{List, [], _∷_}
+use Prim.Native.Nat.{ℕ, zero, suc, _≤_, _<_}
+use native.Mathlib.Omega.{arith}
+use lib.Dec.{eqb, ltb}
+use lib.IntN.{ℤ, pos}
+use lib.ListN.{length, getD}
+use borrow.Author.Tests.{ltb-true, ltb-false, lt-ltb, le-ltb, eqb-true, eqb-false, eq-eqb, ne-eqb}
+use Rattle.base.specs.Lists.{filter, keep, isIn}
+use Rattle.base.proofs.Booleans.{and-left, and-right, or-true, or-cases, or-left-false, or-right-false}
+use Rattle.matrix.specs.Matrix.{ascending, lookup}
+use Rattle.matrix.specs.Checks.{placeIn}
+
+pub ascending-tail : (c : ℕ) (cs : List ℕ) → ascending (c ∷ cs) ≡ true → ascending cs ≡ true
+unfolding ascending
+ascending-tail c [] h = refl
+ascending-tail c (d ∷ cs) h = and-right (ltb c d) (ascending (d ∷ cs)) h
+
+-- the first column is below every other
+pub ascending-first : (c : ℕ) (cs : List ℕ) → ascending (c ∷ cs) ≡ true → (k : ℕ) → k < length cs → c < getD cs k 0
+unfolding ascending
+ascending-first c [] h k l = absurd (omega arith)
+ascending-first c (d ∷ cs) h zero l = ltb-true c d (and-left (ltb c d) (ascending (d ∷ cs)) h)
+ascending-first c (d ∷ cs) h (suc k) l =
+    let first = ltb-true c d (and-left (ltb c d) (ascending (d ∷ cs)) h) in
+    omega (arith, ascending-first d cs (and-right (ltb c d) (ascending (d ∷ cs)) h) k (omega arith))
+
+-- ---- the place of a column
+
+place-none : (c : ℕ) (cs : List ℕ) (j : ℕ) → ascending (c ∷ cs) ≡ true → j ≤ c → placeIn cs j ≡ 0
+unfolding placeIn
+place-none c [] j h l = refl
+place-none c (d ∷ cs) j h l =
+    let first = ascending-first c (d ∷ cs) h 0 (omega arith) in
+    rw (le-ltb d j (omega arith)) (place-none d cs j (ascending-tail c (d ∷ cs) h) (omega arith))
+
+-- a column below j stands before the place of j
+pub place-past : (cs : List ℕ) (j k : ℕ) → ascending cs ≡ true → k < length cs → getD cs k 0 < j → k < placeIn cs j
+unfolding placeIn
+place-past [] j k h l q = absurd (omega arith)
+place-past (c ∷ cs) j zero h l q = rw (lt-ltb c j q) (omega arith)
+place-past (c ∷ cs) j (suc k) h l q =
+    let first = ascending-first c cs h k (omega arith) in
+    rw (lt-ltb c j (omega arith)) (omega (arith, place-past cs j k (ascending-tail c cs h) (omega arith) q))
+
+-- a column not below j stands at the place of j or after it
+pub place-before : (cs : List ℕ) (j k : ℕ) → ascending cs ≡ true → k < length cs → j ≤ getD cs k 0 → placeIn cs j ≤ k
+unfolding placeIn
+place-before [] j k h l q = absurd (omega arith)
+place-before (c ∷ cs) j zero h l q = rw (le-ltb c j q) (omega (arith, place-none c cs j h q))
+place-before (c ∷ cs) j (suc k) h l q = go (ltb c j) refl (place-before cs j k (ascending-tail c cs h) (omega arith) q)
+  where
+    go : (b : Bool) → ltb c j ≡ b → placeIn cs j ≤ k → length (keep b c (filter (λ x. ltb x j) cs)) ≤ suc k
+    go true e ih = omega arith
+    go false e ih = omega arith
+
+-- a column that is there stands at its place
+pub isIn-place : (cs : List ℕ) (j : ℕ) → ascending cs ≡ true → isIn cs j ≡ true → (placeIn cs j < length cs) × (getD cs (placeIn cs j) 0 ≡ j)
+unfolding placeIn
+isIn-place [] j h m = absurd (true≢false (sym m))
+isIn-place (c ∷ cs) j h m = go (or-cases (eqb j c) (isIn cs j) m) (isIn-place cs j (ascending-tail c cs h))
+  where
+    go : (eqb j c ≡ true) ⊎ (isIn cs j ≡ true) → (isIn cs j ≡ true → (placeIn cs j < length cs) × (getD cs (placeIn cs j) 0 ≡ j))
+        → (placeIn (c ∷ cs) j < suc (length cs)) × (getD (c ∷ cs) (placeIn (c ∷ cs) j) 0 ≡ j)
+    go (inl e) ih =
+        let q : j ≡ c = eqb-true j c e in
+        rw (le-ltb c j (omega arith), place-none c cs j h (omega arith)) (omega arith)
+    go (inr e) ih =
+        let i = ih e in
+        let first = ascending-first c cs h (placeIn cs j) (i .0) in
+        rw (lt-ltb c j (omega arith)) (omega arith)
+
+-- a column that does not stand at its place is not there
+pub place-missing : (cs : List ℕ) (j p : ℕ) → ascending cs ≡ true → p ≡ placeIn cs j → (p < length cs → getD cs p 0 ≢ j) → isIn cs j ≡ false
+place-missing cs j p h e ne = go (isIn cs j) refl
+  where
+    go : (b : Bool) → isIn cs j ≡ b → b ≡ false
+    go true m =
+        let i = isIn-place cs j h m in
+        absurd (ne (omega arith) (ap (λ (q : ℕ). getD cs q 0) e ∙ i .1))
+    go false m = refl
+
+pub isIn-get : (cs : List ℕ) (k : ℕ) → k < length cs → isIn cs (getD cs k 0) ≡ true
+isIn-get [] k l = absurd (omega arith)
+isIn-get (c ∷ cs) zero l = rw (eq-eqb c c refl)
+isIn-get (c ∷ cs) (suc k) l = rw (isIn-get cs k (omega arith)) (or-true (eqb (getD cs k 0) c))
+
+-- ---- the value beside a column
+
+-- the value beside the column at place k
+pub lookup-get : (cs : List ℕ) (vs : List ℤ) (k : ℕ) → ascending cs ≡ true → k < length cs → lookup (getD cs k 0) cs vs ≡ getD vs k (pos 0)
+unfolding lookup
+lookup-get [] vs k h l = absurd (omega arith)
+lookup-get (c ∷ cs) [] k h l = refl
+lookup-get (c ∷ cs) (v ∷ vs) zero h l = rw (eq-eqb c c refl)
+lookup-get (c ∷ cs) (v ∷ vs) (suc k) h l =
+    let first = ascending-first c cs h k (omega arith) in
+    rw (ne-eqb (getD cs k 0) c (λ q. omega arith)) (lookup-get cs vs k (ascending-tail c cs h) (omega arith))
+
+-- beside no column there is 0
+pub lookup-missing : (cs : List ℕ) (vs : List ℤ) (j : ℕ) → isIn cs j ≡ false → lookup j cs vs ≡ pos 0
+unfolding lookup
+lookup-missing [] vs j m = refl
+lookup-missing (c ∷ cs) [] j m = refl
+lookup-missing (c ∷ cs) (v ∷ vs) j m =
+    rw (or-left-false (eqb j c) (isIn cs j) m) (lookup-missing cs vs j (or-right-false (eqb j c) (isIn cs j) m))

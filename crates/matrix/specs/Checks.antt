@@ -1,0 +1,42 @@
+-- What the check of a matrix goes through, pass by pass. `isMatrix` is the conjunction of the passes (proofs/Checks.antt).
+use mathlib.Core.Bool.{Bool, true, false, _&&_}
+use mathlib.Core.List.{List, [], _∷_}
+use Prim.Native.Nat.{ℕ, suc}
+use lib.Dec.{eqb, ltb, leb}
+use lib.IntN.{ℤ}
+use lib.ListN.{length, getD}
+use Rattle.base.specs.Lists.{filter, all, range}
+use Rattle.base.specs.Integers.{within}
+use Rattle.matrix.specs.Limits.{maxRows, maxValue}
+use Rattle.matrix.specs.Matrix.{Matrix, columnsOf, valuesOf, ascending, mirrored}
+
+-- the matrix of n rows that lent lists stand for
+abbrev pub matrixOf : (n : ℕ) (starts columns : List ℕ) (values : List ℤ) → Matrix
+matrixOf n starts columns values = record { n = n; starts = starts; columns = columns; values = values }
+
+-- row i starts where it should: not after row i + 1
+abbrev pub startsBefore : Matrix → ℕ → Bool
+startsBefore m i = leb (getD (m .starts) i 0) (getD (m .starts) (suc i) 0)
+
+-- the number of rows is within its limits, the row starts begin at 0 and never fall, and the lists hold the last row
+unfoldable pub shaped : Matrix → Bool
+shaped m =
+    leb 1 (m .n) && leb (m .n) maxRows
+    && leb (suc (m .n)) (length (m .starts)) && eqb (getD (m .starts) 0 0) 0
+    && leb (getD (m .starts) (m .n) 0) (length (m .columns)) && leb (getD (m .starts) (m .n) 0) (length (m .values))
+    && all (startsBefore m) (range 0 (m .n))
+
+-- a row's columns ascend and are below n, its values are within their limit
+unfoldable pub rowOrdered : (n : ℕ) → List ℕ → List ℤ → Bool
+rowOrdered n columns values = ascending columns && all (λ j. ltb j n) columns && all (within maxValue) values
+
+unfoldable pub ordered : Matrix → Bool
+ordered m = all (λ i. rowOrdered (m .n) (columnsOf m i) (valuesOf m i)) (range 0 (m .n))
+
+-- every entry is mirrored
+unfoldable pub symmetric : Matrix → Bool
+symmetric m = all (λ i. all (mirrored m i) (columnsOf m i)) (range 0 (m .n))
+
+-- how many numbers of a list are below c: in an ascending list, the place of c if it is there
+unfoldable pub placeIn : List ℕ → ℕ → ℕ
+placeIn xs c = length (filter (λ x. ltb x c) xs)
