@@ -1,16 +1,17 @@
 -- Ascending columns: the place of a column among them, and the value beside it.
-use mathlib.Core.Path.{_≡_, refl, sym, ap, _∙_, subst}
+use mathlib.Core.Path.{_≡_, refl, sym, ap, _∙_}
 use mathlib.Core.Logic.{_⊎_, inl, inr, _≢_}
-use mathlib.Core.Bool.{Bool, true, false, _||_, cond, true≢false}
+use mathlib.Core.Bool.{Bool, true, false, _&&_, true≢false}
 use mathlib.Core.List.{List, [], _∷_}
 use Prim.Native.Nat.{ℕ, zero, suc, _≤_, _<_}
 use native.Mathlib.Omega.{arith}
 use lib.Dec.{eqb, ltb}
 use lib.IntN.{ℤ, pos}
 use lib.ListN.{length, getD}
-use borrow.Author.Tests.{ltb-true, ltb-false, lt-ltb, le-ltb, eqb-true, eqb-false, eq-eqb, ne-eqb}
+use borrow.Author.Tests.{ltb-true, lt-ltb, le-ltb, eqb-true, eq-eqb, ne-eqb}
 use Rattle.base.specs.Lists.{filter, keep, isIn}
-use Rattle.base.proofs.Booleans.{and-left, and-right, or-true, or-cases, or-left-false, or-right-false}
+use Rattle.base.proofs.Booleans.{and-left, and-right, or-true, or-cases}
+use Rattle.base.specs.Integers.{same}
 use Rattle.matrix.specs.Matrix.{ascending, lookup}
 use Rattle.matrix.specs.Checks.{placeIn}
 
@@ -100,10 +101,7 @@ lookup-get (c ∷ cs) (v ∷ vs) (suc k) h l =
     let first = ascending-first c cs h k (omega arith) in
     rw (ne-eqb (getD cs k 0) c (λ q. omega arith)) (lookup-get cs vs k (ascending-tail c cs h) (omega arith))
 
--- beside no column there is 0
-pub lookup-missing : (cs : List ℕ) (vs : List ℤ) (j : ℕ) → isIn cs j ≡ false → lookup j cs vs ≡ pos 0
-unfolding lookup
-lookup-missing [] vs j m = refl
-lookup-missing (c ∷ cs) [] j m = refl
-lookup-missing (c ∷ cs) (v ∷ vs) j m =
-    rw (or-left-false (eqb j c) (isIn cs j) m) (lookup-missing cs vs j (or-right-false (eqb j c) (isIn cs j) m))
+-- the test of an entry's value, at the place of its column
+pub entry-test : (cs : List ℕ) (vs : List ℤ) (v : ℤ) (j p : ℕ) → ascending cs ≡ true → p < length cs → getD cs p 0 ≡ j
+    → isIn cs j && same v (lookup j cs vs) ≡ same v (getD vs p (pos 0))
+entry-test cs vs v j p h l e = rw (← e, isIn-get cs p l, lookup-get cs vs p h l)

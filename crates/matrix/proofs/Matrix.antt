@@ -30,7 +30,8 @@ lookup-all p j (c ∷ cs) (v ∷ vs) z h = go (eqb j c) (lookup-all p j cs vs z 
     go true ih = and-left (p v) (all p vs) h
     go false ih = ih
 
-lookup-none : (j : ℕ) (cs : List ℕ) (vs : List ℤ) → isIn cs j ≡ false → lookup j cs vs ≡ pos 0
+-- beside no column there is 0
+pub lookup-none : (j : ℕ) (cs : List ℕ) (vs : List ℤ) → isIn cs j ≡ false → lookup j cs vs ≡ pos 0
 unfolding lookup
 lookup-none j [] vs h = refl
 lookup-none j (c ∷ cs) [] h = refl
