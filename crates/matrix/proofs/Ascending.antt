@@ -3,14 +3,16 @@ use mathlib.Core.Path.{_≡_, refl, sym, ap, _∙_}
 use mathlib.Core.Logic.{_⊎_, inl, inr, _≢_}
 use mathlib.Core.Bool.{Bool, true, false, _&&_, true≢false}
 use mathlib.Core.List.{List, [], _∷_}
-use Prim.Native.Nat.{ℕ, zero, suc, _≤_, _<_}
+use Prim.Native.Nat.{ℕ, zero, suc, _+_, _≤_, _<_}
+use native.Mathlib.Numerals.{add-one}
 use native.Mathlib.Omega.{arith}
-use lib.Dec.{eqb, ltb}
+use lib.Dec.{eqb, ltb, leb, leb·zero}
 use lib.IntN.{ℤ, pos}
-use lib.ListN.{length, getD}
-use borrow.Author.Tests.{ltb-true, lt-ltb, le-ltb, eqb-true, eq-eqb, ne-eqb}
-use Rattle.base.specs.Lists.{filter, keep, isIn}
-use Rattle.base.proofs.Booleans.{and-left, and-right, or-true, or-cases}
+use lib.ListN.{length, getD, drop}
+use lib.Seq.{drop-cons, drop-length}
+use borrow.Author.Tests.{ltb-true, lt-ltb, le-ltb, lt-leb, le-leb, eqb-true, eq-eqb, ne-eqb}
+use Rattle.base.specs.Lists.{filter, keep, isIn, all}
+use Rattle.base.proofs.Booleans.{and-false, and-left, and-right, or-true, or-cases}
 use Rattle.base.specs.Integers.{same}
 use Rattle.matrix.specs.Matrix.{ascending, lookup}
 use Rattle.matrix.specs.Checks.{placeIn}
@@ -105,3 +107,47 @@ lookup-get (c ∷ cs) (v ∷ vs) (suc k) h l =
 pub entry-test : (cs : List ℕ) (vs : List ℤ) (v : ℤ) (j p : ℕ) → ascending cs ≡ true → p < length cs → getD cs p 0 ≡ j
     → isIn cs j && same v (lookup j cs vs) ≡ same v (getD vs p (pos 0))
 entry-test cs vs v j p h l e = rw (← e, isIn-get cs p l, lookup-get cs vs p h l)
+
+-- ---- the test that columns ascend and are below n
+
+-- the columns ascend from a least one, and are below n
+unfoldable pub ascendsFrom : (least n : ℕ) → List ℕ → Bool
+ascendsFrom least n [] = true
+ascendsFrom least n (c ∷ cs) = leb least c && ltb c n && ascendsFrom (suc c) n cs
+
+and-cross : (a b p q : Bool) → a && b && (p && q) ≡ a && p && (b && q)
+and-cross true true p q = refl
+and-cross true false p q = sym (and-false p)
+and-cross false b p q = refl
+
+ascends-after : (n c : ℕ) (cs : List ℕ) → ascendsFrom (suc c) n cs ≡ ascending (c ∷ cs) && all (λ j. ltb j n) cs
+unfolding ascendsFrom ascending
+ascends-after n c [] = refl
+ascends-after n c (d ∷ cs) =
+    rw (ascends-after n d cs) (and-cross (ltb c d) (ltb d n) (ascending (d ∷ cs)) (all (λ j. ltb j n) cs))
+
+pub ascends-all : (n : ℕ) (cs : List ℕ) → ascendsFrom 0 n cs ≡ ascending cs && all (λ j. ltb j n) cs
+unfolding ascendsFrom ascending
+ascends-all n [] = refl
+ascends-all n (c ∷ cs) =
+    rw (ascends-after n c cs, leb·zero c) (and-cross true (ltb c n) (ascending (c ∷ cs)) (all (λ j. ltb j n) cs))
+
+module _ (n : ℕ) (cs : List ℕ) (k : ℕ) (l : k < length cs) where
+  ascends-at : (least : ℕ) → ascendsFrom least n (drop k cs) ≡ leb least (getD cs k 0) && ltb (getD cs k 0) n && ascendsFrom (suc (getD cs k 0)) n (drop (suc k) cs)
+  unfolding ascendsFrom
+  ascends-at least = rw (drop-cons cs k 0 l)
+
+  -- the column at place k is below the least, or not below n
+  pub ascends-low : (least : ℕ) → getD cs k 0 < least → ascendsFrom least n (drop k cs) ≡ false
+  ascends-low least h = ascends-at least ∙ rw (lt-leb least (getD cs k 0) h)
+
+  pub ascends-high : (least : ℕ) → n ≤ getD cs k 0 → ascendsFrom least n (drop k cs) ≡ false
+  ascends-high least h = ascends-at least ∙ rw (le-ltb (getD cs k 0) n h, and-false (leb least (getD cs k 0)))
+
+  -- it is neither
+  pub ascends-next : (least : ℕ) → least ≤ getD cs k 0 → getD cs k 0 < n → ascendsFrom least n (drop k cs) ≡ ascendsFrom (getD cs k 0 + 1) n (drop (k + 1) cs)
+  ascends-next least a b = ascends-at least ∙ rw (le-leb least (getD cs k 0) a, lt-ltb (getD cs k 0) n b, add-one (getD cs k 0), add-one k)
+
+pub ascends-end : (least n : ℕ) (cs : List ℕ) → ascendsFrom least n (drop (length cs) cs) ≡ true
+unfolding ascendsFrom
+ascends-end least n cs = rw (drop-length cs)

@@ -1,11 +1,13 @@
 // One row of a matrix: its columns and the values beside them.
+use crate::limits::{first_past, MAX_VALUE};
 ghost use mathlib.Core.Path.{_≡_};
 ghost use mathlib.Core.Bool.{true, false, _&&_};
 ghost use lib.ListN.{length};
-ghost use Rattle.base.specs.Lists.{isIn};
+ghost use lib.Dec.{ltb};
+ghost use Rattle.base.specs.Lists.{isIn, all};
 ghost use Rattle.base.specs.Integers.{same};
 ghost use Rattle.matrix.specs.Matrix.{lookup, ascending};
-ghost use Rattle.matrix.specs.Checks.{placeIn};
+ghost use Rattle.matrix.specs.Checks.{placeIn, rowOrdered};
 
 // How many of the columns are below j: the place of j, if the row has it.
 pub fn place(columns: &[u32], j: u32) -> usize
@@ -56,4 +58,34 @@ pub fn has(columns: &[u32], values: &[i32], j: u32, v: i32) -> bool
         return false;
     }
     true
+}
+
+// The columns ascend and are below n.
+fn ascends_below(columns: &[u32], n: usize) -> bool
+    ensures { λ r. ⌜ r ≡ ascending (now (columns .entry)) && all (λ j. ltb j n) (now (columns .entry)) ⌝ }
+{
+    let mut least: usize = 0;
+    let mut k = 0;
+    while k < columns.len() {
+        let j = columns[k] as usize;
+        if j < least {
+            return false;
+        }
+        if n <= j {
+            return false;
+        }
+        least = j + 1;
+        k += 1;
+    }
+    true
+}
+
+// The columns ascend and are below n, the values are within their limit.
+pub fn is_ordered(n: usize, columns: &[u32], values: &[i32]) -> bool
+    ensures { λ r. ⌜ r ≡ rowOrdered n (now (columns .entry)) (now (values .entry)) ⌝ }
+{
+    if !ascends_below(columns, n) {
+        return false;
+    }
+    values.len() <= first_past(values, MAX_VALUE)
 }
