@@ -80,3 +80,15 @@ or-false false = refl
 pub is-false : {b : Bool} → (b ≡ true → ⊥) → b ≡ false
 is-false {b = true} h = absurd (h refl)
 is-false {b = false} h = refl
+-- one test that fails
+pub conj-fails : (a : Bool) (bs : List Bool) (k : ℕ) → getD bs k true ≡ false → conj a bs ≡ false
+conj-fails a bs k h = go (conj a bs) refl
+  where
+    go : (b : Bool) → conj a bs ≡ b → b ≡ false
+    go true e = absurd (clash (conj-at a bs e k) h)
+    go false e = refl
+
+pub and-cross : (a b c d : Bool) → a && b && (c && d) ≡ a && c && (b && d)
+and-cross true true c d = refl
+and-cross true false c d = sym (and-false c)
+and-cross false b c d = refl

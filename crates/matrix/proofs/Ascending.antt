@@ -12,7 +12,7 @@ use lib.ListN.{length, getD, drop}
 use lib.Seq.{drop-cons, drop-length}
 use borrow.Author.Tests.{ltb-true, lt-ltb, le-ltb, lt-leb, le-leb, eqb-true, eq-eqb, ne-eqb}
 use Rattle.base.specs.Lists.{filter, keep, isIn, all}
-use Rattle.base.proofs.Booleans.{and-false, and-left, and-right, or-true, or-cases}
+use Rattle.base.proofs.Booleans.{and-false, and-cross, and-left, and-right, or-true, or-cases}
 use Rattle.base.specs.Integers.{same}
 use Rattle.matrix.specs.Matrix.{ascending, lookup}
 use Rattle.matrix.specs.Checks.{placeIn}
@@ -114,11 +114,6 @@ entry-test cs vs v j p h l e = rw (← e, isIn-get cs p l, lookup-get cs vs p h 
 unfoldable pub ascendsFrom : (least n : ℕ) → List ℕ → Bool
 ascendsFrom least n [] = true
 ascendsFrom least n (c ∷ cs) = leb least c && ltb c n && ascendsFrom (suc c) n cs
-
-and-cross : (a b p q : Bool) → a && b && (p && q) ≡ a && p && (b && q)
-and-cross true true p q = refl
-and-cross true false p q = sym (and-false p)
-and-cross false b p q = refl
 
 ascends-after : (n c : ℕ) (cs : List ℕ) → ascendsFrom (suc c) n cs ≡ ascending (c ∷ cs) && all (λ j. ltb j n) cs
 unfolding ascendsFrom ascending

@@ -1,3 +1,5 @@
 pub mod Matrix
 pub mod Ascending
 pub mod Within
+pub mod Checks
+pub mod Rows

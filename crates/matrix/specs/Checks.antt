@@ -1,7 +1,7 @@
 -- What the check of a matrix goes through, pass by pass. `isMatrix` is the conjunction of the passes (proofs/Checks.antt).
 use mathlib.Core.Bool.{Bool, true, false, _&&_}
 use mathlib.Core.List.{List, [], _∷_}
-use Prim.Native.Nat.{ℕ, suc}
+use Prim.Native.Nat.{ℕ, suc, _+_, _≤_, _<_}
 use lib.Dec.{eqb, ltb, leb}
 use lib.IntN.{ℤ}
 use lib.ListN.{length, getD}
@@ -14,9 +14,15 @@ use Rattle.matrix.specs.Matrix.{Matrix, columnsOf, valuesOf, ascending, 
 abbrev pub matrixOf : (n : ℕ) (starts columns : List ℕ) (values : List ℤ) → Matrix
 matrixOf n starts columns values = record { n = n; starts = starts; columns = columns; values = values }
 
--- row i starts where it should: not after row i + 1
-abbrev pub startsBefore : Matrix → ℕ → Bool
-startsBefore m i = leb (getD (m .starts) i 0) (getD (m .starts) (suc i) 0)
+-- row i lies within a list of the given length
+pub record RowIn (starts : List ℕ) (size i : ℕ) : Type 0 where
+  pub starts-long : i + 1 < length starts
+  pub rises : getD starts i 0 ≤ getD starts (i + 1) 0
+  pub ends : getD starts (i + 1) 0 ≤ size
+
+-- row i does not start after row i + 1
+abbrev pub rises : (starts : List ℕ) → ℕ → Bool
+rises starts i = leb (getD starts i 0) (getD starts (suc i) 0)
 
 -- the number of rows is within its limits, the row starts begin at 0 and never fall, and the lists hold the last row
 unfoldable pub shaped : Matrix → Bool
@@ -24,18 +30,24 @@ shaped m =
     leb 1 (m .n) && leb (m .n) maxRows
     && leb (suc (m .n)) (length (m .starts)) && eqb (getD (m .starts) 0 0) 0
     && leb (getD (m .starts) (m .n) 0) (length (m .columns)) && leb (getD (m .starts) (m .n) 0) (length (m .values))
-    && all (startsBefore m) (range 0 (m .n))
+    && all (rises (m .starts)) (range 0 (m .n))
 
 -- a row's columns ascend and are below n, its values are within their limit
-unfoldable pub rowOrdered : (n : ℕ) → List ℕ → List ℤ → Bool
-rowOrdered n columns values = ascending columns && all (λ j. ltb j n) columns && all (within maxValue) values
+unfoldable pub isOrdered : (n : ℕ) (columns : List ℕ) (values : List ℤ) → Bool
+isOrdered n columns values = ascending columns && all (λ j. ltb j n) columns && all (within maxValue) values
+
+abbrev pub orderedRow : Matrix → ℕ → Bool
+orderedRow m i = isOrdered (m .n) (columnsOf m i) (valuesOf m i)
 
 unfoldable pub ordered : Matrix → Bool
-ordered m = all (λ i. rowOrdered (m .n) (columnsOf m i) (valuesOf m i)) (range 0 (m .n))
+ordered m = all (orderedRow m) (range 0 (m .n))
 
 -- every entry is mirrored
+abbrev pub mirroredRow : Matrix → ℕ → Bool
+mirroredRow m i = all (mirrored m i) (columnsOf m i)
+
 unfoldable pub symmetric : Matrix → Bool
-symmetric m = all (λ i. all (mirrored m i) (columnsOf m i)) (range 0 (m .n))
+symmetric m = all (mirroredRow m) (range 0 (m .n))
 
 -- how many numbers of a list are below c: in an ascending list, the place of c if it is there
 unfoldable pub placeIn : List ℕ → ℕ → ℕ

@@ -2,12 +2,34 @@
 use crate::limits::{first_past, MAX_VALUE};
 ghost use mathlib.Core.Path.{_≡_};
 ghost use mathlib.Core.Bool.{true, false, _&&_};
-ghost use lib.ListN.{length};
+ghost use Prim.Native.Nat.{_+_};
+ghost use lib.ListN.{length, getD};
+ghost use lib.Seq.{slice};
 ghost use lib.Dec.{ltb};
 ghost use Rattle.base.specs.Lists.{isIn, all};
 ghost use Rattle.base.specs.Integers.{same};
 ghost use Rattle.matrix.specs.Matrix.{lookup, ascending};
-ghost use Rattle.matrix.specs.Checks.{placeIn, rowOrdered};
+ghost use Rattle.matrix.specs.Checks.{RowIn, placeIn, isOrdered};
+
+// Row i's columns.
+pub fn columns_of<'a>(starts: &[u32], columns: &'a [u32], i: usize) -> &'a [u32]
+    requires { ⌜ RowIn (now starts) (length (now columns)) i ⌝ }
+    ensures { λ r. ⌜ now r ≡ slice (getD (now (starts .entry)) i 0) (getD (now (starts .entry)) (i + 1) 0) (now (columns .entry)) ⌝ }
+{
+    let from = starts[i] as usize;
+    let to = starts[i + 1] as usize;
+    &columns[from..to]
+}
+
+// Row i's values.
+pub fn values_of<'a>(starts: &[u32], values: &'a [i32], i: usize) -> &'a [i32]
+    requires { ⌜ RowIn (now starts) (length (now values)) i ⌝ }
+    ensures { λ r. ⌜ now r ≡ slice (getD (now (starts .entry)) i 0) (getD (now (starts .entry)) (i + 1) 0) (now (values .entry)) ⌝ }
+{
+    let from = starts[i] as usize;
+    let to = starts[i + 1] as usize;
+    &values[from..to]
+}
 
 // How many of the columns are below j: the place of j, if the row has it.
 pub fn place(columns: &[u32], j: u32) -> usize
@@ -82,7 +104,7 @@ fn ascends_below(columns: &[u32], n: usize) -> bool
 
 // The columns ascend and are below n, the values are within their limit.
 pub fn is_ordered(n: usize, columns: &[u32], values: &[i32]) -> bool
-    ensures { λ r. ⌜ r ≡ rowOrdered n (now (columns .entry)) (now (values .entry)) ⌝ }
+    ensures { λ r. ⌜ r ≡ isOrdered n (now (columns .entry)) (now (values .entry)) ⌝ }
 {
     if !ascends_below(columns, n) {
         return false;

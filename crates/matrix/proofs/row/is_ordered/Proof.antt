@@ -5,7 +5,7 @@ use lib.ListN.{length}
 use borrow.Author.Needs.{needs}
 use borrow.Author.Tests.{not-true, not-false}
 use Rattle.matrix.specs.Limits.{maxValue}
-use Rattle.matrix.specs.Checks.{rowOrdered}
+use Rattle.matrix.specs.Checks.{isOrdered}
 use Rattle.matrix.proofs.Within.{all-within}
 use Rattle.matrix.proofs.row.is_ordered.Statement.{statement}
 use Rattle.matrix.proofs.row.is_ordered.Tie as tie
@@ -14,14 +14,14 @@ ascends-below-requires : tie.Need-ascends-below-requires
 ascends-below-requires c κs = search needs
 
 returns : tie.Need-returns
-unfolding rowOrdered
+unfolding isOrdered
 returns c = rw (sym (c .before .ascends-below .ensures) ∙ not-true _ (c .if1 .taken))
 
 first-past-requires : tie.Need-first-past-requires
 first-past-requires c κs = search needs
 
 returns-2 : tie.Need-returns-2
-unfolding rowOrdered
+unfolding isOrdered
 returns-2 c =
     let a = c .before .before in
     let values = a .before .before .args .values .now in
