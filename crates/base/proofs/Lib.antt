@@ -5,4 +5,4 @@ pub mod Integers
 pub mod Sums
 pub mod Graph
 pub mod Each
-pub mod Ranges
+pub mod Left

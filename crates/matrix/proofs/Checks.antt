@@ -9,7 +9,7 @@ use borrow.Author.Tests.{leb-true, le-leb, eq-eqb}
 use Rattle.base.specs.Lists.{all, range}
 use Rattle.base.specs.Integers.{within}
 use Rattle.base.proofs.Booleans.{and-left, and-right, conj, conj-first, conj-at, conj-fails}
-use Rattle.base.proofs.Ranges.{all-and, all-same}
+use Rattle.base.proofs.Left.{all-and, all-same}
 use Rattle.matrix.specs.Limits.{maxRows, maxEntries, maxValue}
 use Rattle.matrix.specs.Matrix.{Matrix, columnsOf, valuesOf, ascending, isRow, lowerEntries, isMatrix}
 use Rattle.matrix.specs.Checks.{rises, shaped, isOrdered, orderedRow, ordered, mirroredRow, symmetric}

@@ -3,3 +3,4 @@ pub mod Ascending
 pub mod Within
 pub mod Checks
 pub mod Rows
+pub mod Symmetry

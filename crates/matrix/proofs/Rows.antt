@@ -14,7 +14,7 @@ use Rattle.base.specs.Lists.{all, filter, range, sumBelow}
 use Rattle.base.specs.Integers.{within}
 use Rattle.base.proofs.Booleans.{and-left}
 use Rattle.base.proofs.Lists.{all-range, length-filter-le}
-use Rattle.base.proofs.Ranges.{all-left, all-left-pass, all-left-fail, all-left-none}
+use Rattle.base.proofs.Left.{all-left, all-left-pass, all-left-fail, all-left-none}
 use Rattle.matrix.specs.Limits.{maxEntries, maxValue}
 use Rattle.matrix.specs.Matrix.{Matrix, partOf, columnsOf, valuesOf, ascending, lowerEntries}
 use Rattle.matrix.specs.Checks.{RowIn, rises, shaped, isOrdered, orderedRow, ordered, placeIn}

@@ -1,4 +1,5 @@
 -- What the check of a matrix goes through, pass by pass. `isMatrix` is the conjunction of the passes (proofs/Checks.antt).
+use mathlib.Core.Path.{_≡_}
 use mathlib.Core.Bool.{Bool, true, false, _&&_}
 use mathlib.Core.List.{List, [], _∷_}
 use Prim.Native.Nat.{ℕ, suc, _+_, _≤_, _<_}
@@ -41,6 +42,11 @@ orderedRow m i = isOrdered (m .n) (columnsOf m i) (valuesOf m i)
 
 unfoldable pub ordered : Matrix → Bool
 ordered m = all (orderedRow m) (range 0 (m .n))
+
+-- the lists are shaped and their rows in order
+pub record Tidy (m : Matrix) : Type 0 where
+  pub shape : shaped m ≡ true
+  pub order : ordered m ≡ true
 
 -- every entry is mirrored
 abbrev pub mirroredRow : Matrix → ℕ → Bool

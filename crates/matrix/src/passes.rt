@@ -9,7 +9,7 @@ ghost use lib.ListN.{length};
 ghost use Rattle.base.specs.Lists.{all, range};
 ghost use Rattle.matrix.specs.Limits.{maxEntries};
 ghost use Rattle.matrix.specs.Matrix.{lowerEntries};
-ghost use Rattle.matrix.specs.Checks.{matrixOf, rises, shaped, ordered};
+ghost use Rattle.matrix.specs.Checks.{matrixOf, rises, shaped, ordered, Tidy, mirroredRow, symmetric};
 
 // No row starts after the next.
 fn starts_rise(n: usize, starts: &[u32]) -> bool
@@ -69,4 +69,39 @@ pub fn is_ordered(n: usize, starts: &[u32], columns: &[u32], values: &[i32]) -> 
         i += 1;
     }
     lower <= MAX_ENTRIES
+}
+
+// Every entry of row i is mirrored.
+fn is_mirrored(n: usize, starts: &[u32], columns: &[u32], values: &[i32], i: usize) -> bool
+    requires { ⌜ Tidy (matrixOf n (now starts) (now columns) (now values)) × (i < n) ⌝ }
+    ensures { λ r. ⌜ r ≡ mirroredRow (matrixOf n (now (starts .entry)) (now (columns .entry)) (now (values .entry))) i ⌝ }
+{
+    let row_columns = row::columns_of(starts, columns, i);
+    let row_values = row::values_of(starts, values, i);
+    let mut k = 0;
+    while k < row_columns.len() {
+        let j = row_columns[k] as usize;
+        let other_columns = row::columns_of(starts, columns, j);
+        let other_values = row::values_of(starts, values, j);
+        if !row::has(other_columns, other_values, i as u32, row_values[k]) {
+            return false;
+        }
+        k += 1;
+    }
+    true
+}
+
+// Every entry is mirrored.
+pub fn is_symmetric(n: usize, starts: &[u32], columns: &[u32], values: &[i32]) -> bool
+    requires { ⌜ Tidy (matrixOf n (now starts) (now columns) (now values)) ⌝ }
+    ensures { λ r. ⌜ r ≡ symmetric (matrixOf n (now (starts .entry)) (now (columns .entry)) (now (values .entry))) ⌝ }
+{
+    let mut i = 0;
+    while i < n {
+        if !is_mirrored(n, starts, columns, values, i) {
+            return false;
+        }
+        i += 1;
+    }
+    true
 }

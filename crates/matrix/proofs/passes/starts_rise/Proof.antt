@@ -5,7 +5,7 @@ use Prim.Native.Nat.{_-_, _≤_}
 use Rattle.base.specs.Lists.{all, range}
 use native.Mathlib.Numerals.{add-one}
 use borrow.Author.Tests.{le-leb, lt-leb}
-use Rattle.base.proofs.Ranges.{all-left, all-left-pass, all-left-fail, all-left-none}
+use Rattle.base.proofs.Left.{all-left, all-left-pass, all-left-fail, all-left-none}
 use Rattle.matrix.specs.Checks.{rises}
 use Rattle.matrix.proofs.passes.starts_rise.Statement.{statement}
 use Rattle.matrix.proofs.passes.starts_rise.Tie as tie

@@ -1,10 +1,12 @@
--- Loops over 0 .. n - 1: a test of every number is decided by the numbers that are left.
+-- Loops over 0 .. n - 1 or over a list: a test of every number or element is decided by those that are left.
 use mathlib.Core.Path.{_≡_, refl, sym, ap, _∙_}
 use mathlib.Core.Bool.{Bool, true, false, _&&_}
 use mathlib.Core.List.{List, [], _∷_}
 use Prim.Native.Nat.{ℕ, suc, _+_, _-_, _<_}
 use native.Mathlib.Numerals.{add-one}
 use native.Mathlib.Omega.{arith}
+use lib.ListN.{length, getD, drop}
+use lib.Seq.{drop-cons, drop-length}
 use Rattle.base.specs.Lists.{all, range}
 use Rattle.base.proofs.Booleans.{and-cross}
 
@@ -26,6 +28,20 @@ module _ (p : ℕ → Bool) (n : ℕ) where
   -- at the end none is left
   pub all-left-none : all p (range n (n - n)) ≡ true
   all-left-none = let e : n - n ≡ 0 = omega arith in rw e
+
+module _ {ℓ} {A : Type ℓ} (p : A → Bool) (xs : List A) where
+  all-drop : (k : ℕ) (d : A) → k < length xs → all p (drop k xs) ≡ p (getD xs k d) && all p (drop (k + 1) xs)
+  all-drop k d l = rw (add-one k, drop-cons xs k d l)
+
+  -- the element at place k passes, or fails
+  pub all-drop-pass : (k : ℕ) (d : A) → k < length xs → p (getD xs k d) ≡ true → all p (drop k xs) ≡ all p (drop (k + 1) xs)
+  all-drop-pass k d l h = all-drop k d l ∙ rw h
+
+  pub all-drop-fail : (k : ℕ) (d : A) → k < length xs → p (getD xs k d) ≡ false → all p (drop k xs) ≡ false
+  all-drop-fail k d l h = all-drop k d l ∙ rw h
+
+  pub all-drop-none : all p (drop (length xs) xs) ≡ true
+  all-drop-none = rw (drop-length xs)
 
 module _ {ℓ} {A : Type ℓ} where
   -- two tests of every element
