@@ -6,7 +6,7 @@ use mathlib.Core.List.{List, [], _∷_}
 use Prim.Native.Nat.{ℕ, zero, suc}
 use lib.Dec.{eqb}
 use lib.ListN.{getD}
-use borrow.Author.Tests.{eqb-true, eqb-false}
+use borrow.Author.Tests.{eqb-true, eqb-false, not-true, not-false}
 
 pub and-false : (b : Bool) → b && false ≡ false
 and-false true = refl
@@ -92,3 +92,10 @@ pub and-cross : (a b c d : Bool) → a && b && (c && d) ≡ a && c && (b && d)
 and-cross true true c d = refl
 and-cross true false c d = sym (and-false c)
 and-cross false b c d = refl
+
+-- a call's test `if !t`, where t is what the call tests: it fails, or holds
+pub fails : {t b : Bool} → t ≡ b → not t ≡ true → b ≡ false
+fails {t} e h = sym e ∙ not-true t h
+
+pub holds : {t b : Bool} → t ≡ b → not t ≡ false → b ≡ true
+holds {t} e h = sym e ∙ not-false t h

@@ -8,11 +8,11 @@ use lib.ListN.{length, getD}
 use borrow.Author.Tests.{leb-true, le-leb, eq-eqb}
 use Rattle.base.specs.Lists.{all, range}
 use Rattle.base.specs.Integers.{within}
-use Rattle.base.proofs.Booleans.{and-left, and-right, conj, conj-first, conj-at, conj-fails}
+use Rattle.base.proofs.Booleans.{and-false, and-left, and-right, conj, conj-first, conj-at, conj-fails}
 use Rattle.base.proofs.Left.{all-and, all-same}
 use Rattle.matrix.specs.Limits.{maxRows, maxEntries, maxValue}
 use Rattle.matrix.specs.Matrix.{Matrix, columnsOf, valuesOf, ascending, isRow, lowerEntries, isMatrix}
-use Rattle.matrix.specs.Checks.{rises, shaped, isOrdered, orderedRow, ordered, mirroredRow, symmetric}
+use Rattle.matrix.specs.Checks.{rises, shaped, isOrdered, orderedRow, ordered, Tidy, mirroredRow, symmetric}
 
 abbrev sizeTests : Matrix → List Bool
 sizeTests m =
@@ -48,6 +48,26 @@ matrix-parts m =
     go true true false t l = refl
     go true true true t l = and-comm t l
 
+-- pass by pass
+pub matrix-unshaped : (m : Matrix) → shaped m ≡ false → isMatrix m ≡ false
+matrix-unshaped m h = matrix-parts m ∙ rw h
+
+pub matrix-unordered : (m : Matrix) → ordered m && leb (lowerEntries m) maxEntries ≡ false → isMatrix m ≡ false
+matrix-unordered m h = matrix-parts m ∙ rw (h, and-false (shaped m))
+
+pub matrix-symmetric : (m : Matrix) → shaped m ≡ true → ordered m && leb (lowerEntries m) maxEntries ≡ true → isMatrix m ≡ symmetric m
+matrix-symmetric m h k = matrix-parts m ∙ rw (h, k)
+
+pub ordered-few : (m : Matrix) → ordered m && leb (lowerEntries m) maxEntries ≡ true → ordered m ≡ true
+ordered-few m h = and-left (ordered m) (leb (lowerEntries m) maxEntries) h
+
+-- a matrix passes
+pub matrix-tidy : (m : Matrix) → isMatrix m ≡ true → Tidy m
+matrix-tidy m h =
+    let few = ordered m && leb (lowerEntries m) maxEntries in
+    let both : shaped m && few ≡ true = and-left (shaped m && few) (symmetric m) (sym (matrix-parts m) ∙ h) in
+    record { shape = and-left (shaped m) few both; order = ordered-few m (and-right (shaped m) few both) }
+
 -- ---- the first pass
 
 -- the test at place k fails
@@ -60,8 +80,14 @@ pub shape-rises : (m : Matrix) → 1 ≤ m .n → m .n ≤ maxRows → m .n < le
     → getD (m .starts) (m .n) 0 ≤ length (m .columns) → getD (m .starts) (m .n) 0 ≤ length (m .values) → all (rises (m .starts)) (range 0 (m .n)) ≡ shaped m
 unfolding shaped
 shape-rises m some few long first columns values =
-    rw (le-leb 1 (m .n) some, le-leb (m .n) maxRows few, le-leb (suc (m .n)) (length (m .starts)) long, eq-eqb (getD (m .starts) 0 0) 0 first,
-      le-leb (getD (m .starts) (m .n) 0) (length (m .columns)) columns, le-leb (getD (m .starts) (m .n) 0) (length (m .values)) values)
+    rw (
+      le-leb 1 (m .n) some,
+      le-leb (m .n) maxRows few,
+      le-leb (suc (m .n)) (length (m .starts)) long,
+      eq-eqb (getD (m .starts) 0 0) 0 first,
+      le-leb (getD (m .starts) (m .n) 0) (length (m .columns)) columns,
+      le-leb (getD (m .starts) (m .n) 0) (length (m .values)) values,
+    )
 
 -- what it says
 pub record Shape (m : Matrix) : Type 0 where

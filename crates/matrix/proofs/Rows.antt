@@ -6,17 +6,17 @@ use Prim.Native.Nat.{ℕ, zero, suc, _+_, _-_, _≤_, _<_}
 use native.Mathlib.Numerals.{add-one}
 use native.Mathlib.Omega.{arith}
 use lib.Dec.{ltb, leb, leb·suc-suc}
-use lib.IntN.{ℤ}
+use lib.IntN.{ℤ, pos}
 use lib.ListN.{length, getD, take, drop}
 use lib.Seq.{slice, take-nil, length-slice}
-use borrow.Author.Tests.{lt-ltb, leb-true}
+use borrow.Author.Tests.{lt-ltb, le-ltb, leb-true}
 use Rattle.base.specs.Lists.{all, filter, range, sumBelow}
 use Rattle.base.specs.Integers.{within}
 use Rattle.base.proofs.Booleans.{and-left}
 use Rattle.base.proofs.Lists.{all-range, length-filter-le}
 use Rattle.base.proofs.Left.{all-left, all-left-pass, all-left-fail, all-left-none}
 use Rattle.matrix.specs.Limits.{maxEntries, maxValue}
-use Rattle.matrix.specs.Matrix.{Matrix, partOf, columnsOf, valuesOf, ascending, lowerEntries}
+use Rattle.matrix.specs.Matrix.{Matrix, partOf, columnsOf, valuesOf, lookup, entry, ascending, lowerEntries}
 use Rattle.matrix.specs.Checks.{RowIn, rises, shaped, isOrdered, orderedRow, ordered, placeIn}
 use Rattle.matrix.proofs.Checks.{Shape, shape}
 
@@ -42,6 +42,16 @@ columns-part m i l = row-part m (m .columns) i l
 pub values-part : (m : Matrix) (i : ℕ) → i < m .n → valuesOf m i ≡ slice (getD (m .starts) i 0) (getD (m .starts) (i + 1) 0) (m .values)
 unfolding valuesOf
 values-part m i l = row-part m (m .values) i l
+
+-- an entry is looked up in its row
+pub entry-row : (m : Matrix) (i j : ℕ) {cs : List ℕ} {vs : List ℤ} → cs ≡ columnsOf m i → vs ≡ valuesOf m i → lookup j cs vs ≡ entry m i j
+unfolding entry
+entry-row m i j e f = rw (e, f)
+
+-- past the last row every entry is 0
+pub entry-past : (m : Matrix) (i j : ℕ) → m .n ≤ i → entry m i j ≡ pos 0
+unfolding entry columnsOf partOf lookup
+entry-past m i j h = rw (le-ltb i (m .n) h)
 
 -- row starts never fall
 starts-climb : (starts : List ℕ) (n : ℕ) → all (rises starts) (range 0 n) ≡ true → (i d : ℕ) → i + d ≤ n → getD starts i 0 ≤ getD starts (i + d) 0

@@ -37,7 +37,6 @@ module _ (m : Matrix) (o : ordered m ≡ true) where
   pub row-below : {cs : List ℕ} (i : ℕ) → i < m .n → cs ≡ columnsOf m i → (k : ℕ) → k < length cs → getD cs k 0 < m .n
   row-below i l e = rw e (ordered-below (m .n) (columnsOf m i) (valuesOf m i) (row-ordered i l))
 
-
 -- a row has as many columns as values
 pub row-lengths : (m : Matrix) → shaped m ≡ true → {cs : List ℕ} {vs : List ℤ} (i : ℕ) → i < m .n → cs ≡ columnsOf m i → vs ≡ valuesOf m i → length cs ≡ length vs
 row-lengths m h i l e f = ap length e ∙ length-columns m h i l ∙ sym (length-values m h i l) ∙ ap length (sym f)

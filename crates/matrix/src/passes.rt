@@ -1,5 +1,6 @@
 // Passes over the rows of lent lists: the parts of the check of a matrix.
-use crate::limits::{MAX_ENTRIES, MAX_ROWS};
+use crate::limits::MAX_ENTRIES;
+use crate::limits::MAX_ROWS;
 use crate::row;
 ghost use mathlib.Core.Path.{_≡_};
 ghost use mathlib.Core.Bool.{true, _&&_};

@@ -1,5 +1,6 @@
 // One row of a matrix: its columns and the values beside them.
-use crate::limits::{first_past, MAX_VALUE};
+use crate::limits::MAX_VALUE;
+use crate::limits::first_past;
 ghost use mathlib.Core.Path.{_≡_};
 ghost use mathlib.Core.Bool.{true, false, _&&_};
 ghost use Prim.Native.Nat.{_+_};

@@ -98,15 +98,16 @@ has-requires : tie.Need-has-requires Inv-loop μ-loop
 has-requires c κs =
     let v = c .before in
     let t = v .before .before .before in
-    let a = t .before .before .before .before .before .before in
-    (row-ascends (given a) (a .pre .0 .order) _ (below t) (columns (v .before)),
-    row-lengths (given a) (a .pre .0 .shape) _ (below t) (columns (v .before)) (values v))
+    let a = t .before .before .before .before .before .before in (
+      row-ascends (given a) (a .pre .0 .order) _ (below t) (columns (v .before)),
+      row-lengths (given a) (a .pre .0 .shape) _ (below t) (columns (v .before)) (values v),
+    )
 
 -- what the call tests
 tested : (c : tie.After-has Inv-loop μ-loop) → let v = c .before .before in let l = v .before .before .before .before in
     c .has .result ≡ isIn (now (v .before .columns-of2 .result)) (l .before .before .before .before .before .args .i)
-      && same (getD (now (l .before .values-of .result)) (l .loop .k) (pos 0))
-      (lookup (l .before .before .before .before .before .args .i) (now (v .before .columns-of2 .result)) (now (v .values-of2 .result)))
+    && same (getD (now (l .before .values-of .result)) (l .loop .k) (pos 0))
+    (lookup (l .before .before .before .before .before .args .i) (now (v .before .columns-of2 .result)) (now (v .values-of2 .result)))
 tested c =
     let l = c .before .before .before .before .before .before in
     let f : SFits w32 (getD (l .before .values-of .result .now) (l .loop .k) (pos 0)) = record { sfits = c .before .has-arg .given } in

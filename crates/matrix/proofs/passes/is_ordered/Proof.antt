@@ -3,8 +3,8 @@ use mathlib.Core.Path.{_≡_, sym, _∙_}
 use Prim.Native.Nat.{_+_, _-_, _≤_, _<_}
 use native.Mathlib.Omega.{arith}
 use borrow.Author.Needs.{needs}
-use borrow.Author.Tests.{not-true, not-false}
 use denote.Ref.{now}
+use Rattle.base.proofs.Booleans.{fails, holds}
 use Rattle.matrix.specs.Matrix.{Matrix, columnsOf, valuesOf}
 use Rattle.matrix.specs.Checks.{matrixOf, isOrdered}
 use Rattle.matrix.proofs.Checks.{shape}
@@ -46,7 +46,7 @@ returns c =
     let v = c .before .before in
     let l = v .before .before .before in
     rw (passed-fails (given l) (l .loop .lower) (l .loop .i) (l .loop .inv) (v .before .before .loop-test .taken) (columns (v .before)) (values v)
-      (sym (c .before .is-ordered .ensures) ∙ not-true _ (c .if1 .taken)))
+    (fails (c .before .is-ordered .ensures) (c .if1 .taken)))
 
 low : (c : tie.At-loop Inv-loop μ-loop) → c .before .before .before .args .n ≤ 4096
 low c = shape (given c) (c .before .before .before .pre) .few
@@ -58,14 +58,14 @@ add-place : tie.Need-add-place Inv-loop μ-loop
 add-place c = omega (arith, low (c .before .before .before .before .before))
 
 place-requires : tie.Need-place-requires Inv-loop μ-loop
-place-requires c κs = ordered-ascends _ _ _ (sym (c .before .is-ordered .ensures) ∙ not-false _ (c .if1 .left))
+place-requires c κs = ordered-ascends _ _ _ (holds (c .before .is-ordered .ensures) (c .if1 .left))
 
 next : (c : tie.After-place Inv-loop μ-loop) → let l = c .before .before .before .before .before .before in Passed (given l) (l .loop .lower + c .place .result) (l .loop .i + 1)
 next c =
     let v = c .before .before .before in
     let l = v .before .before .before in
     passed-next (given l) (l .loop .lower) (l .loop .i) (l .loop .inv) (v .before .before .loop-test .taken) (columns (v .before)) (values v)
-    (l .before .before .before .pre) (sym (c .before .before .is-ordered .ensures) ∙ not-false _ (c .before .if1 .left)) (c .place .result) (c .place .ensures)
+    (l .before .before .before .pre) (holds (c .before .before .is-ordered .ensures) (c .before .if1 .left)) (c .place .result) (c .place .ensures)
 
 add-lower : tie.Need-add-lower Inv-loop μ-loop
 add-lower c =

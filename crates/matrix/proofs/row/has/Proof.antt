@@ -49,8 +49,10 @@ returns-4 c =
     let p = c .before .before .before .before .before in
     let a = p .before .before in
     let f : SFits w32 (getD (a .args .values .now) (p .place .result) (pos 0)) = record { sfits = c .before .if32 .given } in
-    rw (entry-test (a .args .columns .now) (a .args .values .now) (a .args .v) (a .args .j) (p .place .result) (a .pre .0) (omega arith) (c .before .before .if2 .left),
-      bits-eq f (a .fits .v) (c .if3 .left))
+    rw (
+      entry-test (a .args .columns .now) (a .args .values .now) (a .args .v) (a .args .j) (p .place .result) (a .pre .0) (omega arith) (c .before .before .if2 .left),
+      bits-eq f (a .fits .v) (c .if3 .left),
+    )
     (sym (same-refl (a .args .v)))
 
 pub has-spec : {M : Type 1} → statement M

@@ -3,7 +3,7 @@ use mathlib.Core.Path.{_≡_, sym, ap, _∙_}
 use lib.Dec.{leb}
 use lib.ListN.{length}
 use borrow.Author.Needs.{needs}
-use borrow.Author.Tests.{not-true, not-false}
+use Rattle.base.proofs.Booleans.{fails, holds}
 use Rattle.matrix.specs.Limits.{maxValue}
 use Rattle.matrix.specs.Checks.{isOrdered}
 use Rattle.matrix.proofs.Within.{all-within}
@@ -15,7 +15,7 @@ ascends-below-requires c κs = search needs
 
 returns : tie.Need-returns
 unfolding isOrdered
-returns c = rw (sym (c .before .ascends-below .ensures) ∙ not-true _ (c .if1 .taken))
+returns c = rw (fails (c .before .ascends-below .ensures) (c .if1 .taken))
 
 first-past-requires : tie.Need-first-past-requires
 first-past-requires c κs = search needs
@@ -25,7 +25,7 @@ unfolding isOrdered
 returns-2 c =
     let a = c .before .before in
     let values = a .before .before .args .values .now in
-    rw (sym (a .ascends-below .ensures) ∙ not-false _ (c .before .if1 .left))
+    rw (holds (a .ascends-below .ensures) (c .before .if1 .left))
     (ap (leb (length values)) (c .first-past .ensures) ∙ all-within maxValue values)
 
 pub is-ordered-spec : {M : Type 1} → statement M
