@@ -4,3 +4,4 @@ pub mod Within
 pub mod Checks
 pub mod Rows
 pub mod Symmetry
+pub mod RowForce

@@ -37,7 +37,8 @@ lookup-none j [] vs h = refl
 lookup-none j (c ∷ cs) [] h = refl
 lookup-none j (c ∷ cs) (v ∷ vs) h = rw (or-left-false (eqb j c) (isIn cs j) h) (lookup-none j cs vs (or-right-false (eqb j c) (isIn cs j) h))
 
-getD-all : (p : ℤ → Bool) (i : ℕ) (vs : List ℤ) → p (pos 0) ≡ true → all p vs ≡ true → p (getD vs i (pos 0)) ≡ true
+-- so does what stands at a place
+pub getD-all : (p : ℤ → Bool) (i : ℕ) (vs : List ℤ) → p (pos 0) ≡ true → all p vs ≡ true → p (getD vs i (pos 0)) ≡ true
 getD-all p i [] z h = z
 getD-all p zero (v ∷ vs) z h = and-left (p v) (all p vs) h
 getD-all p (suc i) (v ∷ vs) z h = getD-all p i vs z (and-right (p v) (all p vs) h)

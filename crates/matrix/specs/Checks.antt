@@ -8,7 +8,7 @@ use lib.IntN.{ℤ}
 use lib.ListN.{length, getD}
 use Rattle.base.specs.Lists.{filter, all, range}
 use Rattle.base.specs.Integers.{within}
-use Rattle.matrix.specs.Limits.{maxRows, maxValue}
+use Rattle.matrix.specs.Limits.{maxRows, maxValue, maxDisplacement}
 use Rattle.matrix.specs.Matrix.{Matrix, columnsOf, valuesOf, ascending, mirrored}
 
 -- the matrix of n rows that lent lists stand for
@@ -58,3 +58,10 @@ symmetric m = all (mirroredRow m) (range 0 (m .n))
 -- how many numbers of a list are below c: in an ascending list, the place of c if it is there
 unfoldable pub placeIn : List ℕ → ℕ → ℕ
 placeIn xs c = length (filter (λ x. ltb x c) xs)
+
+-- what the sum of a row times displacements asks: few columns, in order, as many values, and displacements within their limit
+pub record RowOk (columns : List ℕ) (values displacements : List ℤ) : Type 0 where
+  pub order : isOrdered (length displacements) columns values ≡ true
+  pub beside : length columns ≡ length values
+  pub few : length displacements ≤ maxRows
+  pub small : all (within maxDisplacement) displacements ≡ true

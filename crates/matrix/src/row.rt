@@ -4,13 +4,14 @@ use crate::limits::first_past;
 ghost use mathlib.Core.Path.{_≡_};
 ghost use mathlib.Core.Bool.{true, false, _&&_};
 ghost use Prim.Native.Nat.{_+_};
+ghost use lib.IntN.{_*ℤ_};
 ghost use lib.ListN.{length, getD};
 ghost use lib.Seq.{slice};
 ghost use lib.Dec.{ltb};
 ghost use Rattle.base.specs.Lists.{isIn, all};
-ghost use Rattle.base.specs.Integers.{same};
-ghost use Rattle.matrix.specs.Matrix.{lookup, ascending};
-ghost use Rattle.matrix.specs.Checks.{RowIn, placeIn, isOrdered};
+ghost use Rattle.base.specs.Integers.{same, sumℤ};
+ghost use Rattle.matrix.specs.Matrix.{lookup, ascending, displacement};
+ghost use Rattle.matrix.specs.Checks.{RowIn, placeIn, isOrdered, RowOk};
 
 // Row i's columns.
 pub fn columns_of<'a>(starts: &[u32], columns: &'a [u32], i: usize) -> &'a [u32]
@@ -111,4 +112,19 @@ pub fn is_ordered(n: usize, columns: &[u32], values: &[i32]) -> bool
         return false;
     }
     values.len() <= first_past(values, MAX_VALUE)
+}
+
+// The values times the displacements of their columns, summed.
+pub fn force(columns: &[u32], values: &[i32], displacements: &[i32]) -> i64
+    requires { ⌜ RowOk (now columns) (now values) (now displacements) ⌝ }
+    ensures { λ r. ⌜ r ≡ sumℤ (λ j. lookup j (now (columns .entry)) (now (values .entry)) *ℤ displacement (now (displacements .entry)) j) (length (now (displacements .entry))) ⌝ }
+{
+    let mut sum: i64 = 0;
+    let mut k = 0;
+    while k < columns.len() {
+        let j = columns[k] as usize;
+        sum += values[k] as i64 * displacements[j] as i64;
+        k += 1;
+    }
+    sum
 }
