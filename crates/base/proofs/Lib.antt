@@ -6,3 +6,5 @@ pub mod Sums
 pub mod Graph
 pub mod Each
 pub mod Left
+pub mod Replies
+pub mod Fill

@@ -5,3 +5,6 @@ pub mod Checks
 pub mod Rows
 pub mod Symmetry
 pub mod RowForce
+pub mod Moved
+pub mod Forces
+pub mod Replied

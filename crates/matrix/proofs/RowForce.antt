@@ -3,8 +3,7 @@ use mathlib.Core.Path.{_≡_, refl, sym, ap, _∙_}
 use mathlib.Core.Logic.{_≢_}
 use mathlib.Core.Bool.{Bool, true, false, _&&_, cond}
 use mathlib.Core.List.{List, [], _∷_}
-use Prim.Native.Nat.{ℕ, zero, suc, _+_, _*_, _^_, _≤_, _<_}
-use native.Mathlib.Numerals.{add-one}
+use Prim.Native.Nat.{ℕ, zero, suc, _+_, _*_, _≤_, _<_}
 use native.Mathlib.Omega.{arith}
 use lib.Dec.{eqb, ltb}
 use lib.IntN.{ℤ, pos, natAbs, _+ℤ_, _*ℤ_, +ℤ-idl, +ℤ-comm, zero-*ℤ}
@@ -12,13 +11,13 @@ use lib.ListN.{length, getD}
 use mir.Syntax.{w64}
 use mir.Val.{SFits}
 use borrow.Author.Tests.{ltb-true, leb-true, eq-eqb, ne-eqb}
-use Rattle.base.specs.Lists.{all, isIn, sumBelow}
+use Rattle.base.specs.Lists.{all, isIn}
 use Rattle.base.specs.Integers.{within, sumℤ}
 use Rattle.base.proofs.Booleans.{and-left, and-right}
 use Rattle.base.proofs.Lists.{all-get}
 use Rattle.base.proofs.Sums.{sum-zero, sum-first, sum-more, abs-sum, sum-below-bound}
 use Rattle.base.proofs.Integers.{abs-mul-le, fits-abs}
-use Rattle.matrix.specs.Limits.{maxRows, maxValue, maxDisplacement}
+use Rattle.matrix.specs.Limits.{maxValue, maxDisplacement}
 use Rattle.matrix.specs.Matrix.{lookup, ascending, displacement}
 use Rattle.matrix.specs.Checks.{isOrdered, RowOk}
 use Rattle.matrix.proofs.Matrix.{lookup-none, getD-all}

@@ -18,7 +18,7 @@ use Rattle.base.proofs.Left.{all-left, all-left-pass, all-left-fail, all-left-n
 use Rattle.matrix.specs.Limits.{maxEntries, maxValue}
 use Rattle.matrix.specs.Matrix.{Matrix, partOf, columnsOf, valuesOf, lookup, entry, ascending, lowerEntries}
 use Rattle.matrix.specs.Checks.{RowIn, rises, shaped, isOrdered, orderedRow, ordered, placeIn}
-use Rattle.matrix.proofs.Checks.{Shape, shape}
+use Rattle.matrix.proofs.Checks.{shape}
 
 -- ---- where a row lies
 

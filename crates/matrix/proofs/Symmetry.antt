@@ -25,7 +25,8 @@ ordered-below n cs vs h k l =
     ltb-true (getD cs k 0) n (all-get (λ j. ltb j n) cs k 0 (and-right (ascending cs) (all (λ j. ltb j n) cs) (and-left (ascending cs && all (λ j. ltb j n) cs) (all (within maxValue) vs) h)) l)
 
 module _ (m : Matrix) (o : ordered m ≡ true) where
-  row-ordered : (i : ℕ) → i < m .n → orderedRow m i ≡ true
+  -- row i is in order
+  pub row-ordered : (i : ℕ) → i < m .n → orderedRow m i ≡ true
   unfolding ordered
   row-ordered i l = all-range (orderedRow m) (m .n) i o l
 

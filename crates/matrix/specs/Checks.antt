@@ -1,7 +1,7 @@
 -- What the check of a matrix goes through, pass by pass. `isMatrix` is the conjunction of the passes (proofs/Checks.antt).
 use mathlib.Core.Path.{_≡_}
-use mathlib.Core.Bool.{Bool, true, false, _&&_}
-use mathlib.Core.List.{List, [], _∷_}
+use mathlib.Core.Bool.{Bool, true, _&&_}
+use mathlib.Core.List.{List}
 use Prim.Native.Nat.{ℕ, suc, _+_, _≤_, _<_}
 use lib.Dec.{eqb, ltb, leb}
 use lib.IntN.{ℤ}
@@ -9,7 +9,7 @@ use lib.ListN.{length, getD}
 use Rattle.base.specs.Lists.{filter, all, range}
 use Rattle.base.specs.Integers.{within}
 use Rattle.matrix.specs.Limits.{maxRows, maxValue, maxDisplacement}
-use Rattle.matrix.specs.Matrix.{Matrix, columnsOf, valuesOf, ascending, mirrored}
+use Rattle.matrix.specs.Matrix.{Matrix, columnsOf, valuesOf, ascending, mirrored, isMatrix, areDisplacements}
 
 -- the matrix of n rows that lent lists stand for
 abbrev pub matrixOf : (n : ℕ) (starts columns : List ℕ) (values : List ℤ) → Matrix
@@ -65,3 +65,9 @@ pub record RowOk (columns : List ℕ) (values displacements : List ℤ) : Type 0
   pub beside : length columns ≡ length values
   pub few : length displacements ≤ maxRows
   pub small : all (within maxDisplacement) displacements ≡ true
+
+-- a matrix, its displacements, and room for its forces
+pub record Loaded (m : Matrix) (displacements : List ℤ) (room : ℕ) : Type 0 where
+  pub matrix : isMatrix m ≡ true
+  pub moved : areDisplacements (m .n) displacements ≡ true
+  pub long : m .n ≤ room

@@ -2,7 +2,6 @@
 use mathlib.Core.List.{List, [], _∷_, map}
 use Prim.Native.Nat.{ℕ}
 use lib.IntN.{ℤ, _*ℤ_}
-use lib.ListN.{length}
 use Rattle.base.specs.Lists.{range}
 use Rattle.base.specs.Integers.{sumℤ}
 use Rattle.base.specs.Replies.{Reply, accepted, refused, inTurn, roomFor}

@@ -1,7 +1,6 @@
 -- `limits::is_within`: the number or its negative against the limit, in 64 bits.
-use mathlib.Core.Path.{_≡_, _∙_}
 use native.Mathlib.Omega.{arith}
-use lib.IntN.{pos, natAbs, _-ℤ_}
+use lib.IntN.{pos, _-ℤ_}
 use lib.Signed.{natAbs-le}
 use mir.Syntax.{w32, w64}
 use mir.Val.{SFits}

@@ -1,12 +1,12 @@
 -- `passes::is_ordered`: the rows that are left decide, and the entries of those passed are counted.
 use mathlib.Core.Path.{_≡_, sym, _∙_}
-use Prim.Native.Nat.{_+_, _-_, _≤_, _<_}
+use Prim.Native.Nat.{_+_, _-_, _≤_}
 use native.Mathlib.Omega.{arith}
 use borrow.Author.Needs.{needs}
 use denote.Ref.{now}
 use Rattle.base.proofs.Booleans.{fails, holds}
 use Rattle.matrix.specs.Matrix.{Matrix, columnsOf, valuesOf}
-use Rattle.matrix.specs.Checks.{matrixOf, isOrdered}
+use Rattle.matrix.specs.Checks.{matrixOf}
 use Rattle.matrix.proofs.Checks.{shape}
 use Rattle.matrix.proofs.Rows.{columns-part, values-part, columns-in, values-in, ordered-ascends, Passed, passed-none, passed-fails, passed-next, passed-all}
 use Rattle.matrix.proofs.passes.is_ordered.Statement.{statement}

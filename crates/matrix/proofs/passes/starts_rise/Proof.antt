@@ -1,6 +1,6 @@
 use native.Mathlib.Omega.{arith}
 -- `passes::starts_rise`: the rows that are left decide.
-use mathlib.Core.Path.{_≡_, refl, sym, _∙_}
+use mathlib.Core.Path.{_≡_, sym, _∙_}
 use Prim.Native.Nat.{_-_, _≤_}
 use Rattle.base.specs.Lists.{all, range}
 use native.Mathlib.Numerals.{add-one}

@@ -1,5 +1,5 @@
 -- `row::entry`: the value at the place of j, if j stands there.
-use mathlib.Core.Path.{_≡_, sym, ap, _∙_}
+use mathlib.Core.Path.{sym, ap, _∙_}
 use native.Mathlib.Omega.{arith}
 use Prim.Native.Nat.{ℕ}
 use lib.IntN.{pos}

@@ -1,5 +1,5 @@
 -- `row::has`: whether j stands at its place, with the value v beside it.
-use mathlib.Core.Path.{_≡_, sym, ap, _∙_}
+use mathlib.Core.Path.{sym, ap}
 use native.Mathlib.Omega.{arith}
 use lib.IntN.{pos}
 use lib.ListN.{getD}
@@ -7,7 +7,6 @@ use mir.Syntax.{w32}
 use mir.Val.{SFits, ofZ}
 use borrow.Author.Needs.{needs}
 use Rattle.base.proofs.Integers.{same-refl, same-false, bits-eq}
-use Rattle.base.specs.Integers.{same}
 use Rattle.matrix.proofs.Ascending.{place-missing, entry-test}
 use Rattle.matrix.proofs.row.has.Statement.{statement}
 use Rattle.matrix.proofs.row.has.Tie as tie
