@@ -1,12 +1,13 @@
--- What `tiled` says of the first two children.
-use mathlib.Core.Path.{_≡_}
-use mathlib.Core.Bool.{Bool, true}
+-- What `tiled` says of the first two children, and of where children end.
+use mathlib.Core.Path.{_≡_, sym}
+use mathlib.Core.Bool.{Bool, true, true≢false}
 use mathlib.Core.List.{List, [], _∷_}
 use Prim.Native.Nat.{ℕ, _+_, _≤_}
+use native.Mathlib.Omega.{arith}
 use lib.ListN.{length, getD}
 use lib.Dec.{eqb, leb}
 use borrow.Author.Tests.{eqb-true, leb-true}
-use Rattle.base.proofs.Booleans.{conj-first, conj-at}
+use Rattle.base.proofs.Booleans.{and-left, conj-first, conj-at}
 use Rattle.plan.specs.Groups.{Group, red, blue}
 use Rattle.plan.specs.Sound.{tiled}
 
@@ -38,3 +39,10 @@ pair-of g s f r b ks h =
       some = leb-true 1 (r .workers) (t 5);
       alike = eqb-true (b .workers) (r .workers) (t 6);
       rest = t 7 }
+
+-- the children from position s on end where their parent ends
+pub tiled-le : (g : Group) (s f : ℕ) (ks : List Group) → tiled g s f ks ≡ true → s ≤ g .start + g .length
+unfolding tiled
+tiled-le g s f [] h = let e : s ≡ g .start + g .length = eqb-true s (g .start + g .length) (and-left (eqb s (g .start + g .length)) (eqb f (g .first + g .workers)) h) in omega arith
+tiled-le g s f (r ∷ []) h = absurd (true≢false (sym h))
+tiled-le g s f (r ∷ b ∷ ks) h = omega (arith, tiled-le g (s + r .length + b .length) (f + r .workers) ks (pair-of g s f r b ks h .rest))

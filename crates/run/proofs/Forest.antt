@@ -1,21 +1,19 @@
 -- A sound list of records makes a sound tree.
-use mathlib.Core.Path.{_≡_, refl, sym, ap, _∙_, subst}
+use mathlib.Core.Path.{_≡_, refl, sym, ap, subst}
 use mathlib.Core.Logic.{inl, inr}
 use mathlib.Core.Bool.{Bool, true, false, true≢false}
 use mathlib.Core.List.{List, [], _∷_}
 use Prim.Native.Nat.{ℕ, suc, _+_, _≤_}
-use native.Mathlib.Omega.{arith}
-use native.Mathlib.Numerals.{add-one}
-use lib.ListN.{length, getD}
-use lib.Dec.{eqb, leb}
-use borrow.Author.Tests.{eqb-true, leb-true}
+use lib.ListN.{length}
+use lib.Dec.{eqb}
+use borrow.Author.Tests.{eqb-true}
 use Rattle.base.specs.Lists.{filter, keep}
-use Rattle.base.proofs.Booleans.{and-left, and-right, conj-first, conj-at}
+use Rattle.base.proofs.Booleans.{and-left, and-right}
 use Rattle.matrix.specs.Matrix.{neighbours}
 use Rattle.plan.specs.Groups.{Group, whole}
-use Rattle.plan.specs.Sound.{maxWorkers, maxGroups, eachOnce, depthFirst, children, tiled, likeApart, childrenSound, allSound, sound}
-use Rattle.plan.proofs.Children.{children-skip}
-use Rattle.plan.proofs.Records.{Down, down}
+use Rattle.plan.specs.Sound.{maxWorkers, eachOnce, children, tiled, likeApart, childrenSound, sound}
+use Rattle.plan.proofs.Records.{Sounds}
+use Rattle.plan.proofs.Sound.{sound-facts}
 use Rattle.plan.proofs.Pair.{pair-of}
 use Rattle.run.specs.Job.{Job}
 use Rattle.run.specs.Tree.{Tree, none, node, forest, tree}
@@ -42,24 +40,13 @@ module _ (adj : ℕ → List ℕ) (order : List ℕ) where
   AllSound (node g below next) = (childrenSound adj order g (tops below) ≡ true) × AllSound below × AllSound next
 
   -- a sound list of records makes such a tree
-  grown : (world gs : List Group) (i up : ℕ) → Down i gs → ((k : ℕ) → i ≤ k → children k world ≡ children k gs) → allSound adj order world i gs ≡ true → AllSound (forest up i gs)
-  unfolding forest allSound
-  grown world [] i up d r h = tt
-  grown world (g ∷ gs) i up d r h =
-      go (eqb (g .parent) up) refl (grown world gs (suc i) i (d .1) r′ h′) (grown world gs (suc i) up (d .1) r′ h′)
+  grown : (gs : List Group) (i up : ℕ) → Sounds adj order i gs → AllSound (forest up i gs)
+  unfolding forest
+  grown [] i up s = tt
+  grown (g ∷ gs) i up s = go (eqb (g .parent) up) refl (grown gs (suc i) i (s .1)) (grown gs (suc i) up (s .1))
     where
-      r′ : (k : ℕ) → suc i ≤ k → children k world ≡ children k gs
-      r′ k l = r k (omega arith) ∙ children-skip k g gs (λ e. omega (arith, d .0))
-
-      h′ : allSound adj order world (suc i) gs ≡ true
-      h′ = subst (λ (k : ℕ). allSound adj order world k gs ≡ true) (add-one i) (and-right (childrenSound adj order g (children i world)) (allSound adj order world (i + 1) gs) h)
-
-      mine : childrenSound adj order g (tops (forest i (suc i) gs)) ≡ true
-      mine = subst (λ (l : List Group). childrenSound adj order g l ≡ true) (r i (omega arith) ∙ children-skip i g gs (λ e. omega (arith, d .0)) ∙ sym (tops-children i (suc i) gs))
-          (and-left (childrenSound adj order g (children i world)) (allSound adj order world (i + 1) gs) h)
-
       go : (b : Bool) → eqb (g .parent) up ≡ b → AllSound (forest i (suc i) gs) → AllSound (forest up (suc i) gs) → AllSound (forest up i (g ∷ gs))
-      go true e x y = rw (e, forest) (mine, x, y)
+      go true e x y = rw (e, forest) (subst (λ (l : List Group). childrenSound adj order g l ≡ true) (sym (tops-children i (suc i) gs)) (s .0), x, y)
       go false e x y = rw (e, forest) y
 
   -- siblings that tile the rest of g from position s and worker f on
@@ -110,33 +97,16 @@ pub record Whole (adj : ℕ → List ℕ) (n : ℕ) (order : List ℕ) (groups :
 
 -- what the tests of `sound` say
 pub whole-of : (adj : ℕ → List ℕ) (n : ℕ) (order : List ℕ) (groups : List Group) → sound adj n order groups ≡ true → Whole adj n order groups
-unfolding sound allSound tree workersOf
+unfolding sound tree workersOf
 whole-of adj n order [] h = absurd (true≢false (sym h))
 whole-of adj n order (g ∷ gs) h =
-    let bs : List Bool = eqb (g .start) 0 ∷ eqb (g .length) n ∷ eqb (g .first) 0 ∷ eqb (g .colour) whole ∷ eqb (g .parent) 0 ∷ leb 1 (g .workers) ∷ leb (g .workers) maxWorkers ∷ leb (length (g ∷ gs)) maxGroups
-        ∷ depthFirst (0 ∷ []) 1 gs ∷ allSound adj order gs 0 (g ∷ gs) ∷ [] in
-    let t : (k : ℕ) → getD bs k true ≡ true = conj-at (eachOnce n order) bs h in
-    let d = down (0 ∷ []) 1 gs (omega arith, tt) (t 8) in
-    let a : allSound adj order gs 0 (g ∷ gs) ≡ true = t 9 in
-    let mine : childrenSound adj order g (tops (forest 0 1 gs)) ≡ true = subst (λ (l : List Group). childrenSound adj order g l ≡ true) (sym (tops-children 0 1 gs)) (top-children a) in
-    let all = grown adj order gs gs 1 0 d (λ k l. refl) (rest a) in
+    let f = sound-facts adj n order g gs h in
+    let mine : childrenSound adj order g (tops (forest 0 1 gs)) ≡ true = subst (λ (l : List Group). childrenSound adj order g l ≡ true) (sym (tops-children 0 1 gs)) (f .under .0) in
     record {
       top = g; below = forest 0 1 gs; is = refl;
-      start = eqb-true (g .start) 0 (t 0);
-      length = eqb-true (g .length) n (t 1);
-      first = eqb-true (g .first) 0 (t 2);
-      colour = eqb-true (g .colour) whole (t 3);
-      some = leb-true 1 (g .workers) (t 5);
-      few = leb-true (g .workers) maxWorkers (t 6);
-      once = conj-first (eachOnce n order) bs h;
-      crew = refl;
-      under = under adj order g (forest 0 1 gs) mine (λ t. laid adj order g (forest 0 1 gs) (g .start) (g .first) all t) }
-  where
-    top-children : allSound adj order gs 0 (g ∷ gs) ≡ true → childrenSound adj order g (children 0 gs) ≡ true
-    top-children a = (and-left (childrenSound adj order g (children 0 gs)) (allSound adj order gs (0 + 1) gs) a)
-
-    rest : allSound adj order gs 0 (g ∷ gs) ≡ true → allSound adj order gs 1 gs ≡ true
-    rest a = (and-right (childrenSound adj order g (children 0 gs)) (allSound adj order gs (0 + 1) gs) a)
+      start = f .start; length = f .covers; first = f .first; colour = f .colour; some = f .some; few = f .few; once = f .once; crew = refl;
+      under = under adj order g (forest 0 1 gs) mine (λ t. laid adj order g (forest 0 1 gs) (g .start) (g .first) (grown adj order gs 1 0 (f .under .1)) t);
+    }
 
 -- the plan of a job is such
 abbrev pub WholePlan : Job → Type 0
