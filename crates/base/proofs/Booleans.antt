@@ -80,6 +80,7 @@ or-false false = refl
 pub is-false : {b : Bool} → (b ≡ true → ⊥) → b ≡ false
 is-false {b = true} h = absurd (h refl)
 is-false {b = false} h = refl
+
 -- one test that fails
 pub conj-fails : (a : Bool) (bs : List Bool) (k : ℕ) → getD bs k true ≡ false → conj a bs ≡ false
 conj-fails a bs k h = go (conj a bs) refl
@@ -99,3 +100,9 @@ fails {t} e h = sym e ∙ not-true t h
 
 pub holds : {t b : Bool} → t ≡ b → not t ≡ false → b ≡ true
 holds {t} e h = sym e ∙ not-false t h
+
+-- two tests that follow from each other
+pub same-test : (a b : Bool) → (a ≡ true → b ≡ true) → (b ≡ true → a ≡ true) → a ≡ b
+same-test true b f g = sym (f refl)
+same-test false true f g = g refl
+same-test false false f g = refl

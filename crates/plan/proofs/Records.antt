@@ -1,6 +1,7 @@
 -- The records of a plan in their order: each stands after its parent, so its children stand after it.
-use mathlib.Core.Path.{_≡_, refl, subst, _∙_}
-use mathlib.Core.Bool.{Bool, true, false, cond}
+use mathlib.Core.Path.{_≡_, refl, sym, subst, _∙_}
+use mathlib.Core.Logic.{_⊎_, inl, inr}
+use mathlib.Core.Bool.{Bool, true, false, _||_, cond, true≢false}
 use mathlib.Core.List.{List, [], _∷_}
 use Prim.Native.Nat.{ℕ, suc, _+_, _≤_, _<_}
 use native.Mathlib.Omega.{arith}
@@ -8,9 +9,8 @@ use native.Mathlib.Numerals.{add-one}
 use lib.ListN.{length}
 use lib.Dec.{eqb, leb}
 use borrow.Author.Tests.{eqb-true, leb-true}
-use Rattle.base.specs.Lists.{fromFirst}
-use Rattle.base.proofs.Booleans.{and-left, and-right, conj-first, conj-at}
-use Rattle.base.proofs.Each.{Each, each-map}
+use Rattle.base.specs.Lists.{isIn, fromFirst}
+use Rattle.base.proofs.Booleans.{and-left, and-right, or-true, or-cases, conj-first, conj-at}
 use Rattle.plan.specs.Groups.{Group}
 use Rattle.plan.specs.Sound.{maxDepth, depthFirst, children, childrenSound, allSound}
 use Rattle.plan.proofs.Children.{children-skip}
@@ -20,26 +20,70 @@ abbrev pub Down : ℕ → List Group → Type 0
 Down i [] = Unit {0}
 Down i (g ∷ gs) = (g .parent < i) × Down (suc i) gs
 
--- a path from one of its members on
-fromFirst-each : (i v : ℕ) (xs : List ℕ) → Each (λ x. x < i) xs → 1 ≤ length (fromFirst (eqb v) xs) → (v < i) × Each (λ x. x < i) (fromFirst (eqb v) xs)
-fromFirst-each i v [] h l = absurd (omega arith)
-fromFirst-each i v (x ∷ xs) h l = go (eqb v x) refl l (fromFirst-each i v xs (h .1))
+-- ---- one record of a depth-first list
+
+fromFirst-in : (v m : ℕ) (xs : List ℕ) → isIn (fromFirst (eqb v) xs) m ≡ true → isIn xs m ≡ true
+fromFirst-in v m [] h = h
+fromFirst-in v m (x ∷ xs) h = go (eqb v x) h (fromFirst-in v m xs)
   where
-    go : (b : Bool) → eqb v x ≡ b → 1 ≤ length (cond b (x ∷ xs) (fromFirst (eqb v) xs))
-        → (1 ≤ length (fromFirst (eqb v) xs) → (v < i) × Each (λ x. x < i) (fromFirst (eqb v) xs)) → (v < i) × Each (λ x. x < i) (cond (eqb v x) (x ∷ xs) (fromFirst (eqb v) xs))
-    go true e l ih = rw e ((let q : v ≡ x = eqb-true v x e in omega arith), h)
-    go false e l ih = rw e (ih l)
+    go : (b : Bool) → isIn (cond b (x ∷ xs) (fromFirst (eqb v) xs)) m ≡ true → (isIn (fromFirst (eqb v) xs) m ≡ true → isIn xs m ≡ true) → eqb m x || isIn xs m ≡ true
+    go true h ih = h
+    go false h ih = rw (ih h) (or-true (eqb m x))
+
+fromFirst-some : (v : ℕ) (xs : List ℕ) → 1 ≤ length (fromFirst (eqb v) xs) → isIn xs v ≡ true
+fromFirst-some v [] l = absurd (omega arith)
+fromFirst-some v (x ∷ xs) l = go (eqb v x) refl l (fromFirst-some v xs)
+  where
+    go : (b : Bool) → eqb v x ≡ b → 1 ≤ length (cond b (x ∷ xs) (fromFirst (eqb v) xs)) → (1 ≤ length (fromFirst (eqb v) xs) → isIn xs v ≡ true) → eqb v x || isIn xs v ≡ true
+    go true e l ih = rw e refl
+    go false e l ih = rw (ih l) (or-true (eqb v x))
+
+-- its ancestors, the parent first
+abbrev pub ancestors : List ℕ → Group → List ℕ
+ancestors path g = fromFirst (eqb (g .parent)) path
+
+-- its parent is in the path of the record before it, so are all its ancestors, and the list goes on from it
+pub record Step (path : List ℕ) (i : ℕ) (g : Group) (gs : List Group) : Type 0 where
+  pub parentIn : isIn path (g .parent) ≡ true
+  pub inPath : (m : ℕ) → isIn (ancestors path g) m ≡ true → isIn path m ≡ true
+  pub rest : depthFirst (i ∷ ancestors path g) (suc i) gs ≡ true
+
+pub step-of : (path : List ℕ) (i : ℕ) (g : Group) (gs : List Group) → depthFirst path i (g ∷ gs) ≡ true → Step path i g gs
+unfolding depthFirst
+step-of path i g gs h =
+    let up : List ℕ = ancestors path g in
+    let bs : List Bool = leb (length up) maxDepth ∷ depthFirst (i ∷ up) (i + 1) gs ∷ [] in
+    record {
+      parentIn = fromFirst-some (g .parent) path (leb-true 1 (length up) (conj-first (leb 1 (length up)) bs h));
+      inPath = λ m k. fromFirst-in (g .parent) m path k;
+      rest = subst (λ (k : ℕ). depthFirst (i ∷ up) k gs ≡ true) (add-one i) (conj-at (leb 1 (length up)) bs h 1);
+    }
+
+-- the path has indices below i only
+abbrev pub Before : ℕ → List ℕ → Type 0
+Before i path = (m : ℕ) → isIn path m ≡ true → m < i
+
+pub before-step : (path : List ℕ) (i : ℕ) (g : Group) (gs : List Group) → Step path i g gs → Before i path → Before (suc i) (i ∷ ancestors path g)
+before-step path i g gs s b m h = go (or-cases (eqb m i) (isIn (ancestors path g) m) h)
+  where
+    go : (eqb m i ≡ true) ⊎ (isIn (ancestors path g) m ≡ true) → m < suc i
+    go (inl e) = let q : m ≡ i = eqb-true m i e in omega arith
+    go (inr e) = omega (arith, b m (s .inPath m e))
+
+-- the path of the whole
+pub before-one : Before 1 (0 ∷ [])
+before-one m h = go (or-cases (eqb m 0) false h)
+  where
+    go : (eqb m 0 ≡ true) ⊎ (false ≡ true) → m < 1
+    go (inl e) = let q : m ≡ 0 = eqb-true m 0 e in omega arith
+    go (inr e) = absurd (true≢false (sym e))
 
 -- in a depth-first list each record's parent stands before it
-pub down : (path : List ℕ) (i : ℕ) (gs : List Group) → Each (λ x. x < i) path → depthFirst path i gs ≡ true → Down i gs
-unfolding depthFirst
+pub down : (path : List ℕ) (i : ℕ) (gs : List Group) → Before i path → depthFirst path i gs ≡ true → Down i gs
 down path i [] b h = tt
-down path i (g ∷ gs) b h =
-    let up : List ℕ = fromFirst (eqb (g .parent)) path in
-    let l = leb-true 1 (length up) (conj-first (leb 1 (length up)) (leb (length up) maxDepth ∷ depthFirst (i ∷ up) (i + 1) gs ∷ []) h) in
-    let r = conj-at (leb 1 (length up)) (leb (length up) maxDepth ∷ depthFirst (i ∷ up) (i + 1) gs ∷ []) h 1 in
-    let m = fromFirst-each i (g .parent) path b l in
-    (m .0, down (i ∷ up) (suc i) gs (omega arith, each-map (λ x. x < i) (λ x. x < suc i) (λ x l. omega arith) up (m .1)) (subst (λ (k : ℕ). depthFirst (i ∷ up) k gs ≡ true) (add-one i) r))
+down path i (g ∷ gs) b h = let s = step-of path i g gs h in (b (g .parent) (s .parentIn), down (i ∷ ancestors path g) (suc i) gs (before-step path i g gs s b) (s .rest))
+
+-- ---- children
 
 module _ (adj : ℕ → List ℕ) (order : List ℕ) where
   -- every record's children, which all stand after it, are as a sound plan's

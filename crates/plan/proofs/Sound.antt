@@ -3,14 +3,13 @@ use mathlib.Core.Path.{_≡_, refl}
 use mathlib.Core.Bool.{Bool, true}
 use mathlib.Core.List.{List, [], _∷_}
 use Prim.Native.Nat.{ℕ, _+_, _≤_}
-use native.Mathlib.Omega.{arith}
 use lib.ListN.{length, getD}
 use lib.Dec.{eqb, leb}
 use borrow.Author.Tests.{eqb-true, leb-true}
 use Rattle.base.proofs.Booleans.{and-left, and-right, conj-first, conj-at}
 use Rattle.plan.specs.Groups.{Group, whole}
 use Rattle.plan.specs.Sound.{maxWorkers, maxGroups, eachOnce, depthFirst, children, childrenSound, allSound, sound}
-use Rattle.plan.proofs.Records.{Down, down, Sounds, sounds}
+use Rattle.plan.proofs.Records.{Down, before-one, down, Sounds, sounds}
 
 -- the whole g, and the records gs after it
 pub record SoundFacts (adj : ℕ → List ℕ) (n : ℕ) (order : List ℕ) (g : Group) (gs : List Group) : Type 0 where
@@ -54,4 +53,4 @@ sound-facts adj n order g gs h = record {
     at = conj-at (eachOnce n order) bs h
 
     below : Down 1 gs
-    below = down (0 ∷ []) 1 gs (omega arith, tt) (at 8)
+    below = down (0 ∷ []) 1 gs before-one (at 8)

@@ -37,3 +37,5 @@ pub mod EveryRun
 pub mod Consequences
 pub mod FlatOpen
 pub mod WayDown
+pub mod Nesting
+pub mod FlatWait
