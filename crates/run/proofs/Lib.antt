@@ -39,3 +39,5 @@ pub mod FlatOpen
 pub mod WayDown
 pub mod Nesting
 pub mod FlatWait
+pub mod LeafIndex
+pub mod LeafWait
