@@ -25,16 +25,22 @@ module _ (q : ℕ) where
   LeafAt k [] i = ⊥
   LeafAt k (g ∷ gs) i = ((k ≡ i) × (holds g q ≡ true) × (hasChild k gs ≡ false)) ⊎ LeafAt (suc k) gs i
 
-  -- .. by its place in the list
-  pub leaf-at : (k : ℕ) (gs : List Group) (i : ℕ) (d : Group) → i < length gs → holds (getD gs i d) q ≡ true → hasChild (k + i) gs ≡ false → LeafAt k gs (k + i)
+  leaf-after : (k : ℕ) (gs : List Group) (i : ℕ) (d : Group) → i < length gs → holds (getD gs i d) q ≡ true → hasChild (k + i) gs ≡ false → LeafAt k gs (k + i)
   unfolding hasChild
-  leaf-at k [] i d l h c = absurd (omega arith)
-  leaf-at k (g ∷ gs) zero d l h c =
+  leaf-after k [] i d l h c = absurd (omega arith)
+  leaf-after k (g ∷ gs) zero d l h c =
       let e : k ≡ k + 0 = omega arith in
       inl (e, h, subst (λ (y : ℕ). hasChild y gs ≡ false) (sym e) (or-right-false (eqb (g .parent) (k + 0)) (hasChild (k + 0) gs) c))
-  leaf-at k (g ∷ gs) (suc i) d l h c =
+  leaf-after k (g ∷ gs) (suc i) d l h c =
       let e : suc k + i ≡ k + suc i = omega arith in
-      inr (subst (LeafAt (suc k) gs) e (leaf-at (suc k) gs i d (omega arith) h (subst (λ (y : ℕ). hasChild y gs ≡ false) (sym e) (or-right-false (eqb (g .parent) (k + suc i)) (hasChild (k + suc i) gs) c))))
+      inr (subst (LeafAt (suc k) gs) e (leaf-after (suc k) gs i d (omega arith) h (subst (λ (y : ℕ). hasChild y gs ≡ false) (sym e) (or-right-false (eqb (g .parent) (k + suc i)) (hasChild (k + suc i) gs) c))))
+
+  -- .. by its place: a record that holds q, where none of the records gs after the whole g is its child
+  pub leaf-at : (g : Group) (gs : List Group) (i : ℕ) (d : Group) → i < length (g ∷ gs) → holds (getD (g ∷ gs) i d) q ≡ true → hasChild i gs ≡ false → LeafAt 0 (g ∷ gs) i
+  leaf-at g gs zero d l h c = inl (refl, h, c)
+  leaf-at g gs (suc i) d l h c =
+      let e : 1 + i ≡ suc i = omega arith in
+      inr (subst (LeafAt 1 gs) e (leaf-after 1 gs i d (omega arith) h (subst (λ (y : ℕ). hasChild y gs ≡ false) (sym e) c)))
 
   leaf-past : (k : ℕ) (gs : List Group) (i : ℕ) → LeafAt k gs i → k ≤ i
   leaf-past k [] i h = absurd h

@@ -41,3 +41,4 @@ pub mod Nesting
 pub mod FlatWait
 pub mod LeafIndex
 pub mod LeafWait
+pub mod LeafOwner

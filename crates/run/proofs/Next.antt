@@ -1,12 +1,13 @@
 -- A worker's next update: its row, its target, and that its leaf is not finished.
 use mathlib.Core.Path.{_≡_, refl, sym, ap, _∙_, subst}
 use mathlib.Core.Logic.{_⊎_, inl, inr}
-use mathlib.Core.Bool.{true, false, not}
+use mathlib.Core.Bool.{Bool, true, false, not}
 use mathlib.Core.List.{List}
 use Prim.Native.Nat.{ℕ, suc, _+_, _*_, _-_, _/_, _≤_, _<_}
 use native.Mathlib.Omega.{arith}
 use lib.ListN.{length, getD}
-use borrow.Author.Tests.{not-true}
+use lib.Dec.{ltb, leb}
+use borrow.Author.Tests.{ltb-true, ltb-false, leb-true, leb-false, not-true}
 use Rattle.base.specs.Lists.{isIn}
 use Rattle.base.proofs.Booleans.{clash, is-false}
 use Rattle.matrix.specs.Matrix.{neighbours, adjacent}
@@ -19,7 +20,7 @@ use Rattle.run.proofs.Blocked.{blocked-mono}
 use Rattle.run.proofs.Apart.{Touch}
 use Rattle.run.proofs.RowUpdates.{row-row, row-target, later-in}
 use Rattle.run.proofs.Work.{cum, cum-mono, At, locate}
-use Rattle.run.proofs.Leaves.{past-finished, finished-past, left-unfinished}
+use Rattle.run.proofs.Leaves.{Past, past-finished, finished-past, left-unfinished}
 
 module _ (j : Job) where
   -- ---- update number k of worker w, wherever it is
@@ -65,6 +66,21 @@ module _ (j : Job) where
     pub next-touch : Touch (neighbours (j .matrix)) (j .plan .order) (next-at .row) (next j made w .target)
     unfolding next
     next-touch = at-touch next-at
+
+    -- it lies from a on, if w is past a, and before b, if w is not past b
+    pub next-from : (a : ℕ) → Past j made w a → a ≤ next-at .row
+    next-from a h = go (ltb (next-at .row) a) refl
+      where
+        go : (b : Bool) → ltb (next-at .row) a ≡ b → a ≤ next-at .row
+        go true e = absurd (omega (arith, cum-mono j w (suc (next-at .row)) a (ltb-true (next-at .row) a e), h, next-at .high))
+        go false e = ltb-false (next-at .row) a e
+
+    pub next-before : (b : ℕ) → count made w < 2 * cum j w b → next-at .row < b
+    next-before b h = go (leb b (next-at .row)) refl
+      where
+        go : (t : Bool) → leb b (next-at .row) ≡ t → next-at .row < b
+        go true e = absurd (omega (arith, cum-mono j w b (next-at .row) (leb-true b (next-at .row) e), h, next-at .low))
+        go false e = leb-false b (next-at .row) e
 
     -- the leaf that holds its row, if it is w's, is not finished
     pub live : (g : Group) → holds g (next-at .row) ≡ true → g .first ≡ w → finished j made g ≡ false

@@ -3,11 +3,11 @@ use mathlib.Core.Path.{_≡_, refl, sym, ap, _∙_, subst}
 use mathlib.Core.Logic.{_⊎_, inl, inr, _≢_}
 use mathlib.Core.Bool.{Bool, true, false, _&&_, cond, true≢false}
 use mathlib.Core.List.{List, _∷_}
-use Prim.Native.Nat.{ℕ, zero, suc, _+_, _/_, _≤_, _<_}
+use Prim.Native.Nat.{ℕ, zero, suc, _+_, _≤_, _<_}
 use native.Mathlib.Omega.{arith}
 use lib.ListN.{length}
-use lib.Dec.{eqb, ltb, leb}
-use borrow.Author.Tests.{eq-eqb, ltb-true, ltb-false, leb-true, leb-false}
+use lib.Dec.{eqb, leb}
+use borrow.Author.Tests.{eq-eqb, leb-false}
 use Rattle.base.proofs.Booleans.{same-or}
 use Rattle.matrix.specs.Matrix.{neighbours}
 use Rattle.plan.specs.Groups.{Group}
@@ -21,9 +21,9 @@ use Rattle.run.proofs.Blocked.{free-here}
 use Rattle.run.proofs.SoundTree.{Tiled}
 use Rattle.run.proofs.Exclude.{live-unfinished}
 use Rattle.run.proofs.Forest.{WholePlan}
-use Rattle.run.proofs.Work.{cum-mono, At}
+use Rattle.run.proofs.Work.{cum-mono}
 use Rattle.run.proofs.Owners.{held, own}
-use Rattle.run.proofs.Next.{next-at, next-row, live}
+use Rattle.run.proofs.Next.{next-at, next-row, next-from, next-before, live}
 use Rattle.run.proofs.Leaves.{Past}
 use Rattle.run.proofs.Seek.{FoundIn, Ready, dive, seek}
 
@@ -79,27 +79,13 @@ module _ (j : Job) (made : List ℕ) (W : WholePlan j) where
       left : count made w < accesses j w
       left = omega (arith, k .high, cum-mono j w (k .b) (j .matrix .n) (omega (arith, k .to-e, W .start, W .length)))
 
-      at : At j w (j .matrix .n) (count made w / 2)
-      at = next-at j made w left
-
-      from-a : k .a ≤ at .row
-      from-a = go (ltb (at .row) (k .a)) refl
-        where
-          go : (b : Bool) → ltb (at .row) (k .a) ≡ b → k .a ≤ at .row
-          go true e = absurd (omega (arith, cum-mono j w (suc (at .row)) (k .a) (ltb-true (at .row) (k .a) e), k .low, at .high))
-          go false e = ltb-false (at .row) (k .a) e
-
-      to-b : at .row < k .b
-      to-b = go (leb (k .b) (at .row)) refl
-        where
-          go : (b : Bool) → leb (k .b) (at .row) ≡ b → at .row < k .b
-          go true e = absurd (omega (arith, cum-mono j w (k .b) (at .row) (leb-true (k .b) (at .row) e), k .high, at .low))
-          go false e = leb-false (k .b) (at .row) e
+      q : ℕ
+      q = next-at j made w left .row
 
       going : waits j made w ≡ false
       going =
           rw (next-row j made w left, W .is)
-          (free-here fin top (W .below) none (node top (W .below) none) (at .row) (λ e. absurd (omega (arith, W .colour))) (k .free (at .row) from-a to-b) refl)
+          (free-here fin top (W .below) none (node top (W .below) none) q (λ e. absurd (omega (arith, W .colour))) (k .free q (next-from j made w left (k .a) (k .low)) (next-before j made w left (k .b) (k .high))) refl)
 
   -- ---- the ready set
 
