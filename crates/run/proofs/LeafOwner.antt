@@ -56,14 +56,14 @@ leaf-owner adj n order g gs ok q low i d at =
 
 -- ---- for a job
 
-module _ (j : Job) (ok : isSound (j .matrix) (j .plan) ≡ true) (d : Group) where
-  -- record number i is a leaf: none of the records after the whole is its child
-  pub record Leaf (i : ℕ) : Type 0 where
-    pub inside : i < length (j .plan .groups)
-    pub childless : hasChild i (drop 1 (j .plan .groups)) ≡ false
+-- record number i is a leaf: none of the records after the whole is its child
+pub record Leaf (j : Job) (i : ℕ) : Type 0 where
+  pub inside : i < length (j .plan .groups)
+  pub childless : hasChild i (drop 1 (j .plan .groups)) ≡ false
 
+module _ (j : Job) (ok : isSound (j .matrix) (j .plan) ≡ true) (d : Group) where
   -- the rows that a leaf holds are its first worker's
-  pub leaf-rows : (i : ℕ) → Leaf i → (q : ℕ) → q < j .matrix .n → holds (getD (j .plan .groups) i d) q ≡ true → owner j q ≡ getD (j .plan .groups) i d .first
+  pub leaf-rows : (i : ℕ) → Leaf j i → (q : ℕ) → q < j .matrix .n → holds (getD (j .plan .groups) i d) q ≡ true → owner j q ≡ getD (j .plan .groups) i d .first
   unfolding owner isSound sound
   leaf-rows i l q low h = go (j .plan .groups) ok (l .inside) (l .childless) h
     where
@@ -73,7 +73,7 @@ module _ (j : Job) (ok : isSound (j .matrix) (j .plan) ≡ true) (d : Group) whe
       go (g ∷ gs) s a b c = leaf-owner (neighbours (j .matrix)) (j .matrix .n) (j .plan .order) g gs s q low i d (leaf-at q g gs i d a c b)
 
   -- a worker whose next row lies in a leaf waits if the forward pass has the leaf blocked
-  pub leaf-waits : (made : List ℕ) (w i : ℕ) → Leaf i → next j made w .row < j .matrix .n → holds (getD (j .plan .groups) i d) (next j made w .row) ≡ true
+  pub leaf-waits : (made : List ℕ) (w i : ℕ) → Leaf j i → next j made w .row < j .matrix .n → holds (getD (j .plan .groups) i d) (next j made w .row) ≡ true
       → (blocks : ℕ → Bool) → blocks 0 ≡ false → Forward (λ up. openReds (finished j made) up 1 (drop 1 (j .plan .groups))) blocks 1 (drop 1 (j .plan .groups)) → waits j made w ≡ blocks i
   unfolding waits isSound sound
   leaf-waits made w i l low h blocks start pass = go (j .plan .groups) ok (l .inside) (l .childless) h pass

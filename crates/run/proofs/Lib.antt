@@ -42,3 +42,5 @@ pub mod FlatWait
 pub mod LeafIndex
 pub mod LeafWait
 pub mod LeafOwner
+pub mod ScheduleLoop
+pub mod Passes
