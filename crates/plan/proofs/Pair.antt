@@ -11,6 +11,7 @@ use Rattle.base.proofs.Booleans.{and-left, conj-first, conj-at}
 use Rattle.plan.specs.Groups.{Group, red, blue}
 use Rattle.plan.specs.Sound.{tiled}
 
+-- r and b are the first two children of g from position s and worker f on
 pub record Pair (g : Group) (s f : ℕ) (r b : Group) (ks : List Group) : Type 0 where
   pub isRed : r .colour ≡ red
   pub isBlue : b .colour ≡ blue

@@ -48,6 +48,7 @@ pub record Step (path : List ℕ) (i : ℕ) (g : Group) (gs : List Group) : Type
   pub inPath : (m : ℕ) → isIn (ancestors path g) m ≡ true → isIn path m ≡ true
   pub rest : depthFirst (i ∷ ancestors path g) (suc i) gs ≡ true
 
+-- what `depthFirst` tests of it
 pub step-of : (path : List ℕ) (i : ℕ) (g : Group) (gs : List Group) → depthFirst path i (g ∷ gs) ≡ true → Step path i g gs
 unfolding depthFirst
 step-of path i g gs h =
@@ -63,6 +64,7 @@ step-of path i g gs h =
 abbrev pub Before : ℕ → List ℕ → Type 0
 Before i path = (m : ℕ) → isIn path m ≡ true → m < i
 
+-- .. so has the path after the next record
 pub before-step : (path : List ℕ) (i : ℕ) (g : Group) (gs : List Group) → Step path i g gs → Before i path → Before (suc i) (i ∷ ancestors path g)
 before-step path i g gs s b m h = go (or-cases (eqb m i) (isIn (ancestors path g) m) h)
   where

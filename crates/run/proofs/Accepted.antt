@@ -38,6 +38,7 @@ module _ (j : Job) (ok : Accepted j) where
   owners : (p : ℕ) → p < j .matrix .n → owner j p < workers j
   owners = owned j tree-of
 
+  -- what the plan and the matrix give of a run
   pub facts : Facts j
   unfolding workers forceAt rowAt
   facts = record {

@@ -32,6 +32,7 @@ module _ (adj : ℕ → List ℕ) (order : List ℕ) where
   abbrev pub Clear : ℕ → ℕ → Type 0
   Clear p q = (t : ℕ) → Touch p t → Touch q t → p ≡ q
 
+  -- it does not matter which is named first
   pub clear-sym : (p q : ℕ) → Clear p q → Clear q p
   clear-sym p q h t a b = sym (h t b a)
 

@@ -48,13 +48,15 @@ module _ (fin : Group → Bool) (g : Group) (below next all : Tree) (q : ℕ) wh
             inner (or-cases (isBlue && redOpen fin all) (blocked fin q below below) (and-right (holds g q) ((isBlue && redOpen fin all) || blocked fin q below below) e)))
       go (inr e) = inr e
 
-  -- what not to be blocked says of the group that holds q, of its children and of the later siblings
+  -- who is not blocked: a blue group that holds it has no open red sibling
   pub not-blocked-blue : blocked fin q all (node g below next) ≡ false → holds g q ≡ true → g .colour ≡ blue → redOpen fin all ≡ false
   not-blocked-blue f h c = is-false (λ r. clash (blocked-blue h c r) f)
 
+  -- .. its children do not block it
   pub not-blocked-below : blocked fin q all (node g below next) ≡ false → holds g q ≡ true → blocked fin q below below ≡ false
   not-blocked-below f h = is-false (λ b. clash (blocked-below h b) f)
 
+  -- .. nor do the later siblings
   pub not-blocked-next : blocked fin q all (node g below next) ≡ false → blocked fin q all next ≡ false
   not-blocked-next f = is-false (λ b. clash (blocked-next b) f)
 

@@ -94,6 +94,7 @@ module _ (j : Job) (ok : Accepted j) (cs : List Call) where
   unfolding finishedRun ready bits
   finished-empty o = ready-is ∙ ap (λ (ws : List ℕ). isReady (bits ws) (length ws)) (none-ready j made (workers j) (omega arith) (over-made j made o))
 
+  -- for every list of calls on an accepted job
   pub consequences : Consequences j cs
   consequences = record {
     numbers = rw (answered j ok cs) (known-all j noCounts cs);

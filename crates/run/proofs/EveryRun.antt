@@ -33,14 +33,17 @@ module _ (j : Job) (ok : Accepted j) (cs : List Call) where
   kept : AllKept j (facts j ok) (fresh (j .matrix .n)) cs
   kept = calls-model j (facts j ok) (fresh (j .matrix .n)) (inv-fresh j) cs
 
+  -- the state after the calls has the invariant
   pub inv : Inv j (runState j cs)
   unfolding runState
   inv = kept .inv
 
+  -- its counts are the model's
   pub counted : runState j cs .made ≡ modelCounts j noCounts cs
   unfolding runState fresh noCounts
   counted = kept .made
 
+  -- .. and so are the answers
   pub answered : runAnswers j cs ≡ modelAnswers j noCounts cs
   unfolding runAnswers fresh noCounts
   answered = kept .same

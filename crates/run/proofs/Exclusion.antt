@@ -53,6 +53,7 @@ module _ (j : Job) (W : WholePlan j) (long : length (j .plan .order) ≡ j .matr
           clear (neighbours (j .matrix)) (j .plan .order) (finished j made) G (node h hb hn) (node h hb hn) (W .top .first) (W .top .start) (W .top .start + W .top .length)
           p q v w (t .0) (t .1) (λ z. z) d a b
 
+  -- so their next sums differ
   pub exclusion : (v w : ℕ) → v ≢ w → count made v < accesses j v → count made w < accesses j w → waits j made v ≡ false → waits j made w ≡ false
       → next j made v .target ≢ next j made w .target
   exclusion v w d lv lw nv nw e =

@@ -13,6 +13,7 @@ use Rattle.run.specs.Updates.{count, updates, accesses, noUpdate, next, 
 use Rattle.run.specs.Machine.{workers, positionOf}
 use Rattle.run.proofs.Amounts.{landed}
 
+-- the facts of a job j
 pub record Facts (j : Job) : Type 0 where
   -- a state has a count and a held number for each worker
   pub few : workers j ≤ maxWorkers

@@ -48,6 +48,7 @@ module _ (fin : Group → Bool) where
   unfinished-node g none next = refl
   unfinished-node g (node k kb kn) next = refl
 
+  -- an unfinished leaf below the group at index up
   pub open-flat : (up i : ℕ) (gs : List Group) → unfinished fin (forest up i gs) ≡ openChildren up i gs
   unfolding forest openChildren unfinished
   open-flat up i [] = refl
@@ -58,6 +59,7 @@ module _ (fin : Group → Bool) where
       go true e x y = rw (e, forest) (unfinished-node g (forest i (suc i) gs) (forest up (suc i) gs) ∙ rw (forest-child i (suc i) gs, x, y) refl)
       go false e x y = rw (e, forest) y
 
+  -- an open red child of the group at index up
   pub red-flat : (up i : ℕ) (gs : List Group) → redOpen fin (forest up i gs) ≡ openReds up i gs
   unfolding forest openReds redOpen unfinished
   red-flat up i [] = refl

@@ -69,7 +69,10 @@ module _ (adj : ℕ → List ℕ) (order : List ℕ) where
   -- the tree of a sound plan, two siblings at a time
   laid : (g : Group) (T : Tree) (s f : ℕ) → AllSound T → tiled g s f (tops T) ≡ true → Laid g s f T
   unfolding tops tiled
-  laid g none s f a h = record { tiles = eqb-true s (g .start + g .length) (and-left (eqb s (g .start + g .length)) (eqb f (g .first + g .workers)) h); pairs = eqb-true f (g .first + g .workers) (and-right (eqb s (g .start + g .length)) (eqb f (g .first + g .workers)) h) }
+  laid g none s f a h = record {
+    tiles = eqb-true s (g .start + g .length) (and-left (eqb s (g .start + g .length)) (eqb f (g .first + g .workers)) h);
+    pairs = eqb-true f (g .first + g .workers) (and-right (eqb s (g .start + g .length)) (eqb f (g .first + g .workers)) h);
+  }
   laid g (node r rb none) s f a h = absurd (true≢false (sym h))
   laid g (node r rb (node b bb ks)) s f a h =
       let p = pair-of g s f r b (tops ks) h in

@@ -20,6 +20,7 @@ use Rattle.run.proofs.Amounts.{landedBy, landed}
 abbrev pub soFar : Job → List ℕ → ℕ → ℕ → ℤ
 soFar j made t w = landed t (take (count made w / 2) (updates j w))
 
+-- the invariant of a state s
 pub record Inv (j : Job) (s : State) : Type 0 where
   pub made-length : length (s .made) ≡ maxWorkers
   pub held-length : length (s .held) ≡ maxWorkers

@@ -72,6 +72,7 @@ module _ (j : Job) (F : Facts j) (s : State) (I : Inv j s) (w : ℕ) (able : Abl
         go (inl e) = subst (λ (y : ℕ). count (s .made) y / 2 ≡ count new y / 2) (sym e) (omega (arith, new-at))
         go (inr d) = omega (arith, new-other v d)
 
+    -- a load keeps the invariant
     pub inv-load : Inv j (load s w (next j (s .made) w))
     unfolding load onward
     inv-load = record {
@@ -132,9 +133,11 @@ module _ (j : Job) (F : Facts j) (s : State) (I : Inv j s) (w : ℕ) (able : Abl
     stored = ap (λ (z : ℤ). z +ℤ u .amount) (I .holding w (able .inPlan) odd ∙ I .right (u .target) target-in)
         ∙ sym (added (u .target) ∙ ap (λ (b : Bool). sumℤ (soFar j (s .made) (u .target)) (workers j) +ℤ cond b (u .amount) (pos 0)) (eq-eqb (u .target) (u .target) refl))
 
+    -- .. and has 64 bits
     pub store-fits : fits64 (total s w u) ≡ true
     store-fits = rw stored (F .fitting (u .target) (λ v. count new v / 2) target-in)
 
+    -- a store keeps the invariant
     pub inv-store : Inv j (store s w u)
     unfolding store onward
     inv-store = record {

@@ -18,19 +18,22 @@ module _ (j : Job) (made : List ℕ) where
     abbrev all : ℕ
     all = 2 * cum j (g .first) (g .start + g .length)
 
+    -- its worker is past its end: it is finished
     pub past-finished : Past (g .first) (g .start + g .length) → finished j made g ≡ true
     unfolding finished
     past-finished h = le-leb all (count made (g .first)) h
 
+    -- .. and the other way
     pub finished-past : finished j made g ≡ true → Past (g .first) (g .start + g .length)
     unfolding finished
     finished-past h = leb-true all (count made (g .first)) h
 
-    -- an unfinished leaf's worker has an access left in it, and the other way
+    -- an unfinished leaf's worker has an access left in it
     pub unfinished-left : finished j made g ≡ false → count made (g .first) < all
     unfolding finished
     unfinished-left h = leb-false all (count made (g .first)) h
 
+    -- .. and the other way
     pub left-unfinished : count made (g .first) < all → finished j made g ≡ false
     unfolding finished
     left-unfinished h = lt-leb all (count made (g .first)) h

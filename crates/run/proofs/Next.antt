@@ -55,19 +55,22 @@ module _ (j : Job) where
   -- ---- the next one
 
   module _ (made : List ℕ) (w : ℕ) (left : count made w < accesses j w) where
+    -- its place among the worker's updates
     pub next-at : At j w (j .matrix .n) (count made w / 2)
     unfolding accesses updates
     next-at = locate j w (j .matrix .n) (count made w / 2) (omega arith)
 
+    -- its row
     pub next-row : next j made w .row ≡ next-at .row
     unfolding next
     next-row = at-row next-at
 
+    -- its target is the sum of its row or of an adjacent one
     pub next-touch : Touch (neighbours (j .matrix)) (j .plan .order) (next-at .row) (next j made w .target)
     unfolding next
     next-touch = at-touch next-at
 
-    -- it lies from a on, if w is past a, and before b, if w is not past b
+    -- its row lies from a on, if w is past a
     pub next-from : (a : ℕ) → Past j made w a → a ≤ next-at .row
     next-from a h = go (ltb (next-at .row) a) refl
       where
@@ -75,6 +78,7 @@ module _ (j : Job) where
         go true e = absurd (omega (arith, cum-mono j w (suc (next-at .row)) a (ltb-true (next-at .row) a e), h, next-at .high))
         go false e = ltb-false (next-at .row) a e
 
+    -- .. before b, if w is not past b
     pub next-before : (b : ℕ) → count made w < 2 * cum j w b → next-at .row < b
     next-before b h = go (leb b (next-at .row)) refl
       where

@@ -69,10 +69,11 @@ module _ (j : Job) where
       let b = range-in t (suc p) (j .matrix .n - suc p) (filter-in f (range (suc p) (j .matrix .n - suc p)) t h) in
       (b .0, omega arith, filter-passes f (range (suc p) (j .matrix .n - suc p)) t h)
 
-  -- the two updates of rows p and q: of p's sum, and of q's
+  -- the two updates of rows p and q: of p's sum
   abbrev pub own-with : ℕ → ℕ → Update
   own-with p q = record { row = p; target = p; amount = entryAt j p q *ℤ displacementAt j q }
 
+  -- .. of q's sum
   abbrev pub other-with : ℕ → ℕ → Update
   other-with p q = record { row = p; target = q; amount = entryAt j p q *ℤ displacementAt j p }
 

@@ -22,20 +22,24 @@ step-end j s w k e = rw e refl
 
 -- what the first step makes of a schedule, of the machine
 module _ (j : Job) (s : State) (w : ℕ) (ws : List ℕ) where
+  -- it is taken
   pub steps-on : (t : State) → step j s w ≡ moved t → steps j s (w ∷ ws) ≡ oneMore (steps j t ws)
   unfolding steps
   steps-on t e = rw (e, steps)
 
+  -- it ends the call
   pub steps-end : (k : ℕ) → step j s w ≡ halted k → steps j s (w ∷ ws) ≡ record { state = s; taken = 0; number = k }
   unfolding steps
   steps-end k e = rw (e, steps)
 
 -- .. and of the model
 module _ (j : Job) (made : List ℕ) (w : ℕ) (ws : List ℕ) where
+  -- it is taken
   pub note-on : refusal j made w ≡ 0 → note j made (w ∷ ws) ≡ oneNoted (note j (onward made w) ws)
   unfolding note
   note-on e = rw (e, note)
 
+  -- it ends the call
   pub note-end : (k : ℕ) → refusal j made w ≡ suc k → note j made (w ∷ ws) ≡ record { made = made; taken = 0; number = suc k }
   unfolding note
   note-end k e = rw (e, note)

@@ -10,6 +10,7 @@ use Rattle.run.specs.Machine.{State, moved, halted, step, Stepped, oneMo
 use Rattle.run.proofs.Schedule.{steps-on, steps-end}
 
 module _ (j : Job) (s₀ : State) (ws : List ℕ) where
+  -- k steps are taken and led to s
   pub record Left (k : ℕ) (s : State) : Type 0 where
     pub state : steps j s₀ ws .state ≡ steps j s (drop k ws) .state
     pub taken : steps j s₀ ws .taken ≡ k + steps j s (drop k ws) .taken

@@ -19,6 +19,7 @@ abbrev pub Inner : Tree → Type 0 → Type 0
 Inner none P = Unit {0}
 Inner (node h hb hn) P = P
 
+-- red or blue
 abbrev pub Coloured : Group → Type 0
 Coloured g = (g .colour ≡ red) ⊎ (g .colour ≡ blue)
 
@@ -35,6 +36,7 @@ module _ (adj : ℕ → List ℕ) (order : List ℕ) where
   abbrev pub Tiled : Group → Tree → Type 0
   Tiled g below = Inner below (Tiles below (g .start) (g .start + g .length) × (likeApart adj order (tops below) ≡ true))
 
+  -- they end at or after their start
   pub tiles-le : (T : Tree) (s e : ℕ) → Tiles T s e → s ≤ e
   tiles-le none s e t = omega arith
   tiles-le (node g below next) s e t = omega (arith, tiles-le next (s + g .length) e (t .3))
@@ -51,6 +53,7 @@ Pairs (node r rb (node b bb ks)) f l =
 abbrev pub Paired : Group → Tree → Type 0
 Paired g below = Inner below (Pairs below (g .first) (g .first + g .workers))
 
+-- their workers end at or after the first
 pub pairs-le : (T : Tree) (f l : ℕ) → Pairs T f l → f ≤ l
 pairs-le none f l p = omega arith
 pairs-le (node r rb none) f l p = absurd p

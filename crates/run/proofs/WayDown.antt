@@ -24,6 +24,7 @@ module _ (q : ℕ) where
   -- ---- who blocks q below the group at index up
 
   module _ (opened : ℕ → Bool) where
+    -- a child that holds q, blue where a red sibling is open, or one below it
     unfoldable pub blockedFrom : (up i : ℕ) → List Group → Bool
     blockedFrom up i [] = false
     blockedFrom up i (g ∷ gs) = (eqb (g .parent) up && (holds g q && ((eqb (g .colour) blue && opened up) || blockedFrom i (suc i) gs))) || blockedFrom up (suc i) gs
@@ -47,8 +48,9 @@ module _ (q : ℕ) where
         go false e (inl x) ih = absurd (clash (and-left (eqb (g .parent) up) (holds g q && inner) x) e)
         go false e (inr x) ih = rw e (ih x)
 
-  -- it is the tree's test, where `opened` is right for the groups from index i on
+  -- it is the tree's test
   module _ (fin : Group → Bool) (opened : ℕ → Bool) where
+    -- `opened` is right for the groups from index i on
     abbrev pub Right : ℕ → List Group → Type 0
     Right i gs = (k : ℕ) → i ≤ k → opened k ≡ openReds fin k i gs
 
@@ -56,6 +58,7 @@ module _ (q : ℕ) where
     unfolding openReds
     right-next i g gs l s k h = s k h ∙ rw (ne-eqb (g .parent) k (λ e. omega arith)) refl
 
+    -- the tree's test
     pub blocked-from : (up i : ℕ) (gs : List Group) (all : Tree) → Down i gs → Right i gs → redOpen fin all ≡ opened up → blocked fin q all (forest up i gs) ≡ blockedFrom opened up i gs
     unfolding forest blockedFrom blocked
     blocked-from up i [] all d s r = refl
@@ -75,15 +78,18 @@ module _ (q : ℕ) where
 
   -- ---- the index of the leaf that holds q, from the group at index up down
 
+  -- into the child that holds q, as long as there is one
   unfoldable pub leafFrom : (up i : ℕ) → List Group → ℕ
   leafFrom up i [] = up
   leafFrom up i (g ∷ gs) = elim (eqb (g .parent) up && holds g q) [ true ↦ leafFrom i (suc i) gs | false ↦ leafFrom up (suc i) gs ]
 
   module _ (up i : ℕ) (g : Group) (gs : List Group) where
+    -- a child that holds q
     pub leaf-in : eqb (g .parent) up && holds g q ≡ true → leafFrom up i (g ∷ gs) ≡ leafFrom i (suc i) gs
     unfolding leafFrom
     leaf-in h = rw (h, leafFrom)
 
+    -- any other record
     pub leaf-out : eqb (g .parent) up && holds g q ≡ false → leafFrom up i (g ∷ gs) ≡ leafFrom up (suc i) gs
     unfolding leafFrom
     leaf-out h = rw (h, leafFrom)

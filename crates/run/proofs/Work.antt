@@ -60,6 +60,7 @@ module _ (j : Job) where
     pub inside : k - cum w row < length (rowUpdates j row)
     pub is : getD (upTo j w e) k noUpdate ≡ getD (rowUpdates j row) (k - cum w row) noUpdate
 
+  -- every update is found
   pub locate : (w e k : ℕ) → k < cum w e → At w e k
   unfolding upTo when
   locate w zero k l = absurd (omega arith)
