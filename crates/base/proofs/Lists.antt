@@ -3,10 +3,11 @@ use mathlib.Core.Path.{_≡_, refl, sym, ap, _∙_, subst}
 use mathlib.Core.Logic.{_⊎_, inl, inr, _≢_}
 use mathlib.Core.Bool.{Bool, true, false, not, _&&_, _||_, true≢false}
 use mathlib.Core.List.{List, [], _∷_, _++_, map, append-assoc}
-use Prim.Native.Nat.{ℕ, zero, suc, _+_, _≤_, _<_}
+use Prim.Native.Nat.{ℕ, zero, suc, _+_, _-_, _≤_, _<_}
 use native.Mathlib.Omega.{arith}
 use lib.Dec.{eqb}
 use lib.ListN.{length, take, drop, getD}
+use lib.Seq.{slice, take-nil, drop-nil}
 use borrow.Author.Tests.{eqb-true, eqb-false, eq-eqb}
 use Rattle.base.specs.Lists.{filter, keep, any, all, isIn, concat, range, trim, trimCons}
 use Rattle.base.proofs.Booleans.{and-false, and-left, and-right, or-true, or-cases}
@@ -190,3 +191,10 @@ module _ {ℓ} {A : Type ℓ} where
   -- .. from 0 on
   pub map-range-zero : (f : ℕ → A) (m i : ℕ) (d : A) → i < m → getD (map f (range 0 m)) i d ≡ f i
   map-range-zero f m i d l = map-range-at f 0 m i d l ∙ (let e : 0 + i ≡ i = omega arith in ap f e)
+module _ {ℓ} {A : Type ℓ} where
+  -- a part of a list by its length
+  pub take-drop : (a e : ℕ) (xs : List A) → take (e - a) (drop a xs) ≡ slice a e xs
+  take-drop zero e xs = let z : e - 0 ≡ e = omega arith in rw z
+  take-drop (suc a) zero xs = let z : 0 - suc a ≡ 0 = omega arith in rw z (sym (drop-nil (suc a)))
+  take-drop (suc a) (suc e) [] = take-nil (suc e - suc a)
+  take-drop (suc a) (suc e) (x ∷ xs) = let z : suc e - suc a ≡ e - a = omega arith in rw z (take-drop a e xs)

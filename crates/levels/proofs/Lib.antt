@@ -4,3 +4,4 @@ pub mod Proper
 pub mod Close
 pub mod Reached
 pub mod Own
+pub mod Rows

@@ -19,6 +19,10 @@ pub record Matrix : Type 0 where
   pub columns : List ℕ
   pub values : List ℤ
 
+-- the matrix of lent row starts and columns, as far as adjacency looks at it
+abbrev pub pattern : (n : ℕ) (starts columns : List ℕ) → Matrix
+pattern n starts columns = record { n = n; starts = starts; columns = columns; values = [] }
+
 module _ {ℓ} {A : Type ℓ} where
   -- the part of xs that belongs to row i: "places past n + 1 row starts, the last row's entries .. are not read"
   unfoldable pub partOf : Matrix → List A → ℕ → List A
