@@ -1,7 +1,7 @@
 -- Laws of lists: members, filters, ranges and concatenations.
 use mathlib.Core.Path.{_≡_, refl, sym, ap, _∙_, subst}
 use mathlib.Core.Logic.{_⊎_, inl, inr, _≢_}
-use mathlib.Core.Bool.{Bool, true, false, not, _&&_, _||_, true≢false}
+use mathlib.Core.Bool.{Bool, true, false, not, _&&_, _||_, true≢false, and-comm}
 use mathlib.Core.List.{List, [], _∷_, _++_, map, append-assoc}
 use Prim.Native.Nat.{ℕ, zero, suc, _+_, _-_, _≤_, _<_}
 use native.Mathlib.Omega.{arith}
@@ -198,3 +198,115 @@ module _ {ℓ} {A : Type ℓ} where
   take-drop (suc a) zero xs = let z : 0 - suc a ≡ 0 = omega arith in rw z (sym (drop-nil (suc a)))
   take-drop (suc a) (suc e) [] = take-nil (suc e - suc a)
   take-drop (suc a) (suc e) (x ∷ xs) = let z : suc e - suc a ≡ e - a = omega arith in rw z (take-drop a e xs)
+
+-- members
+
+pub in-get : (xs : List ℕ) (i : ℕ) → i < length xs → isIn xs (getD xs i 0) ≡ true
+in-get [] i l = absurd (omega arith)
+in-get (x ∷ xs) zero l = rw (eq-eqb x x refl)
+in-get (x ∷ xs) (suc i) l = rw (in-get xs i (omega arith)) (or-true (eqb (getD xs i 0) x))
+
+pub get-in : (xs : List ℕ) (v : ℕ) → isIn xs v ≡ true → (i : ℕ) × (i < length xs) × (getD xs i 0 ≡ v)
+get-in [] v h = absurd (true≢false (sym h))
+get-in (x ∷ xs) v h = go (or-cases (eqb v x) (isIn xs v) h) (get-in xs v)
+  where
+    go : (eqb v x ≡ true) ⊎ (isIn xs v ≡ true) → (isIn xs v ≡ true → (i : ℕ) × (i < length xs) × (getD xs i 0 ≡ v)) → (i : ℕ) × (i < suc (length xs)) × (getD (x ∷ xs) i 0 ≡ v)
+    go (inl e) ih = (0, omega arith, sym (eqb-true v x e))
+    go (inr k) ih = let (i, a, b) = ih k in (suc i, omega arith, b)
+
+pub isIn-concat-map : (f : ℕ → List ℕ) (xs : List ℕ) (v : ℕ) → isIn (concat (map f xs)) v ≡ any (λ u. isIn (f u) v) xs
+isIn-concat-map f [] v = refl
+isIn-concat-map f (x ∷ xs) v = isIn-append (f x) (concat (map f xs)) v ∙ ap (λ (b : Bool). isIn (f x) v || b) (isIn-concat-map f xs v)
+
+-- tests that agree on the members of a list
+module _ (p q : ℕ → Bool) where
+  pub filter-ext : (xs : List ℕ) → ((v : ℕ) → isIn xs v ≡ true → p v ≡ q v) → filter p xs ≡ filter q xs
+  filter-ext [] h = refl
+  filter-ext (x ∷ xs) h =
+      let e : p x ≡ q x = h x (rw (eq-eqb x x refl)) in
+      let ih : filter p xs ≡ filter q xs = filter-ext xs (λ v k. h v (rw k (or-true (eqb v x)))) in
+      rw (e, ih)
+
+  pub any-ext : (xs : List ℕ) → ((v : ℕ) → isIn xs v ≡ true → p v ≡ q v) → any p xs ≡ any q xs
+  any-ext [] h = refl
+  any-ext (x ∷ xs) h =
+      let e : p x ≡ q x = h x (rw (eq-eqb x x refl)) in
+      let ih : any p xs ≡ any q xs = any-ext xs (λ v k. h v (rw k (or-true (eqb v x)))) in
+      rw (e, ih)
+
+  pub filter-filter : (xs : List ℕ) → filter q (filter p xs) ≡ filter (λ v. p v && q v) xs
+  filter-filter [] = refl
+  filter-filter (x ∷ xs) = go (p x) (filter-filter xs)
+    where
+      go : (b : Bool) → filter q (filter p xs) ≡ filter (λ v. p v && q v) xs
+          → filter q (keep b x (filter p xs)) ≡ keep (b && q x) x (filter (λ v. p v && q v) xs)
+      go true ih = rw ih
+      go false ih = ih
+
+pub filter-swap : (p q : ℕ → Bool) (xs : List ℕ) → filter q (filter p xs) ≡ filter p (filter q xs)
+filter-swap p q xs =
+    filter-filter p q xs ∙ filter-ext (λ v. p v && q v) (λ v. q v && p v) xs (λ v h. and-comm (p v) (q v)) ∙ sym (filter-filter q p xs)
+
+pub filter-none : (p : ℕ → Bool) (xs : List ℕ) → ((v : ℕ) → isIn xs v ≡ true → p v ≡ false) → filter p xs ≡ []
+filter-none p xs h = filter-ext p (λ v. false) xs h ∙ none xs
+  where
+    none : (xs : List ℕ) → filter (λ (v : ℕ). false) xs ≡ []
+    none [] = refl
+    none (x ∷ xs) = none xs
+
+pub filter-all : (p : ℕ → Bool) (xs : List ℕ) → ((v : ℕ) → isIn xs v ≡ true → p v ≡ true) → filter p xs ≡ xs
+filter-all p xs h = filter-ext p (λ v. true) xs h ∙ every xs
+  where
+    every : (xs : List ℕ) → filter (λ (v : ℕ). true) xs ≡ xs
+    every [] = refl
+    every (x ∷ xs) = ap (λ (l : List ℕ). x ∷ l) (every xs)
+
+-- the first element that passes
+pub filter-first : (p : ℕ → Bool) (xs : List ℕ) (i : ℕ) → i < length xs → ((j : ℕ) → j < i → p (getD xs j 0) ≡ false) → p (getD xs i 0) ≡ true
+    → take 1 (filter p xs) ≡ getD xs i 0 ∷ []
+filter-first p [] i l h e = absurd (omega arith)
+filter-first p (x ∷ xs) zero l h e = rw e
+filter-first p (x ∷ xs) (suc i) l h e =
+    let out : p x ≡ false = h 0 (omega arith) in
+    rw out (filter-first p xs i (omega arith) (λ j k. h (suc j) (omega arith)) e)
+
+-- ranges
+
+module _ {ℓ} {A : Type ℓ} where
+  pub map-range : (f g : ℕ → A) (k m : ℕ) → ((d : ℕ) → k ≤ d → d < k + m → f d ≡ g d) → map f (range k m) ≡ map g (range k m)
+  map-range f g k zero h = refl
+  map-range f g k (suc m) h =
+      let e : f k ≡ g k = h k (omega arith) (omega arith) in
+      let ih : map f (range (suc k) m) ≡ map g (range (suc k) m) = map-range f g (suc k) m (λ d a b. h d (omega arith) (omega arith)) in
+      rw (e, ih)
+
+pub range-append : (k m j : ℕ) → range k (m + j) ≡ range k m ++ range (k + m) j
+range-append k zero j = (let e : k ≡ k + 0 = omega arith in let z : 0 + j ≡ j = omega arith in ap (λ (y : ℕ). range k y) z ∙ ap (λ (y : ℕ). range y j) e)
+range-append k (suc m) j =
+    let s : suc m + j ≡ suc (m + j) = omega arith in
+    let e : suc k + m ≡ k + suc m = omega arith in
+    ap (range k) s ∙ ap (λ (l : List ℕ). k ∷ l) (range-append (suc k) m j ∙ ap (λ (y : ℕ). range (suc k) m ++ range y j) e)
+
+-- one number passes that did not
+pub filter-one-more : (p q : ℕ → Bool) (k m v : ℕ) → k ≤ v → v < k + m → p v ≡ true → q v ≡ false → ((x : ℕ) → x ≢ v → p x ≡ q x)
+    → length (filter p (range k m)) ≡ suc (length (filter q (range k m)))
+filter-one-more p q k zero v a b pt qf h = absurd (omega arith)
+filter-one-more p q k (suc m) v a b pt qf h = go (eqb v k) refl (λ l. filter-one-more p q (suc k) m v l (omega arith) pt qf h)
+  where
+    go : (t : Bool) → eqb v k ≡ t → (suc k ≤ v → length (filter p (range (suc k) m)) ≡ suc (length (filter q (range (suc k) m))))
+        → length (keep (p k) k (filter p (range (suc k) m))) ≡ suc (length (keep (q k) k (filter q (range (suc k) m))))
+    go true e ih =
+        let vk : v ≡ k = eqb-true v k e in
+        let pk : p k ≡ true = subst (λ (y : ℕ). p y ≡ true) vk pt in
+        let qk : q k ≡ false = subst (λ (y : ℕ). q y ≡ false) vk qf in
+        let s : filter p (range (suc k) m) ≡ filter q (range (suc k) m) = filter-ext p q (range (suc k) m) (λ x i. h x (λ e. omega (arith, range-in x (suc k) m i))) in
+        rw (pk, qk, s)
+    go false e ih =
+        let ne : v ≢ k = eqb-false v k e in
+        let s : p k ≡ q k = h k (λ e. omega arith) in
+        rw s (both (q k) (ih (omega arith)))
+      where
+        both : (b : Bool) → length (filter p (range (suc k) m)) ≡ suc (length (filter q (range (suc k) m)))
+            → length (keep b k (filter p (range (suc k) m))) ≡ suc (length (keep b k (filter q (range (suc k) m))))
+        both true i = ap suc i
+        both false i = i
