@@ -1,18 +1,14 @@
 -- How often a number stands in a list: what it is for two lists to hold the same.
 use mathlib.Core.Path.{_≡_, refl, sym, ap, _∙_, subst}
-use mathlib.Core.Logic.{_≢_}
 use mathlib.Core.Bool.{Bool, true, false, not, _||_, cond, true≢false}
 use mathlib.Core.List.{List, [], _∷_, _++_}
 use Prim.Native.Nat.{ℕ, zero, suc, _+_, _*_, _≤_, _<_}
 use native.Mathlib.Omega.{arith}
 use lib.Dec.{eqb}
 use lib.ListN.{length}
-use borrow.Author.Tests.{eqb-true, eqb-false, eq-eqb, ne-eqb}
+use borrow.Author.Tests.{eqb-true, eq-eqb, ne-eqb}
 use Rattle.base.specs.Lists.{filter, keep, isIn, range, bit}
-
-abbrev pub count : ℕ → List ℕ → ℕ
-count v [] = 0
-count v (x ∷ xs) = bit (eqb v x) + count v xs
+pub use Rattle.base.specs.Lists.{count}
 
 -- the same numbers, as often
 abbrev pub Same : List ℕ → List ℕ → Type 0

@@ -5,3 +5,4 @@ pub mod Close
 pub mod Reached
 pub mod Own
 pub mod Rows
+pub mod Marks

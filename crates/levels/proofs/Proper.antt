@@ -1,17 +1,11 @@
 -- Lists that hold each row at most once.
-use mathlib.Core.Path.{_≡_}
-use mathlib.Core.Bool.{true}
 use mathlib.Core.List.{List, _++_}
-use Prim.Native.Nat.{ℕ, _≤_, _<_}
+use Prim.Native.Nat.{ℕ}
 use native.Mathlib.Omega.{arith}
-use Rattle.base.specs.Lists.{isIn, range}
+use Rattle.base.specs.Lists.{range}
 use Rattle.base.proofs.Lists.{range-in}
-use Rattle.base.proofs.Counts.{count, Same, count-append, count-in, in-count, count-range}
-
--- each row at most once, and below n
-pub record Proper (n : ℕ) (T : List ℕ) : Type 0 where
-  pub once : (v : ℕ) → count v T ≤ 1
-  pub inside : (v : ℕ) → isIn T v ≡ true → v < n
+use Rattle.base.proofs.Counts.{Same, count-append, count-in, in-count, count-range}
+pub use Rattle.levels.specs.Group.{Proper}
 
 pub proper-range : (n : ℕ) → Proper n (range 0 n)
 proper-range n = record { once = λ v. count-range v 0 n; inside = λ v h. omega (arith, range-in v 0 n h .1) }
