@@ -6,3 +6,7 @@ pub mod Reached
 pub mod Own
 pub mod Rows
 pub mod Marks
+pub mod Waves
+pub mod Visits
+pub mod Turns
+pub mod Frontiers

@@ -49,38 +49,32 @@ Front n marks rows = (u : ℕ) → isIn rows u ≡ true → (u < n) × (getD mar
 
 -- ---- levels
 
--- k levels are done: they are the rows with marks 3 .. k + 2, and the next ones come from the last of them and the rows not yet reached
-pub record SoFar (adj : ℕ → List ℕ) (n : ℕ) (T : List ℕ) (k : ℕ) (marks : List ℕ) : Type 0 where
-  pub fresh : (v : ℕ) → v < n → getD marks v 0 ≤ k + 2
-  pub is : levels adj n T ≡ map (atMark n marks) (range 3 k) ++ levelsFrom adj (2 * n - k) T (atMark n marks (k + 2)) (atMark n marks 1)
-
--- inside a component: the last level stands in the queue from lo to hi, and the levels still to come suffice
-pub record Inside (adj : ℕ → List ℕ) (n : ℕ) (T : List ℕ) (k : ℕ) (marks queue : List ℕ) (lo hi : ℕ) : Type 0 where
+-- k levels are done, the last stands in the queue from lo to hi, no mark is higher, and 2 × n levels are enough for the rows not yet reached.
+-- Between two components the last level is empty: lo and hi are 0
+pub record Frontier (n k : ℕ) (marks queue : List ℕ) (lo hi : ℕ) : Type 0 where
   pub ready : Ready n marks queue hi
   pub low : lo ≤ hi
-  pub so-far : SoFar adj n T k marks
+  pub fresh : (v : ℕ) → v < n → getD marks v 0 ≤ k + 2
   pub front : (u : ℕ) → isIn (slice lo hi queue) u ≡ true → u < n
   pub front-is : (u : ℕ) → u < n → isIn (slice lo hi queue) u ≡ eqb (getD marks u 0) (k + 2)
-  pub fuel : k + 2 * unreached n marks + (1 - (1 - (hi - lo))) ≤ 2 * n
+  pub enough : k + 2 * unreached n marks + (1 - (1 - (hi - lo))) ≤ 2 * n
 
--- between two components: the last level is empty
-pub record Between (adj : ℕ → List ℕ) (n : ℕ) (T : List ℕ) (k : ℕ) (marks queue : List ℕ) : Type 0 where
-  pub ready : Ready n marks queue 0
-  pub so-far : SoFar adj n T k marks
-  pub gap : (v : ℕ) → v < n → getD marks v 0 ≢ k + 2
-  pub fuel : k + 2 * unreached n marks ≤ 2 * n
+-- T's first k levels are the rows with marks 3 .. k + 2, and the next ones come from the last of them and the rows not yet reached
+abbrev pub SoFar : (adj : ℕ → List ℕ) (n : ℕ) (T : List ℕ) (k : ℕ) (marks : List ℕ) → Type 0
+SoFar adj n T k marks =
+    levels adj n T ≡ map (atMark n marks) (range 3 k) ++ levelsFrom adj (2 * n - k) T (atMark n marks (k + 2)) (atMark n marks 1)
 
 -- a mark is as it was, or is a level
 abbrev pub Kept : (marks marks′ : List ℕ) → Type 0
 Kept marks marks′ = (v : ℕ) → (getD marks′ v 0 ≡ getD marks v 0) ⊎ (3 ≤ getD marks′ v 0)
 
--- the component of row r is done
-pub record Explored (adj : ℕ → List ℕ) (n : ℕ) (T : List ℕ) (r k : ℕ) (marks marks′ queue : List ℕ) : Type 0 where
-  pub between : Between adj n T k marks′ queue
+-- from k levels to k′, and then one that is empty: whatever T is, its levels are so far right if they were
+pub record Spread (adj : ℕ → List ℕ) (n k k′ : ℕ) (marks marks′ queue′ : List ℕ) : Type 0 where
+  pub frontier : Frontier n k′ marks′ queue′ 0 0
   pub kept : Kept marks marks′
-  pub reached : getD marks′ r 0 ≢ 1
+  pub so-far : (T : List ℕ) → SoFar adj n T k marks → SoFar adj n T k′ marks′
 
--- rows to start from, in their order: whatever is reached, the root is the first that is not
+-- rows to start from, in their order: whatever is reached, the root is the first of them that is not
 pub record Roots (adj : ℕ → List ℕ) (n : ℕ) (T roots : List ℕ) : Type 0 where
   pub below : (i : ℕ) → i < length roots → getD roots i 0 < n
   pub first : (marks : List ℕ) → root adj T (atMark n marks 1) ≡ take 1 (filter (λ v. eqb (getD marks v 0) 1) roots)
@@ -89,7 +83,13 @@ pub record Roots (adj : ℕ → List ℕ) (n : ℕ) (T roots : List ℕ) : Type 
 abbrev pub Passed : (rows marks : List ℕ) (i : ℕ) → Type 0
 Passed rows marks i = (j : ℕ) → j < i → getD marks (getD rows j 0) 0 ≢ 1
 
--- the marks are the levels of T, whose rows all have one; the levels from k on are empty
+-- between two components: T's first k levels are done, the last of them empty, and the first i rows to start from are reached
+pub record Between (adj : ℕ → List ℕ) (n : ℕ) (T roots : List ℕ) (k i : ℕ) (marks queue : List ℕ) : Type 0 where
+  pub frontier : Frontier n k marks queue 0 0
+  pub so-far : SoFar adj n T k marks
+  pub passed : Passed roots marks i
+
+-- the marks are the levels of T, whose rows all have one; those from k on are empty
 pub record Levelled (adj : ℕ → List ℕ) (n : ℕ) (T : List ℕ) (k : ℕ) (marks : List ℕ) : Type 0 where
   pub levels-are : levels adj n T ≡ map (atMark n marks) (range 3 (2 * n))
   pub few : k ≤ 2 * n
