@@ -10,3 +10,6 @@ pub mod Waves
 pub mod Visits
 pub mod Turns
 pub mod Frontiers
+pub mod Components
+pub mod MarkedRegion
+pub mod Members

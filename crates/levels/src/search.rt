@@ -1,4 +1,5 @@
 // Breadth-first search over the marked rows: row after row, level after level, component after component.
+use super::marking::{collect, mark, mark_columns};
 use super::{row, wide};
 
 ghost use mathlib.Core.Path.{_≡_};
@@ -8,7 +9,11 @@ ghost use lib.ListN.{length, getD, take};
 ghost use lib.Seq.{slice};
 ghost use Rattle.base.specs.Lists.{concat};
 ghost use Rattle.levels.specs.Rows.{Rows, adjOf};
-ghost use Rattle.levels.specs.Search.{wave, visited, visitedAll, Ready, After, Front, Frontier, Spread};
+ghost use Rattle.matrix.specs.Limits.{maxRows};
+ghost use Rattle.levels.specs.Levels.{region};
+ghost use Rattle.levels.specs.Group.{Proper};
+ghost use Rattle.levels.specs.Marks.{atMark};
+ghost use Rattle.levels.specs.Search.{wave, visited, visitedAll, Ready, After, Front, Frontier, Spread, Roots, Between, Kept, Levelled, Searched};
 
 // Row v is visited: unless it was reached before, it gets mark m and joins the queue. The answer is where the queue ends.
 fn visit(marks: &mut [u32; 4096], queue: &mut [u32; 4096], n: usize, v: usize, m: u32, tail: usize) -> usize
@@ -66,4 +71,45 @@ fn spread(starts: &[u32], columns: &[u32], marks: &mut [u32; 4096], queue: &mut 
         d += 1;
     }
     d
+}
+
+// The component of the row at i, unless it was reached before: k levels are done, and the answer is how many are done then.
+fn component(starts: &[u32], columns: &[u32], own: &[u32], marks: &mut [u32; 4096], queue: &mut [u32; 4096], n: usize, i: usize, k: u32) -> u32
+    requires { ⌜ Rows n (now starts) (now columns) × Roots (adjOf n (now starts) (now columns)) n (now own) (now own) × (i < length (now own))
+        × Between (adjOf n (now starts) (now columns)) n (now own) (now own) k i (now marks) (now queue) ⌝ }
+    ensures { λ r. ⌜ Between (adjOf n (now (starts .entry)) (now (columns .entry))) n (now (own .entry)) (now (own .entry)) r (i + 1) (now (marks .exit)) (now (queue .exit))
+        × Kept (now (marks .entry)) (now (marks .exit)) ⌝ }
+{
+    let root = wide(own[i]);
+    if marks[root] != 1 {
+        return k;
+    }
+    let end = visit(marks, queue, n, root, k + 3, 0);
+    spread(starts, columns, marks, queue, n, k + 1, end)
+}
+
+// Every component of the group own, whose region is marked. Its rows are tried as roots in their order: the root is the first that is not yet reached.
+fn components(starts: &[u32], columns: &[u32], own: &[u32], marks: &mut [u32; 4096], n: usize) -> u32
+    requires { ⌜ Rows n (now starts) (now columns) × Roots (adjOf n (now starts) (now columns)) n (now own) (now own) × (length (now marks) ≡ maxRows)
+        × (atMark n (now marks) 1 ≡ region (adjOf n (now starts) (now columns)) n (now own)) × ((v : ℕ) → getD (now marks) v 0 ≤ 1) ⌝ }
+    ensures { λ r. ⌜ Levelled (adjOf n (now (starts .entry)) (now (columns .entry))) n (now (own .entry)) r (now (marks .exit)) ⌝ }
+{
+    let mut queue = [0u32; 4096];
+    let mut k = 0;
+    for i in 0..own.len() {
+        k = component(starts, columns, own, marks, &mut queue, n, i, k);
+    }
+    k
+}
+
+// The levels of the group order: own becomes its rows in ascending order, and the marks, all 0 before, its levels. The answer is how many levels are done.
+pub(crate) fn search(starts: &[u32], columns: &[u32], order: &[u32], own: &mut [u32], marks: &mut [u32; 4096], n: usize) -> u32
+    requires { ⌜ Rows n (now starts) (now columns) × Proper n (now order) × (length (now own) ≡ length (now order)) × (length (now marks) ≡ maxRows)
+        × ((v : ℕ) → getD (now marks) v 0 ≡ 0) ⌝ }
+    ensures { λ r. ⌜ Searched (adjOf n (now (starts .entry)) (now (columns .entry))) n (now (order .entry)) (now (own .exit)) r (now (marks .exit)) ⌝ }
+{
+    mark(order, marks);
+    collect(own, marks, n);
+    mark_columns(starts, columns, own, marks, n);
+    components(starts, columns, own, marks, n)
 }

@@ -1,43 +1,49 @@
+-- After each turn one level more is done.
+use mathlib.Core.Path.{_≡_}
+use Prim.Native.Nat.{_+_, _*_, _-_}
+use native.Mathlib.Omega.{arith}
 use borrow.Author.Needs.{needs}
+use Rattle.levels.specs.Rows.{adjOf}
+use Rattle.levels.specs.Marks.{unreached}
+use Rattle.levels.proofs.Rows.{rows-graph}
+use Rattle.levels.proofs.Frontiers.{frontier-front, Spreading, spreading-start, spreading-step, spreading-less, spreading-end}
 use Rattle.levels.proofs.search.spread.Statement.{statement}
 use Rattle.levels.proofs.search.spread.Tie as tie
-use Rattle.levels.proofs.search.spread.Reads as reads
-use Rattle.levels.proofs.search.spread.Lts as lts
-use Rattle.levels.proofs.search.next_level.Reads as next-level-reads
 
 abbrev Inv-loop : tie.InvT-loop
-Inv-loop starts columns marks₀ queue₀ n k end d₀ lo₀ hi₀ marks queue d lo hi = ?
+Inv-loop starts columns marks₀ queue₀ n k end d₀ lo₀ hi₀ marks queue d lo hi = Spreading (adjOf n starts columns) n k d marks₀ marks queue lo hi
 
 abbrev μ-loop : tie.MeasureT-loop
-μ-loop starts columns marks₀ queue₀ n k end d₀ lo₀ hi₀ marks queue d lo hi = ?
+μ-loop starts columns marks₀ queue₀ n k end d₀ lo₀ hi₀ marks queue d lo hi = 2 * unreached n marks + (1 - (1 - (hi - lo)))
 
--- src/search.rt:62:5
 loop-holds : tie.Need-loop-holds Inv-loop μ-loop
-loop-holds c = ?
+loop-holds c =
+    let a = c .before .before in
+    spreading-start (adjOf (a .args .n) (a .args .starts .now) (a .args .columns .now)) (a .pre .1)
 
--- src/search.rt:63:73
 add-next-level : tie.Need-add-next-level Inv-loop μ-loop
-add-next-level c = ?
+add-next-level c =
+    let f = c .before .before .before .loop .inv .frontier in
+    record { fits = omega (arith, f .enough, f .ready .small) }
 
--- src/search.rt:63:13
 next-level-requires : tie.Need-next-level-requires Inv-loop μ-loop
-next-level-requires c κs = ?
+next-level-requires c κs =
+    let f = c .before .before .before .loop .inv .frontier in
+    (c .before .before .before .before .before .before .pre .0, f .ready, f .low, omega arith, frontier-front f)
 
--- src/search.rt:66:9
 add-d : tie.Need-add-d Inv-loop μ-loop
-add-d c = ?
+add-d c =
+    let f = c .before .before .before .before .loop .inv .frontier in
+    record { fits = omega (arith, f .enough, f .ready .small) }
 
--- src/search.rt:62:5
 loop-less : tie.Need-loop-less Inv-loop μ-loop
-loop-less c = ?
+loop-less c = spreading-less (rows-graph (c .before .before .before .before .before .before .before .pre .0)) (c .before .before .before .before .loop .inv) (omega arith) (c .next-level .ensures)
 
--- src/search.rt:62:5
 loop-again : tie.Need-loop-again Inv-loop μ-loop
-loop-again c = ?
+loop-again c = spreading-step (rows-graph (c .before .before .before .before .before .before .before .pre .0)) (c .before .before .before .before .loop .inv) (omega arith) (c .next-level .ensures)
 
--- src/search.rt:55:1
 returns : tie.Need-returns Inv-loop μ-loop
-returns c = ?
+returns c = spreading-end (c .before .loop .inv) (omega arith)
 
 pub spread-spec : {M : Type 1} → statement M
 spread-spec =

@@ -1,0 +1,85 @@
+-- A group's levels depend on who is in it, not on its order. A group's rows in ascending order are as many.
+use mathlib.Core.Path.{_≡_, refl, sym, ap, _∙_, subst, fun-ext}
+use mathlib.Core.Bool.{Bool, true, false, not, _||_, cond}
+use mathlib.Core.List.{List, [], _∷_, map}
+use Prim.Native.Nat.{ℕ, zero, suc, _*_, _≤_, _<_}
+use native.Mathlib.Omega.{arith}
+use lib.Dec.{eqb}
+use lib.ListN.{length, getD, take}
+use Rattle.base.specs.Lists.{filter, any, isIn, range, trim, count, bit}
+use Rattle.base.proofs.Booleans.{both-ways}
+use Rattle.base.proofs.Lists.{filter-ext, filter-passes, filter-of, isIn-range}
+use Rattle.base.proofs.Counts.{same-length, count-filter, count-range, in-count, out-count}
+use Rattle.levels.specs.Group.{Proper}
+use Rattle.levels.specs.Levels.{near, region, root, isNext, levelsFrom, levels}
+use Rattle.levels.specs.Marks.{atMark, Marked}
+use Rattle.levels.specs.Search.{Levelled, Searched}
+
+module _ (adj : ℕ → List ℕ) (n : ℕ) (S T : List ℕ) (same : isIn S ≡ isIn T) where
+  region-same : region adj n S ≡ region adj n T
+  unfolding region near
+  region-same = ap (λ (p : ℕ → Bool). filter (λ v. p v || any p (adj v)) (range 0 n)) same
+
+  root-same : (rest : List ℕ) → root adj S rest ≡ root adj T rest
+  unfolding root
+  root-same rest = ap (λ (p : ℕ → Bool). take 1 (filter p rest)) same
+
+  next-same : (last rest : List ℕ) → isNext adj S last rest ≡ isNext adj T last rest
+  unfolding isNext
+  next-same [] rest = fun-ext (λ v. ap (λ (l : List ℕ). isIn l v) (root-same rest))
+  next-same (x ∷ xs) rest = fun-ext (λ v. refl)
+
+  from-same : (k : ℕ) (last rest : List ℕ) → levelsFrom adj k S last rest ≡ levelsFrom adj k T last rest
+  unfolding levelsFrom
+  from-same zero last rest = refl
+  from-same (suc k) last rest =
+      ap (λ (p : ℕ → Bool). filter p rest ∷ levelsFrom adj k S (filter p rest) (filter (λ v. not (p v)) rest)) (next-same last rest)
+      ∙ ap (λ (ls : List (List ℕ)). filter (isNext adj T last rest) rest ∷ ls) (from-same k _ _)
+
+  pub levels-same : levels adj n S ≡ levels adj n T
+  unfolding levels
+  levels-same = ap (levelsFrom adj (2 * n) S []) region-same ∙ from-same (2 * n) [] (region adj n T)
+
+-- T's rows, ascending
+module _ {n : ℕ} {T : List ℕ} (pr : Proper n T) where
+  pub own-in : isIn (filter (isIn T) (range 0 n)) ≡ isIn T
+  own-in = fun-ext (λ v. both-ways (isIn (filter (isIn T) (range 0 n)) v) (isIn T v)
+      (filter-passes (isIn T) (range 0 n) v)
+      (λ h. filter-of (isIn T) (range 0 n) v (isIn-range 0 n v (omega arith) (omega (arith, pr .inside v h))) h))
+
+  pub own-length : length (filter (isIn T) (range 0 n)) ≡ length T
+  own-length = same-length (filter (isIn T) (range 0 n)) T (λ v. count-filter v (isIn T) (range 0 n) ∙ go v (isIn T v) refl)
+    where
+      go : (v : ℕ) (b : Bool) → isIn T v ≡ b → bit b * count v (range 0 n) ≡ count v T
+      go v true e =
+          omega (arith, count-range v 0 n, in-count v (range 0 n) (isIn-range 0 n v (omega arith) (omega (arith, pr .inside v e))), pr .once v, in-count v T e)
+      go v false e = omega (arith, out-count v T e)
+
+-- who is in T is in T's rows in ascending order, and these are their own
+module _ {n : ℕ} {T own : List ℕ} (pr : Proper n T) (e : own ≡ filter (isIn T) (range 0 n)) where
+  pub own-same : isIn own ≡ isIn T
+  own-same = ap isIn e ∙ own-in pr
+
+  pub own-again : own ≡ filter (isIn own) (range 0 n)
+  own-again = e ∙ ap (λ (p : ℕ → Bool). filter p (range 0 n)) (sym own-same)
+
+-- what is found of T's rows in ascending order holds of T
+pub searched : {adj : ℕ → List ℕ} {n : ℕ} {T own : List ℕ} {k : ℕ} {marks : List ℕ} → Proper n T → own ≡ filter (isIn T) (range 0 n) → Levelled adj n own k marks → Searched adj n T own k marks
+searched {adj} {n} {T} {own} pr e l = record {
+  own-is = e;
+  levelled = record {
+    levels-are = sym (levels-same adj n own T (own-same pr e)) ∙ l .levels-are;
+    few = l .few;
+    fresh = l .fresh;
+    reached = λ v h. l .reached v (ap (λ (p : ℕ → Bool). p v) (own-same pr e) ∙ h);
+  };
+}
+
+-- rows that got mark 1, where no row had one
+pub marked-are : (n : ℕ) (T marks marks′ : List ℕ) → ((v : ℕ) → getD marks v 0 ≡ 0) → Marked T marks marks′ → atMark n marks′ 1 ≡ filter (isIn T) (range 0 n)
+marked-are n T marks marks′ blank m =
+    filter-ext (λ v. eqb (getD marks′ v 0) 1) (isIn T) (range 0 n) (λ v h. ap (λ (x : ℕ). eqb x 1) (m .is v ∙ ap (cond (isIn T v) 1) (blank v)) ∙ test (isIn T v))
+  where
+    test : (b : Bool) → eqb (cond b 1 0) 1 ≡ b
+    test true = refl
+    test false = refl
