@@ -6,8 +6,8 @@ use mathlib.Core.List.{List, [], _∷_, _++_, map, append-assoc}
 use Prim.Native.Nat.{ℕ, zero, suc, _+_, _-_, _≤_, _<_}
 use native.Mathlib.Omega.{arith}
 use lib.Dec.{eqb}
-use lib.ListN.{length, take, drop, getD}
-use lib.Seq.{slice, take-nil, drop-nil}
+use lib.ListN.{length, take, drop, getD, set}
+use lib.Seq.{slice, take-nil, drop-nil, getD-set-same, getD-set-other}
 use borrow.Author.Tests.{eqb-true, eqb-false, eq-eqb}
 use Rattle.base.specs.Lists.{filter, keep, any, all, isIn, concat, range, trim, trimCons}
 use Rattle.base.proofs.Booleans.{and-false, and-left, and-right, or-true, or-cases}
@@ -310,3 +310,13 @@ filter-one-more p q k (suc m) v a b pt qf h = go (eqb v k) refl (λ l. filter-on
             → length (keep b k (filter p (range (suc k) m))) ≡ suc (length (keep b k (filter q (range (suc k) m))))
         both true i = ap suc i
         both false i = i
+
+-- stores
+
+-- what holds of the place that is set, and of the others as they were, holds of each
+pub set-each : (P : ℕ → ℕ → Type 0) (xs : List ℕ) (k q : ℕ) → k < length xs → P k q → ((j : ℕ) → j ≢ k → P j (getD xs j 0)) → (j : ℕ) → P j (getD (set xs k q) j 0)
+set-each P xs k q l h g j = go (eqb j k) refl
+  where
+    go : (b : Bool) → eqb j k ≡ b → P j (getD (set xs k q) j 0)
+    go true e = subst (λ (x : ℕ). P x (getD (set xs k q) x 0)) (sym (eqb-true j k e)) (rw (getD-set-same xs k q 0 l) h)
+    go false e = let d : j ≢ k = eqb-false j k e in rw (getD-set-other xs k j q 0 d) (g j d)

@@ -1,7 +1,7 @@
 -- Laws of sums over f 0 .. f (n - 1), of natural numbers and of integers.
 use mathlib.Core.Path.{_≡_, refl, sym, ap, _∙_, subst}
 use mathlib.Core.Logic.{_⊎_, inl, inr, _≢_}
-use Prim.Native.Nat.{ℕ, zero, suc, _+_, _*_, _≤_, _<_}
+use Prim.Native.Nat.{ℕ, zero, suc, _+_, _*_, _-_, _≤_, _<_}
 use native.Mathlib.Omega.{arith}
 use lib.IntN.{ℤ, pos, natAbs, _+ℤ_, +ℤ-assoc, +ℤ-comm}
 use Rattle.base.specs.Lists.{sumBelow}
@@ -103,3 +103,12 @@ pub abs-sum : (f : ℕ → ℤ) (n : ℕ) → natAbs (sumℤ f n) ≤ sumBelow (
 unfolding sumℤ sumBelow
 abs-sum f zero = omega arith
 abs-sum f (suc n) = omega (arith, abs-add (sumℤ f n) (f n), abs-sum f n)
+
+-- more terms, no less
+pub sum-below-up : (f : ℕ → ℕ) (k m : ℕ) → k ≤ m → sumBelow f k ≤ sumBelow f m
+unfolding sumBelow
+sum-below-up f k m l = let e : k + (m - k) ≡ m = omega arith in subst (λ (y : ℕ). sumBelow f k ≤ sumBelow f y) e (go (m - k))
+  where
+    go : (j : ℕ) → sumBelow f k ≤ sumBelow f (k + j)
+    go zero = let e : k + 0 ≡ k = omega arith in rw e (omega arith)
+    go (suc j) = let e : k + suc j ≡ suc (k + j) = omega arith in rw e (omega (arith, go j))

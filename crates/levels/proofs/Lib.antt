@@ -13,3 +13,6 @@ pub mod Frontiers
 pub mod Components
 pub mod MarkedRegion
 pub mod Members
+pub mod AtLevel
+pub mod Counting
+pub mod Placing
