@@ -1,9 +1,9 @@
 -- Component after component: a root, then level after level. At the end the marks are the levels.
 use mathlib.Core.Path.{_≡_, refl, sym, ap, _∙_, subst}
 use mathlib.Core.Logic.{_⊎_, inl, inr, _≢_}
-use mathlib.Core.Bool.{Bool, true, false, true≢false}
+use mathlib.Core.Bool.{true, false, true≢false}
 use mathlib.Core.List.{List, [], _∷_}
-use Prim.Native.Nat.{ℕ, _+_, _*_, _≤_, _<_}
+use Prim.Native.Nat.{ℕ, _+_, _≤_, _<_}
 use native.Mathlib.Omega.{arith}
 use lib.Dec.{eqb}
 use lib.ListN.{length, getD, take}
@@ -15,7 +15,7 @@ use Rattle.base.proofs.Lists.{in-get, get-in, filter-in, filter-first, filter-n
 use Rattle.matrix.specs.Limits.{maxRows}
 use Rattle.levels.specs.Levels.{region, root}
 use Rattle.levels.specs.Marks.{atMark, unreached}
-use Rattle.levels.specs.Search.{wave, visited, visitedAll, After, Frontier, SoFar, Kept, Spread, Roots, Passed, Between, Levelled}
+use Rattle.levels.specs.Search.{wave, visited, visitedAll, After, Frontier, SoFar, Kept, Spread, Roots, Between, Levelled}
 use Rattle.levels.proofs.Root.{root-some}
 use Rattle.levels.proofs.Region.{region-own}
 use Rattle.levels.proofs.Turns.{isIn-atMark, atMark-none, so-far-step, next-root, so-far-start, so-far-end}

@@ -16,3 +16,4 @@ pub mod Members
 pub mod AtLevel
 pub mod Counting
 pub mod Placing
+pub mod OwnLevels

@@ -1,14 +1,14 @@
 -- A group's levels depend on who is in it, not on its order. A group's rows in ascending order are as many.
-use mathlib.Core.Path.{_≡_, refl, sym, ap, _∙_, subst, fun-ext}
+use mathlib.Core.Path.{_≡_, refl, sym, ap, _∙_, fun-ext}
 use mathlib.Core.Bool.{Bool, true, false, not, _||_, cond}
-use mathlib.Core.List.{List, [], _∷_, map}
-use Prim.Native.Nat.{ℕ, zero, suc, _*_, _≤_, _<_}
+use mathlib.Core.List.{List, [], _∷_}
+use Prim.Native.Nat.{ℕ, zero, suc, _*_, _≤_}
 use native.Mathlib.Omega.{arith}
 use lib.Dec.{eqb}
 use lib.ListN.{length, getD, take}
-use Rattle.base.specs.Lists.{filter, any, isIn, range, trim, count, bit}
+use Rattle.base.specs.Lists.{filter, any, isIn, range, count, bit}
 use Rattle.base.proofs.Booleans.{both-ways}
-use Rattle.base.proofs.Lists.{filter-ext, filter-passes, filter-of, isIn-range}
+use Rattle.base.proofs.Lists.{filter-ext, filter-passes, filter-of, isIn-range, length-filter-le, length-range}
 use Rattle.base.proofs.Counts.{same-length, count-filter, count-range, in-count, out-count}
 use Rattle.levels.specs.Group.{Proper}
 use Rattle.levels.specs.Levels.{near, region, root, isNext, levelsFrom, levels}
@@ -54,6 +54,10 @@ module _ {n : ℕ} {T : List ℕ} (pr : Proper n T) where
       go v true e =
           omega (arith, count-range v 0 n, in-count v (range 0 n) (isIn-range 0 n v (omega arith) (omega (arith, pr .inside v e))), pr .once v, in-count v T e)
       go v false e = omega (arith, out-count v T e)
+
+  -- no more rows than there are
+  pub proper-short : length T ≤ n
+  proper-short = omega (arith, own-length, length-filter-le (isIn T) (range 0 n), length-range 0 n)
 
 -- who is in T is in T's rows in ascending order, and these are their own
 module _ {n : ℕ} {T own : List ℕ} (pr : Proper n T) (e : own ≡ filter (isIn T) (range 0 n)) where

@@ -10,10 +10,9 @@ use lib.Dec.{eqb}
 use lib.ListN.{length, getD, take, drop, set, length-set, length-append}
 use lib.Seq.{getD-set-other, take-suc-set, length-take-le, take-take, take-append-le, drop-at, drop-cons, drop-length, slice, slice-cons, slice-empty, length-slice, getD-take, getD-drop}
 use borrow.Author.Tests.{eqb-true}
-use Rattle.base.specs.Lists.{filter, keep, any, isIn, concat}
+use Rattle.base.specs.Lists.{filter, keep, isIn, concat}
 use Rattle.base.proofs.Lists.{in-get}
 use Rattle.matrix.specs.Matrix.{Matrix, columnsOf, neighbours}
-use Rattle.levels.specs.Marks.{unreached}
 use Rattle.levels.specs.Search.{Wave, wave, visited, visitedAll, Ready, After, Front}
 use Rattle.levels.proofs.Waves.{visitedAll-append, visited-new, visited-old, unreached-set, unreached-some, Grown, grown}
 

@@ -1,7 +1,7 @@
 -- What a list of visits does: to the marks, to the queue, and to how many rows are not yet reached.
 use mathlib.Core.Path.{_≡_, refl, sym, ap, _∙_, subst}
 use mathlib.Core.Logic.{_≢_}
-use mathlib.Core.Bool.{Bool, true, false, not, _&&_, _||_, cond}
+use mathlib.Core.Bool.{Bool, true, false, _&&_, _||_, cond}
 use mathlib.Core.List.{List, [], _∷_, _++_, append-assoc, append-nil}
 use Prim.Native.Nat.{ℕ, suc, _+_, _≤_, _<_}
 use native.Mathlib.Omega.{arith}
@@ -9,7 +9,7 @@ use lib.Dec.{eqb}
 use lib.ListN.{length, getD, set, length-set, length-append}
 use lib.Seq.{getD-set-same, getD-set-other}
 use borrow.Author.Tests.{eqb-true, eqb-false, eq-eqb, ne-eqb}
-use Rattle.base.specs.Lists.{filter, keep, isIn, range}
+use Rattle.base.specs.Lists.{isIn, range}
 use Rattle.base.proofs.Booleans.{and-false, or-true}
 use Rattle.base.proofs.Lists.{isIn-append, in-pos, filter-of, isIn-range, filter-one-more}
 use Rattle.levels.specs.Marks.{atMark, unreached}

@@ -1,9 +1,8 @@
 -- After the turns up to i the rows of the level from i on are left to expand.
-use mathlib.Core.Path.{_≡_}
 use mathlib.Core.Logic.{_≢_}
 use Prim.Native.Nat.{_-_, _<_}
 use native.Mathlib.Omega.{arith}
-use lib.ListN.{length, take, getD}
+use lib.ListN.{take, getD}
 use borrow.Author.Needs.{needs}
 use Rattle.matrix.specs.Matrix.{pattern}
 use Rattle.levels.specs.Rows.{adjOf}

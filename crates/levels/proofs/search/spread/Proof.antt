@@ -1,8 +1,6 @@
 -- After each turn one level more is done.
-use mathlib.Core.Path.{_≡_}
 use Prim.Native.Nat.{_+_, _*_, _-_}
 use native.Mathlib.Omega.{arith}
-use borrow.Author.Needs.{needs}
 use Rattle.levels.specs.Rows.{adjOf}
 use Rattle.levels.specs.Marks.{unreached}
 use Rattle.levels.proofs.Rows.{rows-graph}

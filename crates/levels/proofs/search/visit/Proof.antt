@@ -1,5 +1,4 @@
 -- Row v was reached before, or is found.
-use mathlib.Core.Path.{_≡_}
 use native.Mathlib.Omega.{arith}
 use borrow.Author.Needs.{needs}
 use Rattle.levels.proofs.Waves.{unreached-some}
