@@ -6,7 +6,7 @@ use mathlib.Core.List.{List, [], _∷_, _++_, map, append-assoc}
 use Prim.Native.Nat.{ℕ, zero, suc, _+_, _-_, _≤_, _<_}
 use native.Mathlib.Omega.{arith}
 use lib.Dec.{eqb}
-use lib.ListN.{length, take, drop, getD, set}
+use lib.ListN.{length, take, drop, getD, set, replicate}
 use lib.Seq.{slice, take-nil, drop-nil, getD-set-same, getD-set-other}
 use borrow.Author.Tests.{eqb-true, eqb-false, eq-eqb}
 use Rattle.base.specs.Lists.{filter, keep, any, all, isIn, concat, range, trim, trimCons}
@@ -320,3 +320,9 @@ set-each P xs k q l h g j = go (eqb j k) refl
     go : (b : Bool) → eqb j k ≡ b → P j (getD (set xs k q) j 0)
     go true e = subst (λ (x : ℕ). P x (getD (set xs k q) x 0)) (sym (eqb-true j k e)) (rw (getD-set-same xs k q 0 l) h)
     go false e = let d : j ≢ k = eqb-false j k e in rw (getD-set-other xs k j q 0 d) (g j d)
+
+-- a list of zeros has 0 everywhere
+pub getD-zeros : (n i : ℕ) → _≡_ {A = ℕ} (getD (replicate n 0) i 0) 0
+getD-zeros zero i = refl
+getD-zeros (suc n) zero = refl
+getD-zeros (suc n) (suc i) = getD-zeros n i

@@ -1,14 +1,14 @@
 -- The matrix of a list of stored entries, in full rows; and the reader's whole answer.
-use mathlib.Core.Bool.{Bool, true, false, cond}
+use mathlib.Core.Bool.{cond}
 use mathlib.Core.List.{List, [], _∷_, map}
-use Prim.Native.Nat.{ℕ, zero, suc, _+_}
+use Prim.Native.Nat.{ℕ, _+_}
 use lib.Dec.{eqb}
 use lib.IntN.{ℤ}
 use lib.ListN.{length}
 use Rattle.base.specs.Lists.{filter, concat, range}
 use Rattle.base.specs.Replies.{Reply, accepted, refused, inTurn, roomFor}
 use Rattle.matrix.specs.Matrix.{Matrix}
-use Rattle.market.specs.Parse.{Triplet, triplet, isAt, Parsed, matrixText, rejected, parse}
+use Rattle.market.specs.Parse.{Triplet, triplet, isAt, Parsed, matrixText, rejected}
 
 -- "Entry (i, j) is there if (j, i) is": an entry and its mirror image, the diagonal once
 abbrev pub both : Triplet → List Triplet

@@ -3,3 +3,4 @@ pub mod Fields
 pub mod Parse
 pub mod FullRows
 pub mod Text
+pub mod Code

@@ -1,0 +1,4 @@
+pub mod Left
+pub mod Table
+pub mod Pieces
+pub mod Accepted

@@ -1,0 +1,2 @@
+pub mod Line1
+pub mod Comments
