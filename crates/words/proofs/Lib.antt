@@ -1,0 +1,6 @@
+pub mod Digits
+pub mod Twos
+pub mod Copies
+pub mod Blocks
+pub mod RoundTrip
+pub mod Codes

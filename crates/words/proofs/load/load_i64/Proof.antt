@@ -1,0 +1,83 @@
+-- `load_i64` meets its contract: a turn loads one number more.
+use borrow.Author.Needs.{needs, sfits-of}
+use mathlib.Core.Path.{ap, _∙_}
+use Prim.Native.Nat.{_*_, _-_}
+use native.Mathlib.Omega.{arith}
+use mir.Syntax.{w64}
+use mir.ValLaws.{toZ-ofZ}
+use Rattle.words.specs.LittleEndian.{toSigned, signedNumber}
+use Rattle.words.proofs.Digits.{eight-at}
+use Rattle.words.proofs.Blocks.{Loading, load-none, load-more, load-all}
+use Rattle.words.proofs.load.load_i64.Statement.{statement}
+use Rattle.words.proofs.load.load_i64.Tie as tie
+
+abbrev Inv-loop : tie.InvT-loop
+Inv-loop bytes out₀ count k₀ out k = Loading (signedNumber 8) 8 bytes out₀ count out k
+
+abbrev μ-loop : tie.MeasureT-loop
+μ-loop bytes out₀ count k₀ out k = count - k
+
+least-requires : tie.Need-least-requires Inv-loop μ-loop
+least-requires c κs = search needs
+
+loop-holds : tie.Need-loop-holds Inv-loop μ-loop
+loop-holds c =
+    let a = c .before .before .args in
+    load-none (signedNumber 8) 8 (a .bytes .now) (a .out .now) (c .least .result)
+
+mul-read-u64 : tie.Need-mul-read-u64 Inv-loop μ-loop
+mul-read-u64 c = search needs
+
+read-u64-requires : tie.Need-read-u64-requires Inv-loop μ-loop
+read-u64-requires c κs = search needs
+
+to-i64-requires : tie.Need-to-i64-requires Inv-loop μ-loop
+to-i64-requires c κs = search needs
+
+mul-t12 : tie.Need-mul-t12 Inv-loop μ-loop
+mul-t12 c = search needs
+
+slice-set-from-out : tie.Need-slice-set-from-out Inv-loop μ-loop
+slice-set-from-out c = simp (c .before .before .before .loop .inv .long) (omega arith)
+
+add-k : tie.Need-add-k Inv-loop μ-loop
+add-k c = search needs
+
+loop-less : tie.Need-loop-less Inv-loop μ-loop
+loop-less c = search needs
+
+loop-again : tie.Need-loop-again Inv-loop μ-loop
+loop-again c =
+    let l = c .before .before .before in
+    let a = l .before .before .before .args in
+    load-more (signedNumber 8) 8 (a .bytes .now) (a .out .now) (l .before .least .result) (l .loop .out) (l .loop .k) _ (omega arith) (omega arith) (omega arith)
+    (toZ-ofZ w64 (c .to-i64 .result) (sfits-of (c .to-i64 .ok)) ∙ c .to-i64 .ensures ∙ ap (toSigned 8) (c .before .read-u64 .ensures ∙ eight-at (a .bytes .now) (l .loop .k * 8) (omega arith)))
+    (l .loop .inv)
+
+same-length : tie.Need-same-length Inv-loop μ-loop
+same-length c = c .before .loop .inv .long
+
+returns : tie.Need-returns Inv-loop μ-loop
+returns c =
+    let l = c .before in
+    let a = l .before .before .before .args in
+    (l .before .least .ensures, load-all (signedNumber 8) 8 (a .bytes .now) (a .out .now) (l .before .least .result) (l .loop .out) (l .loop .k) (omega arith) (l .loop .inv))
+
+pub load-i64-spec : {M : Type 1} → statement M
+load-i64-spec =
+    tie.close
+    (tie.spec
+    Inv-loop
+    μ-loop
+    least-requires
+    loop-holds
+    mul-read-u64
+    read-u64-requires
+    to-i64-requires
+    mul-t12
+    slice-set-from-out
+    add-k
+    loop-less
+    loop-again
+    same-length
+    returns)
