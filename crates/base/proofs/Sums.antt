@@ -112,3 +112,10 @@ sum-below-up f k m l = let e : k + (m - k) ≡ m = omega arith in subst (λ (y :
     go : (j : ℕ) → sumBelow f k ≤ sumBelow f (k + j)
     go zero = let e : k + 0 ≡ k = omega arith in rw e (omega arith)
     go (suc j) = let e : k + suc j ≡ suc (k + j) = omega arith in rw e (omega (arith, go j))
+
+-- a table that is the same both ways: at most twice its part on and below the diagonal
+pub sum-below-table : (G : ℕ → ℕ → ℕ) (n : ℕ) → ((p q : ℕ) → G p q ≡ G q p) → sumBelow (λ p. sumBelow (G p) n) n ≤ 2 * sumBelow (λ p. sumBelow (G p) (suc p)) n
+unfolding sumBelow
+sum-below-table G zero s = omega arith
+sum-below-table G (suc n) s =
+    omega (arith, sum-below-add (λ p. sumBelow (G p) n) (λ p. G p n) n, sum-below-table G n s, sum-below-same (λ p. G p n) (G n) n (λ p l. s p n))

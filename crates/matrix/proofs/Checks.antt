@@ -5,7 +5,7 @@ use mathlib.Core.List.{List, [], _∷_}
 use Prim.Native.Nat.{ℕ, suc, _≤_, _<_}
 use lib.Dec.{eqb, ltb, leb}
 use lib.ListN.{length, getD}
-use borrow.Author.Tests.{leb-true, le-leb, eq-eqb}
+use borrow.Author.Tests.{leb-true, le-leb, eqb-true, eq-eqb}
 use Rattle.base.specs.Lists.{all, range}
 use Rattle.base.specs.Integers.{within}
 use Rattle.base.proofs.Booleans.{and-false, and-left, and-right, conj, conj-first, conj-at, conj-fails}
@@ -94,6 +94,7 @@ pub record Shape (m : Matrix) : Type 0 where
   pub some : 1 ≤ m .n
   pub few : m .n ≤ maxRows
   pub starts-long : m .n < length (m .starts)
+  pub starts-first : getD (m .starts) 0 0 ≡ 0
   pub columns-long : getD (m .starts) (m .n) 0 ≤ length (m .columns)
   pub values-long : getD (m .starts) (m .n) 0 ≤ length (m .values)
   pub rising : all (rises (m .starts)) (range 0 (m .n)) ≡ true
@@ -104,6 +105,7 @@ shape m h = record {
   some = leb-true 1 (m .n) (conj-first (leb 1 (m .n)) (sizeTests m) sizes);
   few = leb-true (m .n) maxRows (at 0);
   starts-long = leb-true (suc (m .n)) (length (m .starts)) (at 1);
+  starts-first = eqb-true (getD (m .starts) 0 0) 0 (at 2);
   columns-long = leb-true (getD (m .starts) (m .n) 0) (length (m .columns)) (at 3);
   values-long = leb-true (getD (m .starts) (m .n) 0) (length (m .values)) (at 4);
   rising = and-right (conj (leb 1 (m .n)) (sizeTests m)) (all (rises (m .starts)) (range 0 (m .n))) h;

@@ -8,3 +8,5 @@ pub mod RowForce
 pub mod Moved
 pub mod Forces
 pub mod Replied
+pub mod Entries
+pub mod Cut

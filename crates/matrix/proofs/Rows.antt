@@ -62,7 +62,8 @@ starts-climb starts n h i (suc d) l =
     rw e (omega (arith, starts-climb starts n h i d (omega arith)))
 
 module _ (m : Matrix) (h : shaped m ≡ true) (i : ℕ) (l : i < m .n) where
-  row-in : (size : ℕ) → getD (m .starts) (m .n) 0 ≤ size → RowIn (m .starts) size i
+  -- row i lies within a list that holds the last row
+  pub row-in : (size : ℕ) → getD (m .starts) (m .n) 0 ≤ size → RowIn (m .starts) size i
   row-in size long =
       let s = shape m h in
       let e : i + 1 + (m .n - (i + 1)) ≡ m .n = omega arith in

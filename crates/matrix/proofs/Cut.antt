@@ -1,0 +1,163 @@
+-- Lent lists cut to what a matrix can need: 4,097 row starts, 65,536 columns and values. They are a matrix if the whole lists are, with the same rows.
+use mathlib.Core.Path.{_≡_, refl, sym, ap, ap₂, _∙_, fun-ext}
+use mathlib.Core.Bool.{Bool, true, false, not, _&&_}
+use mathlib.Core.List.{List, map}
+use Prim.Native.Nat.{ℕ, suc, _≤_, _<_}
+use native.Mathlib.Numerals.{add-one}
+use native.Mathlib.Omega.{arith}
+use lib.Dec.{eqb, ltb, leb}
+use lib.IntN.{ℤ, _*ℤ_}
+use lib.ListN.{length, getD, take, length-take}
+use lib.Seq.{getD-take, take-take}
+use borrow.Author.Tests.{ltb-true}
+use Rattle.base.specs.Lists.{filter, all, isIn, range, sumBelow}
+use Rattle.base.specs.Integers.{sumℤ, same}
+use Rattle.base.proofs.Booleans.{both-ways}
+use Rattle.base.proofs.Lists.{all-range, of-all, range-in}
+use Rattle.matrix.specs.Limits.{maxRows, maxEntries}
+use Rattle.matrix.specs.Matrix.{Matrix, partOf, columnsOf, valuesOf, lookup, entry, neighbours, mirrored, lowerEntries, isMatrix, displacement}
+use Rattle.matrix.specs.Checks.{matrixOf, rises, shaped, isOrdered, ordered, symmetric}
+use Rattle.matrix.specs.Product.{forceAt, product}
+use Rattle.matrix.proofs.Checks.{Shape, shape, shape-rises, matrix-parts, matrix-tidy}
+use Rattle.matrix.proofs.Rows.{row-in}
+use Rattle.matrix.proofs.Entries.{few-entries}
+
+-- how many row starts, columns and values a matrix has at most
+abbrev pub mostStarts : ℕ
+mostStarts = 4097
+
+abbrev pub mostEntries : ℕ
+mostEntries = 65536
+
+-- the first of them
+abbrev pub cut : Matrix → Matrix
+cut m = matrixOf (m .n) (take mostStarts (m .starts)) (take mostEntries (m .columns)) (take mostEntries (m .values))
+
+-- ---- row starts
+
+start-same : (m : Matrix) → m .n ≤ maxRows → (i : ℕ) → i ≤ m .n → getD (cut m .starts) i 0 ≡ getD (m .starts) i 0
+start-same m few i l = getD-take mostStarts (m .starts) i 0 (omega arith)
+
+rises-same : (m : Matrix) → m .n ≤ maxRows → (i : ℕ) → i < m .n → rises (cut m .starts) i ≡ rises (m .starts) i
+rises-same m few i l = rw (start-same m few i (omega arith), start-same m few (suc i) l)
+
+-- a list of the right shape
+shape-made : (m : Matrix) → Shape m → shaped m ≡ true
+shape-made m s = sym (shape-rises m (s .some) (s .few) (s .starts-long) (s .starts-first) (s .columns-long) (s .values-long)) ∙ s .rising
+
+module _ (m : Matrix) where
+  -- cut, the lists keep their shape if the last row ends in what is left
+  cut-shaped : shaped m ≡ true → getD (m .starts) (m .n) 0 ≤ mostEntries → shaped (cut m) ≡ true
+  cut-shaped h last =
+      let s = shape m h in
+      let end = start-same m (s .few) (m .n) (omega arith) in
+      shape-made (cut m) (record {
+        some = s .some;
+        few = s .few;
+        starts-long = rw length-take (omega (arith, s .few, s .starts-long));
+        starts-first = start-same m (s .few) 0 (omega arith) ∙ s .starts-first;
+        columns-long = rw (end, length-take) (omega (arith, s .columns-long));
+        values-long = rw (end, length-take) (omega (arith, s .values-long));
+        rising = of-all (rises (cut m .starts)) (range 0 (m .n)) (λ i k. let l = range-in i 0 (m .n) k .1 in rises-same m (s .few) i (omega arith) ∙ all-range (rises (m .starts)) (m .n) i (s .rising) (omega arith));
+      })
+
+  module _ (h : shaped (cut m) ≡ true) where
+    cut-shape : Shape (cut m)
+    cut-shape = shape (cut m) h
+
+    -- the last row ends in what is left
+    cut-end : getD (m .starts) (m .n) 0 ≤ mostEntries
+    cut-end = omega (arith, start-same m (cut-shape .few) (m .n) (omega arith), cut-shape .columns-long, length-take mostEntries (m .columns))
+
+    -- .. and the whole lists have the shape
+    uncut-shaped : shaped m ≡ true
+    uncut-shaped =
+        let s = cut-shape in
+        let end = start-same m (s .few) (m .n) (omega arith) in
+        shape-made m (record {
+          some = s .some;
+          few = s .few;
+          starts-long = omega (arith, s .starts-long, length-take mostStarts (m .starts));
+          starts-first = sym (start-same m (s .few) 0 (omega arith)) ∙ s .starts-first;
+          columns-long = omega (arith, end, s .columns-long, length-take mostEntries (m .columns));
+          values-long = omega (arith, end, s .values-long, length-take mostEntries (m .values));
+          rising = of-all (rises (m .starts)) (range 0 (m .n)) (λ i k. let l = range-in i 0 (m .n) k .1 in sym (rises-same m (s .few) i (omega arith)) ∙ all-range (rises (cut m .starts)) (m .n) i (s .rising) (omega arith));
+        })
+
+-- ---- rows
+
+-- the part of a list that belongs to row i
+part-same : {A : Type 0} (m : Matrix) (xs : List A) → shaped m ≡ true → getD (m .starts) (m .n) 0 ≤ mostEntries → (i : ℕ) → partOf (cut m) (take mostEntries xs) i ≡ partOf m xs i
+unfolding partOf
+part-same m xs h last i = go (ltb i (m .n)) refl
+  where
+    go : (b : Bool) → ltb i (m .n) ≡ b → partOf (cut m) (take mostEntries xs) i ≡ partOf m xs i
+    go true e =
+        let l = ltb-true i (m .n) e in
+        let few = shape m h .few in
+        let end : getD (m .starts) (suc i) 0 ≤ mostEntries = rw (add-one i) at (row-in m h i l mostEntries last .ends) in
+        rw (e, start-same m few i (omega arith), start-same m few (suc i) l, take-take (getD (m .starts) (suc i) 0) mostEntries xs end)
+    go false e = rw e
+
+-- what a matrix is asked of its rows, besides its shape
+abbrev inOrder : ℕ → (ℕ → List ℕ) → (ℕ → List ℤ) → Bool
+inOrder n columns values = all (λ i. isOrdered n (columns i) (values i)) (range 0 n) && leb (sumBelow (λ i. length (filter (λ j. leb j i) (columns i))) n) maxEntries
+
+abbrev mirrors : ℕ → (ℕ → List ℕ) → (ℕ → List ℤ) → Bool
+mirrors n columns values =
+    all (λ i. all (λ j. isIn (columns j) i && same (lookup j (columns i) (values i)) (lookup i (columns j) (values j))) (columns i)) (range 0 n)
+
+module _ (m : Matrix) (h : shaped m ≡ true) (last : getD (m .starts) (m .n) 0 ≤ mostEntries) where
+  columns-kept : columnsOf (cut m) ≡ columnsOf m
+  unfolding columnsOf
+  columns-kept = fun-ext (part-same m (m .columns) h last)
+
+  values-kept : valuesOf (cut m) ≡ valuesOf m
+  unfolding valuesOf
+  values-kept = fun-ext (part-same m (m .values) h last)
+
+  order-kept : ordered (cut m) && leb (lowerEntries (cut m)) maxEntries ≡ ordered m && leb (lowerEntries m) maxEntries
+  unfolding ordered lowerEntries
+  order-kept = ap₂ (inOrder (m .n)) columns-kept values-kept
+
+  symmetry-kept : symmetric (cut m) ≡ symmetric m
+  unfolding symmetric mirrored entry
+  symmetry-kept = ap₂ (mirrors (m .n)) columns-kept values-kept
+
+  matrix-kept : isMatrix (cut m) ≡ isMatrix m
+  matrix-kept = matrix-parts (cut m) ∙ rw (cut-shaped m h last, order-kept, symmetry-kept) (sym (matrix-parts m ∙ rw h))
+
+-- ---- all lists
+
+-- cut, the lists are a matrix if and only if they were
+pub cut-matrix : (m : Matrix) → isMatrix (cut m) ≡ isMatrix m
+cut-matrix m = both-ways (isMatrix (cut m)) (isMatrix m) down up
+  where
+    down : isMatrix (cut m) ≡ true → isMatrix m ≡ true
+    down ok = let h = matrix-tidy (cut m) ok .shape in sym (matrix-kept m (uncut-shaped m h) (cut-end m h)) ∙ ok
+
+    up : isMatrix m ≡ true → isMatrix (cut m) ≡ true
+    up ok = matrix-kept m (matrix-tidy m ok .shape) (few-entries m ok) ∙ ok
+
+-- .. and then with the same rows
+module _ (m : Matrix) (ok : isMatrix m ≡ true) where
+  -- columns, values, entries
+  pub cut-columns : columnsOf (cut m) ≡ columnsOf m
+  cut-columns = columns-kept m (matrix-tidy m ok .shape) (few-entries m ok)
+
+  pub cut-values : valuesOf (cut m) ≡ valuesOf m
+  cut-values = values-kept m (matrix-tidy m ok .shape) (few-entries m ok)
+
+  pub cut-entry : entry (cut m) ≡ entry m
+  unfolding entry
+  cut-entry = ap₂ {C = ℕ → ℕ → ℤ} (λ (cs : ℕ → List ℕ) (vs : ℕ → List ℤ) i j. lookup j (cs i) (vs i)) cut-columns cut-values
+
+  -- adjacent rows
+  pub cut-neighbours : neighbours (cut m) ≡ neighbours m
+  unfolding neighbours
+  cut-neighbours = ap {B = ℕ → List ℕ} (λ (cs : ℕ → List ℕ) i. filter (λ j. not (eqb j i)) (cs i)) cut-columns
+
+  -- forces
+  pub cut-product : (x : List ℤ) → product (cut m) x ≡ product m x
+  unfolding product forceAt
+  cut-product x = ap (λ (e : ℕ → ℕ → ℤ). map (λ i. sumℤ (λ j. e i j *ℤ displacement x j) (m .n)) (range 0 (m .n))) cut-entry
