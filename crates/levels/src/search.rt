@@ -1,7 +1,9 @@
 // Breadth-first search over the marked rows: row after row, level after level, component after component.
-use super::marking::{collect, mark, mark_columns};
-use super::{row, wide};
-
+use super::marking::collect;
+use super::marking::mark;
+use super::marking::mark_columns;
+use super::row;
+use super::wide;
 ghost use mathlib.Core.Path.{_≡_};
 ghost use mathlib.Core.List.{map};
 ghost use Prim.Native.Nat.{ℕ, _+_, _<_, _≤_};
@@ -16,7 +18,14 @@ ghost use Rattle.levels.specs.Marks.{atMark};
 ghost use Rattle.levels.specs.Search.{wave, visited, visitedAll, Ready, After, Front, Frontier, Spread, Roots, Between, Kept, Levelled, Searched};
 
 // Row v is visited: unless it was reached before, it gets mark m and joins the queue. The answer is where the queue ends.
-fn visit(marks: &mut [u32; 4096], queue: &mut [u32; 4096], n: usize, v: usize, m: u32, tail: usize) -> usize
+fn visit(
+    marks: &mut [u32; 4096],
+    queue: &mut [u32; 4096],
+    n: usize,
+    v: usize,
+    m: u32,
+    tail: usize,
+) -> usize
     requires { ⌜ Ready n (now marks) (now queue) tail × (v < n) × (2 ≤ m) ⌝ }
     ensures { λ r. ⌜ After n (now (marks .exit)) (now (queue .exit)) r
         (visited m (wave (now (marks .entry)) (take tail (now (queue .entry)))) v) ⌝ }
@@ -30,7 +39,14 @@ fn visit(marks: &mut [u32; 4096], queue: &mut [u32; 4096], n: usize, v: usize, m
 }
 
 // The rows are visited, one after the other.
-fn visit_all(rows: &[u32], marks: &mut [u32; 4096], queue: &mut [u32; 4096], n: usize, m: u32, start: usize) -> usize
+fn visit_all(
+    rows: &[u32],
+    marks: &mut [u32; 4096],
+    queue: &mut [u32; 4096],
+    n: usize,
+    m: u32,
+    start: usize,
+) -> usize
     requires { ⌜ Ready n (now marks) (now queue) start × ((i : ℕ) → i < length (now rows) → getD (now rows) i 0 < n) × (2 ≤ m) ⌝ }
     ensures { λ r. ⌜ After n (now (marks .exit)) (now (queue .exit)) r
         (visitedAll m (wave (now (marks .entry)) (take start (now (queue .entry)))) (now (rows .entry))) ⌝ }
@@ -43,7 +59,16 @@ fn visit_all(rows: &[u32], marks: &mut [u32; 4096], queue: &mut [u32; 4096], n: 
 }
 
 // The rows adjacent to the level that stands in the queue from lo to hi are visited: those found are the next level.
-fn next_level(starts: &[u32], columns: &[u32], marks: &mut [u32; 4096], queue: &mut [u32; 4096], n: usize, lo: usize, hi: usize, m: u32) -> usize
+fn next_level(
+    starts: &[u32],
+    columns: &[u32],
+    marks: &mut [u32; 4096],
+    queue: &mut [u32; 4096],
+    n: usize,
+    lo: usize,
+    hi: usize,
+    m: u32,
+) -> usize
     requires { ⌜ Rows n (now starts) (now columns) × Ready n (now marks) (now queue) hi × (lo ≤ hi) × (2 ≤ m) × Front n (now marks) (slice lo hi (now queue)) ⌝ }
     ensures { λ r. ⌜ After n (now (marks .exit)) (now (queue .exit)) r
         (visitedAll m (wave (now (marks .entry)) (take hi (now (queue .entry))))
@@ -51,13 +76,28 @@ fn next_level(starts: &[u32], columns: &[u32], marks: &mut [u32; 4096], queue: &
 {
     let mut tail = hi;
     for i in lo..hi {
-        tail = visit_all(row(starts, columns, n, wide(queue[i])), marks, queue, n, m, tail);
+        tail = visit_all(
+            row(starts, columns, n, wide(queue[i])),
+            marks,
+            queue,
+            n,
+            m,
+            tail,
+        );
     }
     tail
 }
 
 // Level after level, until one is empty: k levels are done, the last from 0 to end in the queue, and the answer is how many are done then.
-fn spread(starts: &[u32], columns: &[u32], marks: &mut [u32; 4096], queue: &mut [u32; 4096], n: usize, k: u32, end: usize) -> u32
+fn spread(
+    starts: &[u32],
+    columns: &[u32],
+    marks: &mut [u32; 4096],
+    queue: &mut [u32; 4096],
+    n: usize,
+    k: u32,
+    end: usize,
+) -> u32
     requires { ⌜ Rows n (now starts) (now columns) × Frontier n k (now marks) (now queue) 0 end ⌝ }
     ensures { λ r. ⌜ Spread (adjOf n (now (starts .entry)) (now (columns .entry))) n k r (now (marks .entry)) (now (marks .exit)) (now (queue .exit)) ⌝ }
 {
@@ -74,7 +114,16 @@ fn spread(starts: &[u32], columns: &[u32], marks: &mut [u32; 4096], queue: &mut 
 }
 
 // The component of the row at i, unless it was reached before: k levels are done, and the answer is how many are done then.
-fn component(starts: &[u32], columns: &[u32], own: &[u32], marks: &mut [u32; 4096], queue: &mut [u32; 4096], n: usize, i: usize, k: u32) -> u32
+fn component(
+    starts: &[u32],
+    columns: &[u32],
+    own: &[u32],
+    marks: &mut [u32; 4096],
+    queue: &mut [u32; 4096],
+    n: usize,
+    i: usize,
+    k: u32,
+) -> u32
     requires { ⌜ Rows n (now starts) (now columns) × Roots (adjOf n (now starts) (now columns)) n (now own) (now own) × (i < length (now own))
         × Between (adjOf n (now starts) (now columns)) n (now own) (now own) k i (now marks) (now queue) ⌝ }
     ensures { λ r. ⌜ Between (adjOf n (now (starts .entry)) (now (columns .entry))) n (now (own .entry)) (now (own .entry)) r (i + 1) (now (marks .exit)) (now (queue .exit))
@@ -89,7 +138,13 @@ fn component(starts: &[u32], columns: &[u32], own: &[u32], marks: &mut [u32; 409
 }
 
 // Every component of the group own, whose region is marked. Its rows are tried as roots in their order: the root is the first that is not yet reached.
-fn components(starts: &[u32], columns: &[u32], own: &[u32], marks: &mut [u32; 4096], n: usize) -> u32
+fn components(
+    starts: &[u32],
+    columns: &[u32],
+    own: &[u32],
+    marks: &mut [u32; 4096],
+    n: usize,
+) -> u32
     requires { ⌜ Rows n (now starts) (now columns) × Roots (adjOf n (now starts) (now columns)) n (now own) (now own) × (length (now marks) ≡ maxRows)
         × (atMark n (now marks) 1 ≡ region (adjOf n (now starts) (now columns)) n (now own)) × ((v : ℕ) → getD (now marks) v 0 ≤ 1) ⌝ }
     ensures { λ r. ⌜ Levelled (adjOf n (now (starts .entry)) (now (columns .entry))) n (now (own .entry)) r (now (marks .exit)) ⌝ }
@@ -103,7 +158,14 @@ fn components(starts: &[u32], columns: &[u32], own: &[u32], marks: &mut [u32; 40
 }
 
 // The levels of the group order: own becomes its rows in ascending order, and the marks, all 0 before, its levels. The answer is how many levels are done.
-pub(crate) fn search(starts: &[u32], columns: &[u32], order: &[u32], own: &mut [u32], marks: &mut [u32; 4096], n: usize) -> u32
+pub(crate) fn search(
+    starts: &[u32],
+    columns: &[u32],
+    order: &[u32],
+    own: &mut [u32],
+    marks: &mut [u32; 4096],
+    n: usize,
+) -> u32
     requires { ⌜ Rows n (now starts) (now columns) × Proper n (now order) × (length (now own) ≡ length (now order)) × (length (now marks) ≡ maxRows)
         × ((v : ℕ) → getD (now marks) v 0 ≡ 0) ⌝ }
     ensures { λ r. ⌜ Searched (adjOf n (now (starts .entry)) (now (columns .entry))) n (now (order .entry)) (now (own .exit)) r (now (marks .exit)) ⌝ }

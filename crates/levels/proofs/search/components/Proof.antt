@@ -20,8 +20,7 @@ abbrev μ-loop : tie.MeasureT-loop
 loop-holds : tie.Need-loop-holds Inv-loop μ-loop
 loop-holds c =
     let a = c .before .before .before in
-    let adj = adjOf (a .args .n) (a .args .starts .now) (a .args .columns .now) in
-    (
+    let adj = adjOf (a .args .n) (a .args .starts .now) (a .args .columns .now) in (
       between-start adj (a .args .n) (a .args .own .now) (a .args .own .now) (a .args .marks .now) (replicate 4096 0) (a .pre .0 .small) (a .pre .2) refl (a .pre .3) (a .pre .4),
       kept-refl (a .args .marks .now),
       omega arith,
@@ -41,8 +40,7 @@ loop-less c = search needs
 loop-again : tie.Need-loop-again Inv-loop μ-loop
 loop-again c =
     let a = c .before .before .before .before .before .before .before .before in
-    let l = c .before .before .before .before .loop in
-    (
+    let l = c .before .before .before .before .loop in (
       c .component .ensures .0,
       kept-trans (a .args .marks .now) (l .marks) (c .component .last .1 .1 .1 .0) (l .inv .1) (c .component .ensures .1),
       omega arith,

@@ -47,8 +47,7 @@ row-requires c κs = (c .before .before .before .before .before .before .pre .0,
 
 visit-all-requires : tie.Need-visit-all-requires Inv-loop μ-loop
 visit-all-requires c κs =
-    let a = c .before .before .before .before .before .before .before .before .before in
-    (
+    let a = c .before .before .before .before .before .before .before .before .before in (
       c .before .before .before .before .before .before .loop .inv .ready,
       rw (c .before .before .row .ensures) (row-below (a .pre .0) (c .before .before .before .wide .result)),
       a .pre .3,

@@ -51,8 +51,7 @@ components-requires c κs =
     let adj = adjOf (a .args .n) (a .args .starts .now) (a .args .columns .now) in
     let first = c .before .before .before .before .before .before .before .before .before .before .mark .ensures in
     let second = c .before .before .mark-columns .ensures in
-    let same : (v : ℕ) → isIn own v ≡ isIn (a .args .order .now) v = λ v. ap (λ (p : ℕ → Bool). p v) (own-same (a .pre .1) (own-is (c .before .before .before .before .before .before .before))) in
-    (
+    let same : (v : ℕ) → isIn own v ≡ isIn (a .args .order .now) v = λ v. ap (λ (p : ℕ → Bool). p v) (own-same (a .pre .1) (own-is (c .before .before .before .before .before .before .before))) in (
       a .pre .0,
       own-roots adj (a .args .n) own own (own-again (a .pre .1) (own-is (c .before .before .before .before .before .before .before))),
       second .long ∙ first .long ∙ a .pre .3,
