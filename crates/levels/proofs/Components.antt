@@ -1,7 +1,7 @@
 -- Component after component: a root, then level after level. At the end the marks are the levels.
 use mathlib.Core.Path.{_≡_, refl, sym, ap, _∙_, subst}
 use mathlib.Core.Logic.{_⊎_, inl, inr, _≢_}
-use mathlib.Core.Bool.{true, false, true≢false}
+use mathlib.Core.Bool.{Bool, true, false, true≢false}
 use mathlib.Core.List.{List, [], _∷_}
 use Prim.Native.Nat.{ℕ, _+_, _≤_, _<_}
 use native.Mathlib.Omega.{arith}
@@ -11,12 +11,12 @@ use borrow.Author.Count.{below-more}
 use borrow.Author.Tests.{eqb-true, eqb-false, eq-eqb, ne-eqb}
 use Rattle.base.specs.Lists.{filter, isIn, range}
 use Rattle.base.proofs.Booleans.{or-cases}
-use Rattle.base.proofs.Lists.{in-get, get-in, filter-in, filter-first, filter-none, filter-swap, range-in, length-filter-le, length-range}
+use Rattle.base.proofs.Lists.{in-get, get-in, filter-in, filter-first, filter-none, range-in, length-filter-le, length-range}
 use Rattle.matrix.specs.Limits.{maxRows}
 use Rattle.levels.specs.Levels.{region, root}
 use Rattle.levels.specs.Marks.{atMark, unreached}
 use Rattle.levels.specs.Search.{wave, visited, visitedAll, After, Frontier, SoFar, Kept, Spread, Roots, Between, Levelled}
-use Rattle.levels.proofs.Root.{root-some}
+use Rattle.levels.proofs.Root.{root-some, root-first}
 use Rattle.levels.proofs.Region.{region-own}
 use Rattle.levels.proofs.Turns.{isIn-atMark, atMark-none, so-far-step, next-root, so-far-start, so-far-end}
 use Rattle.levels.proofs.Frontiers.{kept-trans, kept-reached, kept-turn, turn-is, turn-finds, frontier-step}
@@ -25,13 +25,13 @@ use Rattle.levels.proofs.Frontiers.{kept-trans, kept-reached, kept-turn
 
 -- T's rows in ascending order, as "the root is the lowest-numbered freedom of T not yet reached"
 pub own-roots : (adj : ℕ → List ℕ) (n : ℕ) (T own : List ℕ) → own ≡ filter (isIn T) (range 0 n) → Roots adj n T own
-unfolding root
 own-roots adj n T own e = record {
   below = λ i l.
       let here : isIn (filter (isIn T) (range 0 n)) (getD own i 0) ≡ true = subst (λ (xs : List ℕ). isIn xs (getD own i 0) ≡ true) e (in-get own i l) in
       omega (arith, range-in (getD own i 0) 0 n (filter-in (isIn T) (range 0 n) (getD own i 0) here) .1);
   first = λ marks.
-      ap (take 1) (filter-swap (λ v. eqb (getD marks v 0) 1) (isIn T) (range 0 n) ∙ ap (filter (λ v. eqb (getD marks v 0) 1)) (sym e));
+      let p : ℕ → Bool = λ v. eqb (getD marks v 0) 1 in
+      root-first adj n T p ∙ ap (λ (xs : List ℕ). take 1 (filter p xs)) (sym e);
 }
 
 pub roots-below : {adj : ℕ → List ℕ} {n : ℕ} {T roots : List ℕ} → Roots adj n T roots → (v : ℕ) → isIn roots v ≡ true → v < n

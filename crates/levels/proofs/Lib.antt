@@ -17,3 +17,4 @@ pub mod AtLevel
 pub mod Counting
 pub mod Placing
 pub mod OwnLevels
+pub mod Stretch

@@ -5,28 +5,25 @@ use mathlib.Core.List.{List, [], _∷_}
 use Prim.Native.Nat.{ℕ, zero, suc, _*_, _≤_}
 use native.Mathlib.Omega.{arith}
 use lib.Dec.{eqb}
-use lib.ListN.{length, getD, take}
+use lib.ListN.{length, getD}
 use Rattle.base.specs.Lists.{filter, any, isIn, range, count, bit}
 use Rattle.base.proofs.Booleans.{both-ways}
 use Rattle.base.proofs.Lists.{filter-ext, filter-passes, filter-of, isIn-range, length-filter-le, length-range}
 use Rattle.base.proofs.Counts.{same-length, count-filter, count-range, in-count, out-count}
 use Rattle.levels.specs.Group.{Proper}
-use Rattle.levels.specs.Levels.{near, region, root, isNext, levelsFrom, levels}
+use Rattle.levels.specs.Levels.{near, region, isNext, levelsFrom, levels}
 use Rattle.levels.specs.Marks.{atMark, Marked}
 use Rattle.levels.specs.Search.{Levelled, Searched}
+use Rattle.levels.proofs.Root.{root-same}
 
 module _ (adj : ℕ → List ℕ) (n : ℕ) (S T : List ℕ) (same : isIn S ≡ isIn T) where
   region-same : region adj n S ≡ region adj n T
   unfolding region near
   region-same = ap (λ (p : ℕ → Bool). filter (λ v. p v || any p (adj v)) (range 0 n)) same
 
-  root-same : (rest : List ℕ) → root adj S rest ≡ root adj T rest
-  unfolding root
-  root-same rest = ap (λ (p : ℕ → Bool). take 1 (filter p rest)) same
-
   next-same : (last rest : List ℕ) → isNext adj S last rest ≡ isNext adj T last rest
   unfolding isNext
-  next-same [] rest = fun-ext (λ v. ap (λ (l : List ℕ). isIn l v) (root-same rest))
+  next-same [] rest = fun-ext (λ v. ap (λ (l : List ℕ). isIn l v) (root-same adj S T same rest))
   next-same (x ∷ xs) rest = fun-ext (λ v. refl)
 
   from-same : (k : ℕ) (last rest : List ℕ) → levelsFrom adj k S last rest ≡ levelsFrom adj k T last rest

@@ -1,15 +1,18 @@
 -- The rows of a matrix as the code reads them.
-use mathlib.Core.Path.{_≡_}
+use mathlib.Core.Path.{_≡_, refl, sym, ap, subst}
+use mathlib.Core.Bool.{true}
 use mathlib.Core.List.{List}
-use Prim.Native.Nat.{ℕ, _+_, _<_}
+use Prim.Native.Nat.{ℕ, zero, suc, _+_, _-_, _≤_, _<_}
+use native.Mathlib.Omega.{arith}
 use native.Mathlib.Numerals.{add-one}
 use lib.ListN.{length, getD}
 use lib.Seq.{slice}
 use borrow.Author.Tests.{lt-ltb}
+use Rattle.base.specs.Lists.{isIn}
 use Rattle.base.proofs.Lists.{in-get}
 use Rattle.base.proofs.Graph.{Graph}
-use Rattle.matrix.specs.Matrix.{pattern, columnsOf, partOf}
-use Rattle.matrix.proofs.Matrix.{neighbour-column}
+use Rattle.matrix.specs.Matrix.{Matrix, pattern, partOf, columnsOf, neighbours, isMatrix}
+use Rattle.matrix.proofs.Matrix.{neighbour-column, MatrixFacts, matrix-facts, column-low, adjacent-both}
 use Rattle.levels.specs.Rows.{Rows, adjOf}
 
 -- a row's columns stand between its start and the next
@@ -25,3 +28,35 @@ module _ {n : ℕ} {starts columns : List ℕ} (r : Rows n starts columns) where
   -- the rows with their adjacent rows are a graph
   pub rows-graph : Graph (adjOf n starts columns) n
   rows-graph = record { below = λ u v h. r .inside v u (neighbour-column (pattern n starts columns) v u h); both = r .both }
+
+-- ---- a matrix
+
+-- adjacency looks at row starts and columns alone
+pub pattern-neighbours : (m : Matrix) → adjOf (m .n) (m .starts) (m .columns) ≡ neighbours m
+unfolding neighbours columnsOf partOf
+pattern-neighbours m = refl
+
+pattern-columns : (m : Matrix) (v : ℕ) → columnsOf (pattern (m .n) (m .starts) (m .columns)) v ≡ columnsOf m v
+unfolding columnsOf partOf
+pattern-columns m v = refl
+
+-- a matrix has rows that the search may read
+pub rows-of : (m : Matrix) → isMatrix m ≡ true → Rows (m .n) (m .starts) (m .columns)
+rows-of m ok = record {
+  small = facts .few;
+  long = omega (arith, facts .startsLong);
+  up = λ v l. rw (add-one v) (facts .row v l .rises);
+  fits = λ v l. let e : v + 1 + (m .n - (v + 1)) ≡ m .n = omega arith in omega (arith, rise (v + 1) (m .n - (v + 1)) (omega arith), ap at e, facts .columnsLong);
+  inside = λ v j h. column-low m ok v j (rw (pattern-columns m v) at h);
+  both = subst (λ (adj : ℕ → List ℕ). (u v : ℕ) → isIn (adj v) u ≡ true → isIn (adj u) v ≡ true) (sym (pattern-neighbours m)) (λ u v h. adjacent-both m ok v u h);
+}
+  where
+    facts : MatrixFacts m
+    facts = matrix-facts m ok
+
+    at : ℕ → ℕ
+    at i = getD (m .starts) i 0
+
+    rise : (i j : ℕ) → i + j ≤ m .n → at i ≤ at (i + j)
+    rise i zero l = let e : i + 0 ≡ i = omega arith in rw e (omega arith)
+    rise i (suc j) l = let e : i + suc j ≡ suc (i + j) = omega arith in rw e (omega (arith, rise i j (omega arith), facts .row (i + j) (omega arith) .rises))
