@@ -13,7 +13,6 @@ use lib.Seq.{drop-cons, drop-length}
 use borrow.Author.Tests.{ltb-true, lt-ltb, le-ltb, lt-leb, le-leb, eqb-true, eq-eqb, ne-eqb}
 use Rattle.base.specs.Lists.{filter, keep, isIn, all}
 use Rattle.base.proofs.Booleans.{and-false, and-cross, and-left, and-right, or-true, or-cases}
-use Rattle.base.specs.Integers.{same}
 use Rattle.matrix.specs.Matrix.{ascending, lookup}
 use Rattle.matrix.specs.Checks.{placeIn}
 
@@ -33,7 +32,8 @@ ascending-first c (d ∷ cs) h (suc k) l =
 
 -- ---- the place of a column
 
-place-none : (c : ℕ) (cs : List ℕ) (j : ℕ) → ascending (c ∷ cs) ≡ true → j ≤ c → placeIn cs j ≡ 0
+-- no later column is below one that is not above the first
+pub place-none : (c : ℕ) (cs : List ℕ) (j : ℕ) → ascending (c ∷ cs) ≡ true → j ≤ c → placeIn cs j ≡ 0
 unfolding placeIn
 place-none c [] j h l = refl
 place-none c (d ∷ cs) j h l =
@@ -76,6 +76,16 @@ isIn-place (c ∷ cs) j h m = go (or-cases (eqb j c) (isIn cs j) m) (isIn-place 
         let first = ascending-first c cs h (placeIn cs j) (i .0) in
         rw (lt-ltb c j (omega arith)) (omega arith)
 
+-- the first column stands nowhere else
+pub first-once : (c : ℕ) (cs : List ℕ) → ascending (c ∷ cs) ≡ true → isIn cs c ≡ false
+first-once c cs h = go (isIn cs c) refl
+  where
+    go : (b : Bool) → isIn cs c ≡ b → b ≡ false
+    go true e =
+        let i = isIn-place cs c (ascending-tail c cs h) e in
+        absurd (omega (arith, ascending-first c cs h _ (i .0)))
+    go false e = refl
+
 -- a column that does not stand at its place is not there
 pub place-missing : (cs : List ℕ) (j p : ℕ) → ascending cs ≡ true → p ≡ placeIn cs j → (p < length cs → getD cs p 0 ≢ j) → isIn cs j ≡ false
 place-missing cs j p h e ne = go (isIn cs j) refl
@@ -102,11 +112,6 @@ lookup-get (c ∷ cs) (v ∷ vs) zero h l = rw (eq-eqb c c refl)
 lookup-get (c ∷ cs) (v ∷ vs) (suc k) h l =
     let first = ascending-first c cs h k (omega arith) in
     rw (ne-eqb (getD cs k 0) c (λ q. omega arith)) (lookup-get cs vs k (ascending-tail c cs h) (omega arith))
-
--- the test of an entry's value, at the place of its column
-pub entry-test : (cs : List ℕ) (vs : List ℤ) (v : ℤ) (j p : ℕ) → ascending cs ≡ true → p < length cs → getD cs p 0 ≡ j
-    → isIn cs j && same v (lookup j cs vs) ≡ same v (getD vs p (pos 0))
-entry-test cs vs v j p h l e = rw (← e, isIn-get cs p l, lookup-get cs vs p h l)
 
 -- ---- the test that columns ascend and are below n
 

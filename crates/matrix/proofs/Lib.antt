@@ -10,3 +10,4 @@ pub mod Forces
 pub mod Replied
 pub mod Entries
 pub mod Cut
+pub mod Cursors

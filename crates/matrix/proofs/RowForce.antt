@@ -1,7 +1,7 @@
 -- A row's force: the sum over its stored entries is the sum over all columns, and every number on the way fits.
 use mathlib.Core.Path.{_≡_, refl, sym, ap, _∙_}
 use mathlib.Core.Logic.{_≢_}
-use mathlib.Core.Bool.{Bool, true, false, _&&_, cond}
+use mathlib.Core.Bool.{true, _&&_, cond}
 use mathlib.Core.List.{List, [], _∷_}
 use Prim.Native.Nat.{ℕ, zero, suc, _+_, _*_, _≤_, _<_}
 use native.Mathlib.Omega.{arith}
@@ -11,7 +11,7 @@ use lib.ListN.{length, getD}
 use mir.Syntax.{w64}
 use mir.Val.{SFits}
 use borrow.Author.Tests.{ltb-true, leb-true, eq-eqb, ne-eqb}
-use Rattle.base.specs.Lists.{all, isIn}
+use Rattle.base.specs.Lists.{all}
 use Rattle.base.specs.Integers.{within, sumℤ}
 use Rattle.base.proofs.Booleans.{and-left, and-right}
 use Rattle.base.proofs.Lists.{all-get}
@@ -21,22 +21,13 @@ use Rattle.matrix.specs.Limits.{maxValue, maxDisplacement}
 use Rattle.matrix.specs.Matrix.{lookup, ascending, displacement}
 use Rattle.matrix.specs.Checks.{isOrdered, RowOk}
 use Rattle.matrix.proofs.Matrix.{lookup-none, getD-all}
-use Rattle.matrix.proofs.Ascending.{ascending-tail, ascending-first, isIn-place}
+use Rattle.matrix.proofs.Ascending.{ascending-tail, ascending-first, first-once}
 
 -- the entry at place k of a row times the displacement of its column
 abbrev pub term : (cs : List ℕ) (vs x : List ℤ) → ℕ → ℤ
 term cs vs x k = getD vs k (pos 0) *ℤ displacement x (getD cs k 0)
 
 -- ---- the sum over the stored entries
-
-first-once : (c : ℕ) (cs : List ℕ) → ascending (c ∷ cs) ≡ true → isIn cs c ≡ false
-first-once c cs h = go (isIn cs c) refl
-  where
-    go : (b : Bool) → isIn cs c ≡ b → b ≡ false
-    go true e =
-        let i = isIn-place cs c (ascending-tail c cs h) e in
-        absurd (omega (arith, ascending-first c cs h _ (i .0)))
-    go false e = refl
 
 -- each stored column is met once
 pub stored-sum : (cs : List ℕ) (vs x : List ℤ) (n : ℕ) → ascending cs ≡ true → all (λ j. ltb j n) cs ≡ true

@@ -1,22 +1,21 @@
--- The pass over mirrored entries: one entry of a row that is in order.
+-- Rows in order, and entries that are mirrored.
 use mathlib.Core.Path.{_≡_, sym, ap, _∙_}
-use mathlib.Core.Bool.{Bool, true, false, _&&_}
+use mathlib.Core.Bool.{true, _&&_}
 use mathlib.Core.List.{List}
 use Prim.Native.Nat.{ℕ, _+_, _≤_, _<_}
 use native.Mathlib.Omega.{arith}
 use lib.Dec.{ltb}
-use lib.IntN.{ℤ, pos}
+use lib.IntN.{ℤ}
 use lib.ListN.{length, getD, drop}
 use borrow.Author.Tests.{ltb-true}
-use Rattle.base.specs.Lists.{all, isIn}
-use Rattle.base.specs.Integers.{within, same}
+use Rattle.base.specs.Lists.{all}
+use Rattle.base.specs.Integers.{within}
 use Rattle.base.proofs.Booleans.{and-left, and-right}
 use Rattle.base.proofs.Lists.{all-get, all-range}
-use Rattle.base.proofs.Left.{all-drop-pass, all-drop-fail, all-drop-none}
+use Rattle.base.proofs.Left.{all-drop-pass, all-drop-none}
 use Rattle.matrix.specs.Limits.{maxValue}
-use Rattle.matrix.specs.Matrix.{Matrix, columnsOf, valuesOf, lookup, entry, ascending, mirrored}
+use Rattle.matrix.specs.Matrix.{Matrix, columnsOf, valuesOf, ascending, mirrored}
 use Rattle.matrix.specs.Checks.{shaped, isOrdered, orderedRow, ordered, mirroredRow}
-use Rattle.matrix.proofs.Ascending.{lookup-get}
 use Rattle.matrix.proofs.Rows.{length-columns, length-values, ordered-ascends}
 
 ordered-below : (n : ℕ) (cs : List ℕ) (vs : List ℤ) → isOrdered n cs vs ≡ true → (k : ℕ) → k < length cs → getD cs k 0 < n
@@ -52,25 +51,14 @@ pub record Mirrored (m : Matrix) (i : ℕ) (cs : List ℕ) (vs : List ℤ) (k : 
 pub mirrored-none : (m : Matrix) (i : ℕ) {cs : List ℕ} {vs : List ℤ} → cs ≡ columnsOf m i → vs ≡ valuesOf m i → Mirrored m i cs vs 0
 mirrored-none m i e f = record { columns = e; values = f; here = omega arith; left = ap (all (mirrored m i)) e }
 
--- The entry at place k is next; ds and us are the columns and values of the row that its column names, t is the test of its mirror
-module _ (m : Matrix) (o : ordered m ≡ true) {i : ℕ} (l : i < m .n) {cs ds : List ℕ} {vs us : List ℤ} {k : ℕ} (r : Mirrored m i cs vs k) (b : k < length cs)
-    (d : ds ≡ columnsOf m (getD cs k 0)) (u : us ≡ valuesOf m (getD cs k 0)) {t : Bool} (e : t ≡ isIn ds i && same (getD vs k (pos 0)) (lookup i ds us)) where
-  test : t ≡ mirrored m i (getD cs k 0)
-  unfolding mirrored entry
-  test =
-      let v : getD vs k (pos 0) ≡ lookup (getD cs k 0) (columnsOf m i) (valuesOf m i) = sym (lookup-get cs vs k (row-ascends m o i l (r .columns)) b) ∙ rw (r .columns, r .values) in
-      e ∙ rw (v, d, u)
-
-  pub mirrored-fails : t ≡ false → mirroredRow m i ≡ false
-  mirrored-fails q = sym (r .left) ∙ all-drop-fail (mirrored m i) cs k 0 b (sym test ∙ q)
-
-  pub mirrored-next : t ≡ true → Mirrored m i cs vs (k + 1)
-  mirrored-next q = record {
-    columns = r .columns;
-    values = r .values;
-    here = omega arith;
-    left = sym (all-drop-pass (mirrored m i) cs k 0 b (sym test ∙ q)) ∙ r .left;
-  }
+-- the entry at place k is mirrored
+pub mirrored-next : (m : Matrix) {i : ℕ} {cs : List ℕ} {vs : List ℤ} {k : ℕ} → Mirrored m i cs vs k → k < length cs → mirrored m i (getD cs k 0) ≡ true → Mirrored m i cs vs (k + 1)
+mirrored-next m {i} {cs} {vs} {k} r b q = record {
+  columns = r .columns;
+  values = r .values;
+  here = omega arith;
+  left = sym (all-drop-pass (mirrored m i) cs k 0 b q) ∙ r .left;
+}
 
 pub mirrored-all : (m : Matrix) (i : ℕ) (cs : List ℕ) (vs : List ℤ) (k : ℕ) → Mirrored m i cs vs k → length cs ≤ k → mirroredRow m i ≡ true
 mirrored-all m i cs vs k r l =

@@ -1,12 +1,12 @@
 -- What the check of a matrix goes through, pass by pass. `isMatrix` is the conjunction of the passes (proofs/Checks.antt).
 use mathlib.Core.Path.{_≡_}
-use mathlib.Core.Bool.{Bool, true, _&&_}
+use mathlib.Core.Bool.{Bool, true, false, _&&_}
 use mathlib.Core.List.{List}
 use Prim.Native.Nat.{ℕ, suc, _+_, _≤_, _<_}
 use lib.Dec.{eqb, ltb, leb}
 use lib.IntN.{ℤ}
-use lib.ListN.{length, getD}
-use Rattle.base.specs.Lists.{filter, all, range}
+use lib.ListN.{length, getD, take}
+use Rattle.base.specs.Lists.{filter, all, range, isIn, bit}
 use Rattle.base.specs.Integers.{within}
 use Rattle.matrix.specs.Limits.{maxRows, maxValue, maxDisplacement}
 use Rattle.matrix.specs.Matrix.{Matrix, columnsOf, valuesOf, ascending, mirrored, isMatrix, areDisplacements}
@@ -58,6 +58,26 @@ symmetric m = all (mirroredRow m) (range 0 (m .n))
 -- how many numbers of a list are below c: in an ascending list, the place of c if it is there
 unfoldable pub placeIn : List ℕ → ℕ → ℕ
 placeIn xs c = length (filter (λ x. ltb x c) xs)
+
+-- Cursors, one in each row, after the first k entries of row i have met their mirrors and all entries of the rows before it:
+-- if every entry is mirrored, the cursor of row j has passed its columns below i, and column i too if one of those k entries is in column j
+pub record Cursors (m : Matrix) (i k : ℕ) (cursors : List ℕ) : Type 0 where
+  pub size : m .n ≤ length cursors
+  pub low : (j : ℕ) → j < m .n → getD (m .starts) j 0 ≤ getD cursors j 0
+  pub high : (j : ℕ) → j < m .n → getD cursors j 0 ≤ getD (m .starts) (j + 1) 0
+  pub exact : symmetric m ≡ true → (j : ℕ) → j < m .n
+      → getD cursors j 0 ≡ getD (m .starts) j 0 + (placeIn (columnsOf m j) i + bit (isIn (take k (columnsOf m i)) j))
+
+-- what meeting the entries of row i with their mirrors asks
+pub record MeetOk (m : Matrix) (i : ℕ) (cursors : List ℕ) : Type 0 where
+  pub tidy : Tidy m
+  pub below : i < m .n
+  pub placed : Cursors m i 0 cursors
+
+-- what it answers, and leaves in the cursors
+pub record RowMet (m : Matrix) (i : ℕ) (met : Bool) (cursors : List ℕ) : Type 0 where
+  pub yes : met ≡ true → (mirroredRow m i ≡ true) × Cursors m (i + 1) 0 cursors
+  pub missed : met ≡ false → symmetric m ≡ false
 
 -- what the sum of a row times displacements asks: few columns, in order, as many values, and displacements within their limit
 pub record RowOk (columns : List ℕ) (values displacements : List ℤ) : Type 0 where

@@ -4,13 +4,13 @@ use crate::limits::MAX_ROWS;
 use crate::row;
 ghost use mathlib.Core.Path.{_≡_};
 ghost use mathlib.Core.Bool.{true, _&&_};
-ghost use Prim.Native.Nat.{_<_};
+ghost use Prim.Native.Nat.{ℕ, _<_, _≤_};
 ghost use lib.Dec.{leb};
-ghost use lib.ListN.{length};
+ghost use lib.ListN.{length, getD};
 ghost use Rattle.base.specs.Lists.{all, range};
 ghost use Rattle.matrix.specs.Limits.{maxEntries};
 ghost use Rattle.matrix.specs.Matrix.{lowerEntries};
-ghost use Rattle.matrix.specs.Checks.{matrixOf, rises, shaped, ordered, Tidy, mirroredRow, symmetric};
+ghost use Rattle.matrix.specs.Checks.{matrixOf, rises, shaped, ordered, Tidy, symmetric, MeetOk, RowMet};
 
 // No row starts after the next.
 fn starts_rise(n: usize, starts: &[u32]) -> bool
@@ -72,22 +72,58 @@ pub fn is_ordered(n: usize, starts: &[u32], columns: &[u32], values: &[i32]) -> 
     lower <= MAX_ENTRIES
 }
 
-// Every entry of row i is mirrored.
-fn is_mirrored(n: usize, starts: &[u32], columns: &[u32], values: &[i32], i: usize) -> bool
-    requires { ⌜ Tidy (matrixOf n (now starts) (now columns) (now values)) × (i < n) ⌝ }
-    ensures { λ r. ⌜ r ≡ mirroredRow (matrixOf n (now (starts .entry)) (now (columns .entry)) (now (values .entry))) i ⌝ }
+// Each cursor stands where its row starts.
+fn set_cursors(n: usize, starts: &[u32], cursors: &mut [u32])
+    requires { ⌜ (n ≤ length (now starts)) × (n ≤ length (now cursors)) ⌝ }
+    ensures { λ _. ⌜ ((j : ℕ) → j < n → getD (now (cursors .exit)) j 0 ≡ getD (now (starts .entry)) j 0) ⌝ }
+{
+    let mut i = 0;
+    while i < n {
+        cursors[i] = starts[i];
+        i += 1;
+    }
+}
+
+// The mirror of each entry of row i stands at the cursor of its row, which then goes on.
+fn meet_row(
+    n: usize,
+    starts: &[u32],
+    columns: &[u32],
+    values: &[i32],
+    i: usize,
+    cursors: &mut [u32],
+) -> bool
+    requires { ⌜ MeetOk (matrixOf n (now starts) (now columns) (now values)) i (now cursors) ⌝ }
+    ensures { λ r. ⌜ RowMet (matrixOf n (now (starts .entry)) (now (columns .entry)) (now (values .entry))) i r (now (cursors .exit)) ⌝ }
 {
     let row_columns = row::columns_of(starts, columns, i);
     let row_values = row::values_of(starts, values, i);
     let mut k = 0;
     while k < row_columns.len() {
         let j = row_columns[k] as usize;
-        let other_columns = row::columns_of(starts, columns, j);
-        let other_values = row::values_of(starts, values, j);
-        if !row::has(other_columns, other_values, i as u32, row_values[k]) {
+        let p = cursors[j];
+        let end = starts[j + 1] as usize;
+        if !row::is_at(columns, values, p as usize, end, i as u32, row_values[k]) {
             return false;
         }
+        cursors[j] = p + 1;
         k += 1;
+    }
+    true
+}
+
+// Every entry is mirrored, found by a cursor in each row.
+fn meet_rows(n: usize, starts: &[u32], columns: &[u32], values: &[i32], cursors: &mut [u32]) -> bool
+    requires { ⌜ Tidy (matrixOf n (now starts) (now columns) (now values)) × (n ≤ length (now cursors)) ⌝ }
+    ensures { λ r. ⌜ r ≡ symmetric (matrixOf n (now (starts .entry)) (now (columns .entry)) (now (values .entry))) ⌝ }
+{
+    set_cursors(n, starts, cursors);
+    let mut i = 0;
+    while i < n {
+        if !meet_row(n, starts, columns, values, i, cursors) {
+            return false;
+        }
+        i += 1;
     }
     true
 }
@@ -97,12 +133,6 @@ pub fn is_symmetric(n: usize, starts: &[u32], columns: &[u32], values: &[i32]) -
     requires { ⌜ Tidy (matrixOf n (now starts) (now columns) (now values)) ⌝ }
     ensures { λ r. ⌜ r ≡ symmetric (matrixOf n (now (starts .entry)) (now (columns .entry)) (now (values .entry))) ⌝ }
 {
-    let mut i = 0;
-    while i < n {
-        if !is_mirrored(n, starts, columns, values, i) {
-            return false;
-        }
-        i += 1;
-    }
-    true
+    let mut cursors = [0u32; 4096];
+    meet_rows(n, starts, columns, values, &mut cursors)
 }

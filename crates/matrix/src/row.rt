@@ -3,12 +3,12 @@ use crate::limits::MAX_VALUE;
 use crate::limits::first_past;
 ghost use mathlib.Core.Path.{_≡_};
 ghost use mathlib.Core.Bool.{true, false, _&&_};
-ghost use Prim.Native.Nat.{_+_};
-ghost use lib.IntN.{_*ℤ_};
+ghost use Prim.Native.Nat.{_+_, _≤_};
+ghost use lib.IntN.{pos, _*ℤ_};
 ghost use lib.ListN.{length, getD};
 ghost use lib.Seq.{slice};
-ghost use lib.Dec.{ltb};
-ghost use Rattle.base.specs.Lists.{isIn, all};
+ghost use lib.Dec.{eqb, ltb};
+ghost use Rattle.base.specs.Lists.{all};
 ghost use Rattle.base.specs.Integers.{same, sumℤ};
 ghost use Rattle.matrix.specs.Matrix.{lookup, ascending, displacement};
 ghost use Rattle.matrix.specs.Checks.{RowIn, placeIn, isOrdered, RowOk};
@@ -66,13 +66,12 @@ pub fn entry(columns: &[u32], values: &[i32], j: u32) -> i64
     values[p] as i64
 }
 
-// The row has an entry in column j, and its value is v.
-pub fn has(columns: &[u32], values: &[i32], j: u32, v: i32) -> bool
-    requires { ⌜ (ascending (now columns) ≡ true) × (length (now columns) ≡ length (now values)) ⌝ }
-    ensures { λ r. ⌜ r ≡ isIn (now (columns .entry)) j && same v (lookup j (now (columns .entry)) (now (values .entry))) ⌝ }
+// Place p is before the end, and holds column j and the value v.
+pub fn is_at(columns: &[u32], values: &[i32], p: usize, end: usize, j: u32, v: i32) -> bool
+    requires { ⌜ (end ≤ length (now columns)) × (end ≤ length (now values)) ⌝ }
+    ensures { λ r. ⌜ r ≡ ltb p end && eqb (getD (now (columns .entry)) p 0) j && same (getD (now (values .entry)) p (pos 0)) v ⌝ }
 {
-    let p = place(columns, j);
-    if columns.len() <= p {
+    if end <= p {
         return false;
     }
     if columns[p] != j {
