@@ -191,6 +191,7 @@ module _ {ℓ} {A : Type ℓ} where
   -- .. from 0 on
   pub map-range-zero : (f : ℕ → A) (m i : ℕ) (d : A) → i < m → getD (map f (range 0 m)) i d ≡ f i
   map-range-zero f m i d l = map-range-at f 0 m i d l ∙ (let e : 0 + i ≡ i = omega arith in ap f e)
+
 module _ {ℓ} {A : Type ℓ} where
   -- a part of a list by its length
   pub take-drop : (a e : ℕ) (xs : List A) → take (e - a) (drop a xs) ≡ slice a e xs

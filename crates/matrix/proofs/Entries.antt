@@ -97,5 +97,11 @@ module _ (m : Matrix) (ok : isMatrix m ≡ true) where
   pub few-entries : getD (m .starts) (m .n) 0 ≤ 2 * maxEntries
   unfolding lowerEntries
   few-entries =
-      omega (arith, entries-end (m .n) (omega arith), sum-below-same (λ i. length (columnsOf m i)) (λ i. sumBelow (G i) (m .n)) (m .n) (λ i l. row-count i), sum-below-table G (m .n) G-same,
-        sum-below-same (λ i. length (filter (λ j. leb j i) (columnsOf m i))) (λ i. sumBelow (G i) (suc i)) (m .n) (λ i l. lower-count i), facts .lower)
+      omega (
+        arith,
+        entries-end (m .n) (omega arith),
+        sum-below-same (λ i. length (columnsOf m i)) (λ i. sumBelow (G i) (m .n)) (m .n) (λ i l. row-count i),
+        sum-below-table G (m .n) G-same,
+        sum-below-same (λ i. length (filter (λ j. leb j i) (columnsOf m i))) (λ i. sumBelow (G i) (suc i)) (m .n) (λ i l. lower-count i),
+        facts .lower,
+      )

@@ -28,7 +28,7 @@ pub pair-of : (g : Group) (s f : ℕ) (r b : Group) (ks : List Group) → tiled 
 unfolding tiled
 pair-of g s f r b ks h =
     let bs : List Bool = eqb (b .colour) blue ∷ eqb (r .start) s ∷ eqb (b .start) (s + r .length) ∷ eqb (r .first) f ∷ eqb (b .first) f ∷ leb 1 (r .workers) ∷ eqb (b .workers) (r .workers)
-        ∷ tiled g (s + r .length + b .length) (f + r .workers) ks ∷ [] in
+    ∷ tiled g (s + r .length + b .length) (f + r .workers) ks ∷ [] in
     let t : (k : ℕ) → getD bs k true ≡ true = conj-at (eqb (r .colour) red) bs h in
     record {
       isRed = eqb-true (r .colour) red (conj-first (eqb (r .colour) red) bs h);
@@ -39,7 +39,8 @@ pair-of g s f r b ks h =
       firstB = eqb-true (b .first) f (t 4);
       some = leb-true 1 (r .workers) (t 5);
       alike = eqb-true (b .workers) (r .workers) (t 6);
-      rest = t 7 }
+      rest = t 7;
+    }
 
 -- the children from position s on end where their parent ends
 pub tiled-le : (g : Group) (s f : ℕ) (ks : List Group) → tiled g s f ks ≡ true → s ≤ g .start + g .length

@@ -41,8 +41,10 @@ sound-facts adj n order g gs h = record {
   short = leb-true (length (g ∷ gs)) maxGroups (at 7);
   inOrder = at 8;
   down = below;
-  under = (and-left (childrenSound adj order g (children 0 gs)) (allSound adj order gs (0 + 1) gs) (at 9),
-    sounds adj order gs 1 gs below (λ k l. refl) (and-right (childrenSound adj order g (children 0 gs)) (allSound adj order gs (0 + 1) gs) (at 9)));
+  under = (
+    and-left (childrenSound adj order g (children 0 gs)) (allSound adj order gs (0 + 1) gs) (at 9),
+    sounds adj order gs 1 gs below (λ k l. refl) (and-right (childrenSound adj order g (children 0 gs)) (allSound adj order gs (0 + 1) gs) (at 9)),
+  );
 }
   where
     bs : List Bool

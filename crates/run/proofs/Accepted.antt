@@ -47,8 +47,8 @@ module _ (j : Job) (ok : Accepted j) where
     exclusion = λ made v w. exclusion j tree-of (order-of .long) (graph (j .matrix) (ok .matrix)) made v w;
     lasting = λ made new w g. lasts j made new g w;
     fitting = λ t k l. fitting (workers j) (j .matrix .n) t (updates j) (entry (j .matrix) (rowAt j t)) (displacement (j .displacements)) (matrix-facts (j .matrix) (ok .matrix) .few)
-      (small-entry (j .matrix) (ok .matrix) (rowAt j t)) (small-displacement (j .matrix .n) (j .displacements) (ok .displacements))
-      (total magnitude refl j (ok .matrix) order-of (workers j) t owners l) k;
+        (small-entry (j .matrix) (ok .matrix) (rowAt j t)) (small-displacement (j .matrix .n) (j .displacements) (ok .displacements))
+        (total magnitude refl j (ok .matrix) order-of (workers j) t owners l) k;
     whole = λ t l. total (λ z. z) refl j (ok .matrix) order-of (workers j) t owners l;
     placed = λ i l. let p = position-at (j .plan .order) i (order-of .member i l) in (omega (arith, p .0, order-of .long), p .1);
   }

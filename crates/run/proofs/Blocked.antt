@@ -44,8 +44,10 @@ module _ (fin : Group → Bool) (g : Group) (below next all : Tree) (q : ℕ) wh
 
       go : (holds g q && ((isBlue && redOpen fin all) || blocked fin q below below) ≡ true) ⊎ (blocked fin q all next ≡ true) → Here ⊎ (blocked fin q all next ≡ true)
       go (inl e) =
-          inl (and-left (holds g q) ((isBlue && redOpen fin all) || blocked fin q below below) e,
-            inner (or-cases (isBlue && redOpen fin all) (blocked fin q below below) (and-right (holds g q) ((isBlue && redOpen fin all) || blocked fin q below below) e)))
+          inl (
+            and-left (holds g q) ((isBlue && redOpen fin all) || blocked fin q below below) e,
+            inner (or-cases (isBlue && redOpen fin all) (blocked fin q below below) (and-right (holds g q) ((isBlue && redOpen fin all) || blocked fin q below below) e)),
+          )
       go (inr e) = inr e
 
   -- who is not blocked: a blue group that holds it has no open red sibling

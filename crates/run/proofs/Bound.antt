@@ -58,7 +58,7 @@ pub fitting : (W n t : ℕ) (U : ℕ → List Update) (a x : ℕ → ℤ) → n 
     → (k : ℕ → ℕ) → fits64 (sumℤ (λ w. landed t (take (k w) (U w))) W) ≡ true
 fitting W n t U a x few ha hx e k =
     let e₁ : sumℤ (λ w. landedBy magnitude t (U w)) W ≡ pos (sumBelow (λ w. mass t (U w)) W) =
-      sum-same (λ w. landedBy magnitude t (U w)) (λ w. pos (mass t (U w))) W (λ w l. mass-landed t (U w)) ∙ pos-sum (λ w. mass t (U w)) W in
+    sum-same (λ w. landedBy magnitude t (U w)) (λ w. pos (mass t (U w))) W (λ w l. mass-landed t (U w)) ∙ pos-sum (λ w. mass t (U w)) W in
     let e₂ : sumℤ (λ i. magnitude (a i *ℤ x i)) n ≡ pos (sumBelow (λ i. natAbs (a i *ℤ x i)) n) = pos-sum (λ i. natAbs (a i *ℤ x i)) n in
     let e₃ : sumBelow (λ w. mass t (U w)) W ≡ sumBelow (λ i. natAbs (a i *ℤ x i)) n = ap natAbs (sym e₁ ∙ e ∙ e₂) in
     let b₁ : sumBelow (λ i. natAbs (a i *ℤ x i)) n ≤ n * (maxValue * maxDisplacement) = sum-below-bound (λ i. natAbs (a i *ℤ x i)) n (maxValue * maxDisplacement) (λ i l. abs-mul-le (a i) (x i) (ha i) (hx i)) in

@@ -108,18 +108,35 @@ module _ (j : Job) (ok : isMatrix (j .matrix) ≡ true) (o : Once (j .matrix .n)
   unfolding sumBelow
   by-position zero = refl
   by-position (suc e) =
-      omega (arith, later-none e, sum-below-same (λ p. laterTo p (suc e)) (λ p. laterTo p e + G p e) e (λ p k. later-more p e k),
-        sum-below-add (λ p. laterTo p e) (λ p. G p e) e, by-position e, sum-below-same (λ p. G p e) (G e) e (λ p k. J-same (rowAt j p) (rowAt j e)))
+      omega (
+        arith,
+        later-none e,
+        sum-below-same (λ p. laterTo p (suc e)) (λ p. laterTo p e + G p e) e (λ p k. later-more p e k),
+        sum-below-add (λ p. laterTo p e) (λ p. G p e) e,
+        by-position e,
+        sum-below-same (λ p. G p e) (G e) e (λ p k. J-same (rowAt j p) (rowAt j e)),
+      )
 
   all-pairs : sumBelow (λ p. length (later j p)) (j .matrix .n) ≡ adjacentPairs (j .matrix)
   unfolding adjacentPairs later laterTo rowAt
   all-pairs =
-      omega (arith, by-position (j .matrix .n), square G (j .matrix .n) (λ p q. J-same (rowAt j p) (rowAt j q)) (λ p. J-none (rowAt j p)),
-        square J (j .matrix .n) J-same J-none, reorder J (j .matrix .n) (j .plan .order) o)
+      omega (
+        arith,
+        by-position (j .matrix .n),
+        square G (j .matrix .n) (λ p q. J-same (rowAt j p) (rowAt j q)) (λ p. J-none (rowAt j p)),
+        square J (j .matrix .n) J-same J-none,
+        reorder J (j .matrix .n) (j .plan .order) o,
+      )
 
   -- the accesses of all workers
   pub all-accesses : (W : ℕ) → ((p : ℕ) → p < j .matrix .n → owner j p < W) → sumBelow (accesses j) W ≡ wholeRun j
   unfolding accesses updates wholeRun
   all-accesses W h =
-      omega (arith, sum-below-same (accesses j) (λ w. 2 * cum j w (j .matrix .n)) W (λ w l. refl), sum-below-twice (λ w. cum j w (j .matrix .n)) W,
-        by-rows j W (j .matrix .n) h, sum-below-ones (λ p. length (later j p)) (j .matrix .n), all-pairs)
+      omega (
+        arith,
+        sum-below-same (accesses j) (λ w. 2 * cum j w (j .matrix .n)) W (λ w l. refl),
+        sum-below-twice (λ w. cum j w (j .matrix .n)) W,
+        by-rows j W (j .matrix .n) h,
+        sum-below-ones (λ p. length (later j p)) (j .matrix .n),
+        all-pairs,
+      )

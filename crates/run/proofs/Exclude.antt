@@ -56,16 +56,22 @@ module _ (adj : ℕ → List ℕ) (order : List ℕ) (fin : Group → Bool) wher
     -- seen from below the group that holds it
     active-below : holds g q ≡ true → Active below below (g .first) (g .start) (g .start + g .length) q w
     active-below h = record {
-      low = holds-in g q h .0; high = holds-in g q h .1; inside = a .inside;
-      owned = sym (owner-here g below next leader q h) ∙ a .owned; live = a .live;
+      low = holds-in g q h .0;
+      high = holds-in g q h .1;
+      inside = a .inside;
+      owned = sym (owner-here g below next leader q h) ∙ a .owned;
+      live = a .live;
       free = not-blocked-below fin g below next all q (a .free) h;
     }
 
     -- seen from the later siblings, if the first does not hold it
     active-next : g .start ≡ s → holds g q ≡ false → Active next all leader (s + g .length) e q w
     active-next b h = record {
-      low = omega (arith, holds-past g q (omega (arith, a .low)) h); high = a .high; inside = a .inside;
-      owned = sym (owner-next g below next leader q h) ∙ a .owned; live = a .live;
+      low = omega (arith, holds-past g q (omega (arith, a .low)) h);
+      high = a .high;
+      inside = a .inside;
+      owned = sym (owner-next g below next leader q h) ∙ a .owned;
+      live = a .live;
       free = not-blocked-next fin g below next all q (a .free);
     }
 
@@ -92,7 +98,7 @@ module _ (adj : ℕ → List ℕ) (order : List ℕ) (fin : Group → Bool) wher
     cross g p hp lp cg all red blue (node h below next) leader s e q w t k up a =
         go (holds h q) refl
         (λ b. cross g p hp lp cg all red blue next leader (s + h .length) e q w (t .3) (or-right-false (like h) (any like (tops next)) k)
-          (λ z. up (red-next fin h below next z)) b)
+        (λ z. up (red-next fin h below next z)) b)
       where
         like : Group → Bool
         like h = eqb (g .colour) (h .colour) && not (apart adj (rowsOf order g) (rowsOf order h))
@@ -100,7 +106,7 @@ module _ (adj : ℕ → List ℕ) (order : List ℕ) (fin : Group → Bool) wher
         alike : holds h q ≡ true → g .colour ≡ h .colour → Clear adj order p q
         alike hq c =
             let e : apart adj (rowsOf order g) (rowsOf order h) ≡ true =
-              not-false _ (sym (ap (λ (b : Bool). b && not (apart adj (rowsOf order g) (rowsOf order h))) (eq-eqb (g .colour) (h .colour) c)) ∙ or-left-false (like h) (any like (tops next)) k) in
+            not-false _ (sym (ap (λ (b : Bool). b && not (apart adj (rowsOf order g) (rowsOf order h))) (eq-eqb (g .colour) (h .colour) c)) ∙ or-left-false (like h) (any like (tops next)) k) in
             apart-clear adj order G g h p q e hp lp hq (a .inside)
 
         held : holds h q ≡ true → Coloured g → Coloured h → Clear adj order p q
@@ -151,7 +157,7 @@ module _ (adj : ℕ → List ℕ) (order : List ℕ) (fin : Group → Bool) wher
 
         go : (x : Bool) → holds g p ≡ x → (y : Bool) → holds g q ≡ y
             → (Tiles adj order below (g .start) (g .start + g .length) → likeApart adj order (tops below) ≡ true
-              → Active below below (g .first) (g .start) (g .start + g .length) p v → Active below below (g .first) (g .start) (g .start + g .length) q w → Clear adj order p q)
+            → Active below below (g .first) (g .start) (g .start + g .length) p v → Active below below (g .first) (g .start) (g .start + g .length) q w → Clear adj order p q)
             → (Active next all leader (s + g .length) e p v → Active next all leader (s + g .length) e q w → Clear adj order p q) → Clear adj order p q
         go true hp true hq deep later = let x = active-below a hp in let y = active-below b hq in inner below (t .2) x y (λ tb kb. deep tb kb x y)
         go true hp false hq deep later = here p q v w a hp b hq

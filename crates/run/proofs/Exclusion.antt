@@ -34,7 +34,7 @@ module _ (j : Job) (W : WholePlan j) (long : length (j .plan .order) ≡ j .matr
     owned = sym (own j W q low) ∙ next-at j made w l .mine;
     live = live j made w l;
     free = not-blocked-below (finished j made) (W .top) (W .below) none (node (W .top) (W .below) none) q
-      (subst (λ (T : Tree). blocked (finished j made) q T T ≡ false) (W .is) (rw (next-row j made w l) at h)) (held j W q low);
+        (subst (λ (T : Tree). blocked (finished j made) q T T ≡ false) (W .is) (rw (next-row j made w l) at h)) (held j W q low);
   }
     where
       q : ℕ
@@ -60,5 +60,5 @@ module _ (j : Job) (W : WholePlan j) (long : length (j .plan .order) ≡ j .matr
       let p : ℕ = next-at j made v lv .row in
       let q : ℕ = next-at j made w lw .row in
       let same : p ≡ q = rows-clear p q v w d (working v lv nv) (working w lw nw) (next j made v .target) (next-touch j made v lv)
-        (subst (Touch (neighbours (j .matrix)) (j .plan .order) q) (sym e) (next-touch j made w lw)) in
+      (subst (Touch (neighbours (j .matrix)) (j .plan .order) q) (sym e) (next-touch j made w lw)) in
       d (sym (next-at j made v lv .mine) ∙ ap (owner j) same ∙ next-at j made w lw .mine)

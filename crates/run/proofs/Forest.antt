@@ -81,7 +81,8 @@ module _ (adj : ℕ → List ℕ) (order : List ℕ) where
       let k = laid g ks (s + r .length + b .length) (f + r .workers) (a .2 .2) (p .rest) in
       record {
         tiles = (p .here, inl (p .isRed), ur .tiles, (p .then, inr (p .isBlue), ub .tiles, k .tiles));
-        pairs = ((p .isRed, p .isBlue), (p .firstR, p .firstB, p .some, p .alike), ur .pairs, ub .pairs, k .pairs) }
+        pairs = ((p .isRed, p .isBlue), (p .firstR, p .firstB, p .some, p .alike), ur .pairs, ub .pairs, k .pairs);
+      }
 
 -- a sound plan: its whole, and what lies below
 pub record Whole (adj : ℕ → List ℕ) (n : ℕ) (order : List ℕ) (groups : List Group) : Type 0 where
@@ -106,8 +107,17 @@ whole-of adj n order (g ∷ gs) h =
     let f = sound-facts adj n order g gs h in
     let mine : childrenSound adj order g (tops (forest 0 1 gs)) ≡ true = subst (λ (l : List Group). childrenSound adj order g l ≡ true) (sym (tops-children 0 1 gs)) (f .under .0) in
     record {
-      top = g; below = forest 0 1 gs; is = refl;
-      start = f .start; length = f .covers; first = f .first; colour = f .colour; some = f .some; few = f .few; once = f .once; crew = refl;
+      top = g;
+      below = forest 0 1 gs;
+      is = refl;
+      start = f .start;
+      length = f .covers;
+      first = f .first;
+      colour = f .colour;
+      some = f .some;
+      few = f .few;
+      once = f .once;
+      crew = refl;
       under = under adj order g (forest 0 1 gs) mine (λ t. laid adj order g (forest 0 1 gs) (g .start) (g .first) (grown adj order gs 1 0 (f .under .1)) t);
     }
 

@@ -46,11 +46,12 @@ zero-count w = go (leb maxWorkers w) refl
 pub inv-fresh : (j : Job) → Inv j (fresh (j .matrix .n))
 unfolding fresh landedBy
 inv-fresh j = record {
-    made-length = refl;
-    held-length = refl;
-    sums-length = length-replicate (j .matrix .n) (pos 0);
-    bounded = λ w. omega (arith, zero-count w);
-    free = λ w o. absurd (omega (arith, zero-count w));
-    holding = λ w l o. absurd (omega (arith, zero-count w));
-    right = λ t l. getD-replicate (j .matrix .n) t (pos 0) (pos 0) l
-        ∙ sym (sum-zero (soFar j (replicate maxWorkers 0) t) (workers j) (λ w. rw (zero-count w) refl)) }
+  made-length = refl;
+  held-length = refl;
+  sums-length = length-replicate (j .matrix .n) (pos 0);
+  bounded = λ w. omega (arith, zero-count w);
+  free = λ w o. absurd (omega (arith, zero-count w));
+  holding = λ w l o. absurd (omega (arith, zero-count w));
+  right = λ t l. getD-replicate (j .matrix .n) t (pos 0) (pos 0) l
+      ∙ sym (sum-zero (soFar j (replicate maxWorkers 0) t) (workers j) (λ w. rw (zero-count w) refl));
+}

@@ -76,13 +76,14 @@ module _ (j : Job) (F : Facts j) (s : State) (I : Inv j s) (w : ℕ) (able : Abl
     pub inv-load : Inv j (load s w (next j (s .made) w))
     unfolding load onward
     inv-load = record {
-        made-length = lengthed;
-        held-length = length-set (s .held) w _ ∙ I .held-length;
-        sums-length = I .sums-length;
-        bounded = new-bounded;
-        free = λ v o. still-free v (same-half v) (was-free v (same-or v w) o);
-        holding = λ v l o. hold v l (same-or v w) o;
-        right = λ t l. I .right t l ∙ sum-same (soFar j (s .made) t) (soFar j new t) (workers j) (λ v k. ap (λ (y : ℕ). landed t (take y (updates j v))) (same-half v)) }
+      made-length = lengthed;
+      held-length = length-set (s .held) w _ ∙ I .held-length;
+      sums-length = I .sums-length;
+      bounded = new-bounded;
+      free = λ v o. still-free v (same-half v) (was-free v (same-or v w) o);
+      holding = λ v l o. hold v l (same-or v w) o;
+      right = λ t l. I .right t l ∙ sum-same (soFar j (s .made) t) (soFar j new t) (workers j) (λ v k. ap (λ (y : ℕ). landed t (take y (updates j v))) (same-half v));
+    }
       where
         lengthed : length new ≡ maxWorkers
         lengthed = length-set (s .made) w _ ∙ I .made-length
@@ -141,13 +142,14 @@ module _ (j : Job) (F : Facts j) (s : State) (I : Inv j s) (w : ℕ) (able : Abl
     pub inv-store : Inv j (store s w u)
     unfolding store onward
     inv-store = record {
-        made-length = lengthed;
-        held-length = I .held-length;
-        sums-length = length-set (s .sums) (u .target) _ ∙ I .sums-length;
-        bounded = new-bounded;
-        free = λ v o. free v (same-or v w) o;
-        holding = λ v l o. hold v l (same-or v w) o;
-        right = λ t l. right t l (same-or t (u .target)) }
+      made-length = lengthed;
+      held-length = I .held-length;
+      sums-length = length-set (s .sums) (u .target) _ ∙ I .sums-length;
+      bounded = new-bounded;
+      free = λ v o. free v (same-or v w) o;
+      holding = λ v l o. hold v l (same-or v w) o;
+      right = λ t l. right t l (same-or t (u .target));
+    }
       where
         lengthed : length new ≡ maxWorkers
         lengthed = length-set (s .made) w _ ∙ I .made-length
@@ -167,7 +169,7 @@ module _ (j : Job) (F : Facts j) (s : State) (I : Inv j s) (w : ℕ) (able : Abl
             let e = next-same v (new-other-half v d) in
             I .holding v l p ∙ sym (ap (λ (y : Update). getD (set (s .sums) (u .target) (total s w u)) (y .target) (pos 0)) e
             ∙ getD-set-other (s .sums) (u .target) (next j (s .made) v .target) (total s w u) (pos 0)
-                (F .exclusion (s .made) v w d (inside v p) (able .left) (I .free v p) (able .going)))
+            (F .exclusion (s .made) v w d (inside v p) (able .left) (I .free v p) (able .going)))
 
         right : (t : ℕ) → t < j .matrix .n → (t ≡ u .target) ⊎ (t ≢ u .target)
             → getD (set (s .sums) (u .target) (total s w u)) t (pos 0) ≡ sumℤ (soFar j new t) (workers j)
@@ -177,4 +179,4 @@ module _ (j : Job) (F : Facts j) (s : State) (I : Inv j s) (w : ℕ) (able : Abl
         right t l (inr d) =
             getD-set-other (s .sums) (u .target) t (total s w u) (pos 0) d ∙ I .right t l
             ∙ sym (added t ∙ ap (λ (b : Bool). sumℤ (soFar j (s .made) t) (workers j) +ℤ cond b (u .amount) (pos 0)) (ne-eqb (u .target) t (λ q. d (sym q)))
-                ∙ +ℤ-idr (sumℤ (soFar j (s .made) t) (workers j)))
+            ∙ +ℤ-idr (sumℤ (soFar j (s .made) t) (workers j)))

@@ -57,9 +57,9 @@ module _ (j : Job) (w : ℕ) where
       ap (λ (l : List Update). upTo j w s ++ l) (leaves-append (leaves (node k kb kn)) (leaves next))
       ∙ sym (append-assoc (upTo j w s) (leafByLeaf j w (leaves (node k kb kn))) (leafByLeaf j w (leaves next)))
       ∙ ap (λ (l : List Update). l ++ leafByLeaf j w (leaves next))
-        (subst (λ (y : ℕ). upTo j w y ++ leafByLeaf j w (leaves (node k kb kn)) ≡ upTo j w (y + g .length)) (t .0)
-          (by-leaves (node k kb kn) (g .first) (g .start) (g .start + g .length) (t .2 .0)
-            (agree-below j g (node k kb kn) next leader s e (t .0) (tiles-le (neighbours (j .matrix)) (j .plan .order) next (s + g .length) e (t .3)) a)))
+      (subst (λ (y : ℕ). upTo j w y ++ leafByLeaf j w (leaves (node k kb kn)) ≡ upTo j w (y + g .length)) (t .0)
+      (by-leaves (node k kb kn) (g .first) (g .start) (g .start + g .length) (t .2 .0)
+      (agree-below j g (node k kb kn) next leader s e (t .0) (tiles-le (neighbours (j .matrix)) (j .plan .order) next (s + g .length) e (t .3)) a)))
       ∙ by-leaves next leader (s + g .length) e (t .3) (agree-next j g (node k kb kn) next leader s e (t .0) a)
 
   -- all leaves of the plan
@@ -72,7 +72,7 @@ module _ (j : Job) (w : ℕ) where
       go none i o =
           append-nil (when (eqb (W .top .first) w) (rows j (W .top .start) (W .top .length)))
           ∙ (let z : W .top .start ≡ 0 = W .start in let m : W .top .length ≡ j .matrix .n = W .length in
-             rw (z, m) (one-leaf (W .top .first) 0 (j .matrix .n) (λ q a b. o q (omega arith)) ∙ (let e : 0 + j .matrix .n ≡ j .matrix .n = omega arith in ap (upTo j w) e)))
+          rw (z, m) (one-leaf (W .top .first) 0 (j .matrix .n) (λ q a b. o q (omega arith)) ∙ (let e : 0 + j .matrix .n ≡ j .matrix .n = omega arith in ap (upTo j w) e)))
       go (node k kb kn) i o =
           ap (leafByLeaf j w) (append-nil (leaves (node k kb kn)))
           ∙ from-zero (W .top .start) (W .start) (by-leaves (node k kb kn) (W .top .first) (W .top .start) (W .top .start + W .top .length) (i .0) (λ q x y. sym (o q (omega (arith, W .start, W .length)))))

@@ -41,9 +41,10 @@ owner-down q firsts leader up i (g ∷ gs) e f =
 
 firsts-at : (d : Group) (all : List Group) (k : ℕ) (gs : List Group) → ((i : ℕ) → getD all (k + i) d ≡ getD gs i d) → Firsts (λ i. getD all i d .first) k gs
 firsts-at d all k [] h = tt
-firsts-at d all k (g ∷ gs) h =
-    ((let e : k + 0 ≡ k = omega arith in ap (λ (i : ℕ). getD all i d .first) (sym e) ∙ ap (λ (g : Group). g .first) (h 0)),
-      firsts-at d all (suc k) gs (λ i. (let e : suc k + i ≡ k + suc i = omega arith in ap (λ (y : ℕ). getD all y d) e) ∙ h (suc i)))
+firsts-at d all k (g ∷ gs) h = (
+  (let e : k + 0 ≡ k = omega arith in ap (λ (i : ℕ). getD all i d .first) (sym e) ∙ ap (λ (g : Group). g .first) (h 0)),
+  firsts-at d all (suc k) gs (λ i. (let e : suc k + i ≡ k + suc i = omega arith in ap (λ (y : ℕ). getD all y d) e) ∙ h (suc i)),
+)
 
 leaf-owner : (adj : ℕ → List ℕ) (n : ℕ) (order : List ℕ) (g : Group) (gs : List Group) → sound adj n order (g ∷ gs) ≡ true
     → (q : ℕ) → q < n → (i : ℕ) (d : Group) → LeafAt q 0 (g ∷ gs) i → ownerIn 0 q (tree (g ∷ gs)) ≡ getD (g ∷ gs) i d .first

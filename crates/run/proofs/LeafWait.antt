@@ -52,7 +52,7 @@ module _ (q : ℕ) (opened blocks : ℕ → Bool) where
           let p = eqb-true (g .parent) up e in
           rw (e, h, later-none p h)
           (ap blocks (leaf-in q up i g gs (rw (e, h) refl)) ∙ x
-            ∙ ap (λ (b : Bool). b || below) (subst (λ (m : ℕ). blocks i ≡ blocks m || (eqb (g .colour) blue && opened m)) p (f .0)) ∙ assoc (blocks up) isBlue below)
+          ∙ ap (λ (b : Bool). b || below) (subst (λ (m : ℕ). blocks i ≡ blocks m || (eqb (g .colour) blue && opened m)) p (f .0)) ∙ assoc (blocks up) isBlue below)
       go true e false h x y = rw (e, h) (ap blocks (leaf-out q up i g gs (rw (e, h) refl)) ∙ y)
       go false e h′ h x y = rw e (ap blocks (leaf-out q up i g gs (rw e refl)) ∙ y)
 

@@ -91,7 +91,7 @@ module _ (j : Job) where
     live g h e =
         left-unfinished j made g
         (subst (λ (y : ℕ). count made y < 2 * cum j y (g .start + g .length)) (sym e)
-          (omega (arith, next-at .high, cum-mono j w (suc (next-at .row)) (g .start + g .length) (holds-in g (next-at .row) h .1))))
+        (omega (arith, next-at .high, cum-mono j w (suc (next-at .row)) (g .start + g .length) (holds-in g (next-at .row) h .1))))
 
   -- ---- counts grow
 

@@ -36,8 +36,8 @@ sum-counts f n [] h = sym (sum-zero (λ v. times 0 (f v)) n (λ v. refl))
 sum-counts f n (x ∷ xs) h =
     ap (λ (z : ℤ). f x +ℤ z) (sum-counts f n xs (h .1)) ∙ +ℤ-comm (f x) (sumℤ (λ v. times (count v xs) (f v)) n)
     ∙ sym (sum-more (λ v. times (count v xs) (f v)) (λ v. times (bit (eqb v x) + count v xs) (f v)) (f x) n x (h .0)
-        (rw (eq-eqb x x refl) (ap (λ (k : ℕ). times k (f x)) (one-more (count x xs)) ∙ +ℤ-comm (f x) (times (count x xs) (f x))))
-        (λ v d. rw (ne-eqb v x d) (ap (λ (k : ℕ). times k (f v)) (none-more (count v xs)))))
+    (rw (eq-eqb x x refl) (ap (λ (k : ℕ). times k (f x)) (one-more (count x xs)) ∙ +ℤ-comm (f x) (times (count x xs) (f x))))
+    (λ v d. rw (ne-eqb v x d) (ap (λ (k : ℕ). times k (f v)) (none-more (count v xs)))))
 
 -- the sum over a list that has each number once
 pub sum-once : (f : ℕ → ℤ) (n : ℕ) (xs : List ℕ) → Once n xs → sumList f xs ≡ sumℤ f n

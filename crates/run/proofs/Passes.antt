@@ -51,6 +51,7 @@ pub forward-from : (opened blocks : ℕ → Bool) (d : Group) (i : ℕ) (gs : Li
     → ((k : ℕ) → k < length gs → blocks (i + k) ≡ blocks (getD gs k d .parent) || (eqb (getD gs k d .colour) blue && opened (getD gs k d .parent)))
     → Forward opened blocks i gs
 forward-from opened blocks d i [] h = tt
-forward-from opened blocks d i (g ∷ gs) h =
-    ((let e : i ≡ i + 0 = omega arith in ap blocks e) ∙ h 0 (omega arith),
-      forward-from opened blocks d (suc i) gs (λ k l. (let e : suc i + k ≡ i + suc k = omega arith in ap blocks e) ∙ h (suc k) (omega arith)))
+forward-from opened blocks d i (g ∷ gs) h = (
+  (let e : i ≡ i + 0 = omega arith in ap blocks e) ∙ h 0 (omega arith),
+  forward-from opened blocks d (suc i) gs (λ k l. (let e : suc i + k ≡ i + suc k = omega arith in ap blocks e) ∙ h (suc k) (omega arith)),
+)

@@ -51,6 +51,6 @@ module _ (j : Job) where
   past-all made (node g (node k kb kn) next) leader s e w t a u h =
       past-all made next leader (s + g .length) e w (t .3) (agree-next g (node k kb kn) next leader s e (t .0) a) (or-right-false (unfinished (finished j made) (node k kb kn)) (unfinished (finished j made) next) u)
       (subst (λ (y : ℕ). Past j made w (y + g .length)) (t .0)
-        (past-all made (node k kb kn) (g .first) (g .start) (g .start + g .length) w (t .2 .0)
-          (agree-below g (node k kb kn) next leader s e (t .0) (tiles-le (neighbours (j .matrix)) (j .plan .order) next (s + g .length) e (t .3)) a)
-          (or-left-false (unfinished (finished j made) (node k kb kn)) (unfinished (finished j made) next) u) (subst (Past j made w) (sym (t .0)) h)))
+      (past-all made (node k kb kn) (g .first) (g .start) (g .start + g .length) w (t .2 .0)
+      (agree-below g (node k kb kn) next leader s e (t .0) (tiles-le (neighbours (j .matrix)) (j .plan .order) next (s + g .length) e (t .3)) a)
+      (or-left-false (unfinished (finished j made) (node k kb kn)) (unfinished (finished j made) next) u) (subst (Past j made w) (sym (t .0)) h)))

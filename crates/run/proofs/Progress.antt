@@ -49,7 +49,7 @@ module _ (j : Job) (made : List ℕ) (W : WholePlan j) where
       go none i o = rw (live j made v h top (held j W q low) o) refl
       go (node k kb kn) i o =
           rw (live-unfinished (neighbours (j .matrix)) (j .plan .order) fin (node k kb kn) (top .first) (top .start) (top .start + top .length) q v (i .0)
-            (holds-in top q (held j W q low) .0) (holds-in top q (held j W q low) .1) o (live j made v h)) refl
+          (holds-in top q (held j W q low) .0) (holds-in top q (held j W q low) .1) o (live j made v h)) refl
 
   -- so some worker can go on
   found : (v : ℕ) → count made v < accesses j v → FoundIn j made top (W .below)
@@ -57,7 +57,7 @@ module _ (j : Job) (made : List ℕ) (W : WholePlan j) where
   found v h =
       dive j made top (W .below) (W .under .tiles) (W .under .pairs) (W .some) ready-all (opened v h)
       (λ m t p w. seek j made (W .below) (W .below) m (top .first) (top .start) (top .start + top .length) (top .first) (top .first + top .workers) t p
-        (λ q x y. sym (own j W q (omega (arith, W .start, W .length)))) ready-all w)
+      (λ q x y. sym (own j W q (omega (arith, W .start, W .length)))) ready-all w)
     where
       ready-all : Ready j made (top .first) (top .first + top .workers) (top .start)
       ready-all w x y = subst (Past j made w) (sym (W .start)) (omega arith)

@@ -48,8 +48,16 @@ module _ (j : Job) (made : List ℕ) where
   widen : {all′ T′ : Tree} {s′ e′ f′ l′ : ℕ} (all T : Tree) (s e f l : ℕ) → s ≤ s′ → e′ ≤ e → f ≤ f′ → l′ ≤ l
       → ((q : ℕ) → s′ ≤ q → q < e′ → blocked fin q all′ T′ ≡ false → blocked fin q all T ≡ false) → Found all′ T′ s′ e′ f′ l′ → Found all T s e f l
   widen all T s e f l hs he hf hl h k = record {
-    worker = k .worker; a = k .a; b = k .b; from-s = omega (arith, k .from-s); to-e = omega (arith, k .to-e); from-f = omega (arith, k .from-f); to-l = omega (arith, k .to-l);
-    low = k .low; high = k .high; free = λ q x y. h q (omega (arith, k .from-s)) (omega (arith, k .to-e)) (k .free q x y);
+    worker = k .worker;
+    a = k .a;
+    b = k .b;
+    from-s = omega (arith, k .from-s);
+    to-e = omega (arith, k .to-e);
+    from-f = omega (arith, k .from-f);
+    to-l = omega (arith, k .to-l);
+    low = k .low;
+    high = k .high;
+    free = λ q x y. h q (omega (arith, k .from-s)) (omega (arith, k .to-e)) (k .free q x y);
   }
 
   -- a worker of g, among g's children
@@ -70,7 +78,13 @@ module _ (j : Job) (made : List ℕ) where
       → ((mode : Bool) → Tiles adj ord B (g .start) (g .start + g .length) → Pairs B (g .first) (g .first + g .workers) → Want mode B B → FoundIn g B) → FoundIn g B
   unfolding unfinished blocked
   dive g none t p n r u ih = record {
-    worker = g .first; a = g .start; b = g .start + g .length; from-s = omega arith; to-e = omega arith; from-f = omega arith; to-l = omega arith;
+    worker = g .first;
+    a = g .start;
+    b = g .start + g .length;
+    from-s = omega arith;
+    to-e = omega arith;
+    from-f = omega arith;
+    to-l = omega arith;
     low = r (g .first) (omega arith) (omega arith);
     high = unfinished-left j made g (not-true _ (sym (or-false (not (fin g))) ∙ u));
     free = λ q x y. refl;
@@ -108,9 +122,9 @@ module _ (j : Job) (made : List ℕ) where
   seek (node r rb (node b bb ks)) all mode leader s e f l t p g y want =
       go mode want
       (λ u. dive r rb (t .2) (p .2) (p .1 .2) ready-r u
-        (λ m tr pr w. seek rb rb m (r .first) (r .start) (r .start + r .length) (r .first) (r .first + r .workers) tr pr (agree-below j r rb (node b bb ks) leader s e (t .0) le-r g) ready-r w))
+      (λ m tr pr w. seek rb rb m (r .first) (r .start) (r .start + r .length) (r .first) (r .first + r .workers) tr pr (agree-below j r rb (node b bb ks) leader s e (t .0) le-r g) ready-r w))
       (λ u v. dive b bb (t .3 .2) (p .3) (omega (arith, p .1 .2, p .1 .3)) (ready-b v) u
-        (λ m tb pb w. seek bb bb m (b .first) (b .start) (b .start + b .length) (b .first) (b .first + b .workers) tb pb (agree-below j b bb ks leader (s + r .length) e (t .3 .0) le-b agree-b) (ready-b v) w))
+      (λ m tb pb w. seek bb bb m (b .first) (b .start) (b .start + b .length) (b .first) (b .first + b .workers) tb pb (agree-below j b bb ks leader (s + r .length) e (t .3 .0) le-b agree-b) (ready-b v) w))
       (λ m w. seek ks all m leader (s + r .length + b .length) e (f + r .workers) l (t .3 .3) (p .4) (agree-next j b bb ks leader (s + r .length) e (t .3 .0) agree-b) ready-ks w)
     where
       le-b : s + r .length + b .length ≤ e
@@ -142,7 +156,7 @@ module _ (j : Job) (made : List ℕ) where
       other : (w : ℕ) → f + r .workers ≤ w → (q : ℕ) → s ≤ q → q < s + r .length + b .length → owner j q ≢ w
       other w x q lo hi c =
           let o = owner-range adj ord (node r rb (node b bb none)) leader s (s + r .length + b .length) f (f + r .workers) q
-            (t .0, t .1, t .2, (t .3 .0, t .3 .1, t .3 .2, refl)) (p .0, p .1, p .2, p .3, refl) lo hi in
+          (t .0, t .1, t .2, (t .3 .0, t .3 .1, t .3 .2, refl)) (p .0, p .1, p .2, p .3, refl) lo hi in
           let i : ownerIn leader q (node r rb (node b bb none)) ≡ w = own-pair r b rb bb ks leader s q (t .0) (t .3 .0) lo hi ∙ g q lo (omega (arith, le-b)) ∙ c in
           omega (arith, o .1)
 
@@ -157,7 +171,7 @@ module _ (j : Job) (made : List ℕ) where
       in-b : redOpen fin all ≡ false → FoundIn b bb → Found all (node r rb (node b bb ks)) s e f l
       in-b c = widen all (node r rb (node b bb ks)) s e f l (omega (arith, t .3 .0)) (omega (arith, t .3 .0, le-b)) (omega (arith, p .1 .1)) (omega (arith, p .1 .1, p .1 .3, le-l))
           (λ q x z h. free-next fin r rb (node b bb ks) all q (past-holds r q (omega (arith, t .0, t .3 .0)))
-            (free-here fin b bb ks all q (λ d. c) h (before-free all ks (s + r .length + b .length) e q (t .3 .3) (omega (arith, t .3 .0)))))
+          (free-here fin b bb ks all q (λ d. c) h (before-free all ks (s + r .length + b .length) e q (t .3 .3) (omega (arith, t .3 .0)))))
 
       in-ks : Found all ks (s + r .length + b .length) e (f + r .workers) l → Found all (node r rb (node b bb ks)) s e f l
       in-ks = widen all (node r rb (node b bb ks)) s e f l (omega arith) (omega arith) (omega arith) (omega arith)

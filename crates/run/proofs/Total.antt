@@ -46,8 +46,8 @@ module _ (φ : ℤ → ℤ) (φ0 : φ (pos 0) ≡ pos 0) (j : Job) where
         let S : ℤ = sumList (term φ φ0 j t) (range (suc t) m) in
         let A : ℤ = sumℤ (term φ φ0 j t) t in
         let left : sumℤ L (suc t + m) ≡ A +ℤ (term φ φ0 j t t +ℤ S) =
-          sum-on L (suc t) m ∙ ap (λ (z : ℤ). sumℤ L (suc t) +ℤ z) (all-none t (suc t) m (omega arith)) ∙ +ℤ-idr (sumℤ L (suc t))
-          ∙ ap (λ (z : ℤ). z +ℤ L t) (sum-same L (term φ φ0 j t) t (λ p k. earlier φ φ0 j ok o t p k l)) ∙ ap (λ (z : ℤ). A +ℤ z) (own-row φ φ0 j ok o t l) in
+        sum-on L (suc t) m ∙ ap (λ (z : ℤ). sumℤ L (suc t) +ℤ z) (all-none t (suc t) m (omega arith)) ∙ +ℤ-idr (sumℤ L (suc t))
+        ∙ ap (λ (z : ℤ). z +ℤ L t) (sum-same L (term φ φ0 j t) t (λ p k. earlier φ φ0 j ok o t p k l)) ∙ ap (λ (z : ℤ). A +ℤ z) (own-row φ φ0 j ok o t l) in
         let right : sumℤ (term φ φ0 j t) (suc t + m) ≡ A +ℤ (term φ φ0 j t t +ℤ S) = sum-on (term φ φ0 j t) (suc t) m ∙ +ℤ-assoc A (term φ φ0 j t t) S in
         ap (sumℤ L) e ∙ left ∙ sym right ∙ sym (ap (sumℤ (term φ φ0 j t)) e)
 

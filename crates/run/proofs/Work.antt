@@ -72,7 +72,12 @@ module _ (j : Job) where
           let i : ℕ = k - cum w e in
           let p : cum w e + i ≡ k = omega arith in
           record {
-            row = e; below = omega arith; mine = eqb-true (owner j e) w m; low = c; high = l; inside = omega arith;
+            row = e;
+            below = omega arith;
+            mine = eqb-true (owner j e) w m;
+            low = c;
+            high = l;
+            inside = omega arith;
             is = rw m (ap (λ (y : ℕ). getD (upTo j w e ++ rowUpdates j e) y noUpdate) (sym p) ∙ getD-append-add (upTo j w e) (rowUpdates j e) i noUpdate);
           }
       last false m c = let s : cum w (suc e) ≡ cum w e + 0 = cum-suc w e ∙ rw m refl in absurd (omega arith)
@@ -82,7 +87,12 @@ module _ (j : Job) where
           let x = ltb-true k (cum w e) c in
           let r = ih x in
           record {
-            row = r .row; below = omega (arith, r .below); mine = r .mine; low = r .low; high = r .high; inside = r .inside;
+            row = r .row;
+            below = omega (arith, r .below);
+            mine = r .mine;
+            low = r .low;
+            high = r .high;
+            inside = r .inside;
             is = List·getD-append (upTo j w e) (when (eqb (owner j e) w) (rowUpdates j e)) noUpdate k x ∙ r .is;
           }
       go false c ih = last (eqb (owner j e) w) refl (ltb-false k (cum w e) c)
