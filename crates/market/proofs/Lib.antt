@@ -2,3 +2,8 @@ pub mod Left
 pub mod Table
 pub mod Pieces
 pub mod Accepted
+pub mod Decimal
+pub mod Written
+pub mod Lower
+pub mod FullCount
+pub mod WriteThenRead

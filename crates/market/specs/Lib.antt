@@ -4,3 +4,4 @@ pub mod Parse
 pub mod FullRows
 pub mod Text
 pub mod Code
+pub mod WriteThenRead
