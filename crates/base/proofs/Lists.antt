@@ -273,20 +273,19 @@ filter-first p (x ∷ xs) (suc i) l h e =
 
 -- ranges
 
-module _ {ℓ} {A : Type ℓ} where
-  pub map-range : (f g : ℕ → A) (k m : ℕ) → ((d : ℕ) → k ≤ d → d < k + m → f d ≡ g d) → map f (range k m) ≡ map g (range k m)
-  map-range f g k zero h = refl
-  map-range f g k (suc m) h =
-      let e : f k ≡ g k = h k (omega arith) (omega arith) in
-      let ih : map f (range (suc k) m) ≡ map g (range (suc k) m) = map-range f g (suc k) m (λ d a b. h d (omega arith) (omega arith)) in
-      rw (e, ih)
-
 pub range-append : (k m j : ℕ) → range k (m + j) ≡ range k m ++ range (k + m) j
 range-append k zero j = (let e : k ≡ k + 0 = omega arith in let z : 0 + j ≡ j = omega arith in ap (λ (y : ℕ). range k y) z ∙ ap (λ (y : ℕ). range y j) e)
 range-append k (suc m) j =
     let s : suc m + j ≡ suc (m + j) = omega arith in
     let e : suc k + m ≡ k + suc m = omega arith in
     ap (range k) s ∙ ap (λ (l : List ℕ). k ∷ l) (range-append (suc k) m j ∙ ap (λ (y : ℕ). range (suc k) m ++ range y j) e)
+
+-- each place of a filtered range
+pub filter-range-get : (p : ℕ → Bool) (n : ℕ) (xs : List ℕ) → xs ≡ filter p (range 0 n) → (i : ℕ) → i < length xs → (getD xs i 0 < n) × (p (getD xs i 0) ≡ true)
+filter-range-get p n xs e i l =
+    let v = getD xs i 0 in
+    let here : isIn (filter p (range 0 n)) (getD xs i 0) ≡ true = subst (λ (ys : List ℕ). isIn ys (getD xs i 0) ≡ true) e (in-get xs i l) in
+    (omega (arith, range-in v 0 n (filter-in p (range 0 n) v here) .1), filter-passes p (range 0 n) v here)
 
 -- one number passes that did not
 pub filter-one-more : (p q : ℕ → Bool) (k m v : ℕ) → k ≤ v → v < k + m → p v ≡ true → q v ≡ false → ((x : ℕ) → x ≢ v → p x ≡ q x)

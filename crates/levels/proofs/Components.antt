@@ -11,7 +11,7 @@ use borrow.Author.Count.{below-more}
 use borrow.Author.Tests.{eqb-true, eqb-false, eq-eqb, ne-eqb}
 use Rattle.base.specs.Lists.{filter, isIn, range}
 use Rattle.base.proofs.Booleans.{or-cases}
-use Rattle.base.proofs.Lists.{in-get, get-in, filter-in, filter-first, filter-none, range-in, length-filter-le, length-range}
+use Rattle.base.proofs.Lists.{filter-range-get, get-in, filter-first, filter-none, length-filter-le, length-range}
 use Rattle.matrix.specs.Limits.{maxRows}
 use Rattle.levels.specs.Levels.{region, root}
 use Rattle.levels.specs.Marks.{atMark, unreached}
@@ -26,9 +26,7 @@ use Rattle.levels.proofs.Frontiers.{kept-trans, kept-reached, kept-turn
 -- T's rows in ascending order, as "the root is the lowest-numbered freedom of T not yet reached"
 pub own-roots : (adj : ℕ → List ℕ) (n : ℕ) (T own : List ℕ) → own ≡ filter (isIn T) (range 0 n) → Roots adj n T own
 own-roots adj n T own e = record {
-  below = λ i l.
-      let here : isIn (filter (isIn T) (range 0 n)) (getD own i 0) ≡ true = subst (λ (xs : List ℕ). isIn xs (getD own i 0) ≡ true) e (in-get own i l) in
-      omega (arith, range-in (getD own i 0) 0 n (filter-in (isIn T) (range 0 n) (getD own i 0) here) .1);
+  below = λ i l. filter-range-get (isIn T) n own e i l .0;
   first = λ marks.
       let p : ℕ → Bool = λ v. eqb (getD marks v 0) 1 in
       root-first adj n T p ∙ ap (λ (xs : List ℕ). take 1 (filter p xs)) (sym e);
@@ -38,6 +36,10 @@ pub roots-below : {adj : ℕ → List ℕ} {n : ℕ} {T roots : List ℕ} → Ro
 roots-below {roots = roots} given v h = let (i, l, e) = get-in roots v h in omega (arith, given .below i l)
 
 -- ---- one component
+
+-- between two components no row is at the last level
+gap : {n k : ℕ} {marks queue : List ℕ} → Frontier n k marks queue 0 0 → atMark n marks (k + 2) ≡ []
+gap {n} {k} {marks} f = atMark-none n marks (k + 2) (λ v l. eqb-false (getD marks v 0) (k + 2) (sym (f .front-is v l)))
 
 module _ {adj : ℕ → List ℕ} {n : ℕ} {T roots : List ℕ} {k i : ℕ} {marks queue : List ℕ} (b : Between adj n T roots k i marks queue) where
   -- its row was reached before
@@ -72,16 +74,12 @@ module _ {adj : ℕ → List ℕ} {n : ℕ} {T roots : List ℕ} {k i : ℕ} {ma
         given .first marks
         ∙ filter-first (λ v. eqb (getD marks v 0) 1) roots i here (λ j l. ne-eqb (getD marks (getD roots j 0) 0) 1 (b .passed j l)) (eq-eqb (getD marks v 0) 1 new)
 
-    -- no row is at the last level
-    gap : atMark n marks (k + 2) ≡ []
-    gap = atMark-none n marks (k + 2) (λ v l. eqb-false (getD marks v 0) (k + 2) (sym (b .frontier .front-is v l)))
-
     root-so-far : SoFar adj n T (k + 1) marks′
     root-so-far =
         let f = b .frontier in
         so-far-step adj n T k marks marks′ (isIn (v ∷ [])) (turn-is (v ∷ []) f below all) (f .fresh)
         (omega (arith, root-frontier .enough))
-        (λ x h. next-root adj T (atMark n marks (k + 2)) (atMark n marks 1) v gap root-is x) (b .so-far)
+        (λ x h. next-root adj T (atMark n marks (k + 2)) (atMark n marks 1) v (gap f) root-is x) (b .so-far)
 
     root-reached : getD marks′ v 0 ≢ 1
     root-reached e =
@@ -125,7 +123,7 @@ between-start adj n T roots marks queue small ml ql e le = record {
 pub levelled : {adj : ℕ → List ℕ} {n : ℕ} {T roots : List ℕ} {k i : ℕ} {marks queue : List ℕ} (marks₀ : List ℕ) → Roots adj n T roots → length roots ≤ i
     → Between adj n T roots k i marks queue → Kept marks₀ marks → atMark n marks₀ 1 ≡ region adj n T → ((v : ℕ) → isIn T v ≡ true → v < n) → Levelled adj n T k marks
 levelled {adj} {n} {T} {roots} {k} {i} {marks} {queue} marks₀ given done b kept e below = record {
-  levels-are = so-far-end adj n T k marks (omega (arith, f .enough)) (f .fresh) gap none (b .so-far);
+  levels-are = so-far-end adj n T k marks (omega (arith, f .enough)) (f .fresh) (gap f) none (b .so-far);
   few = omega (arith, f .enough);
   fresh = f .fresh;
   reached = λ v h. go v h (kept v);
@@ -133,9 +131,6 @@ levelled {adj} {n} {T} {roots} {k} {i} {marks} {queue} marks₀ given done b kep
   where
     f : Frontier n k marks queue 0 0
     f = b .frontier
-
-    gap : atMark n marks (k + 2) ≡ []
-    gap = atMark-none n marks (k + 2) (λ v l. eqb-false (getD marks v 0) (k + 2) (sym (f .front-is v l)))
 
     none : root adj T (atMark n marks 1) ≡ []
     none = given .first marks ∙ ap (take 1) (filter-none (λ v. eqb (getD marks v 0) 1) roots (λ v h. out v (get-in roots v h)))

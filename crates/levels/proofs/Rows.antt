@@ -7,20 +7,24 @@ use native.Mathlib.Omega.{arith}
 use native.Mathlib.Numerals.{add-one}
 use lib.ListN.{length, getD}
 use lib.Seq.{slice}
-use borrow.Author.Tests.{lt-ltb}
 use Rattle.base.specs.Lists.{isIn}
 use Rattle.base.proofs.Lists.{in-get}
 use Rattle.base.proofs.Graph.{Graph}
 use Rattle.matrix.specs.Matrix.{Matrix, pattern, partOf, columnsOf, neighbours, isMatrix}
+use Rattle.matrix.specs.Checks.{RowIn}
+use Rattle.matrix.proofs.Rows.{columns-part}
 use Rattle.matrix.proofs.Matrix.{neighbour-column, MatrixFacts, matrix-facts, column-low, adjacent-both}
 use Rattle.levels.specs.Rows.{Rows, adjOf}
 
--- a row's columns stand between its start and the next
-pub row-is : (n : ℕ) (starts columns : List ℕ) (u : ℕ) → u < n → columnsOf (pattern n starts columns) u ≡ slice (getD starts u 0) (getD starts (u + 1) 0) columns
-unfolding columnsOf partOf
-row-is n starts columns u lt = rw (lt-ltb u n lt, add-one u)
-
 module _ {n : ℕ} {starts columns : List ℕ} (r : Rows n starts columns) where
+  -- a row lies inside the columns
+  pub row-in : (u : ℕ) → u < n → RowIn starts (length columns) u
+  row-in u l = record { starts-long = omega (arith, r .long); rises = r .up u l; ends = r .fits u l }
+
+  -- what is read there are its columns
+  pub row-is : (u : ℕ) → u < n → slice (getD starts u 0) (getD starts (u + 1) 0) columns ≡ columnsOf (pattern n starts columns) u
+  row-is u l = sym (columns-part (pattern n starts columns) u l)
+
   -- each is a row
   pub row-below : (u i : ℕ) → i < length (columnsOf (pattern n starts columns) u) → getD (columnsOf (pattern n starts columns) u) i 0 < n
   row-below u i l = let row = columnsOf (pattern n starts columns) u in r .inside u (getD row i 0) (in-get row i l)

@@ -11,7 +11,7 @@ use lib.ListN.{getD, replicate}
 use borrow.Author.Tests.{eqb-true, eq-eqb, ne-eqb}
 use Rattle.base.specs.Lists.{filter, any, isIn, range, concat}
 use Rattle.base.proofs.Booleans.{both-ways}
-use Rattle.base.proofs.Lists.{any-of, any-get, isIn-filter, isIn-range, isIn-concat-map, range-in, range-snoc, range-append, map-range, filter-ext, filter-filter, filter-none, filter-all, any-ext}
+use Rattle.base.proofs.Lists.{any-of, any-get, isIn-filter, isIn-range, isIn-concat-map, range-in, range-snoc, range-append, map-range-same, filter-ext, filter-filter, filter-none, filter-all, any-ext}
 use Rattle.base.proofs.Graph.{Graph}
 use Rattle.levels.specs.Levels.{region, root, isNext, levelsFrom, levels}
 use Rattle.levels.specs.Marks.{atMark}
@@ -76,7 +76,7 @@ module _ (adj : ℕ → List ℕ) (n : ℕ) (T : List ℕ) (k : ℕ) (old new : 
   so-far-step l next s =
       s
       ∙ ap (λ (ls : List (List ℕ)). ls ++ levelsFrom adj (2 * n - k) T (atMark n old (k + 2)) (atMark n old 1))
-      (map-range (atMark n old) (atMark n new) 3 k (λ d a b. sym (old-are d (omega arith) (omega arith))))
+      (map-range-same (atMark n old) (atMark n new) 3 k (λ d a b. sym (old-are d (omega arith) (omega arith))))
       ∙ ap (λ (ls : List (List ℕ)). map (atMark n new) (range 3 k) ++ ls) (ap (λ (j : ℕ). levelsFrom adj j T (atMark n old (k + 2)) (atMark n old 1)) fuel ∙ one)
       ∙ sym (append-assoc (map (atMark n new) (range 3 k)) (atMark n new (k + 3) ∷ []) _)
       ∙ ap (λ (ls : List (List ℕ)). ls ++ levelsFrom adj (2 * n - (k + 1)) T (atMark n new (k + 1 + 2)) (atMark n new 1)) (sym front)

@@ -2,8 +2,8 @@
 use super::marking::collect;
 use super::marking::mark;
 use super::marking::mark_columns;
-use super::row;
 use super::wide;
+use matrix::row::columns_of;
 ghost use mathlib.Core.Path.{_≡_};
 ghost use mathlib.Core.List.{map};
 ghost use Prim.Native.Nat.{ℕ, _+_, _<_, _≤_};
@@ -77,7 +77,7 @@ fn next_level(
     let mut tail = hi;
     for i in lo..hi {
         tail = visit_all(
-            row(starts, columns, n, wide(queue[i])),
+            columns_of(starts, columns, wide(queue[i])),
             marks,
             queue,
             n,

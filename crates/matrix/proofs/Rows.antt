@@ -1,14 +1,14 @@
 -- The rows of lent lists: where each lies, and what a pass over them has found.
 use mathlib.Core.Path.{_≡_, refl, sym, ap, _∙_, fun-ext}
 use mathlib.Core.Bool.{Bool, true, false, _&&_}
-use mathlib.Core.List.{List, [], _∷_}
+use mathlib.Core.List.{List}
 use Prim.Native.Nat.{ℕ, zero, suc, _+_, _-_, _≤_, _<_}
 use native.Mathlib.Numerals.{add-one}
 use native.Mathlib.Omega.{arith}
 use lib.Dec.{ltb, leb, leb·suc-suc}
 use lib.IntN.{ℤ, pos}
-use lib.ListN.{length, getD, take, drop}
-use lib.Seq.{slice, take-nil, length-slice}
+use lib.ListN.{length, getD}
+use lib.Seq.{slice, length-slice}
 use borrow.Author.Tests.{lt-ltb, le-ltb, leb-true}
 use Rattle.base.specs.Lists.{all, filter, range, sumBelow}
 use Rattle.base.specs.Integers.{within}
@@ -23,13 +23,6 @@ use Rattle.matrix.proofs.Checks.{shape}
 -- ---- where a row lies
 
 module _ {ℓ} {A : Type ℓ} where
-  -- a part of a list, from f up to t, as the code takes it
-  pub slice-part : (f t : ℕ) (l : List A) → f ≤ t → take (t - f) (drop f l) ≡ slice f t l
-  slice-part zero t l h = let e : t - 0 ≡ t = omega arith in ap (λ (k : ℕ). take k l) e
-  slice-part (suc f) zero l h = absurd (omega arith)
-  slice-part (suc f) (suc t) [] h = take-nil (suc t - suc f)
-  slice-part (suc f) (suc t) (x ∷ xs) h = let e : suc t - suc f ≡ t - f = omega arith in ap (λ (k : ℕ). take k (drop f xs)) e ∙ slice-part f t xs (omega arith)
-
   -- the part of a list that belongs to row i
   row-part : (m : Matrix) (xs : List A) (i : ℕ) → i < m .n → partOf m xs i ≡ slice (getD (m .starts) i 0) (getD (m .starts) (i + 1) 0) xs
   unfolding partOf

@@ -9,7 +9,7 @@ use base::SHORT;
 
 mod limits;
 mod passes;
-mod row;
+pub mod row;
 
 ghost use mathlib.Core.Path.{_≡_};
 ghost use mathlib.Core.Bool.{true};

@@ -1,13 +1,14 @@
 -- After the turns up to i the rows of the level from i on are left to expand.
+use mathlib.Core.Path.{_≡_, _∙_}
 use mathlib.Core.Logic.{_≢_}
 use Prim.Native.Nat.{_-_, _<_}
 use native.Mathlib.Omega.{arith}
 use lib.ListN.{take, getD}
 use borrow.Author.Needs.{needs}
-use Rattle.matrix.specs.Matrix.{pattern}
+use Rattle.matrix.specs.Matrix.{pattern, columnsOf}
 use Rattle.levels.specs.Rows.{adjOf}
 use Rattle.levels.specs.Search.{wave}
-use Rattle.levels.proofs.Rows.{row-below, rows-graph}
+use Rattle.levels.proofs.Rows.{row-in, row-is, row-below, rows-graph}
 use Rattle.levels.proofs.Visits.{visit-row, Across, across-start, across-in, across-step, across-end}
 use Rattle.levels.proofs.search.next_level.Statement.{statement}
 use Rattle.levels.proofs.search.next_level.Tie as tie
@@ -42,14 +43,22 @@ here c =
     let a = c .before .before .before .before .before .before in
     across-in (c .before .before .before .loop .inv) (omega arith) (omega (arith, a .pre .1 .small, a .pre .1 .room, a .pre .1 .queue-long)) (a .pre .4)
 
-row-requires : tie.Need-row-requires Inv-loop μ-loop
-row-requires c κs = (c .before .before .before .before .before .before .pre .0, rw (c .wide .ensures) (here c .0))
+below : (c : tie.After-wide Inv-loop μ-loop) → c .wide .result < c .before .before .before .before .before .before .args .n
+below c = rw (c .wide .ensures) (here c .0)
+
+columns-of-requires : tie.Need-columns-of-requires Inv-loop μ-loop
+columns-of-requires c κs = row-in (c .before .before .before .before .before .before .pre .0) (c .wide .result) (below c)
+
+-- what is read are its columns
+columns-are : (c : tie.After-columns-of Inv-loop μ-loop) → let a = c .before .before .before .before .before .before .before in
+    c .columns-of .result .now ≡ columnsOf (pattern (a .args .n) (a .args .starts .now) (a .args .columns .now)) (c .before .wide .result)
+columns-are c = c .columns-of .ensures ∙ row-is (c .before .before .before .before .before .before .before .pre .0) (c .before .wide .result) (below (c .before))
 
 visit-all-requires : tie.Need-visit-all-requires Inv-loop μ-loop
 visit-all-requires c κs =
     let a = c .before .before .before .before .before .before .before .before .before in (
       c .before .before .before .before .before .before .loop .inv .ready,
-      rw (c .before .before .row .ensures) (row-below (a .pre .0) (c .before .before .before .wide .result)),
+      rw (columns-are (c .before .before)) (row-below (a .pre .0) (c .before .before .before .wide .result)),
       a .pre .3,
     )
 
@@ -68,7 +77,7 @@ loop-again c =
     across-step (l .inv) (omega arith) (omega (arith, a .pre .1 .small, a .pre .1 .room, a .pre .1 .queue-long)) (a .pre .3)
     (λ x h. rows-graph (a .pre .0) .below x u h)
     (rw (visit-row p (a .args .m) (wave (l .marks) (take (l .tail) (l .queue))) u (here (c .before .before .before .before) .1))
-    (rw (c .before .before .before .row .ensures, c .before .before .before .before .wide .ensures) at (c .visit-all .ensures)))
+    (rw (columns-are (c .before .before .before), c .before .before .before .before .wide .ensures) at (c .visit-all .ensures)))
 
 returns : tie.Need-returns Inv-loop μ-loop
 returns c = across-end (c .before .loop .inv) (omega arith)
@@ -83,7 +92,7 @@ next-level-spec =
     mul-wide
     element-copy-out-wide
     wide-requires
-    row-requires
+    columns-of-requires
     visit-all-requires
     add-i
     loop-less
