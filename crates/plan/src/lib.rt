@@ -1,1 +1,5 @@
 // Plans: an order and records of groups, and the check that a plan is sound for a matrix.
+mod fields;
+mod nesting;
+mod order;
+mod tiling;

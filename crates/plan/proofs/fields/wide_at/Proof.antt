@@ -1,0 +1,21 @@
+-- `fields::wide_at`: a number of the list has 32 bits.
+use mathlib.Core.Path.{refl}
+use native.Mathlib.Omega.{arith}
+use borrow.Author.Needs.{needs}
+use Rattle.plan.proofs.fields.wide_at.Statement.{statement}
+use Rattle.plan.proofs.fields.wide_at.Tie as tie
+
+mul-result : tie.Need-mul-result
+mul-result c = search needs
+
+shared-slice-read-result : tie.Need-shared-slice-read-result
+shared-slice-read-result c = search needs
+
+cast-result : tie.Need-cast-result
+cast-result c = omega (arith, c .shared-slice-known .given (c .before .args .at))
+
+returns : tie.Need-returns
+returns c = let b = c .shared-slice-known .given (c .before .args .at) in (refl, b .fits)
+
+pub wide-at-spec : {M : Type 1} → statement M
+wide-at-spec = tie.close (tie.spec mul-result shared-slice-read-result cast-result returns)
