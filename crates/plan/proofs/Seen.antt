@@ -10,14 +10,10 @@ use lib.ListN.{length, getD, take, set, replicate, length-set, length-replicate,
 use lib.Seq.{take-suc, getD-set-same, getD-set-other, length-take-le}
 use borrow.Author.Tests.{eqb-true, eqb-false, eq-eqb, ne-eqb}
 use Rattle.base.specs.Lists.{all, isIn, range, bit}
-use Rattle.base.proofs.Booleans.{or-true}
+use Rattle.base.proofs.Booleans.{or-true, or-false}
 use Rattle.base.proofs.Lists.{isIn-append}
 use Rattle.plan.specs.Sound.{eachOnce}
 use Rattle.plan.specs.Checks.{Seen}
-
-or-false : (b : Bool) → b || false ≡ b
-or-false true = refl
-or-false false = refl
 
 -- no row is marked at first
 pub seen-none : (n k : ℕ) → k ≡ 4096 → n ≤ k → Seen n [] (replicate k 0)
@@ -59,14 +55,7 @@ module _ (n i : ℕ) (order marks : List ℕ) (seen : Seen n (take i order) mark
 
 -- ---- every row is marked
 
--- the first of the numbers that are left
-pub range-left : (k n : ℕ) → k < n → range k (n - k) ≡ k ∷ range (k + 1) (n - (k + 1))
-range-left k n l = let e : n - k ≡ suc (n - (k + 1)) = omega arith in rw (e, add-one k)
-
-pub range-none : (k n : ℕ) → n ≤ k → range k (n - k) ≡ []
-range-none k n l = let e : n - k ≡ 0 = omega arith in rw e
-
-pub all-seen : (n k m : ℕ) (xs marks : List ℕ) → Seen n xs marks → k + m ≤ n → all (λ v. eqb (getD marks v 0) 1) (range k m) ≡ all (isIn xs) (range k m)
+all-seen : (n k m : ℕ) (xs marks : List ℕ) → Seen n xs marks → k + m ≤ n → all (λ v. eqb (getD marks v 0) 1) (range k m) ≡ all (isIn xs) (range k m)
 all-seen n k zero xs marks s l = refl
 all-seen n k (suc m) xs marks s l = rw (s .is k (omega arith), bit-test (isIn xs k), all-seen n (suc k) m xs marks s (omega arith))
   where

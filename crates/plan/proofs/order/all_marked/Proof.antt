@@ -1,15 +1,15 @@
 -- `order::all_marked`: the rows from v on are all that is left to test.
-use mathlib.Core.Path.{_≡_, sym, ap, _∙_}
-use mathlib.Core.Bool.{Bool, _&&_}
+use mathlib.Core.Path.{_≡_, sym, _∙_}
+use mathlib.Core.Bool.{Bool}
 use mathlib.Core.List.{List}
-use Prim.Native.Nat.{ℕ, _+_, _-_, _≤_}
+use Prim.Native.Nat.{ℕ, _-_, _≤_}
 use native.Mathlib.Omega.{arith}
 use lib.Dec.{eqb}
 use lib.ListN.{getD}
 use borrow.Author.Needs.{needs}
 use borrow.Author.Tests.{eq-eqb, ne-eqb}
 use Rattle.base.specs.Lists.{all, range}
-use Rattle.plan.proofs.Seen.{range-left, range-none}
+use Rattle.base.proofs.Left.{all-left, all-left-pass, all-left-fail, all-left-none}
 use Rattle.plan.proofs.order.all_marked.Statement.{statement}
 use Rattle.plan.proofs.order.all_marked.Tie as tie
 
@@ -17,13 +17,13 @@ abbrev marked : List ℕ → ℕ → Bool
 marked marks v = eqb (getD marks v 0) 1
 
 abbrev Inv-loop : tie.InvT-loop
-Inv-loop marks n v₀ v = (v ≤ n) × (all (marked marks) (range 0 n) ≡ all (marked marks) (range v (n - v)))
+Inv-loop marks n v₀ v = (v ≤ n) × (all (marked marks) (range v (n - v)) ≡ all (marked marks) (range 0 n))
 
 abbrev μ-loop : tie.MeasureT-loop
 μ-loop marks n v₀ v = n - v
 
 loop-holds : tie.Need-loop-holds Inv-loop μ-loop
-loop-holds c = let e : c .args .n - 0 ≡ c .args .n = omega arith in (omega arith, rw e)
+loop-holds c = (omega arith, all-left (marked (c .args .marks .now)) (c .args .n))
 
 mul-if1 : tie.Need-mul-if1 Inv-loop μ-loop
 mul-if1 c = search needs
@@ -31,13 +31,11 @@ mul-if1 c = search needs
 element-copy-out-if1 : tie.Need-element-copy-out-if1 Inv-loop μ-loop
 element-copy-out-if1 c = search needs
 
--- the test of v, and what is left after it
-left : (c : tie.In-loop Inv-loop μ-loop) → let l = c .before in let ms = l .before .args .marks .now in
-    all (marked ms) (range 0 (l .before .args .n)) ≡ marked ms (l .loop .v) && all (marked ms) (range (l .loop .v + 1) (l .before .args .n - (l .loop .v + 1)))
-left c = let l = c .before in l .loop .inv .1 ∙ ap (all (marked (l .before .args .marks .now))) (range-left (l .loop .v) (l .before .args .n) (c .loop-test .taken))
-
 returns : tie.Need-returns Inv-loop μ-loop
-returns c = sym (left (c .before .before) ∙ rw (ne-eqb _ 1 (c .if1 .taken)))
+returns c =
+    let l = c .before .before .before in
+    let a = l .before .args in
+    sym (all-left-fail (marked (a .marks .now)) (a .n) (l .loop .v) (omega arith) (ne-eqb _ 1 (c .if1 .taken))) ∙ l .loop .inv .1
 
 add-v : tie.Need-add-v Inv-loop μ-loop
 add-v c = search needs
@@ -46,10 +44,17 @@ loop-less : tie.Need-loop-less Inv-loop μ-loop
 loop-less c = search needs
 
 loop-again : tie.Need-loop-again Inv-loop μ-loop
-loop-again c = (omega arith, left (c .before .before) ∙ rw (eq-eqb _ 1 (c .if1 .left)))
+loop-again c =
+    let l = c .before .before .before in
+    let a = l .before .args in
+    (omega arith, sym (all-left-pass (marked (a .marks .now)) (a .n) (l .loop .v) (omega arith) (eq-eqb _ 1 (c .if1 .left))) ∙ l .loop .inv .1)
 
 returns-2 : tie.Need-returns-2 Inv-loop μ-loop
-returns-2 c = let l = c .before in sym (l .loop .inv .1 ∙ ap (all (marked (l .before .args .marks .now))) (range-none (l .loop .v) (l .before .args .n) (c .loop-test .left)))
+returns-2 c =
+    let l = c .before in
+    let a = l .before .args in
+    let e : l .loop .v ≡ a .n = omega arith in
+    sym (all-left-none (marked (a .marks .now)) (a .n)) ∙ rw e at (l .loop .inv .1)
 
 pub all-marked-spec : {M : Type 1} → statement M
 all-marked-spec =

@@ -4,7 +4,7 @@ use mathlib.Core.Bool.{true, _&&_}
 use Prim.Native.Nat.{_+_, _-_, _^_, _≤_, _<_}
 use native.Mathlib.Omega.{arith}
 use lib.ListN.{drop}
-use borrow.Author.Tests.{not-true, not-false}
+use Rattle.base.proofs.Booleans.{fails, holds}
 use Rattle.plan.specs.Groups.{Group, records}
 use Rattle.plan.specs.Sound.{children}
 use Rattle.plan.specs.Checks.{recordAt, groupOf, belowWhole, fitting, pending, complete, laid, tiles}
@@ -67,11 +67,11 @@ turn c =
     ∙ next-tiles (a .count) (a .k) (a .groups .now) (l .loop .i) (l .loop .s) (l .loop .f) (l .loop .w) (recordAt (a .groups .now) (a .k)) (c .record-at2 .result) more (l .loop .inv .3 more) (c .record-at2 .ensures)
 
 returns-2 : tie.Need-returns-2 Inv-loop μ-loop
-returns-2 c = sym (turn (c .before .before) ∙ rw (sym (c .before .fits2 .ensures) ∙ not-true (c .before .fits2 .result) (c .if2 .taken)))
+returns-2 c = sym (turn (c .before .before) ∙ rw (fails (c .before .fits2 .ensures) (c .if2 .taken)))
 
 -- the child fits
 passed : (c : tie.Else2 Inv-loop μ-loop) → let l = c .before .before .before .before in fitting (l .loop .s) (l .loop .f) (l .loop .w) (groupOf (c .before .before .record-at2 .result)) ≡ true
-passed c = sym (c .before .fits2 .ensures) ∙ not-false (c .before .fits2 .result) (c .if2 .left)
+passed c = holds (c .before .fits2 .ensures) (c .if2 .left)
 
 sums : (c : tie.Else2 Inv-loop μ-loop) → let l = c .before .before .before .before in let h = c .before .before .record-at2 .result in
     (l .loop .s + h .length < 2 ^ 33) × (l .loop .f + l .loop .w < 2 ^ 33)
