@@ -3,17 +3,16 @@ use mathlib.Core.Path.{_≡_, refl, sym, ap, _∙_, subst}
 use mathlib.Core.Logic.{_⊎_, inl, inr, _≢_}
 use mathlib.Core.Bool.{Bool, true, false, not, _&&_, _||_, cond, true≢false}
 use mathlib.Core.List.{List, [], _∷_, _++_, map, append-assoc, append-nil}
-use Prim.Native.Nat.{ℕ, zero, suc, _+_, _≤_, _<_}
-use native.Mathlib.Omega.{arith}
+use Prim.Native.Nat.{ℕ, _+_, _≤_, _<_}
 use native.Mathlib.Numerals.{add-one}
 use lib.Dec.{eqb, ltb}
 use lib.ListN.{length, getD, take, drop, set, length-set, take-append-drop}
 use lib.Seq.{take-suc, getD-set-same, getD-set-other}
 use borrow.Author.Tests.{eqb-true, eqb-false, eq-eqb, ne-eqb, lt-ltb, le-ltb}
 use Rattle.base.specs.Lists.{any, isIn, concat}
-use Rattle.base.proofs.Booleans.{and-false, or-true, or-false, or-left-false, or-right-false, clash, is-false}
-use Rattle.base.proofs.Lists.{isIn-append, any-of}
-use Rattle.plan.specs.Marks.{clashes, Stamped, Touched, closed, touchedBy}
+use Rattle.base.proofs.Booleans.{and-false, clash, is-false}
+use Rattle.base.proofs.Lists.{isIn-append, any-of, any-ext}
+use Rattle.plan.specs.Marks.{clashes, Stamped, Touched}
 
 -- ---- lists
 
@@ -24,10 +23,6 @@ any-append p (x ∷ xs) ys = go (p x) (any-append p xs ys)
     go : (b : Bool) → any p (xs ++ ys) ≡ any p xs || any p ys → b || any p (xs ++ ys) ≡ (b || any p xs) || any p ys
     go true e = refl
     go false e = e
-
-any-same : (p q : ℕ → Bool) (xs : List ℕ) → ((v : ℕ) → p v ≡ q v) → any p xs ≡ any q xs
-any-same p q [] h = refl
-any-same p q (x ∷ xs) h = rw (h x, any-same p q xs h)
 
 -- ---- touched
 
@@ -75,7 +70,7 @@ module _ (low mine : ℕ) where
 
     pub touched-append : Touched low mine (xs ++ ys) a c r
     touched-append = record {
-      free = then .free ∙ ap not (any-same (clashes low mine b) (clashes low mine a) ys same ∙ sym (any-append (clashes low mine a) xs ys ∙ rw none));
+      free = then .free ∙ ap not (any-ext (clashes low mine b) (clashes low mine a) ys (λ v _. same v) ∙ sym (any-append (clashes low mine a) xs ys ∙ rw none));
       stamped = λ e. both (then .stamped e);
     }
       where

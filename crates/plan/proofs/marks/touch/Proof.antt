@@ -1,5 +1,4 @@
 -- `marks::touch`: one row.
-use mathlib.Core.Path.{sym}
 use mathlib.Core.Logic.{inl, inr, ⊎-elim}
 use native.Mathlib.Omega.{arith}
 use borrow.Author.Needs.{needs}
