@@ -1,14 +1,16 @@
 -- Marks on the rows that the like-coloured children of a group touch: their rows and the rows adjacent to them.
 use mathlib.Core.Path.{_≡_}
 use mathlib.Core.Bool.{Bool, true, not, _&&_, cond}
-use mathlib.Core.List.{List, _∷_, map}
+use mathlib.Core.List.{List, [], _∷_, map}
 use Prim.Native.Nat.{ℕ, _≤_}
 use lib.Dec.{eqb, ltb}
 use lib.IntN.{ℤ}
 use lib.ListN.{length, getD}
-use Rattle.base.specs.Lists.{any, isIn, concat}
+use Rattle.base.specs.Lists.{filter, any, isIn, concat}
 use Rattle.matrix.specs.Matrix.{isMatrix, pattern, columnsOf}
 use Rattle.matrix.specs.Checks.{matrixOf}
+use Rattle.plan.specs.Groups.{Group}
+use Rattle.plan.specs.Sound.{rowsOf}
 
 -- the row starts and columns are those of a matrix
 pub record OfMatrix (n : ℕ) (starts columns : List ℕ) : Type 0 where
@@ -22,6 +24,14 @@ closed n starts columns u = u ∷ columnsOf (pattern n starts columns) u
 -- all that the rows touch
 abbrev pub touchedBy : (n : ℕ) (starts columns rows : List ℕ) → List ℕ
 touchedBy n starts columns rows = concat (map (closed n starts columns) rows)
+
+-- the groups of a colour
+abbrev pub ofColour : ℕ → List Group → List Group
+ofColour colour gs = filter (λ g. eqb (g .colour) colour) gs
+
+-- what a group of a colour touches; nothing if the group has another
+unfoldable pub touchedLike : (n : ℕ) (starts columns order : List ℕ) (colour : ℕ) → Group → List ℕ
+touchedLike n starts columns order colour g = cond (eqb (g .colour) colour) (touchedBy n starts columns (rowsOf order g)) []
 
 -- The mark of z is another child's: marks above low are of the children that are compared, and mine is of the one at hand
 unfoldable pub clashes : (low mine : ℕ) (marks : List ℕ) → ℕ → Bool

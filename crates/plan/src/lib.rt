@@ -1,4 +1,5 @@
 // Plans: an order and records of groups, and the check that a plan is sound for a matrix.
+mod apart;
 mod fields;
 mod marks;
 mod nesting;
