@@ -1,15 +1,15 @@
 -- Like-coloured children compared by marks: colour by colour, and one child at a time.
-use mathlib.Core.Path.{_≡_, refl, sym, ap, _∙_, subst}
+use mathlib.Core.Path.{_≡_, refl, sym, ap, _∙_}
 use mathlib.Core.Logic.{_⊎_, inl, inr}
 use mathlib.Core.Bool.{Bool, true, false, not, _&&_, _||_, cond, true≢false}
 use mathlib.Core.List.{List, [], _∷_}
 use Prim.Native.Nat.{ℕ, _<_, _≤_}
 use native.Mathlib.Omega.{arith}
 use lib.Dec.{eqb, ltb}
-use lib.ListN.{length, getD}
-use borrow.Author.Tests.{eqb-true, eqb-false, eq-eqb, ne-eqb, lt-ltb, le-ltb, not-false}
-use Rattle.base.specs.Lists.{filter, keep, any, all, isIn}
-use Rattle.base.proofs.Booleans.{and-false, and-left, and-right, or-false}
+use lib.ListN.{getD}
+use borrow.Author.Tests.{eqb-true, eqb-false, eq-eqb, ne-eqb, lt-ltb, le-ltb}
+use Rattle.base.specs.Lists.{keep, any, all, isIn}
+use Rattle.base.proofs.Booleans.{and-false}
 use Rattle.base.proofs.Lists.{any-ext}
 use Rattle.base.proofs.Each.{Each, each-map}
 use Rattle.base.proofs.Left.{all-same}
@@ -116,18 +116,24 @@ each-colour P c (g ∷ gs) each = go (eqb (g .colour) c) refl (each-colour P c g
     go true e ih = ((eqb-true (g .colour) c e, each .0), ih)
     go false e ih = ih
 
-module _ (adj : ℕ → List ℕ) (order : List ℕ) (touched : Group → List ℕ) (low mine : ℕ) (up : low < mine) where
-  -- what is left to compare: none of the groups touches a marked row, and they are apart
-  abbrev pub left : List ℕ → List Group → Bool
-  left marks gs = all (λ g. clear low marks (touched g)) gs && likeApart adj order gs
+-- what is left to compare: none of the groups touches a row with a mark above low, and they are apart
+abbrev pub leftApart : (adj : ℕ → List ℕ) (order : List ℕ) (touched : Group → List ℕ) (low : ℕ) (marks : List ℕ) → List Group → Bool
+leftApart adj order touched low marks gs = all (λ g. clear low marks (touched g)) gs && likeApart adj order gs
 
-  -- two groups that touch a common row are not apart
-  abbrev pub Overlaps : Group → Group → Type 0
-  Overlaps g h = any (isIn (touched g)) (touched h) ≡ not (apart adj (rowsOf order g) (rowsOf order h))
+-- two groups that touch a common row are not apart
+abbrev pub Overlaps : (adj : ℕ → List ℕ) (order : List ℕ) (touched : Group → List ℕ) → Group → Group → Type 0
+Overlaps adj order touched g h = any (isIn (touched g)) (touched h) ≡ not (apart adj (rowsOf order g) (rowsOf order h))
+
+module _ (adj : ℕ → List ℕ) (order : List ℕ) (touched : Group → List ℕ) (low mine : ℕ) (up : low < mine) where
+  abbrev left : List ℕ → List Group → Bool
+  left = leftApart adj order touched low
+
+  abbrev Over : Group → Group → Type 0
+  Over = Overlaps adj order touched
 
   module _ (g : Group) (marks marks′ : List ℕ) where
     -- the marks of g say who is like it and not apart from it
-    all-stamped : (hs : List Group) → Stamped mine (touched g) marks marks′ → Each (λ h. (h .colour ≡ g .colour) × Overlaps g h) hs
+    all-stamped : (hs : List Group) → Stamped mine (touched g) marks marks′ → Each (λ h. (h .colour ≡ g .colour) × Over g h) hs
         → all (λ h. clear low marks′ (touched h)) hs ≡ not (any (like adj order g) hs) && all (λ h. clear low marks (touched h)) hs
     all-stamped [] s each = refl
     all-stamped (h ∷ hs) s each =
@@ -139,7 +145,7 @@ module _ (adj : ℕ → List ℕ) (order : List ℕ) (touched : Group → List �
         merge false true c a = and-false c
         merge false false c a = refl
 
-    left-next : (hs : List Group) → Stamped mine (touched g) marks marks′ → Each (λ h. (h .colour ≡ g .colour) × Overlaps g h) hs → clear low marks (touched g) ≡ true
+    left-next : (hs : List Group) → Stamped mine (touched g) marks marks′ → Each (λ h. (h .colour ≡ g .colour) × Over g h) hs → clear low marks (touched g) ≡ true
         → left marks (g ∷ hs) ≡ left marks′ hs
     unfolding likeApart
     left-next hs s each free = rw (free, all-stamped hs s each) (turn (all (λ h. clear low marks (touched h)) hs) (not (any (like adj order g) hs)) (likeApart adj order hs))
@@ -171,7 +177,7 @@ module _ (adj : ℕ → List ℕ) (order : List ℕ) (touched : Group → List �
         go true h = rw h
         go false h = absurd (true≢false h)
 
-    pub colour-next : (marks′ : List ℕ) → Each (Overlaps g) gs → clear low marks mine-touched ≡ true → Stamped mine mine-touched marks marks′
+    pub colour-next : (marks′ : List ℕ) → Each (Over g) gs → clear low marks mine-touched ≡ true → Stamped mine mine-touched marks marks′
         → left marks (ofColour c (g ∷ gs)) ≡ left marks′ (ofColour c gs)
     colour-next marks′ each h s = go (eqb (g .colour) c) refl h s
       where
@@ -179,5 +185,5 @@ module _ (adj : ℕ → List ℕ) (order : List ℕ) (touched : Group → List �
             → left marks (keep b g (ofColour c gs)) ≡ left marks′ (ofColour c gs)
         go true e h s =
             left-next g marks marks′ (ofColour c gs) s
-            (each-map (λ h. (h .colour ≡ c) × Overlaps g h) (λ h. (h .colour ≡ g .colour) × Overlaps g h) (λ h q. (q .0 ∙ sym (eqb-true (g .colour) c e), q .1)) (ofColour c gs) (each-colour (Overlaps g) c gs each)) h
+            (each-map (λ h. (h .colour ≡ c) × Over g h) (λ h. (h .colour ≡ g .colour) × Over g h) (λ h q. (q .0 ∙ sym (eqb-true (g .colour) c e), q .1)) (ofColour c gs) (each-colour (Over g) c gs each)) h
         go false e h s = left-same g marks marks′ (ofColour c gs) s

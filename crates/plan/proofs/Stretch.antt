@@ -9,6 +9,8 @@ use lib.ListN.{length, getD, take, drop, length-take, length-drop, drop-of-lengt
 use lib.Seq.{take-all, take-nil, take-take, length-take-le, getD-take, getD-drop}
 use borrow.Author.Tests.{leb-true, leb-false}
 use Rattle.base.proofs.Lists.{take-drop}
+use Rattle.plan.specs.Sound.{eachOnce}
+use Rattle.plan.proofs.Once.{once, low-at}
 
 pub stretch : (n start size : ℕ) (order : List ℕ) → n ≤ length order → take (min (start + size) n - min start n) (drop (min start n) order) ≡ take size (drop start (take n order))
 stretch n start size order l = go (leb start n) refl (leb (start + size) n) refl
@@ -33,3 +35,9 @@ pub part-low : (n from to : ℕ) (order : List ℕ) → ((j : ℕ) → j < n →
 part-low n from to order low l j h =
     let short : j < to - from = omega (arith, length-take (to - from) (drop from order)) in
     subst (λ (v : ℕ). v < n) (sym (getD-take (to - from) (drop from order) j 0 short ∙ getD-drop from order j 0)) (low (from + j) (omega arith))
+
+-- an order that has each row once has rows only
+pub order-low : (n : ℕ) (order : List ℕ) → eachOnce n (take n order) ≡ true → (j : ℕ) → j < n → getD order j 0 < n
+order-low n order h j l =
+    let w = once n (take n order) h in
+    subst (λ (v : ℕ). v < n) (getD-take n order j 0 l) (low-at n (take n order) j (w .low) (omega (arith, w .long)))

@@ -4,10 +4,10 @@ use mathlib.Core.Bool.{Bool, true, _&&_, cond}
 use mathlib.Core.List.{List, [], _∷_}
 use Prim.Native.Nat.{ℕ, zero, suc, _+_, _*_, _^_, _≤_, _<_}
 use lib.Dec.{eqb, leb}
-use lib.ListN.{length, getD, drop}
+use lib.ListN.{length, getD, take, drop}
 use Rattle.base.specs.Lists.{isIn, bit}
 use Rattle.plan.specs.Groups.{Group, red, blue, width, ofFields, records}
-use Rattle.plan.specs.Sound.{depthFirst, children, tiled}
+use Rattle.plan.specs.Sound.{maxGroups, eachOnce, depthFirst, children, tiled}
 use Rattle.plan.specs.declared.fields.Record.{Record}
 
 -- ---- the order
@@ -83,3 +83,13 @@ laid g s f w (h ∷ hs) = fitting s f w h && laid g (s + h .length) (f + w) (pen
 unfoldable pub tiles : Group → List Group → Bool
 tiles g [] = true
 tiles g (k ∷ ks) = tiled g (g .start) (g .first) (k ∷ ks)
+
+-- ---- the lists of a plan
+
+-- the first n of the order are each row once, and the records, which are not too many, stand depth first
+pub record InOrder (n : ℕ) (order groups : List ℕ) (count : ℕ) : Type 0 where
+  pub order-long : n ≤ length order
+  pub once : eachOnce n (take n order) ≡ true
+  pub groups-long : width * count ≤ length groups
+  pub few : count ≤ maxGroups
+  pub nested : standsDepthFirst count groups ≡ true

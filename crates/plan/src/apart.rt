@@ -1,11 +1,15 @@
 // Like-coloured children of a group are apart.
 use crate::fields::Record;
+use crate::fields::record_at;
 use crate::marks::touch_rows;
+use crate::tiling::next_child;
 ghost use mathlib.Core.Path.{_≡_};
-ghost use Prim.Native.Nat.{ℕ, _≤_, _<_, min};
+ghost use mathlib.Core.Bool.{true};
+ghost use Prim.Native.Nat.{ℕ, _+_, _^_, _≤_, _<_, min};
 ghost use lib.ListN.{length, getD, take};
-ghost use Rattle.plan.specs.Checks.{groupOf, Small};
-ghost use Rattle.plan.specs.Marks.{OfMatrix, touchedLike, Touched};
+ghost use Rattle.plan.specs.Sound.{maxGroups, children};
+ghost use Rattle.plan.specs.Checks.{recordAt, groupOf, Small, belowWhole, tiles, InOrder};
+ghost use Rattle.plan.specs.Marks.{OfMatrix, touchedLike, Touched, UpTo, Compared};
 
 fn least(a: usize, b: usize) -> usize
     ensures { λ r. ⌜ r ≡ min a b ⌝ }
@@ -28,4 +32,21 @@ fn touch_like(n: usize, starts: &[u32], columns: &[u32], order: &[u32], marks: &
     let from = least(g.start, n);
     let to = least(g.start + g.length, n);
     touch_rows(n, starts, columns, marks, &order[from..to], low, mine)
+}
+
+// The children of a colour of the group at k are apart. Marks above low are theirs: the child at i marks with low + i what it touches.
+pub fn apart_below(n: usize, starts: &[u32], columns: &[u32], order: &[u32], groups: &[u32], count: usize, marks: &mut [u32; 4096], k: usize, colour: usize, low: u32) -> bool
+    requires { ⌜ OfMatrix n (now starts) (now columns) × InOrder n (now order) (now groups) count × (k < count)
+        × (tiles (recordAt (now groups) k) (children k (belowWhole count (now groups))) ≡ true) × UpTo low (now marks) × (low + maxGroups < 2 ^ 32) ⌝ }
+    ensures { λ r. ⌜ Compared n (now (starts .entry)) (now (columns .entry)) (now (order .entry)) (now (groups .entry)) count k colour (low + maxGroups) (now (marks .exit)) r ⌝ }
+{
+    let mut i = next_child(groups, count, k, k + 1);
+    while i < count {
+        let h = record_at(groups, i);
+        if !touch_like(n, starts, columns, order, marks, h, colour, low, low + i as u32) {
+            return false;
+        }
+        i = next_child(groups, count, k, i + 1);
+    }
+    true
 }
