@@ -4,15 +4,16 @@ use mathlib.Core.Logic.{_⊎_, inl, inr, _≢_}
 use mathlib.Core.Bool.{Bool, true, false, not, _&&_, _||_, cond, true≢false}
 use mathlib.Core.List.{List, [], _∷_, _++_, map, append-assoc, append-nil}
 use Prim.Native.Nat.{ℕ, _+_, _≤_, _<_}
+use native.Mathlib.Omega.{arith}
 use native.Mathlib.Numerals.{add-one}
 use lib.Dec.{eqb, ltb}
-use lib.ListN.{length, getD, take, drop, set, length-set, take-append-drop}
+use lib.ListN.{length, getD, take, drop, set, replicate, length-set, length-replicate, getD-replicate, take-append-drop, List·getD-eq-default}
 use lib.Seq.{take-suc, getD-set-same, getD-set-other}
-use borrow.Author.Tests.{eqb-true, eqb-false, eq-eqb, ne-eqb, lt-ltb, le-ltb}
+use borrow.Author.Tests.{eqb-true, eqb-false, eq-eqb, ne-eqb, ltb-true, ltb-false, lt-ltb, le-ltb}
 use Rattle.base.specs.Lists.{any, isIn, concat}
 use Rattle.base.proofs.Booleans.{and-false, clash, is-false}
 use Rattle.base.proofs.Lists.{isIn-append, any-of, any-ext}
-use Rattle.plan.specs.Marks.{clashes, Stamped, Touched}
+use Rattle.plan.specs.Marks.{clashes, Stamped, Touched, UpTo}
 
 -- ---- lists
 
@@ -25,6 +26,14 @@ any-append p (x ∷ xs) ys = go (p x) (any-append p xs ys)
     go false e = e
 
 -- ---- touched
+
+-- no row is marked at first
+pub unmarked : (k : ℕ) → k ≡ 4096 → UpTo 0 (replicate k 0)
+unmarked k e = record { long = length-replicate k 0 ∙ e; most = λ v. zeros v (ltb v k) refl }
+  where
+    zeros : (v : ℕ) (b : Bool) → ltb v k ≡ b → getD (replicate k 0) v 0 ≤ 0
+    zeros v true l = omega (arith, getD-replicate {A = ℕ} k v 0 0 (ltb-true v k l))
+    zeros v false l = omega (arith, List·getD-eq-default {A = ℕ} (replicate k 0) 0 {n = v} (omega (arith, length-replicate {A = ℕ} k 0, ltb-false v k l)))
 
 module _ (low mine : ℕ) where
   pub touched-none : (marks : List ℕ) → Touched low mine [] marks marks true

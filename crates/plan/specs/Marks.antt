@@ -5,13 +5,12 @@ use mathlib.Core.List.{List, [], _∷_, map}
 use Prim.Native.Nat.{ℕ, _≤_}
 use lib.Dec.{eqb, ltb}
 use lib.IntN.{ℤ}
-use lib.ListN.{length, getD, take}
+use lib.ListN.{length, getD}
 use Rattle.base.specs.Lists.{filter, any, isIn, concat}
-use Rattle.matrix.specs.Matrix.{isMatrix, pattern, columnsOf, neighbours}
+use Rattle.matrix.specs.Matrix.{isMatrix, pattern, columnsOf}
 use Rattle.matrix.specs.Checks.{matrixOf}
 use Rattle.plan.specs.Groups.{Group}
-use Rattle.plan.specs.Sound.{children, rowsOf, likeApart}
-use Rattle.plan.specs.Checks.{belowWhole}
+use Rattle.plan.specs.Sound.{rowsOf}
 
 -- the row starts and columns are those of a matrix
 pub record OfMatrix (n : ℕ) (starts columns : List ℕ) : Type 0 where
@@ -53,7 +52,7 @@ pub record UpTo (top : ℕ) (marks : List ℕ) : Type 0 where
   pub long : length marks ≡ 4096
   pub most : (v : ℕ) → getD marks v 0 ≤ top
 
--- The answer r says whether the children of a colour of the group at k are apart; if they are, no mark is above top
-pub record Compared (n : ℕ) (starts columns order groups : List ℕ) (count k colour top : ℕ) (marks : List ℕ) (r : Bool) : Type 0 where
-  pub is : r ≡ likeApart (neighbours (pattern n starts columns)) (take n order) (ofColour colour (children k (belowWhole count groups)))
+-- the answer r is what the test says; if it holds, no mark is above top
+pub record Judged (test : Bool) (top : ℕ) (marks : List ℕ) (r : Bool) : Type 0 where
+  pub is : r ≡ test
   pub marked : r ≡ true → UpTo top marks

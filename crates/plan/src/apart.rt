@@ -3,13 +3,16 @@ use crate::fields::Record;
 use crate::fields::record_at;
 use crate::marks::touch_rows;
 use crate::tiling::next_child;
+use crate::tiling::tiled_below;
 ghost use mathlib.Core.Path.{_≡_};
 ghost use mathlib.Core.Bool.{true};
 ghost use Prim.Native.Nat.{ℕ, _+_, _^_, _≤_, _<_, min};
 ghost use lib.ListN.{length, getD, take};
-ghost use Rattle.plan.specs.Sound.{maxGroups, children};
+ghost use Rattle.matrix.specs.Matrix.{pattern, neighbours};
+ghost use Rattle.plan.specs.Groups.{records};
+ghost use Rattle.plan.specs.Sound.{maxGroups, children, likeApart, childrenSound, allSound};
 ghost use Rattle.plan.specs.Checks.{recordAt, groupOf, Small, belowWhole, tiles, InOrder};
-ghost use Rattle.plan.specs.Marks.{OfMatrix, touchedLike, Touched, UpTo, Compared};
+ghost use Rattle.plan.specs.Marks.{OfMatrix, touchedLike, Touched, ofColour, UpTo, Judged};
 
 fn least(a: usize, b: usize) -> usize
     ensures { λ r. ⌜ r ≡ min a b ⌝ }
@@ -38,7 +41,8 @@ fn touch_like(n: usize, starts: &[u32], columns: &[u32], order: &[u32], marks: &
 pub fn apart_below(n: usize, starts: &[u32], columns: &[u32], order: &[u32], groups: &[u32], count: usize, marks: &mut [u32; 4096], k: usize, colour: usize, low: u32) -> bool
     requires { ⌜ OfMatrix n (now starts) (now columns) × InOrder n (now order) (now groups) count × (k < count)
         × (tiles (recordAt (now groups) k) (children k (belowWhole count (now groups))) ≡ true) × UpTo low (now marks) × (low + maxGroups < 2 ^ 32) ⌝ }
-    ensures { λ r. ⌜ Compared n (now (starts .entry)) (now (columns .entry)) (now (order .entry)) (now (groups .entry)) count k colour (low + maxGroups) (now (marks .exit)) r ⌝ }
+    ensures { λ r. ⌜ Judged (likeApart (neighbours (pattern n (now (starts .entry)) (now (columns .entry)))) (take n (now (order .entry)))
+        (ofColour colour (children k (belowWhole count (now (groups .entry)))))) (low + maxGroups) (now (marks .exit)) r ⌝ }
 {
     let mut i = next_child(groups, count, k, k + 1);
     while i < count {
@@ -47,6 +51,38 @@ pub fn apart_below(n: usize, starts: &[u32], columns: &[u32], order: &[u32], gro
             return false;
         }
         i = next_child(groups, count, k, i + 1);
+    }
+    true
+}
+
+// The children of the group at k, if it has any, tile it and are apart.
+fn sound_below(n: usize, starts: &[u32], columns: &[u32], order: &[u32], groups: &[u32], count: usize, marks: &mut [u32; 4096], k: usize, low: u32) -> bool
+    requires { ⌜ OfMatrix n (now starts) (now columns) × InOrder n (now order) (now groups) count × (k < count) × UpTo low (now marks) × (low + maxGroups + maxGroups < 2 ^ 32) ⌝ }
+    ensures { λ r. ⌜ Judged (childrenSound (neighbours (pattern n (now (starts .entry)) (now (columns .entry)))) (take n (now (order .entry)))
+        (recordAt (now (groups .entry)) k) (children k (belowWhole count (now (groups .entry))))) (low + maxGroups + maxGroups) (now (marks .exit)) r ⌝ }
+{
+    if !tiled_below(groups, count, k) {
+        return false;
+    }
+    if !apart_below(n, starts, columns, order, groups, count, marks, k, 1, low) {
+        return false;
+    }
+    apart_below(n, starts, columns, order, groups, count, marks, k, 2, low + 512)
+}
+
+// So do the children of every group. Each group has marks of its own: the marks of the groups before it are at most 1024 k.
+pub fn all_sound(n: usize, starts: &[u32], columns: &[u32], order: &[u32], groups: &[u32], count: usize) -> bool
+    requires { ⌜ OfMatrix n (now starts) (now columns) × InOrder n (now order) (now groups) count ⌝ }
+    ensures { λ r. ⌜ r ≡ allSound (neighbours (pattern n (now (starts .entry)) (now (columns .entry)))) (take n (now (order .entry)))
+        (belowWhole count (now (groups .entry))) 0 (records count (now (groups .entry))) ⌝ }
+{
+    let mut marks = [0u32; 4096];
+    let mut k = 0;
+    while k < count {
+        if !sound_below(n, starts, columns, order, groups, count, &mut marks, k, 1024 * k as u32) {
+            return false;
+        }
+        k += 1;
     }
     true
 }
