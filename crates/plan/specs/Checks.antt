@@ -6,8 +6,8 @@ use Prim.Native.Nat.{ℕ, zero, suc, _+_, _*_, _^_, _≤_, _<_}
 use lib.Dec.{eqb, leb}
 use lib.ListN.{length, getD, take, drop}
 use Rattle.base.specs.Lists.{isIn, bit}
-use Rattle.plan.specs.Groups.{Group, red, blue, width, ofFields, records}
-use Rattle.plan.specs.Sound.{maxGroups, eachOnce, depthFirst, children, tiled}
+use Rattle.plan.specs.Groups.{Group, whole, red, blue, width, ofFields, records}
+use Rattle.plan.specs.Sound.{maxWorkers, maxGroups, eachOnce, depthFirst, children, tiled}
 use Rattle.plan.specs.declared.fields.Record.{Record}
 
 -- ---- the order
@@ -93,3 +93,9 @@ pub record InOrder (n : ℕ) (order groups : List ℕ) (count : ℕ) : Type 0 wh
   pub groups-long : width * count ≤ length groups
   pub few : count ≤ maxGroups
   pub nested : standsDepthFirst count groups ≡ true
+
+-- "the whole covers all freedoms and 1 to 16 workers from 0"
+unfoldable pub isWhole : (n : ℕ) → Group → Bool
+isWhole n g =
+    eqb (g .start) 0 && eqb (g .length) n && eqb (g .first) 0 && eqb (g .colour) whole && eqb (g .parent) 0
+    && leb 1 (g .workers) && leb (g .workers) maxWorkers

@@ -5,3 +5,85 @@ mod marks;
 mod nesting;
 mod order;
 mod tiling;
+
+use base::Answer;
+use base::MATRIX;
+use base::UNSOUND;
+use fields::Record;
+use fields::record_at;
+use matrix::is_matrix;
+
+ghost use mathlib.Core.Path.{_≡_};
+ghost use mathlib.Core.List.{List};
+ghost use lib.IntN.{ℤ};
+ghost use Rattle.base.specs.Answers.{replyOf};
+ghost use Rattle.matrix.specs.Checks.{matrixOf};
+ghost use Rattle.plan.specs.Sound.{isPlan, checkReply};
+ghost use Rattle.plan.specs.Checks.{groupOf, isWhole};
+ghost use Rattle.plan.specs.Marks.{OfMatrix};
+
+// The record is the whole of n rows.
+fn is_whole(g: Record, n: usize) -> bool
+    ensures { λ r. ⌜ r ≡ isWhole n (groupOf g) ⌝ }
+{
+    if g.start != 0 {
+        return false;
+    }
+    if g.length != n {
+        return false;
+    }
+    if g.first != 0 {
+        return false;
+    }
+    if g.colour != 0 {
+        return false;
+    }
+    if g.parent != 0 {
+        return false;
+    }
+    1 <= g.workers && g.workers <= 16
+}
+
+// Whether the lists hold a plan that is sound for the matrix, whatever its values.
+pub fn is_plan(n: u32, starts: &[u32], columns: &[u32], order: &[u32], groups: &[u32], count: u32) -> bool
+    requires { ⌜ OfMatrix n (now starts) (now columns) ⌝ }
+    ensures { λ r. ⌜ ((values : List ℤ) → r ≡ isPlan (matrixOf n (now (starts .entry)) (now (columns .entry)) values) (now (order .entry)) (now (groups .entry)) count) ⌝ }
+{
+    let rows = n as usize;
+    let records = count as usize;
+    if order.len() < rows {
+        return false;
+    }
+    if records < 1 {
+        return false;
+    }
+    if 512 < records {
+        return false;
+    }
+    if groups.len() < 6 * records {
+        return false;
+    }
+    if !is_whole(record_at(groups, 0), rows) {
+        return false;
+    }
+    if !order::each_once(order, rows) {
+        return false;
+    }
+    if !nesting::depth_first(groups, records) {
+        return false;
+    }
+    apart::all_sound(rows, starts, columns, order, groups, records)
+}
+
+// The check of a plan: 5 if the lists are no matrix, 8 if the plan is not sound for it.
+pub fn check(n: u32, starts: &[u32], columns: &[u32], values: &[i32], order: &[u32], groups: &[u32], count: u32) -> Answer
+    ensures { λ r. ⌜ replyOf r ≡ checkReply (matrixOf n (now (starts .entry)) (now (columns .entry)) (now (values .entry))) (now (order .entry)) (now (groups .entry)) count ⌝ }
+{
+    if !is_matrix(n, starts, columns, values) {
+        return Answer::Refused(MATRIX, 0);
+    }
+    if !is_plan(n, starts, columns, order, groups, count) {
+        return Answer::Refused(UNSOUND, 0);
+    }
+    Answer::Accepted(0)
+}
