@@ -6,12 +6,12 @@ use Prim.Native.Nat.{ℕ, _*_, _≤_, _<_}
 use native.Mathlib.Omega.{arith}
 use lib.Dec.{leb}
 use lib.IntN.{ℤ}
-use lib.ListN.{length, take, drop}
+use lib.ListN.{length, take}
 use borrow.Author.Tests.{le-leb, lt-leb}
 use Rattle.base.proofs.Booleans.{and-false}
 use Rattle.matrix.specs.Matrix.{pattern, neighbours}
 use Rattle.matrix.specs.Checks.{matrixOf}
-use Rattle.plan.specs.Groups.{Group, Plan, width, records, planOf}
+use Rattle.plan.specs.Groups.{Group, width, records, planOf}
 use Rattle.plan.specs.Sound.{maxGroups, eachOnce, depthFirst, allSound, sound, isSound, isPlan}
 use Rattle.plan.specs.Checks.{recordAt, belowWhole, standsDepthFirst, isWhole}
 use Rattle.plan.proofs.FlatRecords.{records-at, length-records}

@@ -1,30 +1,38 @@
+-- `check`: the matrix, then the plan.
+use mathlib.Core.Path.{sym}
 use borrow.Author.Needs.{needs}
+use Rattle.base.specs.Replies.{inTurn}
+use Rattle.base.proofs.Booleans.{fails, holds}
+use Rattle.matrix.specs.Matrix.{matrixCheck}
+use Rattle.plan.specs.Sound.{planCheck, checkReply}
 use Rattle.plan.proofs.check.Statement.{statement}
 use Rattle.plan.proofs.check.Tie as tie
-use Rattle.plan.proofs.check.Reads as reads
-use Rattle.plan.proofs.check.Lts as lts
-use Rattle.matrix.proofs.is_matrix.Reads as is-matrix-reads
-use Rattle.plan.proofs.is_plan.Reads as is-plan-reads
 
--- src/lib.rt:82:9
 is-matrix-requires : tie.Need-is-matrix-requires
 is-matrix-requires c κs = search needs
 
--- src/lib.rt:83:9
 returns : tie.Need-returns
-returns c = ?
+unfolding checkReply matrixCheck inTurn
+returns c = sym (rw (fails (c .before .is-matrix .ensures) (c .if1 .taken)))
 
--- src/lib.rt:85:9
 is-plan-requires : tie.Need-is-plan-requires
-is-plan-requires c κs = ?
+is-plan-requires c κs = record { values = c .before .before .before .before .before .before .args .values .now; is = holds (c .before .is-matrix .ensures) (c .if1 .left) }
 
--- src/lib.rt:86:9
 returns-2 : tie.Need-returns-2
-returns-2 c = ?
+unfolding checkReply matrixCheck planCheck inTurn
+returns-2 c =
+    let p = c .before in
+    let m = p .before .before in
+    let a = m .before .before .before .before .before .args in
+    sym (rw (holds (m .is-matrix .ensures) (p .before .if1 .left), fails (p .is-plan .ensures (a .values .now)) (c .if2 .taken)))
 
--- src/lib.rt:79:1
 returns-3 : tie.Need-returns-3
-returns-3 c = ?
+unfolding checkReply matrixCheck planCheck inTurn
+returns-3 c =
+    let p = c .before in
+    let m = p .before .before in
+    let a = m .before .before .before .before .before .args in
+    sym (rw (holds (m .is-matrix .ensures) (p .before .if1 .left), holds (p .is-plan .ensures (a .values .now)) (c .if2 .left)))
 
 pub check-spec : {M : Type 1} → statement M
 check-spec = tie.close (tie.spec is-matrix-requires returns is-plan-requires returns-2 returns-3)

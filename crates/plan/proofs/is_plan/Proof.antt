@@ -1,13 +1,10 @@
 -- `is_plan`: the lengths, then pass by pass.
 use mathlib.Core.Path.{_≡_, refl, sym, ap, _∙_}
 use mathlib.Core.List.{List}
-use mathlib.Core.Bool.{true, false, _&&_}
 use native.Mathlib.Omega.{arith}
 use lib.IntN.{ℤ}
-use lib.ListN.{take}
 use borrow.Author.Needs.{needs}
 use Rattle.base.proofs.Booleans.{fails, holds}
-use Rattle.plan.specs.Groups.{Group}
 use Rattle.plan.specs.Sound.{isPlan}
 use Rattle.plan.specs.Checks.{recordAt, isWhole}
 use Rattle.matrix.specs.Checks.{matrixOf}
