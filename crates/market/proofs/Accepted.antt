@@ -10,12 +10,13 @@ use lib.ListN.{length, drop, length-append}
 use borrow.Author.Tests.{leb-true}
 use Rattle.base.specs.Lists.{isEmpty, begins}
 use Rattle.base.specs.Refusals as no
-use Rattle.base.proofs.Each.{Each, each-append}
+use Rattle.base.proofs.Each.{Each, each-map}
 use Rattle.matrix.specs.Limits.{maxRows, maxEntries, maxText}
 use Rattle.market.specs.Bytes.{header}
 use Rattle.market.specs.Fields.{Line, line, broken, fields}
 use Rattle.market.specs.Parse.{Triplet, triplet, matrixText, rejected, isEntry, isAmong, onLine, entries, sizeLine, sized, comments, body, parse}
 use Rattle.market.proofs.entries.Limits.{inside}
+use Rattle.market.proofs.Stored.{Fits, Stored, fits-inside, stored-more}
 
 -- a refusal is no matrix
 never : {X : Type 0} {q p n : ℕ} {es : List Triplet} → rejected q p ≡ matrixText n es → X
@@ -58,19 +59,22 @@ pub record Accepted (n : ℕ) (es : List Triplet) : Type 0 where
   pub some : 1 ≤ n
   pub rows : n ≤ maxRows
   pub count : length es ≤ maxEntries
+  pub stored : Stored n es
   pub inner : Each (Inner n) es
 
 entries-accepted : (n m k : ℕ) (xs : List ℕ) (n' : ℕ) (es : List Triplet) → 1 ≤ n → n ≤ maxRows → m ≤ maxEntries → entries n m k [] xs ≡ matrixText n' es → Accepted n' es
 entries-accepted n m k xs n' es h1 hn hm e =
-    let q = entries-induction n (λ (j : ℕ) (ds : List Triplet). (length ds + j ≡ m) × Each (Inner n) ds) kept m k [] xs n' es (omega arith, tt) e in
-    subst (λ (x : ℕ). Accepted x es) (sym (q .0)) (record { some = h1; rows = hn; count = omega (arith, q .1 .0); inner = q .1 .1 })
+    let q = entries-induction n (λ (j : ℕ) (ds : List Triplet). (length ds + j ≡ m) × Stored n ds) kept m k [] xs n' es (omega arith, record { fits = tt; once = λ i j. omega arith }) e in
+    let s = q .1 .1 in
+    subst (λ (x : ℕ). Accepted x es) (sym (q .0))
+    (record { some = h1; rows = hn; count = omega (arith, q .1 .0); stored = s; inner = each-map (Fits n) (Inner n) (λ e f. let i = fits-inside n e f in omega (arith, i .below, i .last)) es (s .fits) })
   where
-    kept : (j : ℕ) (ds : List Triplet) (r c : ℕ) (v : ℤ) → (length ds + suc j ≡ m) × Each (Inner n) ds → isEntry n r c v ≡ true → isAmong ds (r - 1) (c - 1) ≡ false → (length (ds ++ triplet (r - 1) (c - 1) v ∷ []) + j ≡ m) × Each (Inner n) (ds ++ triplet (r - 1) (c - 1) v ∷ [])
+    kept : (j : ℕ) (ds : List Triplet) (r c : ℕ) (v : ℤ) → (length ds + suc j ≡ m) × Stored n ds → isEntry n r c v ≡ true → isAmong ds (r - 1) (c - 1) ≡ false → (length (ds ++ triplet (r - 1) (c - 1) v ∷ []) + j ≡ m) × Stored n (ds ++ triplet (r - 1) (c - 1) v ∷ [])
     kept j ds r c v q f t =
-        let i = inside n r c v f in (
-          rw (length-append ds (triplet (r - 1) (c - 1) v ∷ [])) (omega (arith, q .0)),
-          each-append (Inner n) ds (triplet (r - 1) (c - 1) v ∷ []) (q .1) ((omega (arith, i .first, i .below, i .last), omega (arith, i .first, i .below, i .last)), tt),
-        )
+        let i = inside n r c v f in
+        let er : suc (r - 1) ≡ r = omega (arith, i .first, i .below) in
+        let ec : suc (c - 1) ≡ c = omega (arith, i .first) in
+        (rw (length-append ds (triplet (r - 1) (c - 1) v ∷ [])) (omega (arith, q .0)), stored-more n ds (triplet (r - 1) (c - 1) v) (q .1) (rw (er, ec) f) t)
 
 size-accepted : (k : ℕ) (xs : List ℕ) (n : ℕ) (es : List Triplet) → sizeLine k xs ≡ matrixText n es → Accepted n es
 unfolding sizeLine

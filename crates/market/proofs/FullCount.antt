@@ -18,12 +18,12 @@ use Rattle.market.proofs.Pieces.{length-pieces, sum-below-zero}
 use Rattle.market.proofs.Accepted.{Inner}
 
 -- how many of the entries are at (i, j)
-abbrev at : List Triplet → (i j : ℕ) → ℕ
+abbrev pub at : List Triplet → (i j : ℕ) → ℕ
 at xs i j = length (filter (isAt i j) xs)
 
 module _ (n : ℕ) where
   -- each entry is in one cell
-  cells-count : (xs : List Triplet) → Each (Inner n) xs → sumBelow (λ i. sumBelow (at xs i) n) n ≡ length xs
+  pub cells-count : (xs : List Triplet) → Each (Inner n) xs → sumBelow (λ i. sumBelow (at xs i) n) n ≡ length xs
   cells-count [] a = sum-below-same (λ (i : ℕ). sumBelow (λ (j : ℕ). 0) n) (λ (i : ℕ). 0) n (λ i l. sum-below-zero n) ∙ sum-below-zero n
   cells-count (x ∷ xs) a =
       sum-below-more (λ i. sumBelow (at xs i) n) (λ i. sumBelow (at (x ∷ xs) i) n) 1 n (x .row) (a .0 .0) own other ∙ rw (cells-count xs (a .1)) (omega arith)

@@ -1,9 +1,13 @@
 pub mod Left
 pub mod Table
 pub mod Pieces
+pub mod Stored
 pub mod Accepted
 pub mod Decimal
 pub mod Written
+pub mod FullRows
 pub mod Lower
 pub mod FullCount
 pub mod WriteThenRead
+pub mod TextMatrix
+pub mod AcceptedText

@@ -5,3 +5,4 @@ pub mod FullRows
 pub mod Text
 pub mod Code
 pub mod WriteThenRead
+pub mod AcceptedText

@@ -14,7 +14,8 @@ use Rattle.matrix.proofs.Matrix.{symmetric}
 use Rattle.market.specs.Parse.{Triplet, triplet, isAt}
 use Rattle.market.specs.FullRows.{both, full, cell, rowOf}
 use Rattle.market.specs.Text.{columnOf, lower}
-use Rattle.market.proofs.Pieces.{pieces-of-filter, pieces-single, filter-pieces, pieces-pieces, pieces-same, pieces-none, pieces-one}
+use Rattle.market.proofs.Pieces.{pieces-of-filter, filter-pieces, pieces-pieces, pieces-same, pieces-none, pieces-one}
+use Rattle.market.proofs.FullRows.{row-of-cells}
 use Rattle.market.proofs.Lower.Columns.{columns-among, stored-both}
 
 -- of an entry and its mirror image, of which the second is left out if f: those that pass a test
@@ -122,8 +123,5 @@ module _ (m : Matrix) where
 
     -- row i
     pub row-lower : (i : ℕ) → i < m .n → rowOf (m .n) (lower m) i ≡ map (λ j. triplet i j (entry m i j)) (columnsOf m i)
-    unfolding rowOf
     row-lower i h =
-        pieces-same (cell (lower m) i) (λ j. cond (isIn (columnsOf m i) j) (triplet i j (entry m i j) ∷ []) []) 0 (m .n) (λ j a b. cell-is i j h (omega arith))
-        ∙ sym (pieces-of-filter (isIn (columnsOf m i)) (λ j. triplet i j (entry m i j) ∷ []) (range 0 (m .n)))
-        ∙ pieces-single (λ j. triplet i j (entry m i j)) (filter (isIn (columnsOf m i)) (range 0 (m .n))) ∙ ap (map (λ j. triplet i j (entry m i j))) (columns-among m ok i h)
+        row-of-cells (m .n) (lower m) i (isIn (columnsOf m i)) (entry m i) (λ j l. cell-is i j h l) ∙ ap (map (λ j. triplet i j (entry m i j))) (columns-among m ok i h)
