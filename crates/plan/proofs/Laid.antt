@@ -89,7 +89,7 @@ pair-tiled g s f r b ks x y t =
       eq-eqb (r .first) f (x .first),
       eq-eqb (b .first) f (y .first),
       le-leb 1 (r .workers) (x .workers),
-      eq-eqb (b .workers) (r .workers) (y .workers)
+      eq-eqb (b .workers) (r .workers) (y .workers),
     ) t
 
 pub tiled-laid : (g : Group) (s f : ℕ) (ks : List Group) → tiled g s f ks ≡ laid g s f 0 ks
@@ -116,7 +116,7 @@ tiled-laid g s f (r ∷ b ∷ ks) =
         two g s f r b ks d
         ∙ rw (
           red-fits s f r (record { colour = p .isRed; start = p .here; first = p .firstR; workers = p .some }),
-          blue-fits (s + r .length) f (r .workers) b d (record { colour = p .isBlue; start = p .then; first = p .firstB; workers = p .alike })
+          blue-fits (s + r .length) f (r .workers) b d (record { colour = p .isBlue; start = p .then; first = p .firstB; workers = p .alike }),
         ) (sym rest ∙ p .rest)
 
     fro : Rest → laid g s f 0 (r ∷ b ∷ ks) ≡ true → tiled g s f (r ∷ b ∷ ks) ≡ true

@@ -12,7 +12,6 @@ use Rattle.plan.specs.declared.fields.Record.{Record}
 
 -- ---- the order
 
-
 -- the marks of n rows say which of them are in the list
 pub record Seen (n : ℕ) (xs marks : List ℕ) : Type 0 where
   pub long : length marks ≡ 4096

@@ -1,4 +1,6 @@
 // Like-coloured children of a group are apart.
+use crate::fields::BLUE;
+use crate::fields::RED;
 use crate::fields::Record;
 use crate::fields::record_at;
 use crate::marks::touch_rows;
@@ -14,18 +16,29 @@ ghost use Rattle.plan.specs.Sound.{maxGroups, children, likeApart, child
 ghost use Rattle.plan.specs.Checks.{recordAt, groupOf, Small, belowWhole, tiles, InOrder};
 ghost use Rattle.plan.specs.Marks.{OfMatrix, touchedLike, Touched, ofColour, UpTo, Judged};
 
+// As many marks as the children of one colour may need, one for each record, and those of both.
+const MARKS: u32 = 512;
+
+const MARKS_OF_BOTH: u32 = 1024;
+
 fn least(a: usize, b: usize) -> usize
     ensures { λ r. ⌜ r ≡ min a b ⌝ }
 {
-    if a < b {
-        a
-    } else {
-        b
-    }
+    if a < b { a } else { b }
 }
 
 // The group's rows touch theirs, if it has the colour: its stretch of the first n places of the order.
-fn touch_like(n: usize, starts: &[u32], columns: &[u32], order: &[u32], marks: &mut [u32; 4096], g: Record, colour: usize, low: u32, mine: u32) -> bool
+fn touch_like(
+    n: usize,
+    starts: &[u32],
+    columns: &[u32],
+    order: &[u32],
+    marks: &mut [u32; 4096],
+    g: Record,
+    colour: usize,
+    low: u32,
+    mine: u32,
+) -> bool
     requires { ⌜ OfMatrix n (now starts) (now columns) × (length (now marks) ≡ 4096) × Small g × (n ≤ length (now order)) × ((j : ℕ) → j < n → getD (now order) j 0 < n) ⌝ }
     ensures { λ r. ⌜ Touched low mine (touchedLike n (now (starts .entry)) (now (columns .entry)) (take n (now (order .entry))) colour (groupOf g)) (now (marks .entry)) (now (marks .exit)) r ⌝ }
 {
@@ -38,7 +51,18 @@ fn touch_like(n: usize, starts: &[u32], columns: &[u32], order: &[u32], marks: &
 }
 
 // The children of a colour of the group at k are apart. Marks above low are theirs: the child at i marks with low + i what it touches.
-pub fn apart_below(n: usize, starts: &[u32], columns: &[u32], order: &[u32], groups: &[u32], count: usize, marks: &mut [u32; 4096], k: usize, colour: usize, low: u32) -> bool
+pub fn apart_below(
+    n: usize,
+    starts: &[u32],
+    columns: &[u32],
+    order: &[u32],
+    groups: &[u32],
+    count: usize,
+    marks: &mut [u32; 4096],
+    k: usize,
+    colour: usize,
+    low: u32,
+) -> bool
     requires { ⌜ OfMatrix n (now starts) (now columns) × InOrder n (now order) (now groups) count × (k < count)
         × (tiles (recordAt (now groups) k) (children k (belowWhole count (now groups))) ≡ true) × UpTo low (now marks) × (low + maxGroups < 2 ^ 32) ⌝ }
     ensures { λ r. ⌜ Judged (likeApart (neighbours (pattern n (now (starts .entry)) (now (columns .entry)))) (take n (now (order .entry)))
@@ -47,7 +71,17 @@ pub fn apart_below(n: usize, starts: &[u32], columns: &[u32], order: &[u32], gro
     let mut i = next_child(groups, count, k, k + 1);
     while i < count {
         let h = record_at(groups, i);
-        if !touch_like(n, starts, columns, order, marks, h, colour, low, low + i as u32) {
+        if !touch_like(
+            n,
+            starts,
+            columns,
+            order,
+            marks,
+            h,
+            colour,
+            low,
+            low + i as u32,
+        ) {
             return false;
         }
         i = next_child(groups, count, k, i + 1);
@@ -56,7 +90,17 @@ pub fn apart_below(n: usize, starts: &[u32], columns: &[u32], order: &[u32], gro
 }
 
 // The children of the group at k, if it has any, tile it and are apart.
-fn sound_below(n: usize, starts: &[u32], columns: &[u32], order: &[u32], groups: &[u32], count: usize, marks: &mut [u32; 4096], k: usize, low: u32) -> bool
+fn sound_below(
+    n: usize,
+    starts: &[u32],
+    columns: &[u32],
+    order: &[u32],
+    groups: &[u32],
+    count: usize,
+    marks: &mut [u32; 4096],
+    k: usize,
+    low: u32,
+) -> bool
     requires { ⌜ OfMatrix n (now starts) (now columns) × InOrder n (now order) (now groups) count × (k < count) × UpTo low (now marks) × (low + maxGroups + maxGroups < 2 ^ 32) ⌝ }
     ensures { λ r. ⌜ Judged (childrenSound (neighbours (pattern n (now (starts .entry)) (now (columns .entry)))) (take n (now (order .entry)))
         (recordAt (now (groups .entry)) k) (children k (belowWhole count (now (groups .entry))))) (low + maxGroups + maxGroups) (now (marks .exit)) r ⌝ }
@@ -64,14 +108,32 @@ fn sound_below(n: usize, starts: &[u32], columns: &[u32], order: &[u32], groups:
     if !tiled_below(groups, count, k) {
         return false;
     }
-    if !apart_below(n, starts, columns, order, groups, count, marks, k, 1, low) {
+    if !apart_below(n, starts, columns, order, groups, count, marks, k, RED, low) {
         return false;
     }
-    apart_below(n, starts, columns, order, groups, count, marks, k, 2, low + 512)
+    apart_below(
+        n,
+        starts,
+        columns,
+        order,
+        groups,
+        count,
+        marks,
+        k,
+        BLUE,
+        low + MARKS,
+    )
 }
 
-// So do the children of every group. Each group has marks of its own: the marks of the groups before it are at most 1024 k.
-pub fn all_sound(n: usize, starts: &[u32], columns: &[u32], order: &[u32], groups: &[u32], count: usize) -> bool
+// So do the children of every group. Each group and colour has marks of its own, above those of the groups before it.
+pub fn all_sound(
+    n: usize,
+    starts: &[u32],
+    columns: &[u32],
+    order: &[u32],
+    groups: &[u32],
+    count: usize,
+) -> bool
     requires { ⌜ OfMatrix n (now starts) (now columns) × InOrder n (now order) (now groups) count ⌝ }
     ensures { λ r. ⌜ r ≡ allSound (neighbours (pattern n (now (starts .entry)) (now (columns .entry)))) (take n (now (order .entry)))
         (belowWhole count (now (groups .entry))) 0 (records count (now (groups .entry))) ⌝ }
@@ -79,7 +141,17 @@ pub fn all_sound(n: usize, starts: &[u32], columns: &[u32], order: &[u32], group
     let mut marks = [0u32; 4096];
     let mut k = 0;
     while k < count {
-        if !sound_below(n, starts, columns, order, groups, count, &mut marks, k, 1024 * k as u32) {
+        if !sound_below(
+            n,
+            starts,
+            columns,
+            order,
+            groups,
+            count,
+            &mut marks,
+            k,
+            MARKS_OF_BOTH * k as u32,
+        ) {
             return false;
         }
         k += 1;

@@ -5,6 +5,16 @@ ghost use lib.ListN.{length, getD};
 ghost use Rattle.plan.specs.Groups.{width};
 ghost use Rattle.plan.specs.Checks.{recordAt, Reads};
 
+// How many numbers a record has.
+pub const WIDTH: usize = 6;
+
+// The colours.
+pub const WHOLE: usize = 0;
+
+pub const RED: usize = 1;
+
+pub const BLUE: usize = 2;
+
 // A record's fields, wide enough that the sum of two does not wrap.
 pub struct Record {
     pub start: usize,
@@ -28,7 +38,7 @@ pub fn record_at(groups: &[u32], i: usize) -> Record
     requires { ⌜ width * (i + 1) ≤ length (now groups) ⌝ }
     ensures { λ r. ⌜ Reads r (recordAt (now (groups .entry)) i) ⌝ }
 {
-    let at = 6 * i;
+    let at = WIDTH * i;
     Record {
         start: wide_at(groups, at),
         length: wide_at(groups, at + 1),

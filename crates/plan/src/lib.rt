@@ -10,9 +10,10 @@ use base::Answer;
 use base::MATRIX;
 use base::UNSOUND;
 use fields::Record;
+use fields::WHOLE;
+use fields::WIDTH;
 use fields::record_at;
 use matrix::is_matrix;
-
 ghost use mathlib.Core.Path.{_≡_};
 ghost use mathlib.Core.List.{List};
 ghost use lib.IntN.{ℤ};
@@ -21,6 +22,12 @@ ghost use Rattle.matrix.specs.Checks.{matrixOf};
 ghost use Rattle.plan.specs.Sound.{isPlan, checkReply};
 ghost use Rattle.plan.specs.Checks.{groupOf, isWhole};
 ghost use Rattle.plan.specs.Marks.{OfMatrix};
+
+// "all workers, 1 to 16"
+pub const MAX_WORKERS: usize = 16;
+
+// "a list of records .. at most 512"
+pub const MAX_GROUPS: usize = 512;
 
 // The record is the whole of n rows.
 fn is_whole(g: Record, n: usize) -> bool
@@ -35,17 +42,24 @@ fn is_whole(g: Record, n: usize) -> bool
     if g.first != 0 {
         return false;
     }
-    if g.colour != 0 {
+    if g.colour != WHOLE {
         return false;
     }
     if g.parent != 0 {
         return false;
     }
-    1 <= g.workers && g.workers <= 16
+    1 <= g.workers && g.workers <= MAX_WORKERS
 }
 
 // Whether the lists hold a plan that is sound for the matrix, whatever its values.
-pub fn is_plan(n: u32, starts: &[u32], columns: &[u32], order: &[u32], groups: &[u32], count: u32) -> bool
+pub fn is_plan(
+    n: u32,
+    starts: &[u32],
+    columns: &[u32],
+    order: &[u32],
+    groups: &[u32],
+    count: u32,
+) -> bool
     requires { ⌜ OfMatrix n (now starts) (now columns) ⌝ }
     ensures { λ r. ⌜ ((values : List ℤ) → r ≡ isPlan (matrixOf n (now (starts .entry)) (now (columns .entry)) values) (now (order .entry)) (now (groups .entry)) count) ⌝ }
 {
@@ -57,10 +71,10 @@ pub fn is_plan(n: u32, starts: &[u32], columns: &[u32], order: &[u32], groups: &
     if records < 1 {
         return false;
     }
-    if 512 < records {
+    if MAX_GROUPS < records {
         return false;
     }
-    if groups.len() < 6 * records {
+    if groups.len() < WIDTH * records {
         return false;
     }
     if !is_whole(record_at(groups, 0), rows) {
@@ -76,7 +90,15 @@ pub fn is_plan(n: u32, starts: &[u32], columns: &[u32], order: &[u32], groups: &
 }
 
 // The check of a plan: 5 if the lists are no matrix, 8 if the plan is not sound for it.
-pub fn check(n: u32, starts: &[u32], columns: &[u32], values: &[i32], order: &[u32], groups: &[u32], count: u32) -> Answer
+pub fn check(
+    n: u32,
+    starts: &[u32],
+    columns: &[u32],
+    values: &[i32],
+    order: &[u32],
+    groups: &[u32],
+    count: u32,
+) -> Answer
     ensures { λ r. ⌜ replyOf r ≡ checkReply (matrixOf n (now (starts .entry)) (now (columns .entry)) (now (values .entry))) (now (order .entry)) (now (groups .entry)) count ⌝ }
 {
     if !is_matrix(n, starts, columns, values) {

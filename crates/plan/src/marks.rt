@@ -39,7 +39,15 @@ fn touch_all(marks: &mut [u32; 4096], rows: &[u32], low: u32, mine: u32) -> bool
 }
 
 // So do row u and the rows adjacent to it.
-fn touch_row(n: usize, starts: &[u32], columns: &[u32], marks: &mut [u32; 4096], u: usize, low: u32, mine: u32) -> bool
+fn touch_row(
+    n: usize,
+    starts: &[u32],
+    columns: &[u32],
+    marks: &mut [u32; 4096],
+    u: usize,
+    low: u32,
+    mine: u32,
+) -> bool
     requires { ⌜ OfMatrix n (now starts) (now columns) × (length (now marks) ≡ 4096) × (u < n) ⌝ }
     ensures { λ r. ⌜ Touched low mine (closed n (now (starts .entry)) (now (columns .entry)) u) (now (marks .entry)) (now (marks .exit)) r ⌝ }
 {
@@ -50,7 +58,15 @@ fn touch_row(n: usize, starts: &[u32], columns: &[u32], marks: &mut [u32; 4096],
 }
 
 // So do some rows and the rows adjacent to them.
-pub fn touch_rows(n: usize, starts: &[u32], columns: &[u32], marks: &mut [u32; 4096], rows: &[u32], low: u32, mine: u32) -> bool
+pub fn touch_rows(
+    n: usize,
+    starts: &[u32],
+    columns: &[u32],
+    marks: &mut [u32; 4096],
+    rows: &[u32],
+    low: u32,
+    mine: u32,
+) -> bool
     requires { ⌜ OfMatrix n (now starts) (now columns) × (length (now marks) ≡ 4096) × ((j : ℕ) → j < length (now rows) → getD (now rows) j 0 < n) ⌝ }
     ensures { λ r. ⌜ Touched low mine (touchedBy n (now (starts .entry)) (now (columns .entry)) (now (rows .entry))) (now (marks .entry)) (now (marks .exit)) r ⌝ }
 {

@@ -8,6 +8,9 @@ ghost use Rattle.plan.specs.Groups.{width};
 ghost use Rattle.plan.specs.Checks.{pathOf, standsDepthFirst};
 use crate::fields::record_at;
 
+// "depth is at most 4"
+const MAX_DEPTH: usize = 4;
+
 // How long the path is up to the parent, of the first t of the array; 0 if it is not there.
 fn up_to(path: &[usize; 5], t: usize, parent: usize) -> usize
     requires { ⌜ t ≤ 5 ⌝ }
@@ -37,7 +40,7 @@ pub fn depth_first(groups: &[u32], count: usize) -> bool
         if up < 1 {
             return false;
         }
-        if 4 < up {
+        if MAX_DEPTH < up {
             return false;
         }
         path[up] = i;

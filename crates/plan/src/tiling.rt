@@ -6,6 +6,8 @@ ghost use lib.ListN.{length};
 ghost use Rattle.plan.specs.Groups.{width};
 ghost use Rattle.plan.specs.Sound.{children};
 ghost use Rattle.plan.specs.Checks.{recordAt, groupOf, belowWhole, standsDepthFirst, Small, NextChild, fitting, pending, complete, tiles};
+use crate::fields::BLUE;
+use crate::fields::RED;
 use crate::fields::Record;
 use crate::fields::record_at;
 
@@ -39,9 +41,9 @@ fn fits(h: Record, s: usize, f: usize, w: usize) -> bool
         return false;
     }
     if w == 0 {
-        h.colour == 1 && 1 <= h.workers
+        h.colour == RED && 1 <= h.workers
     } else {
-        h.colour == 2 && h.workers == w
+        h.colour == BLUE && h.workers == w
     }
 }
 
@@ -49,11 +51,7 @@ fn fits(h: Record, s: usize, f: usize, w: usize) -> bool
 fn next_pending(h: Record, w: usize) -> usize
     ensures { λ r. ⌜ r ≡ pending w (groupOf h) ⌝ }
 {
-    if w == 0 {
-        h.workers
-    } else {
-        0
-    }
+    if w == 0 { h.workers } else { 0 }
 }
 
 // The children that end at position s and worker f are all of the group's.

@@ -85,14 +85,16 @@ all-sound-requires : tie.Need-all-sound-requires
 all-sound-requires c κs =
     let d = c .before in
     let o = d .before .before in
-    let l = o .before .before .before .before in
-    (start (l .before .before .before) .pre, record {
-      order-long = l .before .before .before .if1 .left;
-      once = sym (o .each-once .ensures) ∙ holds refl (d .before .if6 .left);
-      groups-long = l .if4 .left;
-      few = l .before .if3 .left;
-      nested = sym (d .depth-first .ensures) ∙ holds refl (c .if7 .left);
-    })
+    let l = o .before .before .before .before in (
+      start (l .before .before .before) .pre,
+      record {
+        order-long = l .before .before .before .if1 .left;
+        once = sym (o .each-once .ensures) ∙ holds refl (d .before .if6 .left);
+        groups-long = l .if4 .left;
+        few = l .before .if3 .left;
+        nested = sym (d .depth-first .ensures) ∙ holds refl (c .if7 .left);
+      },
+    )
 
 returns-8 : tie.Need-returns-8
 returns-8 c values =

@@ -56,9 +56,10 @@ loop-again : tie.Need-loop-again Inv-loop μ-loop
 loop-again c =
     let t = c .before in
     let l = t .before .before .before .before in
-    let a = l .before .before .args in
-    (touched-next (a .low) (a .mine) (a .rows .now) (l .loop .j) (t .before .before .before .loop-test .taken) (a .marks .now) (l .loop .marks) (t .touch .last .0) true (l .loop .inv .0) (touched t true (holds refl (c .if1 .left))),
-    omega arith)
+    let a = l .before .before .args in (
+      touched-next (a .low) (a .mine) (a .rows .now) (l .loop .j) (t .before .before .before .loop-test .taken) (a .marks .now) (l .loop .marks) (t .touch .last .0) true (l .loop .inv .0) (touched t true (holds refl (c .if1 .left))),
+      omega arith,
+    )
 
 returns-2 : tie.Need-returns-2 Inv-loop μ-loop
 returns-2 c =
