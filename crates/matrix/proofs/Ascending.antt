@@ -1,18 +1,18 @@
 -- Ascending columns: the place of a column among them, and the value beside it.
-use mathlib.Core.Path.{_≡_, refl, sym, ap, _∙_}
+use mathlib.Core.Path.{_≡_, refl, sym, ap, _∙_, subst}
 use mathlib.Core.Logic.{_⊎_, inl, inr, _≢_}
-use mathlib.Core.Bool.{Bool, true, false, _&&_, true≢false}
+use mathlib.Core.Bool.{Bool, true, false, _&&_, _||_, true≢false}
 use mathlib.Core.List.{List, [], _∷_}
 use Prim.Native.Nat.{ℕ, zero, suc, _+_, _≤_, _<_}
 use native.Mathlib.Numerals.{add-one}
 use native.Mathlib.Omega.{arith}
 use lib.Dec.{eqb, ltb, leb, leb·zero}
 use lib.IntN.{ℤ, pos}
-use lib.ListN.{length, getD, drop}
+use lib.ListN.{length, getD, take, drop}
 use lib.Seq.{drop-cons, drop-length}
-use borrow.Author.Tests.{ltb-true, lt-ltb, le-ltb, lt-leb, le-leb, eqb-true, eq-eqb, ne-eqb}
-use Rattle.base.specs.Lists.{filter, keep, isIn, all}
-use Rattle.base.proofs.Booleans.{and-false, and-cross, and-left, and-right, or-true, or-cases}
+use borrow.Author.Tests.{ltb-true, ltb-false, lt-ltb, le-ltb, lt-leb, le-leb, eqb-true, eq-eqb, ne-eqb}
+use Rattle.base.specs.Lists.{filter, keep, isIn, all, bit}
+use Rattle.base.proofs.Booleans.{and-false, and-cross, and-left, and-right, or-true, or-cases, same-or}
 use Rattle.matrix.specs.Matrix.{ascending, lookup}
 use Rattle.matrix.specs.Checks.{placeIn}
 
@@ -95,6 +95,39 @@ place-missing cs j p h e ne = go (isIn cs j) refl
         let i = isIn-place cs j h m in
         absurd (ne (omega arith) (ap (λ (q : ℕ). getD cs q 0) e ∙ i .1))
     go false m = refl
+
+-- no column is below 0
+pub place-zero : (cs : List ℕ) → placeIn cs 0 ≡ 0
+unfolding placeIn
+place-zero [] = refl
+place-zero (c ∷ cs) = rw (le-ltb c 0 (omega arith)) (place-zero cs)
+
+-- the columns below i + 1 are those below i, and i
+pub place-more : (cs : List ℕ) (i : ℕ) → ascending cs ≡ true → placeIn cs (i + 1) ≡ placeIn cs i + bit (isIn cs i)
+unfolding placeIn
+place-more [] i h = omega arith
+place-more (c ∷ cs) i h = go (same-or i c) (place-more cs i (ascending-tail c cs h))
+  where
+    go : (i ≡ c) ⊎ (i ≢ c) → placeIn cs (i + 1) ≡ placeIn cs i + bit (isIn cs i)
+        → length (keep (ltb c (i + 1)) c (filter (λ x. ltb x (i + 1)) cs)) ≡ length (keep (ltb c i) c (filter (λ x. ltb x i) cs)) + bit (eqb i c || isIn cs i)
+    go (inl e) ih =
+        let out : isIn cs i ≡ false = subst (λ (v : ℕ). isIn cs v ≡ false) (sym e) (first-once c cs h) in
+        let none : placeIn cs i + bit false ≡ 0 = omega (arith, place-none c cs i h (omega arith)) in
+        let more : placeIn cs (i + 1) ≡ 0 = (rw out at ih) ∙ none in
+        rw (lt-ltb c (i + 1) (omega arith), le-ltb c i (omega arith), eq-eqb i c e) (omega (arith, more, none))
+    go (inr d) ih = other (ltb c i) refl
+      where
+        other : (t : Bool) → ltb c i ≡ t → length (keep (ltb c (i + 1)) c (filter (λ x. ltb x (i + 1)) cs)) ≡ length (keep (ltb c i) c (filter (λ x. ltb x i) cs)) + bit (eqb i c || isIn cs i)
+        other true e = rw (lt-ltb c (i + 1) (omega (arith, ltb-true c i e)), e, ne-eqb i c d) (omega (arith, ih))
+        other false e = rw (le-ltb c (i + 1) (omega (arith, ltb-false c i e)), e, ne-eqb i c d) ih
+
+-- the columns before place k do not hold the column at k
+pub before-place : (cs : List ℕ) (k : ℕ) → ascending cs ≡ true → k < length cs → isIn (take k cs) (getD cs k 0) ≡ false
+before-place [] k h l = absurd (omega arith)
+before-place (c ∷ cs) zero h l = refl
+before-place (c ∷ cs) (suc k) h l =
+    let first = ascending-first c cs h k (omega arith) in
+    rw (ne-eqb (getD cs k 0) c (λ q. omega arith)) (before-place cs k (ascending-tail c cs h) (omega arith))
 
 pub isIn-get : (cs : List ℕ) (k : ℕ) → k < length cs → isIn cs (getD cs k 0) ≡ true
 isIn-get [] k l = absurd (omega arith)

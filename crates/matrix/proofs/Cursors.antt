@@ -3,61 +3,27 @@ use mathlib.Core.Path.{_≡_, refl, sym, ap, _∙_, subst}
 use mathlib.Core.Logic.{_⊎_, inl, inr, _≢_}
 use mathlib.Core.Bool.{Bool, true, false, _&&_, _||_}
 use mathlib.Core.List.{List, [], _∷_}
-use Prim.Native.Nat.{ℕ, zero, suc, _+_, _-_, _≤_, _<_}
+use Prim.Native.Nat.{ℕ, _+_, _-_, _≤_, _<_}
 use native.Mathlib.Numerals.{add-one}
 use native.Mathlib.Omega.{arith}
 use lib.Dec.{eqb, ltb}
 use lib.IntN.{ℤ, pos}
 use lib.ListN.{length, getD, take, set, length-set}
 use lib.Seq.{slice, getD-drop, getD-take, take-suc, take-length, getD-set-same, getD-set-other}
-use borrow.Author.Tests.{ltb-true, ltb-false, lt-ltb, le-ltb, eqb-true, eq-eqb, ne-eqb}
-use Rattle.base.specs.Lists.{isIn, filter, keep, bit}
+use borrow.Author.Tests.{ltb-true, lt-ltb, eqb-true, eq-eqb, ne-eqb}
+use Rattle.base.specs.Lists.{isIn, bit}
 use Rattle.base.specs.Integers.{same}
 use Rattle.base.proofs.Booleans.{and-left, and-right, or-false, same-or, clash, is-false}
 use Rattle.base.proofs.Lists.{isIn-append, all-of, all-range}
 use Rattle.base.proofs.Integers.{same-true, same-refl}
 use Rattle.matrix.specs.Limits.{maxRows}
-use Rattle.matrix.specs.Matrix.{Matrix, columnsOf, valuesOf, lookup, entry, ascending, mirrored}
+use Rattle.matrix.specs.Matrix.{Matrix, columnsOf, valuesOf, lookup, entry, mirrored}
 use Rattle.matrix.specs.Checks.{shaped, Tidy, mirroredRow, symmetric, placeIn, Cursors}
+use Rattle.matrix.proofs.Matrix.{mirror}
 use Rattle.matrix.proofs.Checks.{shape}
-use Rattle.matrix.proofs.Ascending.{ascending-tail, ascending-first, place-none, first-once, isIn-place, isIn-get, lookup-get}
+use Rattle.matrix.proofs.Ascending.{place-zero, place-more, before-place, isIn-place, isIn-get, lookup-get}
 use Rattle.matrix.proofs.Rows.{columns-part, values-part, length-columns, columns-in, values-in}
 use Rattle.matrix.proofs.Symmetry.{row-ascends, row-below, row-lengths, Mirrored, mirrored-next}
-
--- ---- places in ascending columns
-
--- no column is below 0
-place-zero : (cs : List ℕ) → placeIn cs 0 ≡ 0
-unfolding placeIn
-place-zero [] = refl
-place-zero (c ∷ cs) = rw (le-ltb c 0 (omega arith)) (place-zero cs)
-
--- the columns below i + 1 are those below i, and i
-place-more : (cs : List ℕ) (i : ℕ) → ascending cs ≡ true → placeIn cs (i + 1) ≡ placeIn cs i + bit (isIn cs i)
-unfolding placeIn
-place-more [] i h = omega arith
-place-more (c ∷ cs) i h = go (same-or i c) (place-more cs i (ascending-tail c cs h))
-  where
-    go : (i ≡ c) ⊎ (i ≢ c) → placeIn cs (i + 1) ≡ placeIn cs i + bit (isIn cs i)
-        → length (keep (ltb c (i + 1)) c (filter (λ x. ltb x (i + 1)) cs)) ≡ length (keep (ltb c i) c (filter (λ x. ltb x i) cs)) + bit (eqb i c || isIn cs i)
-    go (inl e) ih =
-        let out : isIn cs i ≡ false = subst (λ (v : ℕ). isIn cs v ≡ false) (sym e) (first-once c cs h) in
-        let none : placeIn cs i + bit false ≡ 0 = omega (arith, place-none c cs i h (omega arith)) in
-        let more : placeIn cs (i + 1) ≡ 0 = (rw out at ih) ∙ none in
-        rw (lt-ltb c (i + 1) (omega arith), le-ltb c i (omega arith), eq-eqb i c e) (omega (arith, more, none))
-    go (inr d) ih = other (ltb c i) refl
-      where
-        other : (t : Bool) → ltb c i ≡ t → length (keep (ltb c (i + 1)) c (filter (λ x. ltb x (i + 1)) cs)) ≡ length (keep (ltb c i) c (filter (λ x. ltb x i) cs)) + bit (eqb i c || isIn cs i)
-        other true e = rw (lt-ltb c (i + 1) (omega (arith, ltb-true c i e)), e, ne-eqb i c d) (omega (arith, ih))
-        other false e = rw (le-ltb c (i + 1) (omega (arith, ltb-false c i e)), e, ne-eqb i c d) ih
-
--- the columns before place k do not hold the column at k
-before-place : (cs : List ℕ) (k : ℕ) → ascending cs ≡ true → k < length cs → isIn (take k cs) (getD cs k 0) ≡ false
-before-place [] k h l = absurd (omega arith)
-before-place (c ∷ cs) zero h l = refl
-before-place (c ∷ cs) (suc k) h l =
-    let first = ascending-first c cs h k (omega arith) in
-    rw (ne-eqb (getD cs k 0) c (λ q. omega arith)) (before-place cs k (ascending-tail c cs h) (omega arith))
 
 -- ---- rows as parts of the lists
 
@@ -76,12 +42,8 @@ module _ (m : Matrix) (j : ℕ) (l : j < m .n) (q : ℕ) (h : getD (m .starts) j
 
 module _ (m : Matrix) (sm : symmetric m ≡ true) where
   mirror-of : (i j : ℕ) → i < m .n → isIn (columnsOf m i) j ≡ true → (isIn (columnsOf m j) i ≡ true) × (entry m i j ≡ entry m j i)
-  unfolding symmetric mirrored
-  mirror-of i j l e =
-      let t = all-of (mirrored m i) (columnsOf m i) j (all-range (mirroredRow m) (m .n) i sm l) e in
-      let there = isIn (columnsOf m j) i in
-      let equal = same (entry m i j) (entry m j i) in
-      (and-left there equal t, same-true (entry m i j) (entry m j i) (and-right there equal t))
+  unfolding symmetric
+  mirror-of i j l e = mirror m i j (all-of (mirrored m i) (columnsOf m i) j (all-range (mirroredRow m) (m .n) i sm l) e)
 
   -- j is in row i if i is in row j
   both-ways : (i j : ℕ) → i < m .n → j < m .n → isIn (columnsOf m i) j ≡ isIn (columnsOf m j) i
@@ -142,16 +104,16 @@ module _ (m : Matrix) (t : Tidy m) {i : ℕ} (l : i < m .n) {cs : List ℕ} {vs 
     symmetric-meets sm =
         let ds = columnsOf m j in
         let stored : isIn (columnsOf m i) j ≡ true = subst (λ (xs : List ℕ). isIn xs j ≡ true) (r .columns) (isIn-get cs k b) in
-        let mirror = mirror-of m sm i j l stored in
+        let back = mirror-of m sm i j l stored in
         let up = row-ascends m (t .order) j column-below refl in
-        let at = isIn-place ds i up (mirror .0) in
+        let at = isIn-place ds i up (back .0) in
         let q = placeIn ds i in
         let e : p ≡ getD (m .starts) j 0 + q = g .exact sm j column-below ∙ rw unmet (omega arith) in
         let inside : getD (m .starts) j 0 + q < getD (m .starts) (j + 1) 0 = omega (arith, at .0, length-columns m (t .shape) j column-below) in
         let column : getD (m .columns) p 0 ≡ i = ap (λ (n : ℕ). getD (m .columns) n 0) e ∙ sym (column-get m j column-below q inside) ∙ at .1 in
         let value : getD (m .values) p (pos 0) ≡ getD vs k (pos 0) =
         ap (λ (n : ℕ). getD (m .values) n (pos 0)) e ∙ sym (value-get m j column-below q inside)
-        ∙ sym (lookup-get ds (valuesOf m j) q up (at .0)) ∙ ap (λ (c : ℕ). lookup c ds (valuesOf m j)) (at .1) ∙ sym (mirror .1) ∙ sym value-is in
+        ∙ sym (lookup-get ds (valuesOf m j) q up (at .0)) ∙ ap (λ (c : ℕ). lookup c ds (valuesOf m j)) (at .1) ∙ sym (back .1) ∙ sym value-is in
         rw (lt-ltb p (getD (m .starts) (j + 1) 0) (omega arith), eq-eqb (getD (m .columns) p 0) i column, value) (same-refl (getD vs k (pos 0)))
 
     -- the test at the cursor fails: the matrix is not symmetric

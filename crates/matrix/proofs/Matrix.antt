@@ -113,26 +113,27 @@ pub record MatrixFacts (m : Matrix) : Type 0 where
 abbrev rowTests : Matrix → ℕ → List Bool
 rowTests m i = ascending (columnsOf m i) ∷ all (λ j. ltb j (m .n)) (columnsOf m i) ∷ all (within maxValue) (valuesOf m i) ∷ all (mirrored m i) (columnsOf m i) ∷ []
 
+-- what it says that an entry is mirrored
+pub mirror : (m : Matrix) (i j : ℕ) → mirrored m i j ≡ true → (isIn (columnsOf m j) i ≡ true) × (entry m i j ≡ entry m j i)
+unfolding mirrored
+mirror m i j e =
+    let stored = isIn (columnsOf m j) i in
+    let equal = same (entry m i j) (entry m j i) in
+    (and-left stored equal e, same-true (entry m i j) (entry m j i) (and-right stored equal e))
+
 row-facts : (m : Matrix) (i : ℕ) → isRow m i ≡ true → RowFacts m i
-unfolding isRow mirrored
+unfolding isRow
 row-facts m i h = record {
   rises = leb-true (getD (m .starts) i 0) (getD (m .starts) (suc i) 0) (conj-first (leb (getD (m .starts) i 0) (getD (m .starts) (suc i) 0)) (rowTests m i) h);
   ascends = at 0;
   low = λ j c. ltb-true j (m .n) (all-of (λ j. ltb j (m .n)) (columnsOf m i) j (at 1) c);
   small = at 2;
-  mirror = λ j c. both j (all-of (mirrored m i) (columnsOf m i) j (at 3) c);
+  mirror = λ j c. mirror m i j (all-of (mirrored m i) (columnsOf m i) j (at 3) c);
 }
   where
     at : (k : ℕ) → getD (rowTests m i) k true ≡ true
     at k = conj-at (leb (getD (m .starts) i 0) (getD (m .starts) (suc i) 0)) (rowTests m i) h k
 
-    both : (j : ℕ) → mirrored m i j ≡ true → (isIn (columnsOf m j) i ≡ true) × (entry m i j ≡ entry m j i)
-    both j e =
-        let stored = isIn (columnsOf m j) i in
-        let equal = same (entry m i j) (entry m j i) in
-        (and-left stored equal e, same-true (entry m i j) (entry m j i) (and-right stored equal e))
-
--- the tests of a matrix after the first
 abbrev matrixTests : Matrix → List Bool
 matrixTests m =
     leb (m .n) maxRows ∷ leb (suc (m .n)) (length (m .starts)) ∷ eqb (getD (m .starts) 0 0) 0
