@@ -3,8 +3,10 @@ use mathlib.Core.Path.{_≡_, refl}
 use mathlib.Core.Bool.{Bool, true, false, cond}
 use mathlib.Core.List.{List, [], _∷_, _++_}
 use Prim.Native.Nat.{ℕ}
+use native.Mathlib.Omega.{arith}
 use lib.ListN.{length, drop}
 use Rattle.base.specs.Replies.{Reply, accepted, refused, Check, inTurn, lent}
+use Rattle.base.proofs.Each.{Each}
 
 module _ {ℓ} {A : Type ℓ} (refuse : (number place : ℕ) → A) (c : Check) (cs : List Check) (a : A) where
   -- the first check holds, or fails
@@ -45,3 +47,31 @@ module _ {ℓ} {A : Type ℓ} (answer old : List A) where
   pub lent-accepted : (r : Reply) (k : ℕ) → r ≡ accepted k → lent r answer old ≡ answer ++ drop (length answer) old
   unfolding lent
   lent-accepted r k e = rw e
+
+-- ---- two calls that differ in what comes after a check, or in their answer
+
+module _ {ℓ} {A : Type ℓ} (refuse : (number place : ℕ) → A) where
+  -- what comes after a check matters only where the check holds
+  pub inTurn-same : (c : Check) (cs ds : List Check) (a b : A) → (c .holds ≡ true → inTurn refuse cs a ≡ inTurn refuse ds b) → inTurn refuse (c ∷ cs) a ≡ inTurn refuse (c ∷ ds) b
+  unfolding inTurn
+  inTurn-same c cs ds a b h = go (c .holds) h
+    where
+      go : (t : Bool) → (t ≡ true → inTurn refuse cs a ≡ inTurn refuse ds b) → cond t (inTurn refuse cs a) (refuse (c .number) (c .place)) ≡ cond t (inTurn refuse ds b) (refuse (c .number) (c .place))
+      go true h = h refl
+      go false h = refl
+
+-- an accepted call's checks all hold
+pub accepted-all : (cs : List Check) (r : Reply) (k : ℕ) → inTurn refused cs r ≡ accepted k → Each (λ (c : Check). c .holds ≡ true) cs
+unfolding inTurn
+accepted-all [] r k e = tt
+accepted-all (c ∷ cs) r k e = go (c .holds) refl (accepted-all cs r k) e
+  where
+    go : (t : Bool) → c .holds ≡ t → (inTurn refused cs r ≡ accepted k → Each (λ (c : Check). c .holds ≡ true) cs) → cond t (inTurn refused cs r) (refused (c .number) (c .place)) ≡ accepted k → Each (λ (c : Check). c .holds ≡ true) (c ∷ cs)
+    go true f h e = (f, h e)
+    go false f h e = (let z : _≡_ {A = ℕ} 0 1 = cc in absurd (omega arith))
+
+-- the answer matters only where the call is accepted
+pub lent-same {ℓ} : {A : Type ℓ} (r : Reply) (a b old : List A) → ((k : ℕ) → r ≡ accepted k → a ≡ b) → lent r a old ≡ lent r b old
+unfolding lent
+lent-same (accepted k) a b old h = rw (h k refl)
+lent-same (refused q p) a b old h = refl

@@ -8,14 +8,14 @@ use native.Mathlib.Omega.{arith}
 use lib.Dec.{eqb, ltb, leb}
 use lib.IntN.{ℤ, _*ℤ_}
 use lib.ListN.{length, getD, take, length-take}
-use lib.Seq.{getD-take, take-take}
-use borrow.Author.Tests.{ltb-true}
+use lib.Seq.{getD-take, take-take, take-all, length-take-le}
+use borrow.Author.Tests.{ltb-true, leb-true, leb-false, eqb-true, ne-eqb}
 use Rattle.base.specs.Lists.{filter, all, isIn, range, sumBelow}
-use Rattle.base.specs.Integers.{sumℤ, same}
-use Rattle.base.proofs.Booleans.{both-ways}
+use Rattle.base.specs.Integers.{sumℤ, same, within}
+use Rattle.base.proofs.Booleans.{and-left, both-ways}
 use Rattle.base.proofs.Lists.{all-range, of-all, range-in}
-use Rattle.matrix.specs.Limits.{maxRows, maxEntries}
-use Rattle.matrix.specs.Matrix.{Matrix, partOf, columnsOf, valuesOf, lookup, entry, neighbours, mirrored, lowerEntries, isMatrix, displacement}
+use Rattle.matrix.specs.Limits.{maxRows, maxEntries, maxDisplacement}
+use Rattle.matrix.specs.Matrix.{Matrix, partOf, columnsOf, valuesOf, lookup, entry, neighbours, mirrored, lowerEntries, isMatrix, displacement, areDisplacements, displacementCheck}
 use Rattle.matrix.specs.Checks.{matrixOf, rises, shaped, isOrdered, ordered, symmetric}
 use Rattle.matrix.specs.Product.{forceAt, product}
 use Rattle.matrix.proofs.Checks.{Shape, shape, shape-rises, matrix-parts, matrix-tidy}
@@ -161,3 +161,23 @@ module _ (m : Matrix) (ok : isMatrix m ≡ true) where
   pub cut-product : (x : List ℤ) → product (cut m) x ≡ product m x
   unfolding product forceAt
   cut-product x = ap (λ (e : ℕ → ℕ → ℤ). map (λ i. sumℤ (λ j. e i j *ℤ displacement x j) (m .n)) (range 0 (m .n))) cut-entry
+
+-- ---- displacements: a list that is cut to one more than any matrix has rows stays too long
+
+pub cut-displacements : (n : ℕ) (x : List ℤ) → n ≤ maxRows → displacementCheck n (take mostStarts x) ≡ displacementCheck n x
+unfolding displacementCheck areDisplacements
+cut-displacements n x few = go (leb (length x) mostStarts) refl
+  where
+    go : (b : Bool) → leb (length x) mostStarts ≡ b → displacementCheck n (take mostStarts x) ≡ displacementCheck n x
+    go true e = ap (displacementCheck n) (take-all mostStarts x (leb-true (length x) mostStarts e))
+    go false e =
+        let long = leb-false (length x) mostStarts e in
+        let size : length (take mostStarts x) ≡ mostStarts = length-take-le mostStarts x (omega arith) in
+        rw (size, ne-eqb mostStarts n (λ q. omega arith), ne-eqb (length x) n (λ q. omega arith))
+
+-- n displacements are not cut
+pub displacements-kept : (n : ℕ) (x : List ℤ) → n ≤ maxRows → areDisplacements n x ≡ true → take mostStarts x ≡ x
+unfolding areDisplacements
+displacements-kept n x few h =
+    let long : length x ≡ n = eqb-true (length x) n (and-left (eqb (length x) n) (all (within maxDisplacement) x) h) in
+    take-all mostStarts x (omega arith)

@@ -1,0 +1,33 @@
+-- Numbers loaded into an array.
+use mathlib.Core.Path.{_≡_, sym, ap, _∙_}
+use mathlib.Core.List.{List}
+use Prim.Native.Nat.{ℕ, _/_, _≤_, min}
+use native.Mathlib.Omega.{arith}
+use lib.ListN.{length, take, drop, length-append, length-drop}
+use lib.Seq.{take-at, length-take-le}
+use Rattle.words.specs.LittleEndian.{stored}
+use Rattle.words.proofs.Copies.{take-min}
+use Rattle.words.proofs.Blocks.{decoded, length-decoded}
+use Rattle.mazhoketh.specs.Lists.{Loaded}
+
+-- what a load from bytes leaves; f reads one number of a width
+pub loaded : {A : Type 0} (f : List ℕ → A) (width : ℕ) (bytes : List ℕ) (size : ℕ) (old array : List A) (count : ℕ) → length old ≡ size
+    → count ≡ min (length bytes / width) (length old) → array ≡ stored (take count (decoded f width bytes)) old → Loaded size (decoded f width bytes) array count
+loaded f width bytes size old array count e c h =
+    let list = decoded f width bytes in
+    let many : length list ≡ length bytes / width = length-decoded f width bytes in
+    let taken : length (take count list) ≡ count = length-take-le count list (omega arith) in
+    let least : count ≡ min (length list) size = omega arith in
+    record {
+      short = omega arith;
+      long = rw (h, length-append (take count list) (drop (length (take count list)) old), length-drop, taken) (omega arith);
+      is = rw (h, take-at (take count list) (drop (length (take count list)) old) count taken) (ap (λ (k : ℕ). take k list) least ∙ take-min size list);
+    }
+
+module _ {A : Type 0} {size : ℕ} {list array : List A} {count : ℕ} (l : Loaded size list array count) where
+  -- the first `count` numbers of the array are there
+  pub loaded-short : count ≤ length array
+  loaded-short = omega (arith, l .short, l .long)
+
+  pub loaded-size : count ≡ length (take count array)
+  loaded-size = sym (length-take-le count array loaded-short)

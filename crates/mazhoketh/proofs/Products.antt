@@ -1,0 +1,135 @@
+-- The product's call on lists that are cut, and on sums that are made beside the lent list.
+use mathlib.Core.Path.{_≡_, sym, ap, _∙_}
+use mathlib.Core.Bool.{true}
+use mathlib.Core.List.{List, [], _∷_, _++_, append-assoc}
+use Prim.Native.Nat.{ℕ, _/_, _≤_, min}
+use native.Mathlib.Omega.{arith}
+use lib.Dec.{leb}
+use lib.IntN.{ℤ}
+use lib.ListN.{length, take, drop, length-append}
+use lib.Seq.{take-at, take-all, length-take-le}
+use borrow.Author.Tests.{leb-true, le-leb}
+use Rattle.base.specs.Replies.{Reply, accepted, refused, Check, roomFor, lent}
+use Rattle.base.proofs.Booleans.{both-ways}
+use Rattle.base.proofs.Replies.{inTurn-same, accepted-all, lent-same, lent-accepted, lent-refused}
+use Rattle.base.proofs.Fill.{length-made}
+use Rattle.matrix.specs.Limits.{maxRows}
+use Rattle.matrix.specs.Matrix.{Matrix, isMatrix, matrixCheck, displacementCheck, areDisplacements}
+use Rattle.matrix.specs.Checks.{matrixOf}
+use Rattle.matrix.specs.Product.{forceAt, product, productReply}
+use Rattle.matrix.proofs.Matrix.{matrix-facts}
+use Rattle.matrix.proofs.Cut.{mostStarts, mostEntries, cut, cut-matrix, cut-product, cut-displacements, displacements-kept}
+use Rattle.words.specs.LittleEndian.{signedBytes, stored}
+use Rattle.mazhoketh.specs.Word.{word, Answered}
+
+-- one call for another with the same reply, and with the same answer where that is accepted
+pub answered-same : {r s : Reply} {a b old : List ℕ} {w : ℕ} {new : List ℕ} → r ≡ s → ((k : ℕ) → s ≡ accepted k → a ≡ b) → Answered r a old w new → Answered s b old w new
+answered-same {r} {s} {a} {b} {old} e h t = record {
+  returns = t .returns ∙ ap word e;
+  leaves = t .leaves ∙ ap (λ (q : Reply). lent q a old) e ∙ lent-same s a b old h;
+}
+
+module _ (m : Matrix) (x : List ℤ) (room : ℕ) where
+  abbrev checks : List Check
+  checks = matrixCheck m ∷ displacementCheck (m .n) x ∷ roomFor (m .n) room ∷ []
+
+  -- what an accepted call has checked
+  pub record Made : Type 0 where
+    pub matrix : isMatrix m ≡ true
+    pub moved : areDisplacements (m .n) x ≡ true
+    pub long : m .n ≤ room
+
+  pub product-made : (k : ℕ) → productReply m x room ≡ accepted k → Made
+  unfolding productReply matrixCheck displacementCheck
+  product-made k e =
+      let all = accepted-all checks (accepted 0) k e in
+      record { matrix = all .0; moved = all .1 .0; long = leb-true (m .n) room (all .1 .1 .0) }
+
+  -- ---- cut lists
+
+  matrix-cut-reply : productReply (cut m) x room ≡ productReply m x room
+  unfolding productReply matrixCheck
+  matrix-cut-reply = rw (cut-matrix m)
+
+  -- cut, the lists of the matrix give the same reply and forces
+  pub matrix-cut : {old : List ℕ} {w : ℕ} {new : List ℕ} → Answered (productReply (cut m) x room) (signedBytes 8 (product (cut m) x)) old w new
+      → Answered (productReply m x room) (signedBytes 8 (product m x)) old w new
+  matrix-cut t = answered-same matrix-cut-reply (λ k e. ap (signedBytes 8) (cut-product m (product-made k e .matrix) x)) t
+
+  displacements-cut-reply : productReply m (take mostStarts x) room ≡ productReply m x room
+  unfolding productReply matrixCheck
+  displacements-cut-reply = inTurn-same refused (matrixCheck m) _ _ _ _ (λ h. rw (cut-displacements (m .n) x (matrix-facts m h .few)))
+
+  uncut : (k : ℕ) → productReply m x room ≡ accepted k → take mostStarts x ≡ x
+  uncut k e = let made = product-made k e in displacements-kept (m .n) x (matrix-facts m (made .matrix) .few) (made .moved)
+
+  -- .. and so do the displacements
+  pub displacements-cut : {old : List ℕ} {w : ℕ} {new : List ℕ} → Answered (productReply m (take mostStarts x) room) (signedBytes 8 (product m (take mostStarts x))) old w new
+      → Answered (productReply m x room) (signedBytes 8 (product m x)) old w new
+  displacements-cut t = answered-same displacements-cut-reply (λ k e. ap (λ (l : List ℤ). signedBytes 8 (product m l)) (uncut k e)) t
+
+  room-test : (size : ℕ) → m .n ≤ size → leb (m .n) (min room size) ≡ leb (m .n) room
+  room-test size few =
+      both-ways (leb (m .n) (min room size)) (leb (m .n) room)
+      (λ t. le-leb (m .n) room (omega (arith, leb-true (m .n) (min room size) t)))
+      (λ t. le-leb (m .n) (min room size) (omega (arith, leb-true (m .n) room t)))
+
+  -- .. and the room for forces
+  pub room-cut : (size : ℕ) → maxRows ≤ size → productReply m x (min room size) ≡ productReply m x room
+  unfolding productReply matrixCheck
+  room-cut size enough = inTurn-same refused (matrixCheck m) _ _ _ _ (λ h. rw (room-test size (omega (arith, matrix-facts m h .few))))
+
+-- the lists that a call decodes, cut, for the whole ones
+pub decoded-matrix : (n : ℕ) (starts columns : List ℕ) (values : List ℤ) (x : List ℤ) (room : ℕ) {s c : List ℕ} {v : List ℤ} {old : List ℕ} {w : ℕ} {new : List ℕ}
+    → s ≡ take mostStarts starts → c ≡ take mostEntries columns → v ≡ take mostEntries values
+    → Answered (productReply (matrixOf n s c v) x room) (signedBytes 8 (product (matrixOf n s c v) x)) old w new
+    → Answered (productReply (matrixOf n starts columns values) x room) (signedBytes 8 (product (matrixOf n starts columns values) x)) old w new
+decoded-matrix n starts columns values x room es ec ev t = matrix-cut (matrixOf n starts columns values) x room (rw (es, ec, ev) at t)
+
+pub decoded-displacements : (m : Matrix) (X : List ℤ) (room : ℕ) {x : List ℤ} {old : List ℕ} {w : ℕ} {new : List ℕ} → x ≡ take mostStarts X
+    → Answered (productReply m x room) (signedBytes 8 (product m x)) old w new → Answered (productReply m X room) (signedBytes 8 (product m X)) old w new
+decoded-displacements m X room e t = displacements-cut m X room (rw e at t)
+
+-- ---- sums beside the lent list
+
+length-product : (m : Matrix) (x : List ℤ) → length (product m x) ≡ m .n
+unfolding product
+length-product m x = length-made (forceAt m x) [] (m .n)
+
+-- `many` sums: as many as the lent list has room for, and no more than `size`
+module _ (m : Matrix) (x : List ℤ) (size many : ℕ) (enough : maxRows ≤ size) (forces : List ℕ) (least : many ≡ min (length forces / 8) size) where
+  many-reply : productReply m x many ≡ productReply m x (length forces / 8)
+  many-reply = ap (productReply m x) least ∙ room-cut m x (length forces / 8) size enough
+
+  -- a refused call leaves the lent list
+  pub product-refused : (q p : ℕ) {w : ℕ} → refused q p ≡ productReply m x many → w ≡ word (refused q p)
+      → Answered (productReply m x (length forces / 8)) (signedBytes 8 (product m x)) forces w forces
+  product-refused q p e f =
+      let reply = sym (e ∙ many-reply) in
+      record { returns = f ∙ ap word (sym reply); leaves = sym (lent-refused (signedBytes 8 (product m x)) forces _ q p reply) }
+
+  -- an accepted one makes the sums, and stores the first n of them
+  module _ (k : ℕ) (e : accepted k ≡ productReply m x many) where
+    made : Made m x many
+    made = product-made m x many k (sym e)
+
+    pub product-fits : (sums rest : List ℤ) → length sums ≡ many → m .n ≤ length (sums ++ rest)
+    product-fits sums rest l = rw length-append (omega (arith, made .long))
+
+    pub product-size : (sums rest : List ℤ) → length sums ≡ many → m .n ≡ length (take (m .n) (sums ++ rest))
+    product-size sums rest l = sym (length-take-le (m .n) (sums ++ rest) (product-fits sums rest l))
+
+    module _ (old sums rest : List ℤ) (s : sums ≡ lent (productReply m x many) (product m x) old) where
+      first : take (m .n) (sums ++ rest) ≡ product m x
+      first =
+          rw (s, lent-accepted (product m x) old _ k (sym e), append-assoc (product m x) (drop (length (product m x)) old) rest)
+          (take-at (product m x) (drop (length (product m x)) old ++ rest) (m .n) (length-product m x))
+
+      pub product-stored : {w : ℕ} {new : List ℕ} → w ≡ word (accepted k) → new ≡ stored (signedBytes 8 (take (length forces / 8) (take (m .n) (sums ++ rest)))) forces
+          → Answered (productReply m x (length forces / 8)) (signedBytes 8 (product m x)) forces w new
+      product-stored f g =
+          let reply = sym (e ∙ many-reply) in
+          record {
+            returns = f ∙ ap word (sym reply);
+            leaves = g ∙ rw (first, take-all (length forces / 8) (product m x) (omega (arith, made .long, length-product m x))) (sym (lent-accepted (signedBytes 8 (product m x)) forces _ k reply));
+          }
