@@ -1,18 +1,19 @@
 -- The full rows of entries: each row cell by cell, and the parts of the lists that belong to it.
 use mathlib.Core.Path.{_≡_, sym, ap, _∙_}
 use mathlib.Core.Bool.{Bool, cond}
-use mathlib.Core.List.{List, [], _∷_, _++_, map, map-append}
+use mathlib.Core.List.{List, [], _∷_, _++_, map, map-append, append-assoc}
 use Prim.Native.Nat.{ℕ, zero, suc, _+_, _-_, _≤_, _<_}
 use native.Mathlib.Omega.{arith}
 use lib.IntN.{ℤ}
-use lib.ListN.{length, getD, drop, length-append, length-map}
+use lib.ListN.{length, getD, drop, length-append, length-map, List·getD-append}
 use lib.Seq.{slice, take-append-add, take-append-seam, drop-append-seam}
 use borrow.Author.Tests.{lt-ltb}
 use Rattle.base.specs.Lists.{filter, concat, range}
 use Rattle.base.proofs.Lists.{concat-append, range-append}
-use Rattle.matrix.specs.Matrix.{partOf}
+use Rattle.matrix.specs.Matrix.{Matrix, partOf}
 use Rattle.market.specs.Parse.{Triplet, triplet}
-use Rattle.market.specs.FullRows.{cell, rowOf, rowsOf, startsFrom, rowStarts, matrixOf}
+use Rattle.market.specs.FullRows.{cell, rowOf, rowsOf, startsFrom, rowStarts, columns, values}
+use Rattle.market.proofs.rows.Replies.{length-row-starts}
 use Rattle.market.proofs.Pieces.{pieces-same, pieces-of-filter, pieces-single, pieces-snoc}
 
 -- ---- a row
@@ -50,34 +51,42 @@ starts-at f k a (suc l) (suc i) h = omega (arith, starts-at f (k + length (f a))
 
 -- ---- the lists
 
-module _ (n : ℕ) (es : List Triplet) where
-  -- how many entries the rows before row i have
-  abbrev before : ℕ → ℕ
-  before i = length (concat (map (rowOf n es) (range 0 i)))
+-- how many entries the rows before row i have
+abbrev before : (n : ℕ) (es : List Triplet) → ℕ → ℕ
+before n es i = length (concat (map (rowOf n es) (range 0 i)))
 
-  pub row-start : (i : ℕ) → i ≤ n → getD (rowStarts n es) i 0 ≡ before i
+-- the full rows of entries, with anything after them in each list
+abbrev pub extended : (n : ℕ) (es : List Triplet) (xs ys : List ℕ) (zs : List ℤ) → Matrix
+extended n es xs ys zs = record { n = n; starts = rowStarts n es ++ xs; columns = columns n es ++ ys; values = values n es ++ zs }
+
+module _ (n : ℕ) (es : List Triplet) (xs : List ℕ) where
+  row-start : (i : ℕ) → i ≤ n → getD (rowStarts n es ++ xs) i 0 ≡ before n es i
   unfolding rowStarts
-  row-start i l = starts-at (rowOf n es) 0 0 n i l ∙ omega arith
+  row-start i l = List·getD-append (rowStarts n es) xs 0 i (omega (arith, length-row-starts n es)) ∙ starts-at (rowOf n es) 0 0 n i l ∙ omega arith
 
-  row-next : (i : ℕ) → before (suc i) ≡ before i + length (rowOf n es i)
+  row-next : (i : ℕ) → before n es (suc i) ≡ before n es i + length (rowOf n es i)
   row-next i =
       let z : 0 + i ≡ i = omega arith in
       ap length (pieces-snoc (rowOf n es) 0 i) ∙ length-append (concat (map (rowOf n es) (range 0 i))) (rowOf n es (0 + i)) ∙ rw z
 
-  pub row-rises : (i : ℕ) → i < n → getD (rowStarts n es) i 0 ≤ getD (rowStarts n es) (suc i) 0
-  row-rises i l = omega (arith, row-start i (omega arith), row-start (suc i) l, row-next i)
+  -- the first row starts at 0, rows do not fall, and the last ends with all entries
+  pub rows-first : getD (rowStarts n es ++ xs) 0 0 ≡ 0
+  rows-first = row-start 0 (omega arith)
 
-  pub rows-end : getD (rowStarts n es) n 0 ≡ length (rowsOf n es)
+  pub rows-rise : (i : ℕ) → i < n → getD (rowStarts n es ++ xs) i 0 ≤ getD (rowStarts n es ++ xs) (suc i) 0
+  rows-rise i l = omega (arith, row-start i (omega arith), row-start (suc i) l, row-next i)
+
+  pub rows-end : getD (rowStarts n es ++ xs) n 0 ≡ length (rowsOf n es)
   unfolding rowsOf
   rows-end = row-start n (omega arith)
 
   -- row i's part of what a function gives of all entries
-  pub row-part : {A : Type 0} (g : Triplet → A) (i : ℕ) → i < n → partOf (matrixOf n es) (map g (rowsOf n es)) i ≡ map g (rowOf n es i)
-  unfolding partOf matrixOf rowsOf
-  row-part {A} g i l =
-      let xs = concat (map (rowOf n es) (range 0 i)) in
-      let ys = rowOf n es i in
-      let zs = concat (map (rowOf n es) (range (suc i) (n - suc i))) in
-      let all : map g (concat (map (rowOf n es) (range 0 n))) ≡ map g xs ++ (map g ys ++ map g zs) =
-      ap (map g) (pieces-between (rowOf n es) n i l) ∙ map-append g xs (ys ++ zs) ∙ ap (λ (r : List A). map g xs ++ r) (map-append g ys zs) in
-      rw (lt-ltb i n l, row-start i (omega arith), row-start (suc i) l, row-next i, all, ← length-map xs g, ← length-map ys g) (slice-between (map g xs) (map g ys) (map g zs))
+  pub row-part : (ys : List ℕ) (zs : List ℤ) {A : Type 0} (g : Triplet → A) (ts : List A) (i : ℕ) → i < n → partOf (extended n es xs ys zs) (map g (rowsOf n es) ++ ts) i ≡ map g (rowOf n es i)
+  unfolding partOf rowsOf
+  row-part ys zs {A} g ts i l =
+      let a = concat (map (rowOf n es) (range 0 i)) in
+      let b = rowOf n es i in
+      let c = concat (map (rowOf n es) (range (suc i) (n - suc i))) in
+      let all : map g (concat (map (rowOf n es) (range 0 n))) ++ ts ≡ map g a ++ (map g b ++ (map g c ++ ts)) =
+      rw (pieces-between (rowOf n es) n i l) (simp (map-append, append-assoc)) in
+      rw (lt-ltb i n l, row-start i (omega arith), row-start (suc i) l, row-next i, all, ← length-map a g, ← length-map b g) (slice-between (map g a) (map g b) (map g c ++ ts))

@@ -1,4 +1,4 @@
--- Entries of n rows, each place once, make a matrix.
+-- The full rows of an accepted text's entries are a matrix, with anything after them in its lists.
 use mathlib.Core.Path.{_≡_, refl, sym, ap, _∙_}
 use mathlib.Core.Bool.{Bool, true, false, not, _&&_, cond, true≢false, _||_}
 use mathlib.Core.List.{List, [], _∷_, map, map-map, map-id}
@@ -6,7 +6,7 @@ use Prim.Native.Nat.{ℕ, zero, suc, _≤_, _<_}
 use native.Mathlib.Omega.{arith}
 use lib.Dec.{eqb, ltb, leb}
 use lib.IntN.{ℤ, natAbs}
-use lib.ListN.{length, getD, length-map}
+use lib.ListN.{length, getD, length-append, length-map}
 use borrow.Author.Tests.{lt-ltb, le-leb, eqb-true, eq-eqb}
 use Rattle.base.specs.Lists.{filter, keep, all, isIn, isEmpty, range, sumBelow, bit}
 use Rattle.base.specs.Integers.{within}
@@ -18,11 +18,11 @@ use Rattle.base.proofs.Sums.{sum-below-le}
 use Rattle.matrix.specs.Limits.{maxRows, maxEntries, maxValue}
 use Rattle.matrix.specs.Matrix.{Matrix, columnsOf, valuesOf, lookup, entry, ascending, mirrored, isRow, lowerEntries, isMatrix}
 use Rattle.market.specs.Parse.{Triplet, triplet, isAt}
-use Rattle.market.specs.FullRows.{rowOf, rowsOf, rowStarts, columns, values, matrixOf}
+use Rattle.market.specs.FullRows.{rowOf, rowsOf, rowStarts, columns, values}
 use Rattle.market.proofs.Pieces.{length-filter-range}
 use Rattle.market.proofs.Accepted.{Accepted}
 use Rattle.market.proofs.FullCount.{at, cells-count}
-use Rattle.market.proofs.FullRows.{row-of-cells, row-start, row-rises, rows-end, row-part}
+use Rattle.market.proofs.FullRows.{row-of-cells, extended, rows-first, rows-rise, rows-end, row-part}
 use Rattle.market.proofs.Stored.{fits-inside, storedAt, stored-both, has, valueAt, first, first-each, cell-is}
 use Rattle.market.proofs.rows.Replies.{length-row-starts}
 
@@ -51,24 +51,24 @@ lookup-map f (c ∷ cs) j h = go (eqb j c) refl (lookup-map f cs j) h
 
 -- ---- the matrix of the entries
 
-module _ {n : ℕ} {es : List Triplet} (a : Accepted n es) where
+module _ {n : ℕ} {es : List Triplet} (a : Accepted n es) (xs ys : List ℕ) (zs : List ℤ) where
   abbrev made : Matrix
-  made = matrixOf n es
+  made = extended n es xs ys zs
 
   -- row i
   row-is : (i : ℕ) → rowOf n es i ≡ map (λ j. triplet i j (valueAt es i j)) (filter (has es i) (range 0 n))
   row-is i = row-of-cells n es i (has es i) (valueAt es i) (λ j l. cell-is (a .stored) i j)
 
-  row-columns : (i : ℕ) → i < n → columnsOf made i ≡ filter (has es i) (range 0 n)
-  unfolding columnsOf matrixOf columns
+  pub row-columns : (i : ℕ) → i < n → columnsOf made i ≡ filter (has es i) (range 0 n)
+  unfolding columnsOf columns
   row-columns i l =
-      row-part n es (λ (e : Triplet). e .column) i l ∙ ap (map (λ (e : Triplet). e .column)) (row-is i)
+      row-part n es xs ys zs (λ (e : Triplet). e .column) ys i l ∙ ap (map (λ (e : Triplet). e .column)) (row-is i)
       ∙ map-map (λ (e : Triplet). e .column) (λ j. triplet i j (valueAt es i j)) (filter (has es i) (range 0 n)) ∙ map-id (filter (has es i) (range 0 n))
 
-  row-values : (i : ℕ) → i < n → valuesOf made i ≡ map (valueAt es i) (filter (has es i) (range 0 n))
-  unfolding valuesOf matrixOf values
+  pub row-values : (i : ℕ) → i < n → valuesOf made i ≡ map (valueAt es i) (filter (has es i) (range 0 n))
+  unfolding valuesOf values
   row-values i l =
-      row-part n es (λ (e : Triplet). e .value) i l ∙ ap (map (λ (e : Triplet). e .value)) (row-is i)
+      row-part n es xs ys zs (λ (e : Triplet). e .value) zs i l ∙ ap (map (λ (e : Triplet). e .value)) (row-is i)
       ∙ map-map (λ (e : Triplet). e .value) (λ j. triplet i j (valueAt es i j)) (filter (has es i) (range 0 n))
 
   -- (i, j) is stored
@@ -105,10 +105,10 @@ module _ {n : ℕ} {es : List Triplet} (a : Accepted n es) where
   small-values i (j ∷ js) = rw (small-value i j, small-values i js)
 
   row-test : (i : ℕ) → i < n → isRow made i ≡ true
-  unfolding isRow matrixOf
+  unfolding isRow
   row-test i l =
       rw (
-        le-leb (getD (rowStarts n es) i 0) (getD (rowStarts n es) (suc i) 0) (row-rises n es i l),
+        le-leb (getD (made .starts) i 0) (getD (made .starts) (suc i) 0) (rows-rise n es xs i l),
         of-all (λ j. ltb j n) (columnsOf made i) (λ j h. lt-ltb j n (row-has i j l h .0)),
         of-all (mirrored made i) (columnsOf made i) (λ j h. row-mirrored i j l h),
         row-columns i l, row-values i l, ascending-passing (has es i) 0 n, small-values i (filter (has es i) (range 0 n)),
@@ -125,7 +125,7 @@ module _ {n : ℕ} {es : List Triplet} (a : Accepted n es) where
       go false xs = rw (and-false (not (isEmpty (filter (isAt j i) es)))) (omega arith)
 
   few-low : lowerEntries made ≤ maxEntries
-  unfolding lowerEntries matrixOf
+  unfolding lowerEntries
   few-low =
       omega (
         arith, a .count, cells-count n es (a .inner),
@@ -138,14 +138,21 @@ module _ {n : ℕ} {es : List Triplet} (a : Accepted n es) where
           ap (λ (xs : List ℕ). length (filter (λ j. leb j i) xs)) (row-columns i l) ∙ ap length (filter-filter (has es i) (λ j. leb j i) (range 0 n)) ∙ length-filter-range (λ j. has es i j && leb j i) n in
           omega (arith, e, sum-below-le (λ j. bit (has es i j && leb j i)) (at es i) n (λ j k. low-cell i j))
 
-  -- The full rows of the entries are a matrix.
-  pub text-matrix : isMatrix (matrixOf n es) ≡ true
-  unfolding isMatrix matrixOf columns values
+  long-columns : length (rowsOf n es) ≤ length (made .columns)
+  unfolding columns
+  long-columns = omega (arith, length-append (columns n es) ys, length-map (rowsOf n es) (λ (e : Triplet). e .column))
+
+  long-values : length (rowsOf n es) ≤ length (made .values)
+  unfolding values
+  long-values = omega (arith, length-append (values n es) zs, length-map (rowsOf n es) (λ (e : Triplet). e .value))
+
+  -- the full rows are a matrix
+  pub text-matrix : isMatrix made ≡ true
+  unfolding isMatrix
   text-matrix =
       rw (
-        le-leb 1 n (a .some), le-leb n maxRows (a .rows), le-leb (suc n) (length (rowStarts n es)) (omega (arith, length-row-starts n es)),
-        eq-eqb (getD (rowStarts n es) 0 0) 0 (row-start n es 0 (omega arith)),
-        rows-end n es, length-map (rowsOf n es) (λ (e : Triplet). e .column), length-map (rowsOf n es) (λ (e : Triplet). e .value), le-leb (length (rowsOf n es)) (length (rowsOf n es)) (omega arith),
+        le-leb 1 n (a .some), le-leb n maxRows (a .rows), le-leb (suc n) (length (made .starts)) (omega (arith, length-row-starts n es, length-append (rowStarts n es) xs)),
+        rows-first n es xs, rows-end n es xs, le-leb (length (rowsOf n es)) (length (made .columns)) long-columns, le-leb (length (rowsOf n es)) (length (made .values)) long-values,
         of-all (isRow made) (range 0 n) (λ i h. let r = range-in i 0 n h in row-test i (omega arith)),
       )
       (le-leb (lowerEntries made) maxEntries few-low)
