@@ -54,6 +54,9 @@ module _ (n : ℕ) (P : ℕ → List Triplet → Type 0)
 abbrev pub Inner : ℕ → Triplet → Type 0
 Inner n e = (e .row < n) × (e .column < n)
 
+pub stored-inner : {n : ℕ} {es : List Triplet} → Stored n es → Each (Inner n) es
+stored-inner {n} {es} s = each-map (Fits n) (Inner n) (λ e f. let i = fits-inside n e f in omega (arith, i .below, i .last)) es (s .fits)
+
 -- what an accepted text's n and entries are
 pub record Accepted (n : ℕ) (es : List Triplet) : Type 0 where
   pub some : 1 ≤ n
@@ -64,10 +67,10 @@ pub record Accepted (n : ℕ) (es : List Triplet) : Type 0 where
 
 entries-accepted : (n m k : ℕ) (xs : List ℕ) (n' : ℕ) (es : List Triplet) → 1 ≤ n → n ≤ maxRows → m ≤ maxEntries → entries n m k [] xs ≡ matrixText n' es → Accepted n' es
 entries-accepted n m k xs n' es h1 hn hm e =
-    let q = entries-induction n (λ (j : ℕ) (ds : List Triplet). (length ds + j ≡ m) × Stored n ds) kept m k [] xs n' es (omega arith, record { fits = tt; once = λ i j. omega arith }) e in
+    let q = entries-induction n (λ (j : ℕ) (ds : List Triplet). (length ds + j ≡ m) × Stored n ds) kept m k [] xs n' es (omega arith, record { fits = tt; once = λ i j a b. omega arith }) e in
     let s = q .1 .1 in
     subst (λ (x : ℕ). Accepted x es) (sym (q .0))
-    (record { some = h1; rows = hn; count = omega (arith, q .1 .0); stored = s; inner = each-map (Fits n) (Inner n) (λ e f. let i = fits-inside n e f in omega (arith, i .below, i .last)) es (s .fits) })
+    (record { some = h1; rows = hn; count = omega (arith, q .1 .0); stored = s; inner = stored-inner s })
   where
     kept : (j : ℕ) (ds : List Triplet) (r c : ℕ) (v : ℤ) → (length ds + suc j ≡ m) × Stored n ds → isEntry n r c v ≡ true → isAmong ds (r - 1) (c - 1) ≡ false → (length (ds ++ triplet (r - 1) (c - 1) v ∷ []) + j ≡ m) × Stored n (ds ++ triplet (r - 1) (c - 1) v ∷ [])
     kept j ds r c v q f t =

@@ -2,6 +2,7 @@ pub mod Left
 pub mod Table
 pub mod Pieces
 pub mod Stored
+pub mod Cells
 pub mod Accepted
 pub mod Decimal
 pub mod Written

@@ -1,5 +1,6 @@
 pub mod Columns
+pub mod At
 pub mod Rows
-pub mod Sorted
 pub mod Count
+pub mod Good
 pub mod Back

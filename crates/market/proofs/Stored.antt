@@ -1,19 +1,17 @@
--- Entries that a matrix text may hold, and what they have at each place of the full matrix.
-use mathlib.Core.Path.{_≡_, refl, _∙_}
-use mathlib.Core.Bool.{Bool, true, false, not, _||_, cond, and-comm, true≢false}
-use mathlib.Core.List.{List, [], _∷_, _++_, map}
+-- Entries that a matrix text may hold: inside n, on or below the diagonal, not too large, each place once.
+use mathlib.Core.Path.{_≡_, refl}
+use mathlib.Core.Bool.{Bool, true, false, _||_, true≢false}
+use mathlib.Core.List.{List, [], _∷_, _++_}
 use Prim.Native.Nat.{ℕ, suc, _≤_, _<_}
 use native.Mathlib.Omega.{arith}
-use lib.Dec.{eqb, leb}
-use lib.IntN.{ℤ, pos}
+use lib.Dec.{eqb}
 use lib.ListN.{length, length-append}
-use borrow.Author.Tests.{eqb-true, eqb-false, leb-true, leb-false}
-use Rattle.base.specs.Lists.{filter, keep, concat, isEmpty}
-use Rattle.base.proofs.Booleans.{and-left, and-right, is-false}
-use Rattle.base.proofs.Each.{Each, each-append, each-map}
+use borrow.Author.Tests.{eqb-true}
+use Rattle.base.specs.Lists.{filter, keep}
+use Rattle.base.proofs.Booleans.{and-left, and-right}
+use Rattle.base.proofs.Each.{Each, each-append}
 use Rattle.base.proofs.Lists.{filter-append}
-use Rattle.market.specs.Parse.{Triplet, triplet, isAt, isAmong, isEntry}
-use Rattle.market.specs.FullRows.{both, full, cell}
+use Rattle.market.specs.Parse.{Triplet, isAt, isAmong, isEntry}
 use Rattle.market.proofs.entries.Limits.{Inside, inside}
 
 -- an entry of n rows: inside n, on or below the diagonal, not too large
@@ -23,14 +21,15 @@ Fits n e = isEntry n (suc (e .row)) (suc (e .column)) (e .value) ≡ true
 -- entries of n rows, each place once
 pub record Stored (n : ℕ) (es : List Triplet) : Type 0 where
   pub fits : Each (Fits n) es
-  pub once : (i j : ℕ) → length (filter (isAt i j) es) ≤ 1
+  pub once : (i j : ℕ) → i < n → j < n → length (filter (isAt i j) es) ≤ 1
 
 pub fits-inside : (n : ℕ) (e : Triplet) → Fits n e → Inside n (suc (e .row)) (suc (e .column)) (e .value)
 fits-inside n e f = inside n (suc (e .row)) (suc (e .column)) (e .value) f
 
 -- ---- one entry more
 
-at-place : (i j : ℕ) (e : Triplet) → isAt i j e ≡ true → (e .row ≡ i) × (e .column ≡ j)
+-- where an entry is
+pub at-place : (i j : ℕ) (e : Triplet) → isAt i j e ≡ true → (e .row ≡ i) × (e .column ≡ j)
 at-place i j e h = (eqb-true (e .row) i (and-left (eqb (e .row) i) (eqb (e .column) j) h), eqb-true (e .column) j (and-right (eqb (e .row) i) (eqb (e .column) j) h))
 
 none-at : (i j : ℕ) (es : List Triplet) → isAmong es i j ≡ false → length (filter (isAt i j) es) ≡ 0
@@ -43,148 +42,11 @@ none-at i j (e ∷ es) h = go (isAt i j e) h (none-at i j es)
 
 -- an entry at a new place
 pub stored-more : (n : ℕ) (es : List Triplet) (e : Triplet) → Stored n es → Fits n e → isAmong es (e .row) (e .column) ≡ false → Stored n (es ++ e ∷ [])
-stored-more n es e s f new = record { fits = each-append (Fits n) es (e ∷ []) (s .fits) (f, tt); once = λ i j. go i j (isAt i j e) refl }
+stored-more n es e s f new = record { fits = each-append (Fits n) es (e ∷ []) (s .fits) (f, tt); once = λ i j a b. go i j a b (isAt i j e) refl }
   where
-    go : (i j : ℕ) (b : Bool) → isAt i j e ≡ b → length (filter (isAt i j) (es ++ e ∷ [])) ≤ 1
-    go i j true t =
+    go : (i j : ℕ) → i < n → j < n → (b : Bool) → isAt i j e ≡ b → length (filter (isAt i j) (es ++ e ∷ [])) ≤ 1
+    go i j li lj true t =
         let (a, b) = at-place i j e t in
         let no : length (filter (isAt i j) es) ≡ 0 = rw (← a, ← b) (none-at (e .row) (e .column) es new) in
         rw (filter-append (isAt i j) es (e ∷ []), length-append (filter (isAt i j) es), t) (omega arith)
-    go i j false t = rw (filter-append (isAt i j) es (e ∷ []), length-append (filter (isAt i j) es), t) (omega (arith, s .once i j))
-
--- ---- what the full matrix has at a place
-
--- the value of an entry, at another place
-abbrev moved : ℕ → ℕ → Triplet → Triplet
-moved i j e = triplet i j (e .value)
-
--- on or below the diagonal
-abbrev Low : Triplet → Type 0
-Low e = e .column ≤ e .row
-
-module _ (i j : ℕ) (e : Triplet) (low : Low e) where
-  abbrev mirror : Triplet
-  mirror = triplet (e .column) (e .row) (e .value)
-
-  -- on and below the diagonal: the entry itself
-  both-below : j ≤ i → filter (isAt i j) (both e) ≡ map (moved i j) (keep (isAt i j e) e [])
-  both-below h = rw (other (eqb (e .row) (e .column)) refl) (own (isAt i j e) refl)
-    where
-      other : (b : Bool) → eqb (e .row) (e .column) ≡ b → filter (isAt i j) (cond b [] (mirror ∷ [])) ≡ []
-      other true d = refl
-      other false d =
-          let off : isAt i j mirror ≡ false = is-false (λ t. let (a, b) = at-place i j mirror t in eqb-false (e .row) (e .column) d (omega arith)) in
-          rw off
-
-      own : (b : Bool) → isAt i j e ≡ b → keep b e [] ≡ map (moved i j) (keep b e [])
-      own true t = let (a, b) = at-place i j e t in rw (← a, ← b)
-      own false t = refl
-
-  -- above it: its mirror image
-  both-above : i < j → filter (isAt i j) (both e) ≡ map (moved i j) (keep (isAt j i e) e [])
-  both-above h =
-      let off : isAt i j e ≡ false = is-false (λ t. let (a, b) = at-place i j e t in omega arith) in
-      rw (off, and-comm (eqb (e .row) j) (eqb (e .column) i)) (other (eqb (e .row) (e .column)) refl (isAt i j mirror) refl)
-    where
-      other : (b : Bool) → eqb (e .row) (e .column) ≡ b → (t : Bool) → isAt i j mirror ≡ t → filter (isAt i j) (cond b [] (mirror ∷ [])) ≡ map (moved i j) (keep t e [])
-      other true d true t = let (a, b) = at-place i j mirror t in absurd (omega (arith, eqb-true (e .row) (e .column) d))
-      other true d false t = refl
-      other false d true t = let (a, b) = at-place i j mirror t in rw (t, ← a, ← b)
-      other false d false t = rw t
-
-module _ (i j : ℕ) where
-  -- one entry more
-  cell-more : (r c : ℕ) (e : Triplet) (es : List Triplet) → filter (isAt i j) (both e) ≡ map (moved i j) (keep (isAt r c e) e []) → cell es i j ≡ map (moved i j) (filter (isAt r c) es)
-      → cell (e ∷ es) i j ≡ map (moved i j) (filter (isAt r c) (e ∷ es))
-  unfolding cell full
-  cell-more r c e es one rest = filter-append (isAt i j) (both e) (concat (map both es)) ∙ rw (one, rest) (go (isAt r c e))
-    where
-      go : (b : Bool) → map (moved i j) (keep b e []) ++ map (moved i j) (filter (isAt r c) es) ≡ map (moved i j) (keep b e (filter (isAt r c) es))
-      go true = refl
-      go false = refl
-
-  cell-none : cell [] i j ≡ []
-  unfolding cell full
-  cell-none = refl
-
-  cell-below : j ≤ i → (es : List Triplet) → Each Low es → cell es i j ≡ map (moved i j) (filter (isAt i j) es)
-  cell-below h [] l = cell-none
-  cell-below h (e ∷ es) l = cell-more i j e es (both-below i j e (l .0) h) (cell-below h es (l .1))
-
-  cell-above : i < j → (es : List Triplet) → Each Low es → cell es i j ≡ map (moved i j) (filter (isAt j i) es)
-  cell-above h [] l = cell-none
-  cell-above h (e ∷ es) l = cell-more j i e es (both-above i j e (l .0) h) (cell-above h es (l .1))
-
--- what is stored for (i, j): its own entry on and below the diagonal, above it that of (j, i)
-unfoldable pub storedAt : List Triplet → (i j : ℕ) → List Triplet
-storedAt es i j = cond (leb j i) (filter (isAt i j) es) (filter (isAt j i) es)
-
--- the same for (j, i)
-pub stored-both : (es : List Triplet) (i j : ℕ) → storedAt es i j ≡ storedAt es j i
-unfolding storedAt
-stored-both es i j = go (leb j i) refl (leb i j) refl
-  where
-    go : (a : Bool) → leb j i ≡ a → (b : Bool) → leb i j ≡ b → cond a (filter (isAt i j) es) (filter (isAt j i) es) ≡ cond b (filter (isAt j i) es) (filter (isAt i j) es)
-    go true e true f = let q : i ≡ j = omega (arith, leb-true j i e, leb-true i j f) in rw q
-    go true e false f = refl
-    go false e true f = refl
-    go false e false f = absurd (omega (arith, leb-false j i e, leb-false i j f))
-
--- its value
-abbrev pub first : List Triplet → ℤ
-first [] = pos 0
-first (e ∷ es) = e .value
-
-module _ (es : List Triplet) where
-  -- whether something is stored for (i, j)
-  abbrev pub has : ℕ → ℕ → Bool
-  has i j = not (isEmpty (storedAt es i j))
-
-  abbrev pub valueAt : ℕ → ℕ → ℤ
-  valueAt i j = first (storedAt es i j)
-
--- every entry that is stored for (i, j) has a property that every entry has
-pub first-each : (P : ℤ → Type 0) → P (pos 0) → (es : List Triplet) → Each (λ (e : Triplet). P (e .value)) es → (i j : ℕ) → P (valueAt es i j)
-unfolding storedAt
-first-each P z es h i j = go (leb j i)
-  where
-    of : (p : Triplet → Bool) (es : List Triplet) → Each (λ (e : Triplet). P (e .value)) es → P (first (filter p es))
-    of p [] h = z
-    of p (e ∷ es) h = at (p e) (of p es (h .1))
-      where
-        at : (b : Bool) → P (first (filter p es)) → P (first (keep b e (filter p es)))
-        at true ih = h .0
-        at false ih = ih
-
-    go : (b : Bool) → P (first (cond b (filter (isAt i j) es) (filter (isAt j i) es)))
-    go true = of (isAt i j) es h
-    go false = of (isAt j i) es h
-
-module _ {n : ℕ} {es : List Triplet} (s : Stored n es) (i j : ℕ) where
-  cell-stored : cell es i j ≡ map (moved i j) (storedAt es i j)
-  unfolding storedAt
-  cell-stored = go (leb j i) refl
-    where
-      low : Each Low es
-      low = each-map (Fits n) Low (λ e f. omega (arith, fits-inside n e f .below)) es (s .fits)
-
-      go : (b : Bool) → leb j i ≡ b → cell es i j ≡ map (moved i j) (cond b (filter (isAt i j) es) (filter (isAt j i) es))
-      go true t = cell-below i j (leb-true j i t) es low
-      go false t = cell-above i j (leb-false j i t) es low
-
-  stored-once : length (storedAt es i j) ≤ 1
-  unfolding storedAt
-  stored-once = go (leb j i)
-    where
-      go : (b : Bool) → length (cond b (filter (isAt i j) es) (filter (isAt j i) es)) ≤ 1
-      go true = s .once i j
-      go false = s .once j i
-
-  -- a cell has one entry or none
-  pub cell-is : cell es i j ≡ cond (has es i j) (triplet i j (valueAt es i j) ∷ []) []
-  cell-is = cell-stored ∙ go (storedAt es i j) stored-once
-    where
-      go : (xs : List Triplet) → length xs ≤ 1 → map (moved i j) xs ≡ cond (not (isEmpty xs)) (triplet i j (first xs) ∷ []) []
-      go [] l = refl
-      go (x ∷ []) l = refl
-      go (x ∷ y ∷ xs) l = absurd (omega arith)
+    go i j li lj false t = rw (filter-append (isAt i j) es (e ∷ []), length-append (filter (isAt i j) es), t) (omega (arith, s .once i j li lj))

@@ -23,7 +23,8 @@ use Rattle.market.proofs.Pieces.{length-filter-range}
 use Rattle.market.proofs.Accepted.{Accepted}
 use Rattle.market.proofs.FullCount.{at, cells-count}
 use Rattle.market.proofs.FullRows.{row-of-cells, extended, rows-first, rows-rise, rows-end, row-part}
-use Rattle.market.proofs.Stored.{fits-inside, storedAt, stored-both, has, valueAt, first, first-each, cell-is}
+use Rattle.market.proofs.Stored.{fits-inside}
+use Rattle.market.proofs.Cells.{storedAt, stored-both, has, valueAt, first, first-each, cell-is}
 use Rattle.market.proofs.rows.Replies.{length-row-starts}
 
 -- ---- lists
@@ -56,19 +57,19 @@ module _ {n : ℕ} {es : List Triplet} (a : Accepted n es) (xs ys : List ℕ) (z
   made = extended n es xs ys zs
 
   -- row i
-  row-is : (i : ℕ) → rowOf n es i ≡ map (λ j. triplet i j (valueAt es i j)) (filter (has es i) (range 0 n))
-  row-is i = row-of-cells n es i (has es i) (valueAt es i) (λ j l. cell-is (a .stored) i j)
+  row-is : (i : ℕ) → i < n → rowOf n es i ≡ map (λ j. triplet i j (valueAt es i j)) (filter (has es i) (range 0 n))
+  row-is i l = row-of-cells n es i (has es i) (valueAt es i) (λ j k. cell-is (a .stored) i j l k)
 
   pub row-columns : (i : ℕ) → i < n → columnsOf made i ≡ filter (has es i) (range 0 n)
   unfolding columnsOf columns
   row-columns i l =
-      row-part n es xs ys zs (λ (e : Triplet). e .column) ys i l ∙ ap (map (λ (e : Triplet). e .column)) (row-is i)
+      row-part n es xs ys zs (λ (e : Triplet). e .column) ys i l ∙ ap (map (λ (e : Triplet). e .column)) (row-is i l)
       ∙ map-map (λ (e : Triplet). e .column) (λ j. triplet i j (valueAt es i j)) (filter (has es i) (range 0 n)) ∙ map-id (filter (has es i) (range 0 n))
 
   pub row-values : (i : ℕ) → i < n → valuesOf made i ≡ map (valueAt es i) (filter (has es i) (range 0 n))
   unfolding valuesOf values
   row-values i l =
-      row-part n es xs ys zs (λ (e : Triplet). e .value) zs i l ∙ ap (map (λ (e : Triplet). e .value)) (row-is i)
+      row-part n es xs ys zs (λ (e : Triplet). e .value) zs i l ∙ ap (map (λ (e : Triplet). e .value)) (row-is i l)
       ∙ map-map (λ (e : Triplet). e .value) (λ j. triplet i j (valueAt es i j)) (filter (has es i) (range 0 n))
 
   -- (i, j) is stored

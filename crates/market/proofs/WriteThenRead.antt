@@ -18,7 +18,7 @@ use Rattle.market.specs.WriteThenRead.{size, exactly, WriteThenRead}
 use Rattle.market.proofs.Accepted.{parse-accepted}
 use Rattle.market.proofs.FullCount.{length-rows}
 use Rattle.market.proofs.Written.{parse-text-of}
-use Rattle.market.proofs.Lower.Sorted.{lower-good}
+use Rattle.market.proofs.Lower.Good.{lower-good}
 use Rattle.market.proofs.Lower.Count.{length-lower}
 use Rattle.market.proofs.Lower.Back.{matrix-back}
 

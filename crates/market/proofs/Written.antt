@@ -57,7 +57,7 @@ field-integer v b xs h e = rw (space-one (integer v ++ b ∷ xs) (first-value v 
 drop-field : (b : ℕ) (q ys : List ℕ) → drop (1 + length q) (b ∷ (q ++ ys)) ≡ ys
 drop-field b q ys = rw one-add (drop-append-seam q ys)
 
--- a written line is parse
+-- a written line is parsed
 pub fields-line : (r c : ℕ) (v : ℤ) (xs : List ℕ) → r < 10 ^ 10 → c < 10 ^ 10 → natAbs v < 10 ^ 10 → fields (lineOf r c v ++ xs) ≡ line r c v (length (lineOf r c v))
 unfolding fields classOf
 fields-line r c v xs hr hc hv =
@@ -72,7 +72,7 @@ fields-line r c v xs hr hc hv =
     let l : length (natural r) + (1 + length q) + (1 + length w) + 1 ≡ length (lineOf r c v) = simp length-append (omega arith) in
     rw (e1, number-natural r 32 (q ++ tail) hr refl, d1, field-natural c 32 (w ++ 10 ∷ xs) hc refl, d2, field-integer v 10 xs hv refl, d3, l)
 
--- the entries of es may come after those of done: inside n, on or below the diagonal, not too large, each bitOf once
+-- the entries of es may come after those of done: inside n, on or below the diagonal, not too large, each place once
 abbrev pub Good : ℕ → List Triplet → List Triplet → Type 0
 Good n done [] = Unit
 Good n done (e ∷ es) = (isEntry n (suc (e .row)) (suc (e .column)) (e .value) ≡ true) × (isAmong done (e .row) (e .column) ≡ false) × Good n (done ++ e ∷ []) es
