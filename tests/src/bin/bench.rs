@@ -30,7 +30,7 @@ fn bytes<T: Copy, const W: usize>(list: &[T], word: fn(T) -> [u8; W]) -> Vec<u8>
     list.iter().flat_map(|&number| word(number)).collect()
 }
 
-/// The lists of a matrix as bytes, and its text.
+/// The lists of a matrix as bytes.
 struct Lists {
     n: u32,
     starts: Vec<u8>,
@@ -38,7 +38,6 @@ struct Lists {
     values: Vec<u8>,
     movements: Vec<u8>,
     forces: Vec<u8>,
-    text: Vec<u8>,
 }
 
 impl Lists {
@@ -52,7 +51,6 @@ impl Lists {
             values: bytes(&matrix.values, i32::to_le_bytes),
             movements: bytes(&vec![-999_999; n], i32::to_le_bytes),
             forces: vec![0; 8 * n],
-            text: text::write(matrix),
         }
     }
 
@@ -65,12 +63,8 @@ impl Lists {
     /// A call, of the library or of the other implementation; the answer word.
     #[rustfmt::skip]
     fn call(&mut self, call: &str, ours: bool) -> u64 {
-        let Lists { n, starts, columns, values, movements, forces, text } = self;
+        let Lists { n, starts, columns, values, movements, forces } = self;
         match (call, ours) {
-            ("read", true) => library::read(text, starts, columns, values),
-            ("read", false) => calls::read(text, starts, columns, values),
-            ("write", true) => library::write(*n, starts, columns, values, text),
-            ("write", false) => calls::write(*n, starts, columns, values, text),
             ("product", true) => library::product(*n, starts, columns, values, movements, forces),
             ("product", false) => calls::product(*n, starts, columns, values, movements, forces),
             _ => panic!("no call {call}"),
@@ -79,7 +73,7 @@ impl Lists {
 }
 
 /// The calls that are timed.
-const CALLS: [&str; 3] = ["read", "write", "product"];
+const CALLS: [&str; 1] = ["product"];
 
 /// Times every call on a net and on one of half its size.
 fn bench(name: &str, net: &Matrix, half: Option<&Matrix>) {
