@@ -112,7 +112,10 @@ module _ {n : ℕ} {es : List Triplet} (a : Accepted n es) (xs ys : List ℕ) (z
         le-leb (getD (made .starts) i 0) (getD (made .starts) (suc i) 0) (rows-rise n es xs i l),
         of-all (λ j. ltb j n) (columnsOf made i) (λ j h. lt-ltb j n (row-has i j l h .0)),
         of-all (mirrored made i) (columnsOf made i) (λ j h. row-mirrored i j l h),
-        row-columns i l, row-values i l, ascending-passing (has es i) 0 n, small-values i (filter (has es i) (range 0 n)),
+        row-columns i l,
+        row-values i l,
+        ascending-passing (has es i) 0 n,
+        small-values i (filter (has es i) (range 0 n)),
       )
 
   -- a cell on or below the diagonal that is stored has an entry
@@ -129,7 +132,9 @@ module _ {n : ℕ} {es : List Triplet} (a : Accepted n es) (xs ys : List ℕ) (z
   unfolding lowerEntries
   few-low =
       omega (
-        arith, a .count, cells-count n es (a .inner),
+        arith,
+        a .count,
+        cells-count n es (a .inner),
         sum-below-le (λ i. length (filter (λ j. leb j i) (columnsOf made i))) (λ i. sumBelow (at es i) n) n row,
       )
     where
@@ -152,8 +157,13 @@ module _ {n : ℕ} {es : List Triplet} (a : Accepted n es) (xs ys : List ℕ) (z
   unfolding isMatrix
   text-matrix =
       rw (
-        le-leb 1 n (a .some), le-leb n maxRows (a .rows), le-leb (suc n) (length (made .starts)) (omega (arith, length-row-starts n es, length-append (rowStarts n es) xs)),
-        rows-first n es xs, rows-end n es xs, le-leb (length (rowsOf n es)) (length (made .columns)) long-columns, le-leb (length (rowsOf n es)) (length (made .values)) long-values,
+        le-leb 1 n (a .some),
+        le-leb n maxRows (a .rows),
+        le-leb (suc n) (length (made .starts)) (omega (arith, length-row-starts n es, length-append (rowStarts n es) xs)),
+        rows-first n es xs,
+        rows-end n es xs,
+        le-leb (length (rowsOf n es)) (length (made .columns)) long-columns,
+        le-leb (length (rowsOf n es)) (length (made .values)) long-values,
         of-all (isRow made) (range 0 n) (λ i h. let r = range-in i 0 n h in row-test i (omega arith)),
       )
       (le-leb (lowerEntries made) maxEntries few-low)
