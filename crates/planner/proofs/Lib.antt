@@ -9,3 +9,7 @@ pub mod Walks
 pub mod Fine
 pub mod Planned
 pub mod PlannedSound
+pub mod Ends
+pub mod FirstEnd
+pub mod NearestEnd
+pub mod PairEnd

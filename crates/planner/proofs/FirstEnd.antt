@@ -1,0 +1,47 @@
+-- The scan for the first end that passes a test.
+use mathlib.Core.Path.{_≡_, ap}
+use mathlib.Core.Bool.{Bool, true, false, cond}
+use mathlib.Core.List.{List}
+use Prim.Native.Nat.{ℕ, _+_, _-_, _≤_, _<_}
+use native.Mathlib.Omega.{arith}
+use lib.ListN.{length, take, drop, getD, drop-of-length-le}
+use Rattle.base.specs.Lists.{sum, fromFirst}
+use Rattle.planner.specs.Loads.{End, endsFrom}
+use Rattle.planner.specs.Scans.{endsOn}
+use Rattle.planner.proofs.Ends.{sum-next, ends-next, ends-after}
+
+-- no end of 4 to k levels passes; q is the load of the first k
+pub record Seeking (test : End → Bool) (qs : List ℕ) (k q : ℕ) : Type 0 where
+  pub some : 3 ≤ k
+  pub most : k ≤ length qs
+  pub load-is : q ≡ sum (take k qs)
+  pub left : fromFirst test (endsOn 4 qs) ≡ fromFirst test (endsFrom k q (drop k qs))
+
+module _ (test : End → Bool) (qs : List ℕ) where
+  pub seek-start : (q : ℕ) → 4 ≤ length qs → q ≡ sum (take 3 qs) → Seeking test qs 3 q
+  seek-start q l e = record { some = omega arith; most = omega arith; load-is = e; left = rw e (ap (fromFirst test) (ends-after 3 qs)) }
+
+  module _ (k q : ℕ) (s : Seeking test qs k q) where
+    -- the ends that are left
+    next : k < length qs → (b : Bool) → test (record { levels = k + 1; load = q + getD qs k 0 }) ≡ b
+        → fromFirst test (endsOn 4 qs) ≡ cond b (endsOn (k + 1) qs) (fromFirst test (endsFrom (k + 1) (q + getD qs k 0) (drop (k + 1) qs)))
+    next l b e =
+        let j : k + 1 - 1 ≡ k = omega arith in
+        rw (s .left, j, ends-after k qs, ← s .load-is, ends-next qs k q l, e)
+
+    pub seek-next : k < length qs → test (record { levels = k + 1; load = q + getD qs k 0 }) ≡ false → Seeking test qs (k + 1) (q + getD qs k 0)
+    seek-next l e = record {
+      some = omega (arith, s .some);
+      most = omega arith;
+      load-is = omega (arith, s .load-is, sum-next qs k l);
+      left = next l false e;
+    }
+
+    pub seek-found : k < length qs → test (record { levels = k + 1; load = q + getD qs k 0 }) ≡ true → fromFirst test (endsOn 4 qs) ≡ endsOn (k + 1) qs
+    seek-found l e = next l true e
+
+    pub seek-none : length qs ≤ k → fromFirst test (endsOn 4 qs) ≡ endsOn (k + 1) qs
+    unfolding endsFrom
+    seek-none l =
+        let j : k + 1 - 1 ≡ k = omega arith in
+        rw (s .left, j, ends-after k qs, drop-of-length-le qs {i = k} l)

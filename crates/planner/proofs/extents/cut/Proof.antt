@@ -1,0 +1,34 @@
+-- `cut` meets its contract.
+use mathlib.Core.Path.{sym}
+use Prim.Native.Nat.{_-_}
+use native.Mathlib.Omega.{arith}
+use borrow.Author.Needs.{needs}
+use lib.ListN.{length}
+use lib.Seq.{length-take-le}
+use Rattle.planner.proofs.Ends.{sum-split}
+use Rattle.planner.proofs.PairEnd.{cut-is}
+use Rattle.planner.proofs.extents.cut.Statement.{statement}
+use Rattle.planner.proofs.extents.cut.Tie as tie
+
+sub-end : tie.Need-sub-end
+sub-end c = search needs
+
+slice-aggregate-nearest-end : tie.Need-slice-aggregate-nearest-end
+slice-aggregate-nearest-end c = let qs = c .before .before .args .loads .now in sym (length-take-le (length qs - 2) qs (omega arith))
+
+total-requires : tie.Need-total-requires
+total-requires c κs = search needs
+
+nearest-end-requires : tie.Need-nearest-end-requires
+nearest-end-requires c κs =
+    let qs = c .before .before .before .args .loads .now in
+    (omega (arith, sum-split (length qs - 2) qs), search needs, search needs, rw (length-take-le (length qs - 2) qs (omega arith)) (omega arith))
+
+returns : tie.Need-returns
+returns c =
+    cut-is (c .before .before .before .before .args .loads .now) (c .nearest-end .result) (omega arith) (rw (c .before .total .ensures) at (c .nearest-end .ensures .0))
+
+pub cut-spec : {M : Type 1} → statement M
+cut-spec =
+    tie.close
+    (tie.spec sub-end slice-aggregate-nearest-end total-requires nearest-end-requires returns)

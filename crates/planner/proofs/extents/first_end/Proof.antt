@@ -1,0 +1,100 @@
+-- `first_end` meets its contract: no end of four to k levels serves.
+use mathlib.Core.Path.{sym, _∙_}
+use Prim.Native.Nat.{_+_, _-_}
+use native.Mathlib.Omega.{arith}
+use borrow.Author.Needs.{needs}
+use lib.ListN.{length}
+use lib.Seq.{length-take-le}
+use Rattle.planner.specs.Loads.{serves}
+use Rattle.planner.proofs.Ends.{sum-next, sum-split}
+use Rattle.planner.proofs.FirstEnd.{Seeking, seek-start, seek-next, seek-found, seek-none}
+use Rattle.planner.proofs.extents.first_end.Statement.{statement}
+use Rattle.planner.proofs.extents.first_end.Tie as tie
+
+abbrev Inv-loop : tie.InvT-loop
+Inv-loop loads w load p k₀ q₀ k q = Seeking (λ e. serves (e .load) w load p) loads k q
+
+abbrev μ-loop : tie.MeasureT-loop
+μ-loop loads w load p k₀ q₀ k q = length loads - k
+
+mul-k : tie.Need-mul-k Inv-loop μ-loop
+mul-k c = search needs
+
+sub-k : tie.Need-sub-k Inv-loop μ-loop
+sub-k c = search needs
+
+slice-aggregate-total : tie.Need-slice-aggregate-total Inv-loop μ-loop
+slice-aggregate-total c = sym (length-take-le 3 (c .before .before .args .loads .now) (omega arith))
+
+total-requires : tie.Need-total-requires Inv-loop μ-loop
+total-requires c κs = omega (arith, sum-split 3 (c .before .before .args .loads .now))
+
+loop-holds : tie.Need-loop-holds Inv-loop μ-loop
+loop-holds c = let a = c .before .before .before .args in seek-start (λ e. serves (e .load) (a .w) (a .load) (a .p)) (a .loads .now) (c .total .result) (omega arith) (c .total .ensures)
+
+mul-q : tie.Need-mul-q Inv-loop μ-loop
+mul-q c = search needs
+
+shared-slice-read-q : tie.Need-shared-slice-read-q Inv-loop μ-loop
+shared-slice-read-q c = search needs
+
+add-q : tie.Need-add-q Inv-loop μ-loop
+add-q c =
+    let a = c .before .before .before .before .before .before .args in
+    let l = c .before .before .loop in
+    omega (arith, sum-next (a .loads .now) (l .k) (omega arith), sum-split (l .k + 1) (a .loads .now))
+
+add-k : tie.Need-add-k Inv-loop μ-loop
+add-k c = search needs
+
+serves-requires : tie.Need-serves-requires Inv-loop μ-loop
+serves-requires c κs =
+    let a = c .before .before .before .before .before .before .args in
+    let l = c .before .before .loop in
+    (c .before .before .before .before .before .before .pre .0, omega (arith, sum-next (a .loads .now) (l .k) (omega arith), sum-split (l .k + 1) (a .loads .now)))
+
+returns : tie.Need-returns Inv-loop μ-loop
+returns c =
+    let a = c .before .before .before .before .before .before .before .before .args in
+    let l = c .before .before .before .before .loop in
+    (seek-found (λ e. serves (e .load) (a .w) (a .load) (a .p)) (a .loads .now) (l .k) (l .q) (l .inv) (omega arith) (sym (c .before .serves .ensures) ∙ c .if1 .taken), omega (arith, l .inv .some))
+
+loop-less : tie.Need-loop-less Inv-loop μ-loop
+loop-less c = search needs
+
+loop-again : tie.Need-loop-again Inv-loop μ-loop
+loop-again c =
+    let a = c .before .before .before .before .before .before .before .before .args in
+    let l = c .before .before .before .before .loop in
+    seek-next (λ e. serves (e .load) (a .w) (a .load) (a .p)) (a .loads .now) (l .k) (l .q) (l .inv) (omega arith) (sym (c .before .serves .ensures) ∙ c .if1 .left)
+
+add-result : tie.Need-add-result Inv-loop μ-loop
+add-result c = search needs
+
+returns-2 : tie.Need-returns-2 Inv-loop μ-loop
+returns-2 c =
+    let a = c .before .before .before .before .before .args in
+    let l = c .before .loop in
+    (seek-none (λ e. serves (e .load) (a .w) (a .load) (a .p)) (a .loads .now) (l .k) (l .q) (l .inv) (omega arith), omega (arith, l .inv .some))
+
+pub first-end-spec : {M : Type 1} → statement M
+first-end-spec =
+    tie.close
+    (tie.spec
+    Inv-loop
+    μ-loop
+    mul-k
+    sub-k
+    slice-aggregate-total
+    total-requires
+    loop-holds
+    mul-q
+    shared-slice-read-q
+    add-q
+    add-k
+    serves-requires
+    returns
+    loop-less
+    loop-again
+    add-result
+    returns-2)

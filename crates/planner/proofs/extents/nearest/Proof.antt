@@ -1,0 +1,33 @@
+-- `nearest` meets its contract.
+use borrow.Author.Needs.{needs}
+use native.Mathlib.Omega.{arith}
+use Rattle.planner.specs.Loads.{nearest}
+use Rattle.planner.proofs.Ends.{product-few}
+use Rattle.planner.proofs.extents.nearest.Statement.{statement}
+use Rattle.planner.proofs.extents.nearest.Tie as tie
+
+mul-b : tie.Need-mul-b
+mul-b c = omega (arith, product-few (c .args .q) (c .args .w) (omega arith) (omega arith))
+
+mul-b-2 : tie.Need-mul-b-2
+mul-b-2 c = omega (arith, product-few (c .args .q) (c .args .w) (omega arith) (omega arith))
+
+add-b : tie.Need-add-b
+add-b c = omega (arith, product-few (c .args .q) (c .args .w) (omega arith) (omega arith))
+
+mul-b-3 : tie.Need-mul-b-3
+mul-b-3 c = search needs
+
+div-b : tie.Need-div-b
+div-b c = search needs
+
+returns : tie.Need-returns
+unfolding nearest
+returns c = omega arith
+
+returns-2 : tie.Need-returns-2
+unfolding nearest
+returns-2 c = omega arith
+
+pub nearest-spec : {M : Type 1} → statement M
+nearest-spec = tie.close (tie.spec mul-b mul-b-2 add-b mul-b-3 div-b returns returns-2)

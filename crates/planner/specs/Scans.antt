@@ -1,0 +1,26 @@
+-- What the scans over loads of levels leave: for the contracts of src/extents.rt. qs are the loads of the levels that are left.
+use mathlib.Core.List.{List, [], _∷_}
+use Prim.Native.Nat.{ℕ, _*_, _-_, _≤_, _<_, _^_}
+use lib.ListN.{drop}
+use Rattle.base.specs.Lists.{distance}
+use Rattle.planner.specs.Loads.{End, endsFrom, best}
+
+-- no group has more load: what the scans compute then has at most 32 bits
+abbrev pub maxLoad : ℕ
+maxLoad = 2 ^ 20
+
+-- the end of k levels and every later one
+abbrev pub endsOn : (k : ℕ) → List ℕ → List End
+endsOn k qs = drop (k - 1) (endsFrom 0 0 qs)
+
+-- how many levels that end has, of some ends, whose load times x is nearest to y
+unfoldable pub nearestEnd : (x y : ℕ) → List End → ℕ
+nearestEnd x y [] = 0
+nearestEnd x y (e ∷ es) = best (λ f. distance (f .load * x) y) e es .levels
+
+-- the load of a group of w workers, and a share p
+pub record Scale (w R p : ℕ) : Type 0 where
+  pub some : 0 < R
+  pub few : R ≤ maxLoad
+  pub workers : w ≤ 16
+  pub share : p ≤ 100

@@ -1,0 +1,138 @@
+// Where a pair ends, and where it is cut, from the loads of the levels that are left.
+ghost use mathlib.Core.Path.{_≡_};
+ghost use Prim.Native.Nat.{_+_, _-_, _*_, _<_, _≤_};
+ghost use lib.ListN.{length};
+ghost use Rattle.base.specs.Lists.{sum, distance, fromFirst};
+ghost use Rattle.planner.specs.Loads.{nearest, serves, extent, cut};
+ghost use Rattle.planner.specs.Scans.{maxLoad, endsOn, nearestEnd, Scale};
+
+// How many levels and workers a pair takes.
+pub struct Extent {
+    pub levels: usize,
+    pub workers: u32,
+}
+
+// The distance that a colouring keeps: a colour has at least so many levels, a pair twice as many.
+pub const REACH: usize = 2;
+
+// How far a and b are from each other.
+fn off(a: u32, b: u32) -> u32
+    ensures { λ r. ⌜ r ≡ distance a b ⌝ }
+{
+    if a < b { b - a } else { a - b }
+}
+
+// The load of all these levels.
+fn total(loads: &[u32]) -> u32
+    requires { ⌜ sum (now loads) ≤ maxLoad ⌝ }
+    ensures { λ r. ⌜ r ≡ sum (now (loads .entry)) ⌝ }
+{
+    let mut s = 0;
+    let mut k = 0;
+    while k < loads.len() {
+        s += loads[k];
+        k += 1;
+    }
+    s
+}
+
+// The whole number nearest to q × w / load, half going up, but at least 1.
+fn nearest(q: u32, w: u32, load: u32, p: u32) -> u32
+    requires { ⌜ Scale w load p × (q ≤ load) ⌝ }
+    ensures { λ r. ⌜ r ≡ nearest q w load ⌝ }
+{
+    let b = (2 * (q * w) + load) / (2 * load);
+    if b < 1 { 1 } else { b }
+}
+
+// Levels of load q are close enough to a whole number of workers.
+fn serves(q: u32, w: u32, load: u32, p: u32) -> bool
+    requires { ⌜ Scale w load p × (q ≤ load) ⌝ }
+    ensures { λ r. ⌜ r ≡ serves q w load p ⌝ }
+{
+    let b = nearest(q, w, load, p);
+    100 * off(q * w, b * load) < (100 - p) * load
+}
+
+// How many levels the first end has that serves, of those with at least four; one more than there are, if none does.
+fn first_end(loads: &[u32], w: u32, load: u32, p: u32) -> usize
+    requires { ⌜ Scale w load p × (sum (now loads) ≤ load) × (4 ≤ length (now loads)) ⌝ }
+    ensures { λ r. ⌜ (fromFirst (λ e. serves (e .load) w load p) (endsOn 4 (now (loads .entry))) ≡ endsOn r (now (loads .entry))) × (4 ≤ r) ⌝ }
+{
+    let mut k = 2 * REACH - 1;
+    let mut q = total(&loads[..k]);
+    while k < loads.len() {
+        q += loads[k];
+        k += 1;
+        if serves(q, w, load, p) {
+            return k;
+        }
+    }
+    k + 1
+}
+
+// How many levels that end has, of k or more, whose load times x is nearest to y; the shorter wins a tie.
+fn nearest_end(loads: &[u32], k: usize, x: u32, y: u32) -> usize
+    requires { ⌜ (sum (now loads) ≤ maxLoad) × (x ≤ 16) × (1 ≤ k) × (k ≤ length (now loads)) ⌝ }
+    ensures { λ r. ⌜ (r ≡ nearestEnd x y (endsOn k (now (loads .entry)))) × (k ≤ r) × (r ≤ length (now (loads .entry))) ⌝ }
+{
+    let mut q = total(&loads[..k]);
+    let mut best = k;
+    let mut least = off(q * x, y);
+    let mut i = k;
+    while i < loads.len() {
+        if y <= q * x {
+            return best;
+        }
+        q += loads[i];
+        i += 1;
+        let d = off(q * x, y);
+        if d < least {
+            best = i;
+            least = d;
+        }
+    }
+    best
+}
+
+// The next pair's levels and workers.
+pub fn next_extent(loads: &[u32], w: u32, load: u32, p: u32, free: u32) -> Extent
+    requires { ⌜ Scale w load p × (sum (now loads) ≤ load) × (4 ≤ length (now loads)) ⌝ }
+    ensures { λ r. ⌜ (r .levels ≡ extent w load p free (now (loads .entry)) .levels) × (r .workers ≡ extent w load p free (now (loads .entry)) .workers) ⌝ }
+{
+    let all = loads.len();
+    let k = first_end(loads, w, load, p);
+    if all < k {
+        return Extent {
+            levels: all,
+            workers: free,
+        };
+    }
+    let b = nearest(total(&loads[..k]), w, load, p);
+    let e = nearest_end(loads, k, w, b * load);
+    if all - e < 2 * REACH {
+        return Extent {
+            levels: all,
+            workers: free,
+        };
+    }
+    if free <= b {
+        return Extent {
+            levels: all,
+            workers: free,
+        };
+    }
+    Extent {
+        levels: e,
+        workers: b,
+    }
+}
+
+// How many of a pair's levels are red.
+pub fn cut(loads: &[u32]) -> usize
+    requires { ⌜ (sum (now loads) ≤ maxLoad) × (4 ≤ length (now loads)) ⌝ }
+    ensures { λ r. ⌜ r ≡ cut (now (loads .entry)) ⌝ }
+{
+    let end = loads.len() - REACH;
+    nearest_end(&loads[..end], REACH, 2, total(loads))
+}
