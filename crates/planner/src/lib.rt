@@ -1,3 +1,3 @@
 // The planner: RACE's recursive distance-2 colouring.
 
-mod extents;
+mod scans;

@@ -7,8 +7,8 @@ use lib.ListN.{length}
 use lib.Seq.{length-take-le}
 use Rattle.planner.proofs.Ends.{sum-split}
 use Rattle.planner.proofs.PairEnd.{cut-is}
-use Rattle.planner.proofs.extents.cut.Statement.{statement}
-use Rattle.planner.proofs.extents.cut.Tie as tie
+use Rattle.planner.proofs.scans.cut.Statement.{statement}
+use Rattle.planner.proofs.scans.cut.Tie as tie
 
 sub-end : tie.Need-sub-end
 sub-end c = search needs
