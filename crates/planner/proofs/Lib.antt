@@ -13,3 +13,6 @@ pub mod Ends
 pub mod FirstEnd
 pub mod NearestEnd
 pub mod PairEnd
+pub mod Weights
+pub mod Stretches
+pub mod LevelLoads

@@ -2,3 +2,4 @@ pub mod Loads
 pub mod Planner
 pub mod PlannedSound
 pub mod Scans
+pub mod Stretches

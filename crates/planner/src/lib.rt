@@ -1,3 +1,4 @@
 // The planner: RACE's recursive distance-2 colouring.
 
+mod loads;
 mod scans;
