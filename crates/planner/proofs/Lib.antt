@@ -16,3 +16,4 @@ pub mod PairEnd
 pub mod Weights
 pub mod Stretches
 pub mod LevelLoads
+pub mod Flat

@@ -3,3 +3,4 @@ pub mod Planner
 pub mod PlannedSound
 pub mod Scans
 pub mod Stretches
+pub mod Records

@@ -2,3 +2,4 @@
 
 mod loads;
 mod scans;
+mod records;
