@@ -20,3 +20,7 @@ pub mod Flat
 pub mod Thirds
 pub mod Holding
 pub mod PairPlans
+pub mod GroupPlans
+pub mod GroupTasks
+pub mod NextPair
+pub mod PairTasks

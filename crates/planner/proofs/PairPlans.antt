@@ -1,15 +1,40 @@
 -- The pairs of a group, one at a time: the next pair's rows and workers, and the pairs after it.
-use mathlib.Core.Path.{_≡_, refl, sym, ap, _∙_}
+use mathlib.Core.Path.{_≡_, refl, sym, _∙_}
 use mathlib.Core.Logic.{_⊎_, inl, inr}
 use mathlib.Core.List.{List, [], _∷_, map}
 use Prim.Native.Nat.{ℕ, zero, suc, _+_, _*_, _-_, _≤_, _<_}
 use native.Mathlib.Omega.{arith}
 use lib.ListN.{length, take, drop, length-map, length-drop, drop-of-length-le}
+use lib.Seq.{length-take-le}
 use Rattle.base.specs.Lists.{concat}
 use Rattle.levels.specs.Levels.{reach}
 use Rattle.planner.specs.Loads.{Extent, load, extent, cut}
-use Rattle.planner.specs.Planner.{Pair, pairs}
-use Rattle.planner.proofs.Extents.{Taken, extent-taken}
+use Rattle.planner.specs.Planner.{pairs}
+use Rattle.planner.proofs.Extents.{Taken, extent-taken, cut-levels}
+
+-- a pair takes no more than there is
+pub taken-most : {all free : ℕ} {e : Extent} → Taken all free e → (e .levels ≤ all) × (e .workers ≤ free)
+taken-most {all} {free} {e} t = go (t .rest)
+  where
+    go : ((e .levels ≡ all) × (e .workers ≡ free)) ⊎ ((e .levels + 2 * reach ≤ all) × (e .workers < free)) → (e .levels ≤ all) × (e .workers ≤ free)
+    go (inl h) = (omega arith, omega arith)
+    go (inr h) = (omega arith, omega arith)
+
+-- the next pair has at least four levels, and at least two of each colour
+pub record Bounds (all levels red : ℕ) : Type 0 where
+  pub some : 2 * reach ≤ levels
+  pub most : levels ≤ all
+  pub reds : reach ≤ red
+  pub blues : red + reach ≤ levels
+
+pub pair-bounds : (w R p free : ℕ) (qs : List ℕ) (levels c : ℕ) → 1 ≤ free → 2 * reach ≤ length qs → levels ≡ extent w R p free qs .levels → c ≡ cut (take levels qs)
+    → Bounds (length qs) levels c
+pair-bounds w R p free qs levels c f l e d =
+    let t = extent-taken w R p free qs f l in
+    let most : levels ≤ length qs = omega (arith, taken-most t) in
+    let long : length (take levels qs) ≡ levels = length-take-le levels qs most in
+    let b = cut-levels (take levels qs) (omega (arith, t .long)) in
+    record { some = omega (arith, t .long); most = most; reds = omega arith; blues = omega arith }
 
 module _ (adj : ℕ → List ℕ) (w R p : ℕ) where
   -- the next pair's extent

@@ -1,17 +1,15 @@
 -- Loads of rows and levels: what they are made of, and how large they are.
 use mathlib.Core.Path.{_≡_, refl, sym, ap, _∙_}
-use mathlib.Core.Bool.{Bool, true, false}
 use mathlib.Core.List.{List, [], _∷_, _++_, map, map-append}
 use Prim.Native.Nat.{ℕ, _+_, _≤_, _<_}
 use native.Mathlib.Numerals.{add-one}
 use native.Mathlib.Omega.{arith}
 use lib.ListN.{length, take, drop, getD, take-append-drop}
 use lib.Seq.{take-suc}
-use Rattle.base.specs.Lists.{concat, filter, isIn, range, sum, count}
-use Rattle.base.proofs.Lists.{isIn-range, length-filter-le, length-range}
-use Rattle.base.proofs.Counts.{Same, count-filter, count-range, in-count, out-count, same-length}
+use Rattle.base.specs.Lists.{concat, sum}
 use Rattle.levels.specs.Group.{Proper}
 use Rattle.levels.specs.Rows.{Rows, adjOf}
+use Rattle.levels.proofs.Members.{proper-short}
 use Rattle.planner.specs.Loads.{weight, load}
 use Rattle.planner.specs.Scans.{maxLoad}
 use Rattle.planner.proofs.Ends.{sum-append}
@@ -45,19 +43,6 @@ module _ (adj : ℕ → List ℕ) where
   pub load-some : (vs : List ℕ) → 1 ≤ length vs → 1 ≤ load adj vs
   load-some vs l = omega (arith, load-length vs)
 
--- no group has more rows than there are
-pub proper-short : (n : ℕ) (T : List ℕ) → Proper n T → length T ≤ n
-proper-short n T pr =
-    let rows = filter (isIn T) (range 0 n) in
-    let same : Same T rows = λ v. one v (isIn T v) refl in
-    omega (arith, same-length T rows same, length-filter-le (isIn T) (range 0 n), length-range 0 n)
-  where
-    one : (v : ℕ) (b : Bool) → isIn T v ≡ b → count v T ≡ count v (filter (isIn T) (range 0 n))
-    one v true e =
-        rw (count-filter v (isIn T) (range 0 n), e)
-        (omega (arith, pr .once v, in-count v T e, count-range v 0 n, in-count v (range 0 n) (isIn-range 0 n v (omega arith) (omega (arith, pr .inside v e)))))
-    one v false e = rw (count-filter v (isIn T) (range 0 n), e) (omega (arith, out-count v T e))
-
 -- a group's load is within its limit
 pub load-few : (n : ℕ) (starts columns T : List ℕ) → Rows n starts columns → Proper n T → load (adjOf n starts columns) T ≤ maxLoad
-load-few n starts columns T rows pr = omega (arith, load-length (adjOf n starts columns) T, proper-short n T pr, rows .small)
+load-few n starts columns T rows pr = omega (arith, load-length (adjOf n starts columns) T, proper-short pr, rows .small)

@@ -4,3 +4,4 @@ pub mod PlannedSound
 pub mod Scans
 pub mod Stretches
 pub mod Records
+pub mod Cycle

@@ -1,5 +1,6 @@
 // The planner: RACE's recursive distance-2 colouring.
 
+mod groups;
 mod loads;
-mod scans;
 mod records;
+mod scans;

@@ -1,12 +1,12 @@
 // What rows and levels add to their group's load.
 ghost use mathlib.Core.Path.{_≡_};
-ghost use mathlib.Core.List.{map};
-ghost use Prim.Native.Nat.{_<_};
+ghost use Prim.Native.Nat.{_<_, _≤_};
 ghost use lib.ListN.{length};
 ghost use Rattle.levels.specs.Group.{Proper};
 ghost use Rattle.levels.specs.Rows.{Rows, adjOf};
+ghost use Rattle.levels.specs.Sort.{maxLevels};
 ghost use Rattle.planner.specs.Loads.{weight, load};
-ghost use Rattle.planner.specs.Stretches.{levelsIn, Levelled};
+ghost use Rattle.planner.specs.Stretches.{levelsIn, Levelled, Loaded};
 
 // What row v adds to its group's load.
 fn weight(starts: &[u32], columns: &[u32], n: usize, v: u32) -> u32
@@ -30,24 +30,29 @@ fn load(starts: &[u32], columns: &[u32], n: usize, rows: &[u32]) -> u32
     sum
 }
 
-// The load of each level of a stretch.
+// The load of each level of a stretch; the answer is the load of all.
 pub fn level_loads(
     starts: &[u32],
     columns: &[u32],
     n: usize,
     stretch: &[u32],
     ends: &[u32],
-    loads: &mut [u32],
-)
-    requires { ⌜ Rows n (now starts) (now columns) × Proper n (now stretch) × Levelled 0 (now ends) (now stretch) (levelsIn 0 (now ends) (now stretch)) × (length (now loads) ≡ length (now ends)) ⌝ }
-    ensures { λ _. ⌜ now (loads .exit) ≡ map (load (adjOf n (now (starts .entry)) (now (columns .entry)))) (levelsIn 0 (now (ends .entry)) (now (stretch .entry))) ⌝ }
+    loads: &mut [u32; 8192],
+) -> u32
+    requires { ⌜ Rows n (now starts) (now columns) × Proper n (now stretch) × Levelled 0 (now ends) (now stretch) (levelsIn 0 (now ends) (now stretch))
+        × (length (now ends) ≤ maxLevels) × (length (now loads) ≡ maxLevels) ⌝ }
+    ensures { λ r. ⌜ Loaded (adjOf n (now (starts .entry)) (now (columns .entry))) (now (stretch .entry)) (levelsIn 0 (now (ends .entry)) (now (stretch .entry))) r (now (loads .exit)) ⌝ }
 {
+    let mut sum = 0;
     let mut from = 0;
     let mut k = 0;
     while k < ends.len() {
         let to = ends[k] as usize;
-        loads[k] = load(starts, columns, n, &stretch[from..to]);
+        let q = load(starts, columns, n, &stretch[from..to]);
+        loads[k] = q;
+        sum += q;
         from = to;
         k += 1;
     }
+    sum
 }

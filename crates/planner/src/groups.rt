@@ -1,0 +1,209 @@
+// The group planner and the pair planner, which call each other.
+use crate::loads::level_loads;
+use crate::records::BLUE;
+use crate::records::Group;
+use crate::records::RED;
+use crate::records::put;
+use crate::scans::REACH;
+use crate::scans::cut;
+use crate::scans::next_extent;
+use levels::level_sort;
+ghost use mathlib.Core.Path.{_≡_};
+ghost use Prim.Native.Nat.{ℕ, _+_, _-_, _*_, _<_, _≤_};
+ghost use lib.ListN.{length, take, getD};
+ghost use Rattle.base.specs.Lists.{sum};
+ghost use Rattle.levels.specs.Rows.{adjOf};
+ghost use Rattle.planner.specs.Loads.{load, extent, cut};
+ghost use Rattle.planner.specs.Planner.{planGroup};
+ghost use Rattle.planner.specs.Scans.{Scale};
+ghost use Rattle.planner.specs.Stretches.{levelsIn};
+ghost use Rattle.planner.specs.Records.{groupOf, Holds};
+ghost use Rattle.planner.specs.Cycle.{GroupTask, PairsTask, pairsPlan};
+
+// A group that is split: its record's index, where it starts, its workers and its load.
+pub struct Parent {
+    pub index: u32,
+    pub start: u32,
+    pub workers: u32,
+    pub load: u32,
+}
+
+// What is left of a group's stretch: how many rows are done, the next worker, how many are free, and the next record's index.
+pub struct Left {
+    pub done: u32,
+    pub first: u32,
+    pub free: u32,
+    pub index: u32,
+}
+
+// A pair: how many levels and workers it takes, how many of its rows are red, and how many it has.
+pub struct Pair {
+    pub levels: usize,
+    pub workers: u32,
+    pub reds: u32,
+    pub rows: u32,
+}
+
+// The next pair.
+fn next_pair(ends: &[u32], loads: &[u32], p: u32, up: Parent, left: Left) -> Pair
+    requires { ⌜ Scale (up .workers) (up .load) p × (sum (now loads) ≤ up .load) × (4 ≤ length (now loads)) × (1 ≤ left .free) × (length (now ends) ≡ length (now loads))
+        × ((j : ℕ) → j < length (now ends) → left .done ≤ getD (now ends) j 0) ⌝ }
+    ensures { λ r. ⌜ (r .levels ≡ extent (up .workers) (up .load) p (left .free) (now (loads .entry)) .levels)
+        × (r .workers ≡ extent (up .workers) (up .load) p (left .free) (now (loads .entry)) .workers)
+        × (r .reds ≡ getD (now (ends .entry)) (cut (take (r .levels) (now (loads .entry))) - 1) 0 - left .done)
+        × (r .rows ≡ getD (now (ends .entry)) (r .levels - 1) 0 - left .done) ⌝ }
+{
+    let e = next_extent(loads, up.workers, up.load, p, left.free);
+    let levels = e.levels;
+    let c = cut(&loads[..levels]);
+    let red_end = ends[c - 1];
+    let end = ends[levels - 1];
+    Pair {
+        levels,
+        workers: e.workers,
+        reds: red_end - left.done,
+        rows: end - left.done,
+    }
+}
+
+// A group's record, then its pairs, if it is split; the answer is the index past its records.
+fn plan_group(
+    starts: &[u32],
+    columns: &[u32],
+    order: &mut [u32],
+    records: &mut [u32],
+    n: usize,
+    p: u32,
+    stages: u32,
+    index: u32,
+    g: Group,
+) -> u32
+    requires { ⌜ GroupTask n p stages index (now starts) (now columns) (now order) (now records) g ⌝ }
+    ensures { λ r. ⌜ Holds (planGroup (adjOf n (now (starts .entry)) (now (columns .entry))) n p stages index (groupOf g) (now (order .entry)))
+        index (now (records .entry)) (now (order .exit)) (now (records .exit)) r ⌝ }
+{
+    put(records, index, g);
+    if stages == 0 {
+        return index + 1;
+    }
+    if g.workers < 2 {
+        return index + 1;
+    }
+    let mut ends = [0u32; 8192];
+    let m = level_sort(starts, columns, order, &mut ends, n, 2 * REACH);
+    if m < 2 * REACH {
+        return index + 1;
+    }
+    let mut loads = [0u32; 8192];
+    let load = level_loads(starts, columns, n, order, &ends[..m], &mut loads);
+    let up = Parent {
+        index,
+        start: g.start,
+        workers: g.workers,
+        load,
+    };
+    let left = Left {
+        done: 0,
+        first: g.first,
+        free: g.workers,
+        index: index + 1,
+    };
+    plan_pairs(
+        starts,
+        columns,
+        order,
+        &ends[..m],
+        &loads[..m],
+        records,
+        n,
+        p,
+        stages - 1,
+        up,
+        left,
+    )
+}
+
+// The pairs of a group in the levels that are left: the next pair's red group, its blue group, and the pairs after it.
+fn plan_pairs(
+    starts: &[u32],
+    columns: &[u32],
+    order: &mut [u32],
+    ends: &[u32],
+    loads: &[u32],
+    records: &mut [u32],
+    n: usize,
+    p: u32,
+    stages: u32,
+    up: Parent,
+    left: Left,
+) -> u32
+    requires { ⌜ PairsTask n p stages (now starts) (now columns) (now order) (now ends) (now loads) (now records) up left (levelsIn (left .done) (now ends) (now order)) ⌝ }
+    ensures { λ r. ⌜ Holds (pairsPlan (adjOf n (now (starts .entry)) (now (columns .entry))) n p stages up left (levelsIn (left .done) (now (ends .entry)) (now (order .entry))))
+        (left .index) (now (records .entry)) (now (order .exit)) (now (records .exit)) r ⌝ }
+{
+    let pair = next_pair(ends, loads, p, up, left);
+    let levels = pair.levels;
+    let a = pair.reds as usize;
+    let b = pair.rows as usize;
+    let start = up.start + left.done;
+    let red = Group {
+        start,
+        length: pair.reds,
+        first: left.first,
+        workers: pair.workers,
+        colour: RED,
+        parent: up.index,
+    };
+    let i = plan_group(
+        starts,
+        columns,
+        &mut order[..a],
+        records,
+        n,
+        p,
+        stages,
+        left.index,
+        red,
+    );
+    let blue = Group {
+        start: start + pair.reds,
+        length: pair.rows - pair.reds,
+        first: left.first,
+        workers: pair.workers,
+        colour: BLUE,
+        parent: up.index,
+    };
+    let j = plan_group(
+        starts,
+        columns,
+        &mut order[a..b],
+        records,
+        n,
+        p,
+        stages,
+        i,
+        blue,
+    );
+    if levels == ends.len() {
+        return j;
+    }
+    let rest = Left {
+        done: left.done + pair.rows,
+        first: left.first + pair.workers,
+        free: left.free - pair.workers,
+        index: j,
+    };
+    plan_pairs(
+        starts,
+        columns,
+        &mut order[b..],
+        &ends[levels..],
+        &loads[levels..],
+        records,
+        n,
+        p,
+        stages,
+        up,
+        rest,
+    )
+}
