@@ -24,3 +24,5 @@ pub mod GroupPlans
 pub mod GroupTasks
 pub mod NextPair
 pub mod PairTasks
+pub mod WholePlan
+pub mod PlanReply

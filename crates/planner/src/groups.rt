@@ -67,7 +67,7 @@ fn next_pair(ends: &[u32], loads: &[u32], p: u32, up: Parent, left: Left) -> Pai
 }
 
 // A group's record, then its pairs, if it is split; the answer is the index past its records.
-fn plan_group(
+pub fn plan_group(
     starts: &[u32],
     columns: &[u32],
     order: &mut [u32],

@@ -1,6 +1,87 @@
 // The planner: RACE's recursive distance-2 colouring.
+use crate::records::copy;
+use crate::whole::plan_rows;
+use base::Answer;
+use base::MATRIX;
+use base::PARAMETER;
+use base::SHORT;
+use matrix::is_matrix;
 
 mod groups;
 mod loads;
 mod records;
 mod scans;
+mod whole;
+
+ghost use mathlib.Core.Path.{_≡_};
+ghost use lib.ListN.{length};
+ghost use Rattle.base.specs.Replies.{lent};
+ghost use Rattle.base.specs.Answers.{replyOf};
+ghost use Rattle.matrix.specs.Checks.{matrixOf};
+ghost use Rattle.plan.specs.Groups.{flat};
+ghost use Rattle.planner.specs.Planner.{plan, areParameters, planReply};
+
+// Whether there may be so many workers and this share.
+fn are_parameters(workers: u32, p: u32) -> bool
+    ensures { λ r. ⌜ r ≡ areParameters workers p ⌝ }
+{
+    if workers < 1 {
+        return false;
+    }
+    if 16 < workers {
+        return false;
+    }
+    if p < 50 {
+        return false;
+    }
+    p <= 99
+}
+
+// The plan of a matrix: its order, and its groups, six numbers each.
+pub fn plan(
+    n: u32,
+    starts: &[u32],
+    columns: &[u32],
+    values: &[i32],
+    workers: u32,
+    p: u32,
+    order: &mut [u32],
+    groups: &mut [u32],
+) -> Answer
+    ensures reply { λ r. ⌜ replyOf r ≡ planReply (matrixOf n (now (starts .entry)) (now (columns .entry)) (now (values .entry))) workers p (length (now (order .entry))) (length (now (groups .entry))) ⌝ }
+    ensures lent_order { λ r. ⌜ now (order .exit) ≡ lent (planReply (matrixOf n (now (starts .entry)) (now (columns .entry)) (now (values .entry))) workers p (length (now (order .entry))) (length (now (groups .entry))))
+        (plan (matrixOf n (now (starts .entry)) (now (columns .entry)) (now (values .entry))) workers p .order) (now (order .entry)) ⌝ }
+    ensures lent_groups { λ r. ⌜ now (groups .exit) ≡ lent (planReply (matrixOf n (now (starts .entry)) (now (columns .entry)) (now (values .entry))) workers p (length (now (order .entry))) (length (now (groups .entry))))
+        (flat (plan (matrixOf n (now (starts .entry)) (now (columns .entry)) (now (values .entry))) workers p .groups)) (now (groups .entry)) ⌝ }
+{
+    if !is_matrix(n, starts, columns, values) {
+        return Answer::Refused(MATRIX, 0);
+    }
+    if !are_parameters(workers, p) {
+        return Answer::Refused(PARAMETER, 0);
+    }
+    let rows = n as usize;
+    if order.len() < rows {
+        return Answer::Refused(SHORT, n);
+    }
+    let mut list = [0u32; 4096];
+    let mut records = [0u32; 3072];
+    let count = plan_rows(
+        starts,
+        columns,
+        &mut list[..rows],
+        &mut records,
+        rows,
+        p,
+        workers,
+    );
+    let room = groups.len() / 6;
+    let made = count as usize;
+    if room < made {
+        return Answer::Refused(SHORT, count);
+    }
+    let size = 6 * made;
+    copy(&list[..rows], order);
+    copy(&records[..size], groups);
+    Answer::Accepted(count)
+}

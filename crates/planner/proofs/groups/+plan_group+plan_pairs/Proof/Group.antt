@@ -7,7 +7,7 @@ use lib.ListN.{length}
 use lib.Seq.{length-take-le}
 use Rattle.levels.specs.Rows.{adjOf}
 use Rattle.levels.specs.Sort.{maxLevels}
-use Rattle.levels.proofs.Marks.{blank}
+use Rattle.base.proofs.Lists.{getD-zeros}
 use Rattle.planner.specs.Planner.{planGroup, leaf}
 use Rattle.planner.specs.Records.{groupOf, Holds}
 use Rattle.planner.proofs.GroupPlans.{leaf-stages, leaf-workers, leaf-levels, holds-unsplit}
@@ -90,7 +90,7 @@ mul-level-sort : (t : ℕ) → plan-group-lts.Need-mul-level-sort (plan-group-ca
 mul-level-sort t c = omega arith
 
 level-sort-requires : (t : ℕ) → plan-group-lts.Need-level-sort-requires (plan-group-calls t) (plan-group-at t) plan-group.Post
-level-sort-requires t c κs = let k = c .before .before .before .before .before .before .before .before .before .before .before .before .before .pre .1 in (k .rows, k .proper, refl, blank 8192)
+level-sort-requires t c κs = let k = c .before .before .before .before .before .before .before .before .before .before .before .before .before .pre .1 in (k .rows, k .proper, refl, getD-zeros 8192)
 
 mul-if3 : (t : ℕ) → plan-group-lts.Need-mul-if3 (plan-group-calls t) (plan-group-at t) plan-group.Post
 mul-if3 t c = omega arith

@@ -1,0 +1,89 @@
+-- The reply of a call of the planner, case by case, and what the lent lists then hold.
+use mathlib.Core.Path.{_≡_, sym, _∙_}
+use mathlib.Core.Bool.{true, false, _&&_}
+use mathlib.Core.List.{List, _++_}
+use Prim.Native.Nat.{ℕ, _*_, _/_, _≤_, _<_}
+use native.Mathlib.Omega.{arith}
+use lib.Dec.{leb}
+use lib.ListN.{length, take, drop}
+use borrow.Author.Tests.{leb-true, le-leb, lt-leb}
+use Rattle.base.specs.Replies.{Reply, accepted, refused, inTurn, lent}
+use Rattle.base.proofs.Booleans.{and-left, and-right}
+use Rattle.base.proofs.Replies.{lent-refused, lent-accepted}
+use Rattle.matrix.specs.Matrix.{Matrix, isMatrix, matrixCheck}
+use Rattle.levels.specs.Rows.{Rows, adjOf}
+use Rattle.levels.proofs.Rows.{pattern-neighbours, rows-of, rows-graph}
+use Rattle.plan.specs.Groups.{Plan, width, flat}
+use Rattle.plan.specs.Sound.{maxWorkers}
+use Rattle.planner.specs.Planner.{planRows, plan, areParameters, planReply}
+use Rattle.planner.specs.Records.{Holds}
+use Rattle.planner.proofs.Planned.{rows-few}
+
+-- parameters are within their limits
+pub parameters-in : (w p : ℕ) → areParameters w p ≡ true → (w ≤ maxWorkers) × (p ≤ 100)
+unfolding areParameters
+parameters-in w p h =
+    let few = and-left (leb 1 w && leb w maxWorkers && leb 50 p) (leb p 99) h in (
+      leb-true w maxWorkers (and-right (leb 1 w) (leb w maxWorkers) (and-left (leb 1 w && leb w maxWorkers) (leb 50 p) few)),
+      omega (arith, leb-true p 99 (and-right (leb 1 w && leb w maxWorkers && leb 50 p) (leb p 99) h)),
+    )
+
+module _ (m : Matrix) (w p : ℕ) (order groups : List ℕ) where
+  -- the plan and the reply
+  abbrev made : Plan
+  made = plan m w p
+
+  abbrev reply : Reply
+  reply = planReply m w p (length order) (length groups)
+
+  -- a reply, and the lists after it
+  abbrev pub Replied : Reply → (order′ groups′ : List ℕ) → Type 0
+  Replied r order′ groups′ = (r ≡ reply) × ((order′ ≡ lent reply (made .order) order) × (groups′ ≡ lent reply (flat (made .groups)) groups))
+
+  refuses : (number place : ℕ) → reply ≡ refused number place → Replied (refused number place) order groups
+  refuses number place e = (sym e, (sym (lent-refused (made .order) order reply number place e), sym (lent-refused (flat (made .groups)) groups reply number place e)))
+
+  pub refuses-matrix : isMatrix m ≡ false → Replied (refused 5 0) order groups
+  unfolding planReply matrixCheck inTurn
+  refuses-matrix e = refuses 5 0 (rw e)
+
+  module _ (is : isMatrix m ≡ true) where
+    pub refuses-parameters : areParameters w p ≡ false → Replied (refused 7 0) order groups
+    unfolding planReply matrixCheck inTurn
+    refuses-parameters e = refuses 7 0 (rw (is, e))
+
+    module _ (are : areParameters w p ≡ true) where
+      pub refuses-order : length order < m .n → Replied (refused 9 (m .n)) order groups
+      unfolding planReply matrixCheck inTurn
+      refuses-order l = refuses 9 (m .n) (rw (is, are, lt-leb (m .n) (length order) l))
+
+      -- what the planner needs
+      pub rows : Rows (m .n) (m .starts) (m .columns)
+      rows = rows-of m is
+
+      -- once all is planned
+      module _ (long : m .n ≤ length order) {before list records : List ℕ} {count : ℕ}
+          (held : Holds (planRows (adjOf (m .n) (m .starts) (m .columns)) (m .n) p w) 0 before list records count) where
+        held′ : Holds made 0 before list records count
+        unfolding plan
+        held′ = rw (pattern-neighbours m) at held
+
+        count-is : count ≡ length (made .groups)
+        count-is = held′ .count-is ∙ omega arith
+
+        pub count-few : w ≤ maxWorkers → count ≤ 481
+        count-few l = rw (held .count-is) (omega (arith, rows-few (adjOf (m .n) (m .starts) (m .columns)) (m .n) (rows-graph rows) p w l))
+
+        pub refuses-groups : length groups / width < count → Replied (refused 9 count) order groups
+        unfolding planReply matrixCheck inTurn
+        refuses-groups l =
+            refuses 9 count (rw (is, are, le-leb (m .n) (length order) long, ← count-is, lt-leb count (length groups / width) l))
+
+        pub accepts : count ≤ length groups / width → (order′ groups′ xs ys : List ℕ) → xs ≡ list → ys ≡ take (width * count) records
+            → order′ ≡ xs ++ drop (length xs) order → groups′ ≡ ys ++ drop (length ys) groups → Replied (accepted count) order′ groups′
+        unfolding planReply matrixCheck inTurn
+        accepts l order′ groups′ xs ys xs-is ys-is o g =
+            let e : reply ≡ accepted count = rw (is, are, le-leb (m .n) (length order) long, ← count-is, le-leb count (length groups / width) l) in
+            let order-is : xs ≡ made .order = xs-is ∙ held′ .order-is in
+            let groups-are : ys ≡ flat (made .groups) = ys-is ∙ held′ .records-are in
+            (sym e, (rw (order-is) at o ∙ sym (lent-accepted (made .order) order reply count e), rw groups-are at g ∙ sym (lent-accepted (flat (made .groups)) groups reply count e)))

@@ -1,0 +1,66 @@
+-- `number` meets its contract: the first i places hold their numbers.
+use mathlib.Core.Path.{_≡_, refl, ap, _∙_}
+use Prim.Native.Nat.{_≤_, _-_}
+use native.Mathlib.Omega.{arith}
+use borrow.Author.Needs.{needs}
+use lib.ListN.{length, length-set}
+use Rattle.base.proofs.Fill.{filled, filled-next}
+use Rattle.planner.proofs.WholePlan.{numbered}
+use Rattle.planner.proofs.whole.number.Statement.{statement}
+use Rattle.planner.proofs.whole.number.Tie as tie
+
+abbrev Inv-loop : tie.InvT-loop
+Inv-loop order₀ i₀ order i = (i ≤ length order₀) × (length order ≡ length order₀) × (order ≡ filled (λ j. j) order₀ i)
+
+abbrev μ-loop : tie.MeasureT-loop
+μ-loop order₀ i₀ order i = length order₀ - i
+
+loop-holds : tie.Need-loop-holds Inv-loop μ-loop
+loop-holds c = (search needs, refl, refl)
+
+cast-order : tie.Need-cast-order Inv-loop μ-loop
+cast-order c = omega arith
+
+mul-order : tie.Need-mul-order Inv-loop μ-loop
+mul-order c = search needs
+
+slice-write-order : tie.Need-slice-write-order Inv-loop μ-loop
+slice-write-order c = omega arith
+
+add-i : tie.Need-add-i Inv-loop μ-loop
+add-i c = search needs
+
+loop-less : tie.Need-loop-less Inv-loop μ-loop
+loop-less c = search needs
+
+loop-again : tie.Need-loop-again Inv-loop μ-loop
+loop-again c =
+    let a = c .before .before .args in
+    let l = c .before .loop in
+    (omega arith, length-set (l .order) (l .i) (l .i) ∙ l .inv .1, rw (l .inv .2) (filled-next (λ j. j) (a .order .now) 0 (l .i) (omega arith)))
+
+same-length : tie.Need-same-length Inv-loop μ-loop
+same-length c = c .before .loop .inv .1
+
+returns : tie.Need-returns Inv-loop μ-loop
+returns c =
+    let a = c .before .before .args in
+    let l = c .before .loop in
+    let all : l .i ≡ length (a .order .now) = omega arith in
+    l .inv .2 ∙ ap (filled (λ j. j) (a .order .now)) all ∙ numbered (a .order .now)
+
+pub number-spec : {M : Type 1} → statement M
+number-spec =
+    tie.close
+    (tie.spec
+    Inv-loop
+    μ-loop
+    loop-holds
+    cast-order
+    mul-order
+    slice-write-order
+    add-i
+    loop-less
+    loop-again
+    same-length
+    returns)

@@ -1,0 +1,62 @@
+// The whole: all rows, sorted by level, and their plan.
+use crate::groups::plan_group;
+use crate::records::Group;
+use crate::records::WHOLE;
+use levels::level_sort;
+ghost use mathlib.Core.Path.{_≡_};
+ghost use Prim.Native.Nat.{_≤_, _*_};
+ghost use lib.ListN.{length};
+ghost use Rattle.base.specs.Lists.{concat, range};
+ghost use Rattle.levels.specs.Levels.{ownLevels};
+ghost use Rattle.levels.specs.Rows.{Rows, adjOf};
+ghost use Rattle.plan.specs.Groups.{width};
+ghost use Rattle.plan.specs.Sound.{maxWorkers, maxGroups};
+ghost use Rattle.planner.specs.Planner.{planRows};
+ghost use Rattle.planner.specs.Records.{Holds};
+
+// The rows by their numbers.
+fn number(order: &mut [u32])
+    requires { ⌜ length (now order) ≤ 4096 ⌝ }
+    ensures { λ _. ⌜ now (order .exit) ≡ range 0 (length (now (order .entry))) ⌝ }
+{
+    let mut i = 0;
+    while i < order.len() {
+        order[i] = i as u32;
+        i += 1;
+    }
+}
+
+// The rows by their levels.
+fn sort_rows(starts: &[u32], columns: &[u32], order: &mut [u32], n: usize)
+    requires { ⌜ Rows n (now starts) (now columns) × (length (now order) ≡ n) ⌝ }
+    ensures { λ _. ⌜ now (order .exit) ≡ concat (ownLevels (adjOf n (now (starts .entry)) (now (columns .entry))) n (range 0 n)) ⌝ }
+{
+    let mut ends = [0u32; 8192];
+    number(order);
+    level_sort(starts, columns, order, &mut ends, n, 0);
+}
+
+// The plan of all rows; the answer is how many groups it has.
+pub fn plan_rows(
+    starts: &[u32],
+    columns: &[u32],
+    order: &mut [u32],
+    records: &mut [u32],
+    n: usize,
+    p: u32,
+    workers: u32,
+) -> u32
+    requires { ⌜ Rows n (now starts) (now columns) × (length (now order) ≡ n) × (length (now records) ≡ width * maxGroups) × (p ≤ 100) × (workers ≤ maxWorkers) ⌝ }
+    ensures { λ r. ⌜ Holds (planRows (adjOf n (now (starts .entry)) (now (columns .entry))) n p workers) 0 (now (records .entry)) (now (order .exit)) (now (records .exit)) r ⌝ }
+{
+    sort_rows(starts, columns, order, n);
+    let whole = Group {
+        start: 0,
+        length: n as u32,
+        first: 0,
+        workers,
+        colour: WHOLE,
+        parent: 0,
+    };
+    plan_group(starts, columns, order, records, n, p, 4, 0, whole)
+}
