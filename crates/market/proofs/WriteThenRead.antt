@@ -4,7 +4,6 @@ use mathlib.Core.Bool.{true}
 use mathlib.Core.List.{List}
 use Prim.Native.Nat.{ℕ, suc, _≤_}
 use native.Mathlib.Numerals.{add-one}
-use native.Mathlib.Omega.{arith}
 use lib.ListN.{length, take, length-map}
 use lib.Seq.{take-append-seam, length-take-le}
 use borrow.Author.Tests.{le-leb}
@@ -19,13 +18,13 @@ use Rattle.market.proofs.Accepted.{parse-accepted}
 use Rattle.market.proofs.FullCount.{length-rows}
 use Rattle.market.proofs.Written.{parse-text-of}
 use Rattle.market.proofs.Lower.Good.{lower-good}
-use Rattle.market.proofs.Lower.Count.{length-lower}
+use Rattle.market.proofs.Lower.Count.{lower-few}
 use Rattle.market.proofs.Lower.Back.{matrix-back}
 
 module _ (m : Matrix) (ok : isMatrix m ≡ true) where
   written-parsed : parse (written m) ≡ matrixText (m .n) (lower m)
   unfolding written
-  written-parsed = let f = matrix-facts m ok in parse-text-of (m .n) (lower m) (f .some) (f .few) (omega (arith, length-lower m ok, f .lower)) (lower-good m ok)
+  written-parsed = let f = matrix-facts m ok in parse-text-of (m .n) (lower m) (f .some) (f .few) (lower-few m ok) (lower-good m ok)
 
   same-matrix : readMatrix (parse (written m)) ≡ exactly m
   unfolding readMatrix

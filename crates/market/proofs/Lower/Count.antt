@@ -2,13 +2,16 @@
 use mathlib.Core.Path.{_≡_, refl, sym, ap, _∙_}
 use mathlib.Core.Bool.{Bool, true, false, _&&_, and-comm}
 use mathlib.Core.List.{[]}
-use Prim.Native.Nat.{ℕ, _<_}
+use Prim.Native.Nat.{ℕ, _≤_, _<_}
+use native.Mathlib.Omega.{arith}
 use lib.Dec.{leb}
 use lib.ListN.{length}
 use Rattle.base.specs.Lists.{filter, keep, isIn, range, sumBelow, bit}
 use Rattle.base.proofs.Lists.{filter-filter}
 use Rattle.base.proofs.Sums.{sum-below-same}
 use Rattle.matrix.specs.Matrix.{Matrix, columnsOf, entry, isMatrix, lowerEntries}
+use Rattle.matrix.specs.Limits.{maxEntries}
+use Rattle.matrix.proofs.Matrix.{matrix-facts}
 use Rattle.market.specs.Parse.{Triplet, triplet}
 use Rattle.market.specs.Text.{lower}
 use Rattle.market.proofs.Pieces.{length-filter-range}
@@ -35,3 +38,6 @@ module _ (m : Matrix) (ok : isMatrix m ≡ true) where
   length-lower =
       sym (cells-count (m .n) (lower m) (stored-inner (lower-stored m ok)))
       ∙ sum-below-same (λ i. sumBelow (at (lower m) i) (m .n)) (λ i. length (filter (λ j. leb j i) (columnsOf m i))) (m .n) count-row
+
+  pub lower-few : length (lower m) ≤ maxEntries
+  lower-few = omega (arith, length-lower, matrix-facts m ok .lower)
