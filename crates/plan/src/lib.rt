@@ -1,6 +1,6 @@
 // Plans: an order and records of groups, and the check that a plan is sound for a matrix.
 mod apart;
-mod fields;
+pub mod fields;
 mod marks;
 mod nesting;
 mod order;

@@ -44,3 +44,4 @@ pub mod LeafWait
 pub mod LeafOwner
 pub mod ScheduleLoop
 pub mod Passes
+pub mod AllBelow

@@ -7,3 +7,5 @@ pub mod Calls
 pub mod Model
 pub mod EveryRun
 pub mod Consequences
+pub mod Record
+pub mod Sum

@@ -1,1 +1,3 @@
 // The run of a plan, one load or store a step: picks, ready set and force list.
+mod state;
+mod sum;
