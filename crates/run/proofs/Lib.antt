@@ -45,3 +45,7 @@ pub mod LeafOwner
 pub mod ScheduleLoop
 pub mod Passes
 pub mod AllBelow
+pub mod PositionTable
+pub mod LaterRows
+pub mod PlacedRows
+pub mod JoinRows

@@ -9,3 +9,4 @@ pub mod EveryRun
 pub mod Consequences
 pub mod Record
 pub mod Sum
+pub mod Tables

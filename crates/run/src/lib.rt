@@ -1,3 +1,4 @@
 // The run of a plan, one load or store a step: picks, ready set and force list.
+mod later;
 mod state;
 mod sum;

@@ -1,0 +1,152 @@
+-- Position q joins the later positions of each row before it that is adjacent to its row: column by column of that row.
+use mathlib.Core.Path.{_≡_, refl, sym, ap, _∙_, subst}
+use mathlib.Core.Logic.{_⊎_, inl, inr, _≢_}
+use mathlib.Core.Bool.{Bool, true, false, cond, _||_}
+use mathlib.Core.List.{List, [], _∷_, _++_, append-nil}
+use Prim.Native.Nat.{ℕ, zero, suc, _+_, _-_, _<_}
+use native.Mathlib.Numerals.{add-one}
+use native.Mathlib.Omega.{arith}
+use lib.Dec.{eqb, ltb}
+use lib.IntN.{ℤ, pos}
+use lib.ListN.{length, getD, take, length-append}
+use lib.Seq.{take-suc, take-length, getD-take, length-take-le}
+use borrow.Author.Tests.{eq-eqb, ne-eqb, ltb-true, ltb-false}
+use Rattle.base.specs.Lists.{keep, isIn, bit}
+use Rattle.base.proofs.Booleans.{same-or, clash, is-false, or-true, or-false}
+use Rattle.base.proofs.Lists.{isIn-append, in-pos}
+use Rattle.matrix.specs.Matrix.{Matrix, columnsOf, valuesOf, entry, ascending, adjacent, neighbours}
+use Rattle.matrix.proofs.Matrix.{MatrixFacts, matrix-facts, column-low, column-neighbour, neighbour-column, adjacent-both, symmetric}
+use Rattle.matrix.proofs.Ascending.{ascending-first, ascending-tail, isIn-get, lookup-get}
+use Rattle.matrix.proofs.Checks.{matrix-tidy}
+use Rattle.matrix.proofs.Rows.{entry-row, length-columns}
+use Rattle.plan.proofs.Once.{Once, once, low-at, injective}
+use Rattle.run.specs.Machine.{positionOf}
+use Rattle.run.specs.Tables.{Positions, Ordered, laterTo, Placed, Later}
+use Rattle.run.proofs.Positions.{position-at}
+use Rattle.run.proofs.LaterRows.{later-before, later-next, later-few, later-mono}
+use Rattle.run.proofs.PlacedRows.{grown, placed-next, placed-same}
+
+-- a column of an ascending row is not among those before it
+new-column : (cs : List ℕ) (k : ℕ) → ascending cs ≡ true → k < length cs → isIn (take k cs) (getD cs k 0) ≡ false
+new-column [] k a l = absurd (omega arith)
+new-column (c ∷ cs) zero a l = refl
+new-column (c ∷ cs) (suc k) a l = rw (ne-eqb (getD cs k 0) c (λ e. omega (arith, ascending-first c cs a k (omega arith)))) (new-column cs k (ascending-tail c cs a) (omega arith))
+
+module _ (m : Matrix) (order position : List ℕ) (o : Ordered m order) (t : Positions (m .n) order position) where
+  rows : Once (m .n) order
+  rows = once (m .n) order (o .once)
+
+  -- the row at the position of row i is i
+  pub position-back : (i : ℕ) → i < m .n → (getD position i 0 < m .n) × (getD order (getD position i 0) 0 ≡ i)
+  position-back i l =
+      let at = position-at order i (rows .member i l) in
+      let e : getD position i 0 ≡ positionOf order i = ap (λ (v : ℕ). getD position v 0) (sym (at .1)) ∙ t .is (positionOf order i) (omega (arith, at .0, rows .long)) in
+      (omega (arith, at .0, rows .long), ap (λ (p : ℕ). getD order p 0) e ∙ at .1)
+
+  module _ (q : ℕ) (low : q < m .n) {cs : List ℕ} {vs : List ℤ} (is : cs ≡ columnsOf m (getD order q 0)) (beside : vs ≡ valuesOf m (getD order q 0)) where
+    -- the lists when the first k columns have been treated
+    abbrev pub joined : ℕ → ℕ → List ℕ
+    joined k p = laterTo m order p (q + bit (isIn (take k cs) (getD order p 0)))
+
+    stored : (i : ℕ) → isIn cs i ≡ true → isIn (columnsOf m (getD order q 0)) i ≡ true
+    stored i h = ap (λ (xs : List ℕ). isIn xs i) (sym is) ∙ h
+
+    module _ (k : ℕ) (l : k < length cs) where
+      abbrev i : ℕ
+      i = getD cs k 0
+
+      abbrev p : ℕ
+      p = getD position i 0
+
+      here : isIn cs i ≡ true
+      here = isIn-get cs k l
+
+      pub column-below : i < m .n
+      column-below = column-low m (o .matrix) (getD order q 0) i (stored i here)
+
+      ascends : ascending cs ≡ true
+      ascends = ap ascending is ∙ matrix-facts m (o .matrix) .row (getD order q 0) (low-at (m .n) order q (rows .low) (omega (arith, rows .long))) .ascends
+
+      back : (p < m .n) × (getD order p 0 ≡ i)
+      back = position-back i column-below
+
+      -- the lists of the other rows stay, that of i is complete before q
+      taken : (r : ℕ) → isIn (take (k + 1) cs) r ≡ isIn (take k cs) r || eqb r i
+      taken r = ap (λ (j : ℕ). isIn (take j cs) r) (add-one k) ∙ ap (λ (xs : List ℕ). isIn xs r) (take-suc cs k 0 l) ∙ isIn-append (take k cs) (i ∷ []) r ∙ ap (λ (b : Bool). isIn (take k cs) r || b) (or-false (eqb r i))
+
+      before : joined k p ≡ laterTo m order p q
+      before = rw (back .1, new-column cs k ascends l) (let e : q + 0 ≡ q = omega arith in ap (laterTo m order p) e)
+
+      near : p ≢ q → adjacent m i (getD order q 0) ≡ true
+      unfolding adjacent
+      near d = adjacent-both m (o .matrix) (getD order q 0) i (column-neighbour m (getD order q 0) i (stored i here) (λ e. injective (m .n) order rows p q (back .0) low d (back .1 ∙ e)))
+
+      -- q is taken up if row i stands before it
+      up : laterTo m order p (suc q) ≡ laterTo m order p q ++ keep (ltb p q) q []
+      up = go (ltb p q) refl
+        where
+          go : (b : Bool) → ltb p q ≡ b → laterTo m order p (suc q) ≡ laterTo m order p q ++ keep b q []
+          go true e =
+              let h = ltb-true p q e in
+              later-next m order p q h ∙ rw (back .1, near (λ y. omega arith))
+          go false e =
+              let h = ltb-false p q e in
+              rw (later-before m order p (suc q) (omega arith), later-before m order p q (omega arith))
+
+      -- there is room for it, whether it is or not
+      pub room : getD (m .starts) (getD order p 0) 0 + length (joined k p) < getD (m .starts) (suc (getD order p 0)) 0
+      room = rw before (go (ltb p q) refl up)
+        where
+          row : ℕ
+          row = getD order p 0
+
+          low-row : row < m .n
+          low-row = low-at (m .n) order p (rows .low) (omega (arith, rows .long, back .0))
+
+          size : getD (m .starts) row 0 + length (columnsOf m row) ≡ getD (m .starts) (suc row) 0
+          size = omega (arith, rw add-one at (length-columns m (matrix-tidy m (o .matrix) .shape) row low-row), matrix-facts m (o .matrix) .row row low-row .rises)
+
+          mirror : isIn (columnsOf m row) (getD order q 0) ≡ true
+          mirror = rw (back .1) (matrix-facts m (o .matrix) .row (getD order q 0) (low-at (m .n) order q (rows .low) (omega (arith, rows .long))) .mirror i (stored i here) .0)
+
+          go : (b : Bool) → ltb p q ≡ b → laterTo m order p (suc q) ≡ laterTo m order p q ++ keep b q [] → getD (m .starts) row 0 + length (laterTo m order p q) < getD (m .starts) (suc row) 0
+          go true e u =
+              let n : suc q + (m .n - suc q) ≡ m .n = omega arith in
+              omega (arith, ap length u, length-append (laterTo m order p q) (q ∷ []), rw n at (later-mono m order p (suc q) (m .n - suc q)), later-few m order p rows, size)
+          go false e u =
+              omega (arith, ap length (later-before m order p q (omega (arith, ltb-false p q e))), in-pos (columnsOf m row) (getD order q 0) mirror, size)
+
+      -- the value beside the column is the entry of row i with the row at q
+      pub value-is : getD vs k (pos 0) ≡ entry m (getD order p 0) (getD order q 0)
+      value-is = sym (lookup-get cs vs k ascends l) ∙ entry-row m (getD order q 0) i is beside ∙ symmetric m (o .matrix) (getD order q 0) i ∙ ap (λ (r : ℕ). entry m r (getD order q 0)) (sym (back .1))
+
+      pub joined-next : (r : ℕ) → r < m .n → grown (joined k) p (ltb p q) q r ≡ joined (k + 1) r
+      joined-next r h = go (same-or r p)
+        where
+          go : (r ≡ p) ⊎ (r ≢ p) → grown (joined k) p (ltb p q) q r ≡ joined (k + 1) r
+          go (inl e) =
+              rw (eq-eqb r p e, before, e, taken (getD order p 0), back .1, eq-eqb i i refl, or-true (isIn (take k cs) i))
+              (sym up ∙ ap (laterTo m order p) (sym (add-one q)))
+          go (inr d) =
+              rw (ne-eqb r p d, taken (getD order r 0), ne-eqb (getD order r 0) i (λ e. injective (m .n) order rows r p h (back .0) d (e ∙ sym (back .1))), or-false (isIn (take k cs) (getD order r 0)))
+
+    -- no column has been treated
+    pub joined-none : (r : ℕ) → laterTo m order r q ≡ joined 0 r
+    joined-none r = let e : q ≡ q + 0 = omega arith in ap (laterTo m order r) e
+
+    -- all have
+    pub joined-all : (r : ℕ) → r < m .n → joined (length cs) r ≡ laterTo m order r (q + 1)
+    unfolding adjacent
+    joined-all r h = rw (take-length cs) (go (isIn cs (getD order r 0)) refl (ltb r q) refl)
+      where
+        far : isIn cs (getD order r 0) ≡ false → adjacent m (getD order r 0) (getD order q 0) ≡ false
+        far e = is-false (λ y. clash (ap (λ (xs : List ℕ). isIn xs (getD order r 0)) is ∙ neighbour-column m (getD order q 0) (getD order r 0) (adjacent-both m (o .matrix) (getD order r 0) (getD order q 0) y)) e)
+
+        go : (b : Bool) → isIn cs (getD order r 0) ≡ b → (c : Bool) → ltb r q ≡ c → laterTo m order r (q + bit b) ≡ laterTo m order r (q + 1)
+        go true e c f = refl
+        go false e true f =
+            (let x : q + 0 ≡ q = omega arith in ap (laterTo m order r) x)
+            ∙ sym (ap (laterTo m order r) (add-one q) ∙ later-next m order r q (ltb-true r q f) ∙ rw (far e) (append-nil (laterTo m order r q)))
+        go false e false f =
+            let x = ltb-false r q f in
+            later-before m order r (q + 0) (omega arith) ∙ sym (later-before m order r (q + 1) (omega arith))
