@@ -3,13 +3,14 @@ use mathlib.Core.Path.{_≡_, refl, sym, ap, _∙_, subst}
 use mathlib.Core.Logic.{_⊎_, inl, inr, _≢_}
 use mathlib.Core.Bool.{Bool, true, false, cond, _||_}
 use mathlib.Core.List.{List, [], _∷_, _++_, append-nil}
-use Prim.Native.Nat.{ℕ, zero, suc, _+_, _-_, _<_}
+use Prim.Native.Nat.{ℕ, zero, suc, _+_, _-_, _*_, _<_}
 use native.Mathlib.Numerals.{add-one}
 use native.Mathlib.Omega.{arith}
 use lib.Dec.{eqb, ltb}
 use lib.IntN.{ℤ, pos}
-use lib.ListN.{length, getD, take, length-append}
+use lib.ListN.{length, getD, set, take, length-append}
 use lib.Seq.{take-suc, take-length, getD-take, length-take-le}
+use mir.Val.{boolByte}
 use borrow.Author.Tests.{eq-eqb, ne-eqb, ltb-true, ltb-false}
 use Rattle.base.specs.Lists.{keep, isIn, bit}
 use Rattle.base.proofs.Booleans.{same-or, clash, is-false, or-true, or-false}
@@ -17,20 +18,26 @@ use Rattle.base.proofs.Lists.{isIn-append, in-pos}
 use Rattle.matrix.specs.Matrix.{Matrix, columnsOf, valuesOf, entry, ascending, adjacent, neighbours}
 use Rattle.matrix.proofs.Matrix.{MatrixFacts, matrix-facts, column-low, column-neighbour, neighbour-column, adjacent-both, symmetric}
 use Rattle.matrix.proofs.Ascending.{ascending-first, ascending-tail, isIn-get, lookup-get}
+use Rattle.matrix.specs.Checks.{shaped}
+use Rattle.matrix.specs.Limits.{maxEntries}
 use Rattle.matrix.proofs.Checks.{matrix-tidy}
-use Rattle.matrix.proofs.Rows.{entry-row, length-columns}
+use Rattle.matrix.proofs.Rows.{entry-row, length-columns, length-values}
 use Rattle.plan.proofs.Once.{Once, once, low-at, injective}
 use Rattle.run.specs.Machine.{positionOf}
 use Rattle.run.specs.Tables.{Positions, Ordered, laterTo, Placed, Later}
 use Rattle.run.proofs.Positions.{position-at}
 use Rattle.run.proofs.LaterRows.{later-before, later-next, later-few, later-mono}
-use Rattle.run.proofs.PlacedRows.{grown, placed-next, placed-same}
+use Rattle.run.proofs.PlacedRows.{grown, slot-below, placed-next, placed-same}
 
 -- a column of an ascending row is not among those before it
 new-column : (cs : List ℕ) (k : ℕ) → ascending cs ≡ true → k < length cs → isIn (take k cs) (getD cs k 0) ≡ false
 new-column [] k a l = absurd (omega arith)
 new-column (c ∷ cs) zero a l = refl
 new-column (c ∷ cs) (suc k) a l = rw (ne-eqb (getD cs k 0) c (λ e. omega (arith, ascending-first c cs a k (omega arith)))) (new-column cs k (ascending-tail c cs a) (omega arith))
+
+-- the lists of later positions when the first k columns cs of the row at q have been treated
+abbrev pub joined : Matrix → (order : List ℕ) (q : ℕ) (cs : List ℕ) (k p : ℕ) → List ℕ
+joined m order q cs k p = laterTo m order p (q + bit (isIn (take k cs) (getD order p 0)))
 
 module _ (m : Matrix) (order position : List ℕ) (o : Ordered m order) (t : Positions (m .n) order position) where
   rows : Once (m .n) order
@@ -44,10 +51,6 @@ module _ (m : Matrix) (order position : List ℕ) (o : Ordered m order) (t : Pos
       (omega (arith, at .0, rows .long), ap (λ (p : ℕ). getD order p 0) e ∙ at .1)
 
   module _ (q : ℕ) (low : q < m .n) {cs : List ℕ} {vs : List ℤ} (is : cs ≡ columnsOf m (getD order q 0)) (beside : vs ≡ valuesOf m (getD order q 0)) where
-    -- the lists when the first k columns have been treated
-    abbrev pub joined : ℕ → ℕ → List ℕ
-    joined k p = laterTo m order p (q + bit (isIn (take k cs) (getD order p 0)))
-
     stored : (i : ℕ) → isIn cs i ≡ true → isIn (columnsOf m (getD order q 0)) i ≡ true
     stored i h = ap (λ (xs : List ℕ). isIn xs i) (sym is) ∙ h
 
@@ -61,7 +64,7 @@ module _ (m : Matrix) (order position : List ℕ) (o : Ordered m order) (t : Pos
       here : isIn cs i ≡ true
       here = isIn-get cs k l
 
-      pub column-below : i < m .n
+      column-below : i < m .n
       column-below = column-low m (o .matrix) (getD order q 0) i (stored i here)
 
       ascends : ascending cs ≡ true
@@ -74,7 +77,7 @@ module _ (m : Matrix) (order position : List ℕ) (o : Ordered m order) (t : Pos
       taken : (r : ℕ) → isIn (take (k + 1) cs) r ≡ isIn (take k cs) r || eqb r i
       taken r = ap (λ (j : ℕ). isIn (take j cs) r) (add-one k) ∙ ap (λ (xs : List ℕ). isIn xs r) (take-suc cs k 0 l) ∙ isIn-append (take k cs) (i ∷ []) r ∙ ap (λ (b : Bool). isIn (take k cs) r || b) (or-false (eqb r i))
 
-      before : joined k p ≡ laterTo m order p q
+      before : joined m order q cs k p ≡ laterTo m order p q
       before = rw (back .1, new-column cs k ascends l) (let e : q + 0 ≡ q = omega arith in ap (laterTo m order p) e)
 
       near : p ≢ q → adjacent m i (getD order q 0) ≡ true
@@ -94,7 +97,7 @@ module _ (m : Matrix) (order position : List ℕ) (o : Ordered m order) (t : Pos
               rw (later-before m order p (suc q) (omega arith), later-before m order p q (omega arith))
 
       -- there is room for it, whether it is or not
-      pub room : getD (m .starts) (getD order p 0) 0 + length (joined k p) < getD (m .starts) (suc (getD order p 0)) 0
+      room : getD (m .starts) (getD order p 0) 0 + length (joined m order q cs k p) < getD (m .starts) (suc (getD order p 0)) 0
       room = rw before (go (ltb p q) refl up)
         where
           row : ℕ
@@ -117,25 +120,73 @@ module _ (m : Matrix) (order position : List ℕ) (o : Ordered m order) (t : Pos
               omega (arith, ap length (later-before m order p q (omega (arith, ltb-false p q e))), in-pos (columnsOf m row) (getD order q 0) mirror, size)
 
       -- the value beside the column is the entry of row i with the row at q
-      pub value-is : getD vs k (pos 0) ≡ entry m (getD order p 0) (getD order q 0)
+      value-is : getD vs k (pos 0) ≡ entry m (getD order p 0) (getD order q 0)
       value-is = sym (lookup-get cs vs k ascends l) ∙ entry-row m (getD order q 0) i is beside ∙ symmetric m (o .matrix) (getD order q 0) i ∙ ap (λ (r : ℕ). entry m r (getD order q 0)) (sym (back .1))
 
-      pub joined-next : (r : ℕ) → r < m .n → grown (joined k) p (ltb p q) q r ≡ joined (k + 1) r
+      joined-next : (r : ℕ) → r < m .n → grown (joined m order q cs k) p (ltb p q) q r ≡ joined m order q cs (k + 1) r
       joined-next r h = go (same-or r p)
         where
-          go : (r ≡ p) ⊎ (r ≢ p) → grown (joined k) p (ltb p q) q r ≡ joined (k + 1) r
+          go : (r ≡ p) ⊎ (r ≢ p) → grown (joined m order q cs k) p (ltb p q) q r ≡ joined m order q cs (k + 1) r
           go (inl e) =
               rw (eq-eqb r p e, before, e, taken (getD order p 0), back .1, eq-eqb i i refl, or-true (isIn (take k cs) i))
               (sym up ∙ ap (laterTo m order p) (sym (add-one q)))
           go (inr d) =
               rw (ne-eqb r p d, taken (getD order r 0), ne-eqb (getD order r 0) i (λ e. injective (m .n) order rows r p h (back .0) d (e ∙ sym (back .1))), or-false (isIn (take k cs) (getD order r 0)))
 
+      -- one column more, of row r
+      pub record Turn (r : ℕ) (counts at : List ℕ) (values : List ℤ) : Type 0 where
+        pub row-below : r < m .n
+        pub beside-long : k < length vs
+        pub place : getD (m .starts) r 0 + getD counts r 0 < 2 * maxEntries
+        pub next : Placed m order (joined m order q cs (k + 1))
+            (set counts r (getD counts r 0 + boolByte (ltb (getD position r 0) q)))
+            (set at (getD (m .starts) r 0 + getD counts r 0) q)
+            (set values (getD (m .starts) r 0 + getD counts r 0) (getD vs k (pos 0)))
+
+      pub join-turn : {r : ℕ} {counts at : List ℕ} {values : List ℤ} → r ≡ getD cs k 0 → Placed m order (joined m order q cs k) counts at values → Turn r counts at values
+      join-turn {r} {counts} {at} {values} e d = subst (λ (y : ℕ). Turn y counts at values) (sym e) (record {
+        row-below = column-below;
+        beside-long = omega (arith, ap length is, ap length beside, length-columns m shape (getD order q 0) low-row, length-values m shape (getD order q 0) low-row);
+        place = subst (λ (y : ℕ). getD (m .starts) y 0 + getD counts y 0 < 2 * maxEntries) (back .1)
+            (subst (λ (n : ℕ). getD (m .starts) row 0 + n < 2 * maxEntries) (sym count) (slot-below m order o L p (back .0) b q v (λ e. value-is) room d));
+        next = placed-same m order (grown L p b q) (joined m order q cs (k + 1)) joined-next
+            (subst (λ (y : ℕ). Placed m order (grown L p b q) (set counts y (getD counts y 0 + boolByte b)) (set at (getD (m .starts) y 0 + getD counts y 0) q) (set values (getD (m .starts) y 0 + getD counts y 0) v)) (back .1)
+              (subst (λ (n : ℕ). Placed m order (grown L p b q) (set counts row (n + boolByte b)) (set at (getD (m .starts) row 0 + n) q) (set values (getD (m .starts) row 0 + n) v)) (sym count)
+                (subst (λ (y : ℕ). Placed m order (grown L p b q) (set counts row (length (L p) + y)) (set at (getD (m .starts) row 0 + length (L p)) q) (set values (getD (m .starts) row 0 + length (L p)) v)) (byte b)
+                  (placed-next m order o L p (back .0) b q v (λ e. value-is) room d))));
+      })
+        where
+          L : ℕ → List ℕ
+          L = joined m order q cs k
+
+          b : Bool
+          b = ltb p q
+
+          byte : (x : Bool) → bit x ≡ boolByte x
+          byte true = refl
+          byte false = refl
+
+          v : ℤ
+          v = getD vs k (pos 0)
+
+          row : ℕ
+          row = getD order p 0
+
+          count : getD counts row 0 ≡ length (L p)
+          count = d .counted p (back .0)
+
+          shape : shaped m ≡ true
+          shape = matrix-tidy m (o .matrix) .shape
+
+          low-row : getD order q 0 < m .n
+          low-row = low-at (m .n) order q (rows .low) (omega (arith, rows .long))
+
     -- no column has been treated
-    pub joined-none : (r : ℕ) → laterTo m order r q ≡ joined 0 r
+    pub joined-none : (r : ℕ) → laterTo m order r q ≡ joined m order q cs 0 r
     joined-none r = let e : q ≡ q + 0 = omega arith in ap (laterTo m order r) e
 
     -- all have
-    pub joined-all : (r : ℕ) → r < m .n → joined (length cs) r ≡ laterTo m order r (q + 1)
+    pub joined-all : (r : ℕ) → r < m .n → joined m order q cs (length cs) r ≡ laterTo m order r (q + 1)
     unfolding adjacent
     joined-all r h = rw (take-length cs) (go (isIn cs (getD order r 0)) refl (ltb r q) refl)
       where

@@ -3,11 +3,12 @@ use mathlib.Core.Path.{_≡_}
 use mathlib.Core.Bool.{true}
 use mathlib.Core.List.{List}
 use Prim.Native.Nat.{ℕ, suc, _+_, _-_, _*_, _≤_, _<_}
-use lib.ListN.{length, getD}
+use lib.ListN.{length, getD, take}
 use lib.IntN.{ℤ, pos}
 use Rattle.base.specs.Lists.{filter, range}
 use Rattle.matrix.specs.Limits.{maxRows, maxEntries}
 use Rattle.matrix.specs.Matrix.{Matrix, entry, adjacent, isMatrix}
+use Rattle.matrix.specs.Checks.{matrixOf}
 use Rattle.plan.specs.Sound.{eachOnce}
 
 -- where the rows at the first k positions of the order stand
@@ -19,6 +20,11 @@ pub record Positions (k : ℕ) (order position : List ℕ) : Type 0 where
 pub record Ordered (m : Matrix) (order : List ℕ) : Type 0 where
   pub matrix : isMatrix m ≡ true
   pub once : eachOnce (m .n) order ≡ true
+
+-- lent lists that hold both
+pub record Lent (n : ℕ) (starts columns : List ℕ) (values : List ℤ) (order : List ℕ) : Type 0 where
+  pub ordered : Ordered (matrixOf n starts columns values) (take n order)
+  pub long : n ≤ length order
 
 -- the positions after p and before q whose rows are adjacent to the row at p
 unfoldable pub laterTo : Matrix → (order : List ℕ) (p q : ℕ) → List ℕ
