@@ -43,3 +43,17 @@ fn join(n: usize, starts: &[u32], columns: &[u32], values: &[i32], order: &[u32]
         k += 1;
     }
 }
+
+// The later positions of every row, beside their entries.
+pub(crate) fn later(n: usize, starts: &[u32], columns: &[u32], values: &[i32], order: &[u32], position: &[u32; 4096], counts: &mut [u32; 4096], at: &mut [u16; 65536], beside: &mut [i32; 65536])
+    requires { ⌜ Lent n (now starts) (now columns) (now values) (now order) × Positions n (take n (now order)) (now position)
+        × Later (matrixOf n (now starts) (now columns) (now values)) (take n (now order)) 0 (now counts) (now at) (now beside) ⌝ }
+    ensures { λ _. ⌜ Later (matrixOf n (now (starts .entry)) (now (columns .entry)) (now (values .entry))) (take n (now (order .entry))) n
+        (now (counts .exit)) (now (at .exit)) (now (beside .exit)) ⌝ }
+{
+    let mut q = 0;
+    while q < n {
+        join(n, starts, columns, values, order, position, q, counts, at, beside);
+        q += 1;
+    }
+}
