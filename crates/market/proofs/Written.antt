@@ -122,7 +122,7 @@ lines-length n hn (e ∷ es) done g =
     let m = lines-length n hn es (done ++ e ∷ []) (g .2) in
     rw length-append (omega arith)
 
-header-length : length header ≡ 51
+pub header-length : length header ≡ 51
 unfolding header
 header-length = refl
 

@@ -6,3 +6,4 @@ pub mod Marks
 pub mod Slots
 pub mod Buckets
 pub mod Rows
+pub mod Puts

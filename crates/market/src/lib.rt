@@ -8,6 +8,7 @@ mod marks;
 pub mod numbers;
 mod opening;
 mod parse;
+mod puts;
 mod rows;
 
 use base::Answer;

@@ -10,7 +10,7 @@ ghost use Rattle.market.specs.Bytes.{header};
 ghost use Rattle.market.specs.Code.Opening.{LineEnds, Skipped};
 
 // Line 1.
-const HEADER: [u8; 51] = *b"%%MatrixMarket matrix coordinate integer symmetric\n";
+pub(crate) const HEADER: [u8; 51] = *b"%%MatrixMarket matrix coordinate integer symmetric\n";
 
 // Whether a text begins with line 1.
 pub(crate) fn has_header(s: &[u8]) -> bool
