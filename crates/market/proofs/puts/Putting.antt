@@ -1,6 +1,6 @@
 -- Bytes put one after the other.
 use mathlib.Core.Path.{_≡_, refl, sym, ap, subst, _∙_}
-use mathlib.Core.List.{List, [], _∷_, _++_, append-assoc}
+use mathlib.Core.List.{List, [], _∷_, _++_, append-assoc, append-nil}
 use Prim.Native.Nat.{ℕ, _+_, _≤_, _<_}
 use native.Mathlib.Numerals.{add-one}
 use native.Mathlib.Omega.{arith}
@@ -60,3 +60,35 @@ module _ {hs old text : List ℕ} {i : ℕ} (g : Copying hs old text i) where
       let e : i ≡ length hs = omega (arith, g .count) in
       let z : 0 + length hs ≡ length hs = omega arith in
       record { next = er ∙ sym z; long = g .long; text = g .text-is ∙ rw (e, take-length hs, z) }
+
+-- what is left begins with xs
+pub record Next (left xs left′ : List ℕ) : Type 0 where
+  pub is : left ≡ xs ++ left′
+
+-- of the bytes whole, those before left are put
+pub record Putting (whole left : List ℕ) (at p : ℕ) (old text : List ℕ) : Type 0 where
+  pub done : List ℕ
+  pub split : done ++ left ≡ whole
+  pub put : Put done at p old text
+  pub room : at + length whole ≤ length old
+
+pub putting-start : (whole : List ℕ) (at : ℕ) (old : List ℕ) → at + length whole ≤ length old → Putting whole whole at at old old
+putting-start whole at old h = record { done = []; split = refl; put = put-none old at; room = h }
+
+module _ {whole left : List ℕ} {at p : ℕ} {old text : List ℕ} (g : Putting whole left at p old text) where
+  -- xs are next, and there is room for them
+  module _ {xs left′ : List ℕ} (n : Next left xs left′) where
+    pub putting-room : p + length xs ≤ length text
+    putting-room = omega (arith, g .put .next, g .put .long, g .room, ap length (g .split), length-append (g .done) left, ap length (n .is), length-append xs left′)
+
+    pub putting-more : {q : ℕ} {new : List ℕ} → Put xs p q text new → Putting whole left′ at q old new
+    putting-more a = record {
+      done = g .done ++ xs;
+      split = append-assoc (g .done) xs left′ ∙ ap (λ (l : List ℕ). g .done ++ l) (sym (n .is)) ∙ g .split;
+      put = put-then (omega (arith, g .room)) (g .put) a;
+      room = g .room;
+    }
+
+  -- nothing is left
+  pub putting-end : left ≡ [] → Put whole at p old text
+  putting-end e = put-as (sym (append-nil (g .done)) ∙ ap (λ (l : List ℕ). g .done ++ l) (sym e) ∙ g .split) (g .put)

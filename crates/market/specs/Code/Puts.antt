@@ -3,7 +3,7 @@ use mathlib.Core.Path.{_≡_}
 use mathlib.Core.Bool.{cond}
 use mathlib.Core.List.{List, [], _∷_, _++_, map}
 use Prim.Native.Nat.{ℕ, _+_, _≤_, _<_}
-use lib.Dec.{leb}
+use lib.Dec.{ltb}
 use lib.IntN.{ℤ}
 use lib.ListN.{length, getD, take, drop}
 use Rattle.base.specs.Lists.{concat}
@@ -17,11 +17,15 @@ pub record Put (xs : List ℕ) (at r : ℕ) (old new : List ℕ) : Type 0 where
   pub long : length new ≡ length old
   pub text : new ≡ take at old ++ (xs ++ drop (at + length xs) old)
 
--- of row j's columns and values, the entries from the diagonal on, mirrored: column j on and below the diagonal
+-- the entry of row j and column c, mirrored, if c is not before the diagonal
+unfoldable pub ifLower : (j c : ℕ) → ℤ → List Triplet
+ifLower j c v = cond (ltb c j) [] (triplet c j v ∷ [])
+
+-- of row j's columns and values, those from the diagonal on, mirrored: column j on and below the diagonal
 unfoldable pub fromDiagonal : (j : ℕ) → List ℕ → List ℤ → List Triplet
 fromDiagonal j [] vs = []
 fromDiagonal j (c ∷ cs) [] = []
-fromDiagonal j (c ∷ cs) (v ∷ vs) = cond (leb j c) (triplet c j v ∷ []) [] ++ fromDiagonal j cs vs
+fromDiagonal j (c ∷ cs) (v ∷ vs) = ifLower j c v ++ fromDiagonal j cs vs
 
 -- the lines of entries
 abbrev pub linesOf : List Triplet → List ℕ

@@ -1,0 +1,4 @@
+pub mod Entries
+pub mod Tallies
+pub mod Rows
+pub mod Replies
