@@ -151,9 +151,9 @@ module _ (m : Matrix) (order position : List ℕ) (o : Ordered m order) (t : Pos
             (subst (λ (n : ℕ). getD (m .starts) row 0 + n < 2 * maxEntries) (sym count) (slot-below m order o L p (back .0) b q v (λ e. value-is) room d));
         next = placed-same m order (grown L p b q) (joined m order q cs (k + 1)) joined-next
             (subst (λ (y : ℕ). Placed m order (grown L p b q) (set counts y (getD counts y 0 + boolByte b)) (set at (getD (m .starts) y 0 + getD counts y 0) q) (set values (getD (m .starts) y 0 + getD counts y 0) v)) (back .1)
-              (subst (λ (n : ℕ). Placed m order (grown L p b q) (set counts row (n + boolByte b)) (set at (getD (m .starts) row 0 + n) q) (set values (getD (m .starts) row 0 + n) v)) (sym count)
-                (subst (λ (y : ℕ). Placed m order (grown L p b q) (set counts row (length (L p) + y)) (set at (getD (m .starts) row 0 + length (L p)) q) (set values (getD (m .starts) row 0 + length (L p)) v)) (byte b)
-                  (placed-next m order o L p (back .0) b q v (λ e. value-is) room d))));
+            (subst (λ (n : ℕ). Placed m order (grown L p b q) (set counts row (n + boolByte b)) (set at (getD (m .starts) row 0 + n) q) (set values (getD (m .starts) row 0 + n) v)) (sym count)
+            (subst (λ (y : ℕ). Placed m order (grown L p b q) (set counts row (length (L p) + y)) (set at (getD (m .starts) row 0 + length (L p)) q) (set values (getD (m .starts) row 0 + length (L p)) v)) (byte b)
+            (placed-next m order o L p (back .0) b q v (λ e. value-is) room d))));
       })
         where
           L : ℕ → List ℕ

@@ -58,8 +58,13 @@ one-below v (suc n) = go (eqb n v) refl (one-below v n)
 different : (n : ℕ) (xs : List ℕ) → sumBelow (λ v. bit (isIn xs v)) n ≤ length xs
 different n [] = omega (arith, sum-below-bound (λ v. 0) n 0 (λ v l. omega arith))
 different n (x ∷ xs) =
-    omega (arith, different n xs, one-below x n, sum-below-add (λ v. bit (eqb v x)) (λ v. bit (isIn xs v)) n,
-      sum-below-le (λ v. bit (eqb v x || isIn xs v)) (λ v. bit (eqb v x) + bit (isIn xs v)) n (λ v l. either (eqb v x) (isIn xs v)))
+    omega (
+      arith,
+      different n xs,
+      one-below x n,
+      sum-below-add (λ v. bit (eqb v x)) (λ v. bit (isIn xs v)) n,
+      sum-below-le (λ v. bit (eqb v x || isIn xs v)) (λ v. bit (eqb v x) + bit (isIn xs v)) n (λ v l. either (eqb v x) (isIn xs v)),
+    )
   where
     either : (a b : Bool) → bit (a || b) ≤ bit a + bit b
     either true b = omega arith
@@ -88,8 +93,13 @@ module _ (m : Matrix) (order : List ℕ) (p : ℕ) where
   unfolding adjacent
   later-few once =
       let i : ℕ = getD order p 0 in
-      omega (arith, later-sum (m .n), sum-below-order (λ v. bit (adjacent m i v)) (m .n) order once,
-        sum-below-le (λ v. bit (adjacent m i v)) (λ v. bit (isIn (columnsOf m i) v)) (m .n) (λ v l. stored v (isIn (neighbours m i) v) refl), different (m .n) (columnsOf m i))
+      omega (
+        arith,
+        later-sum (m .n),
+        sum-below-order (λ v. bit (adjacent m i v)) (m .n) order once,
+        sum-below-le (λ v. bit (adjacent m i v)) (λ v. bit (isIn (columnsOf m i) v)) (m .n) (λ v l. stored v (isIn (neighbours m i) v) refl),
+        different (m .n) (columnsOf m i),
+      )
     where
       stored : (v : ℕ) (b : Bool) → isIn (neighbours m (getD order p 0)) v ≡ b → bit b ≤ bit (isIn (columnsOf m (getD order p 0)) v)
       stored v true e = rw (neighbour-column m (getD order p 0) v e) (omega arith)

@@ -77,8 +77,8 @@ module _ (m : Matrix) (order : List ℕ) (o : Ordered m order) (L : ℕ → List
       other : (r c : ℕ) → r < m .n → r ≢ p → c < length (L r) → getD (set xs place v) (getD (m .starts) (getD order r 0) 0 + c) d ≡ g r (getD (L r) c 0)
       other r c l e h =
           getD-set-other xs place (getD (m .starts) (getD order r 0) 0 + c) v d
-            (places-apart m (o .matrix) (getD order p 0) (getD order r 0) place (getD (m .starts) (getD order r 0) 0 + c) (row-low p low) (row-low r l)
-              (injective (m .n) order rows p r low l (λ y. e (sym y))) (omega arith) room (omega arith) (omega (arith, inside r l)))
+          (places-apart m (o .matrix) (getD order p 0) (getD order r 0) place (getD (m .starts) (getD order r 0) 0 + c) (row-low p low) (row-low r l)
+          (injective (m .n) order rows p r low l (λ y. e (sym y))) (omega arith) room (omega arith) (omega (arith, inside r l)))
           ∙ had r c l h
 
       own : (c : ℕ) → c < length (L p ++ keep b q []) → getD (set xs place v) (getD (m .starts) (getD order p 0) 0 + c) d ≡ g p (getD (L p ++ keep b q []) c 0)

@@ -1,5 +1,6 @@
 // Where rows stand in the order, and which adjacent rows stand after each.
-use matrix::row::{columns_of, values_of};
+use matrix::row::columns_of;
+use matrix::row::values_of;
 use plan::fields::wide_at;
 ghost use mathlib.Core.Path.{_≡_};
 ghost use mathlib.Core.Bool.{true};
@@ -23,7 +24,18 @@ pub(crate) fn positions(order: &[u32], n: usize, position: &mut [u32; 4096])
 }
 
 // Position q joins the later positions of each row that stands before it and is adjacent to its row. A row's next place is written in any case: it counts only if q joins.
-fn join(n: usize, starts: &[u32], columns: &[u32], values: &[i32], order: &[u32], position: &[u32; 4096], q: usize, counts: &mut [u32; 4096], at: &mut [u16; 65536], beside: &mut [i32; 65536])
+fn join(
+    n: usize,
+    starts: &[u32],
+    columns: &[u32],
+    values: &[i32],
+    order: &[u32],
+    position: &[u32; 4096],
+    q: usize,
+    counts: &mut [u32; 4096],
+    at: &mut [u16; 65536],
+    beside: &mut [i32; 65536],
+)
     requires { ⌜ Lent n (now starts) (now columns) (now values) (now order) × Positions n (take n (now order)) (now position) × (q < n)
         × Later (matrixOf n (now starts) (now columns) (now values)) (take n (now order)) q (now counts) (now at) (now beside) ⌝ }
     ensures { λ _. ⌜ Later (matrixOf n (now (starts .entry)) (now (columns .entry)) (now (values .entry))) (take n (now (order .entry))) (q + 1)
@@ -45,7 +57,17 @@ fn join(n: usize, starts: &[u32], columns: &[u32], values: &[i32], order: &[u32]
 }
 
 // The later positions of every row, beside their entries.
-pub(crate) fn later(n: usize, starts: &[u32], columns: &[u32], values: &[i32], order: &[u32], position: &[u32; 4096], counts: &mut [u32; 4096], at: &mut [u16; 65536], beside: &mut [i32; 65536])
+pub(crate) fn later(
+    n: usize,
+    starts: &[u32],
+    columns: &[u32],
+    values: &[i32],
+    order: &[u32],
+    position: &[u32; 4096],
+    counts: &mut [u32; 4096],
+    at: &mut [u16; 65536],
+    beside: &mut [i32; 65536],
+)
     requires { ⌜ Lent n (now starts) (now columns) (now values) (now order) × Positions n (take n (now order)) (now position)
         × Later (matrixOf n (now starts) (now columns) (now values)) (take n (now order)) 0 (now counts) (now at) (now beside) ⌝ }
     ensures { λ _. ⌜ Later (matrixOf n (now (starts .entry)) (now (columns .entry)) (now (values .entry))) (take n (now (order .entry))) n
@@ -53,7 +75,18 @@ pub(crate) fn later(n: usize, starts: &[u32], columns: &[u32], values: &[i32], o
 {
     let mut q = 0;
     while q < n {
-        join(n, starts, columns, values, order, position, q, counts, at, beside);
+        join(
+            n,
+            starts,
+            columns,
+            values,
+            order,
+            position,
+            q,
+            counts,
+            at,
+            beside,
+        );
         q += 1;
     }
 }
