@@ -3,10 +3,11 @@ use mathlib.Core.Path.{_≡_, refl, sym, _∙_}
 use mathlib.Core.Logic.{_⊎_, inl, inr, _≢_}
 use mathlib.Core.Bool.{Bool, true, false, not, _&&_, _||_, true≢false}
 use mathlib.Core.List.{List, [], _∷_}
-use Prim.Native.Nat.{ℕ, zero, suc}
-use lib.Dec.{eqb}
+use Prim.Native.Nat.{ℕ, zero, suc, _≤_, min}
+use native.Mathlib.Omega.{arith}
+use lib.Dec.{eqb, leb}
 use lib.ListN.{getD}
-use borrow.Author.Tests.{eqb-true, eqb-false, eq-eqb, ne-eqb, not-true, not-false}
+use borrow.Author.Tests.{eqb-true, eqb-false, eq-eqb, ne-eqb, leb-true, le-leb, not-true, not-false}
 
 pub and-false : (b : Bool) → b && false ≡ false
 and-false true = refl
@@ -121,3 +122,7 @@ eqb-sym a b = go (eqb a b) refl
     go : (t : Bool) → eqb a b ≡ t → t ≡ eqb b a
     go true e = sym (eq-eqb b a (sym (eqb-true a b e)))
     go false e = sym (ne-eqb b a (λ n. eqb-false a b e (sym n)))
+
+-- a number is at most the less of two, where it is at most the first
+pub leb-min : (n a b : ℕ) → n ≤ a → leb n (min a b) ≡ leb n b
+leb-min n a b h = both-ways (leb n (min a b)) (leb n b) (λ t. le-leb n b (omega (arith, leb-true n (min a b) t))) (λ t. le-leb n (min a b) (omega (arith, leb-true n b t)))

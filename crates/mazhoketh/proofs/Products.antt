@@ -3,14 +3,14 @@ use mathlib.Core.Path.{_≡_, sym, ap, _∙_}
 use mathlib.Core.Bool.{true}
 use mathlib.Core.List.{List, [], _∷_, _++_, append-assoc}
 use Prim.Native.Nat.{ℕ, _/_, _≤_, min}
+use native.Mathlib.Nat.{min-comm}
 use native.Mathlib.Omega.{arith}
-use lib.Dec.{leb}
 use lib.IntN.{ℤ}
 use lib.ListN.{length, take, drop, length-append}
 use lib.Seq.{take-at, take-all, length-take-le}
-use borrow.Author.Tests.{leb-true, le-leb}
+use borrow.Author.Tests.{leb-true}
 use Rattle.base.specs.Replies.{Reply, accepted, refused, Check, roomFor, lent}
-use Rattle.base.proofs.Booleans.{both-ways}
+use Rattle.base.proofs.Booleans.{leb-min}
 use Rattle.base.proofs.Replies.{inTurn-same, accepted-all, lent-same, lent-accepted, lent-refused}
 use Rattle.base.proofs.Fill.{length-made}
 use Rattle.matrix.specs.Limits.{maxRows}
@@ -68,16 +68,10 @@ module _ (m : Matrix) (x : List ℤ) (room : ℕ) where
       → Answered (productReply m x room) (signedBytes 8 (product m x)) old w new
   displacements-cut t = answered-same displacements-cut-reply (λ k e. ap (λ (l : List ℤ). signedBytes 8 (product m l)) (uncut k e)) t
 
-  room-test : (size : ℕ) → m .n ≤ size → leb (m .n) (min room size) ≡ leb (m .n) room
-  room-test size few =
-      both-ways (leb (m .n) (min room size)) (leb (m .n) room)
-      (λ t. le-leb (m .n) room (omega (arith, leb-true (m .n) (min room size) t)))
-      (λ t. le-leb (m .n) (min room size) (omega (arith, leb-true (m .n) room t)))
-
   -- .. and the room for forces
   pub room-cut : (size : ℕ) → maxRows ≤ size → productReply m x (min room size) ≡ productReply m x room
   unfolding productReply matrixCheck
-  room-cut size enough = inTurn-same refused (matrixCheck m) _ _ _ _ (λ h. rw (room-test size (omega (arith, matrix-facts m h .few))))
+  room-cut size enough = inTurn-same refused (matrixCheck m) _ _ _ _ (λ h. rw (min-comm room size, leb-min (m .n) size room (omega (arith, matrix-facts m h .few))))
 
 -- the lists that a call decodes, cut, for the whole ones
 pub decoded-matrix : (n : ℕ) (starts columns : List ℕ) (values : List ℤ) (x : List ℤ) (room : ℕ) {s c : List ℕ} {v : List ℤ} {old : List ℕ} {w : ℕ} {new : List ℕ}

@@ -1,4 +1,5 @@
 // The C interface: exported functions on numbers and byte lists.
+pub mod check;
 mod lists;
 pub mod product;
 mod word;

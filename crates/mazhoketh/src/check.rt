@@ -1,0 +1,70 @@
+// mzk_check: whether a plan is sound for a matrix.
+use crate::lists::load_columns;
+use crate::lists::load_groups;
+use crate::lists::load_order;
+use crate::lists::load_starts;
+use crate::lists::load_values;
+use crate::word::word_of;
+ghost use mathlib.Core.Path.{_≡_};
+ghost use Rattle.matrix.specs.Checks.{matrixOf};
+ghost use Rattle.plan.specs.Sound.{checkReply};
+ghost use Rattle.words.specs.LittleEndian.{unsigned};
+ghost use Rattle.mazhoketh.specs.Bytes.{matrixIn};
+ghost use Rattle.mazhoketh.specs.Word.{word};
+
+// The matrix is decoded.
+fn check_of(
+    n: u32,
+    starts: &[u32],
+    columns: &[u32],
+    values: &[i32],
+    order: &[u8],
+    groups: &[u8],
+    group_count: u32,
+) -> u64
+    ensures { λ r. ⌜ r ≡ word (checkReply (matrixOf n (now (starts .entry)) (now (columns .entry)) (now (values .entry))) (unsigned 4 (now (order .entry))) (unsigned 4 (now (groups .entry))) «group_count») ⌝ }
+{
+    let mut order_list = [0u32; 4096];
+    let order_len = load_order(order, &mut order_list);
+    let mut group_list = [0u32; 3072];
+    let groups_len = load_groups(groups, &mut group_list);
+    let answer = plan::check(
+        n,
+        starts,
+        columns,
+        values,
+        &order_list[..order_len],
+        &group_list[..groups_len],
+        group_count,
+    );
+    word_of(answer)
+}
+
+#[no_mangle]
+pub extern "C" fn mzk_check(
+    n: u32,
+    row_starts: &[u8],
+    columns: &[u8],
+    values: &[u8],
+    order: &[u8],
+    groups: &[u8],
+    group_count: u32,
+) -> u64
+    ensures { λ r. ⌜ r ≡ word (checkReply (matrixIn n (now («row_starts» .entry)) (now (columns .entry)) (now (values .entry))) (unsigned 4 (now (order .entry))) (unsigned 4 (now (groups .entry))) «group_count») ⌝ }
+{
+    let mut starts = [0u32; 4097];
+    let starts_len = load_starts(row_starts, &mut starts);
+    let mut column_list = [0u32; 65536];
+    let columns_len = load_columns(columns, &mut column_list);
+    let mut value_list = [0i32; 65536];
+    let values_len = load_values(values, &mut value_list);
+    check_of(
+        n,
+        &starts[..starts_len],
+        &column_list[..columns_len],
+        &value_list[..values_len],
+        order,
+        groups,
+        group_count,
+    )
+}
