@@ -22,6 +22,20 @@ extern "C" {
         forces: *mut u8,
         forces_bytes: usize,
     ) -> u64;
+    fn mzk_check(
+        n: u32,
+        row_starts: *const u8,
+        row_starts_bytes: usize,
+        columns: *const u8,
+        columns_bytes: usize,
+        values: *const u8,
+        values_bytes: usize,
+        order: *const u8,
+        order_bytes: usize,
+        groups: *const u8,
+        groups_bytes: usize,
+        group_count: u32,
+    ) -> u64;
 }
 
 /// The product of a matrix and movements on one core.
@@ -50,4 +64,19 @@ pub fn product(
             forces.len(),
         )
     }
+}
+
+/// Whether a plan is sound for a matrix.
+pub fn check(
+    n: u32,
+    row_starts: &[u8],
+    columns: &[u8],
+    values: &[u8],
+    order: &[u8],
+    groups: &[u8],
+    group_count: u32,
+) -> u64 {
+    let ((s, sn), (c, cn), (v, vn)) = (lent!(row_starts), lent!(columns), lent!(values));
+    let ((o, on), (g, gn)) = (lent!(order), lent!(groups));
+    unsafe { mzk_check(n, s, sn, c, cn, v, vn, o, on, g, gn, group_count) }
 }

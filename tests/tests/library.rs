@@ -4,7 +4,7 @@ use mazhoketh_tests::guarded::{on_large_stack, Twin};
 use mazhoketh_tests::library;
 use mazhoketh_tests::oracle::matrix::Matrix;
 use mazhoketh_tests::oracle::prng::Prng;
-use mazhoketh_tests::oracle::{calls, damage, nets, text};
+use mazhoketh_tests::oracle::{calls, damage, nets, plans, text};
 
 /// The bytes of a list of numbers, low byte first.
 fn bytes<T: Copy, const W: usize>(list: &[T], word: fn(T) -> [u8; W]) -> Vec<u8> {
@@ -60,6 +60,20 @@ fn product_both(lists: &Lists, movements: &[u8], length: usize) -> u64 {
     ours
 }
 
+/// Checks a plan for a matrix, both ways; the answer word.
+fn check_both(lists: &Lists, order: &[u8], groups: &[u8], count: u32) -> u64 {
+    let Lists {
+        n,
+        starts,
+        columns,
+        values,
+    } = lists;
+    let ours = library::check(*n, starts, columns, values, order, groups, count);
+    let theirs = calls::check(*n, starts, columns, values, order, groups, count);
+    assert_eq!(ours, theirs, "check");
+    ours
+}
+
 /// Panics unless each of these numbers was met this often.
 fn met(seen: &[usize; 16], numbers: &[usize], least: usize) {
     for &number in numbers {
@@ -90,6 +104,34 @@ fn multiplies_alike() {
             seen[(product_both(&lists, &movements, length) >> 32) as usize] += 1;
         }
         met(&seen, &[0, 5, 6, 9], 1_000);
+    });
+}
+
+#[test]
+fn checks_alike() {
+    on_large_stack(|| {
+        let mut rng = Prng::new(105);
+        let mut seen = [0; 16];
+        for _ in 0..30_000 {
+            let matrix = nets::random_net(&mut rng, 16);
+            let plan = plans::random_plan(&mut rng, &matrix);
+            let (mut order, mut groups) = (plan.order.clone(), plan.flat());
+            let mut count = plan.group_count();
+            if rng.chance(40) {
+                damage::damage_plan(&mut rng, &mut order, &mut groups, &mut count);
+            }
+            let mut lent = matrix;
+            if rng.chance(10) {
+                damage::damage_matrix(&mut rng, &mut lent);
+            }
+            let lists = Lists::new(&mut rng, &lent);
+            let (order, groups) = (
+                bytes(&order, u32::to_le_bytes),
+                bytes(&groups, u32::to_le_bytes),
+            );
+            seen[(check_both(&lists, &order, &groups, count) >> 32) as usize] += 1;
+        }
+        met(&seen, &[0, 5, 8], 1_000);
     });
 }
 

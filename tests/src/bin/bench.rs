@@ -10,7 +10,7 @@ use mazhoketh_tests::library;
 use mazhoketh_tests::oracle::matrix::Matrix;
 use mazhoketh_tests::oracle::nets::{self, Roof};
 use mazhoketh_tests::oracle::prng::Prng;
-use mazhoketh_tests::oracle::{calls, text};
+use mazhoketh_tests::oracle::{calls, planner, text};
 
 /// The rounds that each call is timed in.
 const ROUNDS: usize = 300;
@@ -30,7 +30,7 @@ fn bytes<T: Copy, const W: usize>(list: &[T], word: fn(T) -> [u8; W]) -> Vec<u8>
     list.iter().flat_map(|&number| word(number)).collect()
 }
 
-/// The lists of a matrix as bytes.
+/// The lists of a matrix and of its plan for 16 workers, as bytes.
 struct Lists {
     n: u32,
     starts: Vec<u8>,
@@ -38,12 +38,16 @@ struct Lists {
     values: Vec<u8>,
     movements: Vec<u8>,
     forces: Vec<u8>,
+    order: Vec<u8>,
+    groups: Vec<u8>,
+    count: u32,
 }
 
 impl Lists {
     /// The bytes of a matrix.
     fn new(matrix: &Matrix) -> Lists {
         let n = matrix.n as usize;
+        let plan = planner::plan(matrix.rows(), 16, 60);
         Lists {
             n: matrix.n,
             starts: bytes(&matrix.starts, u32::to_le_bytes),
@@ -51,6 +55,9 @@ impl Lists {
             values: bytes(&matrix.values, i32::to_le_bytes),
             movements: bytes(&vec![-999_999; n], i32::to_le_bytes),
             forces: vec![0; 8 * n],
+            order: bytes(&plan.order, u32::to_le_bytes),
+            groups: bytes(&plan.flat(), u32::to_le_bytes),
+            count: plan.group_count(),
         }
     }
 
@@ -63,17 +70,19 @@ impl Lists {
     /// A call, of the library or of the other implementation; the answer word.
     #[rustfmt::skip]
     fn call(&mut self, call: &str, ours: bool) -> u64 {
-        let Lists { n, starts, columns, values, movements, forces } = self;
+        let Lists { n, starts, columns, values, movements, forces, order, groups, count } = self;
         match (call, ours) {
             ("product", true) => library::product(*n, starts, columns, values, movements, forces),
             ("product", false) => calls::product(*n, starts, columns, values, movements, forces),
+            ("check", true) => library::check(*n, starts, columns, values, order, groups, *count),
+            ("check", false) => calls::check(*n, starts, columns, values, order, groups, *count),
             _ => panic!("no call {call}"),
         }
     }
 }
 
 /// The calls that are timed.
-const CALLS: [&str; 1] = ["product"];
+const CALLS: [&str; 2] = ["product", "check"];
 
 /// Times every call on a net and on one of half its size.
 fn bench(name: &str, net: &Matrix, half: Option<&Matrix>) {

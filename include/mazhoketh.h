@@ -1,0 +1,38 @@
+/* Mazhoketh: force lists on shared cores. Functions of libmazhoketh.a.
+ *
+ * A list is a pair: a pointer to bytes and their number. Numbers in a list are little-endian, low byte first:
+ * row starts, columns, order and group fields are 32 bits without sign; values and movements 32 bits in two's
+ * complement; forces 64 bits in two's complement. A list's length in numbers is its bytes divided by the number's
+ * width, rounded down; a trailing part is neither read nor written. Lists may be longer than what is read.
+ *
+ * Every call returns one word: the refusal's number in the high 32 bits (0: accepted), and in the low 32 bits the
+ * refusal's place, or 0. On a refusal nothing is written.
+ *
+ * The lists belong to the caller; nothing is kept between calls, and calls may run at the same time on different
+ * lists. A call uses up to 0.7 MiB of stack. */
+#ifndef MAZHOKETH_H
+#define MAZHOKETH_H
+
+#include <stddef.h>
+#include <stdint.h>
+
+/* The forces of a matrix of n rows: the full product with the movements, n numbers into forces.
+ * Refused: 5 no matrix; 6 not n movements (place 0), or one is too large (its index); 9 forces too short (n). */
+uint64_t mzk_product(uint32_t n,
+                     const uint8_t *row_starts, size_t row_starts_bytes,
+                     const uint8_t *columns, size_t columns_bytes,
+                     const uint8_t *values, size_t values_bytes,
+                     const uint8_t *movements, size_t movements_bytes,
+                     uint8_t *forces, size_t forces_bytes);
+
+/* Whether a plan is sound for a matrix: order, and group_count records of six numbers.
+ * Refused: 5 no matrix; 8 plan not sound. */
+uint64_t mzk_check(uint32_t n,
+                   const uint8_t *row_starts, size_t row_starts_bytes,
+                   const uint8_t *columns, size_t columns_bytes,
+                   const uint8_t *values, size_t values_bytes,
+                   const uint8_t *order, size_t order_bytes,
+                   const uint8_t *groups, size_t groups_bytes,
+                   uint32_t group_count);
+
+#endif
