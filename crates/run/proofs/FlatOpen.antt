@@ -7,11 +7,7 @@ use lib.Dec.{eqb}
 use Rattle.base.proofs.Booleans.{or-false}
 use Rattle.plan.specs.Groups.{Group, red}
 use Rattle.run.specs.Tree.{Tree, none, node, forest, unfinished, redOpen}
-
--- the group at index up has a child
-unfoldable pub hasChild : ℕ → List Group → Bool
-hasChild up [] = false
-hasChild up (g ∷ gs) = eqb (g .parent) up || hasChild up gs
+use Rattle.run.specs.Laid.{hasChild}
 
 module _ (fin : Group → Bool) where
   -- some child of the group at index up has, or is, an unfinished leaf

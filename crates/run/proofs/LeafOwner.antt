@@ -13,8 +13,9 @@ use Rattle.plan.proofs.Sound.{sound-facts}
 use Rattle.run.specs.Job.{Job}
 use Rattle.run.specs.Tree.{none, forest, tree, holds, ownerIn, blocked}
 use Rattle.run.specs.Updates.{owner, finished, next, waits}
+use Rattle.run.specs.Laid.{Leaf, hasChild}
 use Rattle.run.proofs.Holds.{in-holds, owner-here, owner-next}
-use Rattle.run.proofs.FlatOpen.{hasChild, openReds}
+use Rattle.run.proofs.FlatOpen.{openReds}
 use Rattle.run.proofs.WayDown.{leafFrom, leaf-in, leaf-out}
 use Rattle.run.proofs.LeafIndex.{LeafAt, leaf-at, leaf-index}
 use Rattle.run.proofs.LeafWait.{Forward, leaf-wait}
@@ -56,11 +57,6 @@ leaf-owner adj n order g gs ok q low i d at =
     ∙ ap (λ (k : ℕ). getD (g ∷ gs) k d .first) (leaf-index adj n order g gs ok q i at)
 
 -- ---- for a job
-
--- record number i is a leaf: none of the records after the whole is its child
-pub record Leaf (j : Job) (i : ℕ) : Type 0 where
-  pub inside : i < length (j .plan .groups)
-  pub childless : hasChild i (drop 1 (j .plan .groups)) ≡ false
 
 module _ (j : Job) (ok : isSound (j .matrix) (j .plan) ≡ true) (d : Group) where
   -- the rows that a leaf holds are its first worker's

@@ -7,7 +7,8 @@ use native.Mathlib.Omega.{arith}
 use lib.ListN.{length, getD}
 use lib.Dec.{eqb}
 use Rattle.plan.specs.Groups.{Group, red, blue}
-use Rattle.run.proofs.FlatOpen.{hasChild, openChildren, openAt, openReds}
+use Rattle.run.specs.Laid.{hasChild}
+use Rattle.run.proofs.FlatOpen.{openChildren, openAt, openReds}
 use Rattle.run.proofs.LeafWait.{Forward}
 
 -- ---- backwards: the entry of the record's parent takes up the record, the others stay

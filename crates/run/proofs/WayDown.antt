@@ -14,7 +14,8 @@ use Rattle.plan.specs.Groups.{Group, blue}
 use Rattle.plan.specs.Sound.{children}
 use Rattle.plan.proofs.Records.{Down}
 use Rattle.run.specs.Tree.{Tree, forest, holds, redOpen, blocked}
-use Rattle.run.proofs.FlatOpen.{hasChild, openReds, red-flat}
+use Rattle.run.specs.Laid.{hasChild}
+use Rattle.run.proofs.FlatOpen.{openReds, red-flat}
 
 module _ (q : ℕ) where
   -- some record of the list holds q

@@ -9,4 +9,5 @@ pub mod EveryRun
 pub mod Consequences
 pub mod Record
 pub mod Sum
+pub mod Laid
 pub mod Tables
