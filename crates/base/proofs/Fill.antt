@@ -4,8 +4,8 @@ use mathlib.Core.List.{List, [], _∷_, _++_, map, append-assoc}
 use Prim.Native.Nat.{ℕ, suc, _+_, _<_, _≤_}
 use native.Mathlib.Numerals.{add-one}
 use native.Mathlib.Omega.{arith}
-use lib.ListN.{length, getD, drop, set, length-append, length-drop, length-map}
-use lib.Seq.{drop-cons, set-at}
+use lib.ListN.{length, getD, take, drop, set, length-append, length-drop, length-map}
+use lib.Seq.{drop-cons, set-at, take-suc, length-take-le}
 use Rattle.base.specs.Lists.{range}
 use Rattle.base.proofs.Lists.{length-range, range-snoc}
 
@@ -30,3 +30,7 @@ module _ {ℓ} {A : Type ℓ} (f : ℕ → A) (old : List A) where
       let e : 0 + i ≡ i = omega arith in
       rw (add-one i, drop-cons old i d l, set-at (map f (range 0 i)) (getD old i d) (drop (suc i) old) (f i) i (length-made i))
       (sym (append-assoc (map f (range 0 i)) (f i ∷ []) (drop (suc i) old)) ∙ ap (λ (ys : List A). ys ++ drop (suc i) old) (sym (ap (map f) (range-snoc 0 i) ∙ map-snoc (range 0 i) (0 + i) ∙ ap (λ (k : ℕ). map f (range 0 i) ++ (f k ∷ [])) e)))
+
+-- A loop that copies a list over another: one element more
+pub copy-one : {A : Type 0} (new old : List A) (d : A) (k : ℕ) → k < length new → k < length old → set (take k new ++ drop k old) k (getD new k d) ≡ take (k + 1) new ++ drop (k + 1) old
+copy-one new old d k h l = rw (add-one k, take-suc new k d h, drop-cons old k d l, set-at (take k new) (getD old k d) (drop (suc k) old) (getD new k d) k (length-take-le k new (omega arith)), append-assoc)

@@ -11,7 +11,7 @@ use Rattle.matrix.specs.Matrix.{Matrix}
 use Rattle.market.specs.Bytes.{isEnd, isSpace, blank, lineFeed}
 use Rattle.market.specs.Fields.{Scan, got, none, number}
 use Rattle.market.specs.Parse.{Triplet, Parsed, matrixText, rejected, parse}
-use Rattle.market.specs.FullRows.{matrixOf}
+use Rattle.market.specs.FullRows.{ofTriplets}
 use Rattle.market.specs.Text.{natural}
 use Rattle.plan.specs.Groups.{Group, Plan, fields}
 use Rattle.planner.specs.Planner.{areParameters, plan}
@@ -76,7 +76,7 @@ planned m missing = refusedLine no.parameter 0
 -- "then the matrix text is judged, its lines counted from 1; then a first line that isn't two numbers .. gives 7"
 unfoldable pub judged : Parsed → Parameters → List ℕ
 judged (rejected number place) ps = refusedLine number place
-judged (matrixText n es) ps = planned (matrixOf n es) ps
+judged (matrixText n es) ps = planned (ofTriplets n es) ps
 
 -- "Longer input gives 2 at 0"
 unfoldable pub listing : List ℕ → List ℕ

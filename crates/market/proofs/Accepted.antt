@@ -15,7 +15,7 @@ use Rattle.matrix.specs.Limits.{maxRows, maxEntries, maxText}
 use Rattle.market.specs.Bytes.{header}
 use Rattle.market.specs.Fields.{Line, line, broken, fields}
 use Rattle.market.specs.Parse.{Triplet, triplet, matrixText, rejected, isEntry, isAmong, onLine, entries, sizeLine, sized, comments, body, parse}
-use Rattle.market.proofs.entries.Limits.{inside}
+use Rattle.market.proofs.Inside.{inside}
 use Rattle.market.proofs.Stored.{Fits, Stored, fits-inside, stored-more}
 
 -- a refusal is no matrix

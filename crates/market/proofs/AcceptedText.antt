@@ -10,20 +10,20 @@ use borrow.Author.Tests.{ltb-true}
 use Rattle.base.specs.Replies.{accepted, refused, Check, inTurn, lent}
 use Rattle.matrix.specs.Matrix.{partOf, columnsOf, valuesOf}
 use Rattle.market.specs.Parse.{Triplet, matrixText}
-use Rattle.market.specs.FullRows.{rowStarts, columns, values, matrixOf, readMatrix, readReply}
+use Rattle.market.specs.FullRows.{rowStarts, columns, values, ofTriplets, readMatrix, readReply}
 use Rattle.market.specs.AcceptedText.{leftIn, SameRows, AcceptedText}
 use Rattle.market.proofs.Accepted.{Accepted, parse-accepted}
 use Rattle.market.proofs.FullRows.{extended}
 use Rattle.market.proofs.TextMatrix.{row-columns, row-values, text-matrix}
 
 -- nothing after the rows
-plain : (n : ℕ) (es : List Triplet) → extended n es [] [] [] ≡ matrixOf n es
-unfolding matrixOf
+plain : (n : ℕ) (es : List Triplet) → extended n es [] [] [] ≡ ofTriplets n es
+unfolding ofTriplets
 plain n es = rw (append-nil (rowStarts n es), append-nil (columns n es), append-nil (values n es))
 
 module _ {n : ℕ} {es : List Triplet} (a : Accepted n es) where
   -- whatever stands after them, the lists are a matrix of the same rows
-  extended-rows : (xs ys : List ℕ) (zs : List ℤ) → SameRows (extended n es xs ys zs) (matrixOf n es)
+  extended-rows : (xs ys : List ℕ) (zs : List ℤ) → SameRows (extended n es xs ys zs) (ofTriplets n es)
   unfolding columnsOf valuesOf partOf
   extended-rows xs ys zs = rw (← plain n es) (record { matrix = text-matrix a xs ys zs; columns = λ i. columns-same i (ltb i n) refl; values = λ i. values-same i (ltb i n) refl })
     where
@@ -47,7 +47,7 @@ accepted-count (c ∷ cs) n k e = go (c .holds) e (accepted-count cs n k)
 
 module _ (n k : ℕ) (es : List Triplet) (ss cs : List ℕ) (vs : List ℤ) (r : readReply (matrixText n es) (length ss) (length cs) (length vs) ≡ accepted k) where
   left-extended : leftIn k (matrixText n es) ss cs vs ≡ extended n es (drop (length (rowStarts n es)) ss) (drop (length (columns n es)) cs) (drop (length (values n es)) vs)
-  unfolding leftIn lent readMatrix readReply matrixOf
+  unfolding leftIn lent readMatrix readReply ofTriplets
   left-extended = let e : n ≡ k = accepted-count _ n k r in rw (r, e)
 
 -- the theorem

@@ -1,20 +1,32 @@
 -- The full rows of entries: each row cell by cell, and the parts of the lists that belong to it.
-use mathlib.Core.Path.{_≡_, sym, ap, _∙_}
+use mathlib.Core.Path.{_≡_, refl, sym, ap, _∙_}
 use mathlib.Core.Bool.{Bool, cond}
 use mathlib.Core.List.{List, [], _∷_, _++_, map, map-append, append-assoc}
 use Prim.Native.Nat.{ℕ, zero, suc, _+_, _-_, _≤_, _<_}
+use native.Mathlib.Numerals.{add-one}
 use native.Mathlib.Omega.{arith}
 use lib.IntN.{ℤ}
 use lib.ListN.{length, getD, drop, length-append, length-map, List·getD-append}
 use lib.Seq.{slice, take-append-add, take-append-seam, drop-append-seam}
 use borrow.Author.Tests.{lt-ltb}
 use Rattle.base.specs.Lists.{filter, concat, range}
-use Rattle.base.proofs.Lists.{concat-append, range-append}
+use Rattle.base.proofs.Lists.{concat-append, length-range, range-append}
 use Rattle.matrix.specs.Matrix.{Matrix, partOf}
 use Rattle.market.specs.Parse.{Triplet, triplet}
 use Rattle.market.specs.FullRows.{cell, rowOf, rowsOf, startsFrom, rowStarts, columns, values}
-use Rattle.market.proofs.rows.Replies.{length-row-starts}
 use Rattle.market.proofs.Pieces.{pieces-same, pieces-of-filter, pieces-single, pieces-snoc}
+
+-- ---- row starts
+
+-- one start for each list, and the end
+pub length-starts : (k : ℕ) (rs : List (List Triplet)) → length (startsFrom k rs) ≡ suc (length rs)
+unfolding startsFrom
+length-starts k [] = refl
+length-starts k (r ∷ rs) = ap suc (length-starts (k + length r) rs)
+
+pub length-row-starts : (n : ℕ) (es : List Triplet) → length (rowStarts n es) ≡ n + 1
+unfolding rowStarts
+length-row-starts n es = length-starts 0 (map (rowOf n es) (range 0 n)) ∙ ap suc (length-map (range 0 n) (rowOf n es) ∙ length-range 0 n) ∙ sym (add-one n)
 
 -- ---- a row
 

@@ -1,5 +1,4 @@
-pub mod Left
-pub mod Table
+pub mod Inside
 pub mod Pieces
 pub mod Stored
 pub mod Cells

@@ -12,7 +12,7 @@ use Rattle.base.proofs.Booleans.{and-left, and-right}
 use Rattle.base.proofs.Each.{Each, each-append}
 use Rattle.base.proofs.Lists.{filter-append}
 use Rattle.market.specs.Parse.{Triplet, isAt, isAmong, isEntry}
-use Rattle.market.proofs.entries.Limits.{Inside, inside}
+use Rattle.market.proofs.Inside.{Inside, inside}
 
 -- an entry of n rows: inside n, on or below the diagonal, not too large
 abbrev pub Fits : ℕ → Triplet → Type 0

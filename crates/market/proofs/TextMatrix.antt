@@ -25,7 +25,7 @@ use Rattle.market.proofs.FullCount.{at, cells-count}
 use Rattle.market.proofs.FullRows.{row-of-cells, extended, rows-first, rows-rise, rows-end, row-part}
 use Rattle.market.proofs.Stored.{fits-inside}
 use Rattle.market.proofs.Cells.{storedAt, stored-both, has, valueAt, first, first-each, cell-is}
-use Rattle.market.proofs.rows.Replies.{length-row-starts}
+use Rattle.market.proofs.FullRows.{length-row-starts}
 
 -- ---- lists
 

@@ -11,7 +11,7 @@ use Rattle.base.specs.Replies.{accepted, inTurn, lent}
 use Rattle.matrix.specs.Matrix.{Matrix, isMatrix, matrixCheck}
 use Rattle.matrix.proofs.Matrix.{matrix-facts}
 use Rattle.market.specs.Parse.{Triplet, Parsed, matrixText, parse}
-use Rattle.market.specs.FullRows.{full, rowsOf, columns, matrixOf, readMatrix, readReply}
+use Rattle.market.specs.FullRows.{full, rowsOf, columns, ofTriplets, readMatrix, readReply}
 use Rattle.market.specs.Text.{lower, written, writeReply}
 use Rattle.market.specs.WriteThenRead.{size, exactly, WriteThenRead}
 use Rattle.market.proofs.Accepted.{parse-accepted}
@@ -32,7 +32,7 @@ module _ (m : Matrix) (ok : isMatrix m ≡ true) where
 
   -- both halves are as many entries as the rows have
   full-size : length (full (lower m)) ≡ size m
-  unfolding columns matrixOf exactly size
+  unfolding columns ofTriplets exactly size
   full-size =
       sym (length-rows (m .n) (lower m) (parse-accepted (written m) (m .n) (lower m) written-parsed .inner)) ∙ sym (length-map (rowsOf (m .n) (lower m)) (λ (e : Triplet). e .column))
       ∙ ap (λ (x : Matrix). length (x .columns)) (matrix-back m ok) ∙ length-take-le (size m) (m .columns) (matrix-facts m ok .columnsLong)

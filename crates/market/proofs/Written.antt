@@ -16,7 +16,7 @@ use Rattle.market.specs.Fields.{got, is, line, spaces, field, value, val
 use Rattle.market.specs.Parse.{Triplet, matrixText, isAmong, isEntry, entries, sizeLine, place, comments, parse}
 use Rattle.market.specs.Text.{natural, integer, lineOf, entryLine, textOf}
 use Rattle.market.proofs.Decimal.{AllDigits, decimal-digits, decimal-some, decimal-length, number-natural}
-use Rattle.market.proofs.entries.Limits.{inside}
+use Rattle.market.proofs.Inside.{inside}
 
 -- the first byte of a number is a digit, and so of no other class
 first-digit : (n : ℕ) (xs : List ℕ) → isDigit (getD (natural n ++ xs) 0 0) ≡ true

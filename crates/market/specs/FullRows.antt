@@ -43,13 +43,13 @@ columns n es = map (λ (e : Triplet). e .column) (rowsOf n es)
 unfoldable pub values : ℕ → List Triplet → List ℤ
 values n es = map (λ (e : Triplet). e .value) (rowsOf n es)
 
-unfoldable pub matrixOf : ℕ → List Triplet → Matrix
-matrixOf n es = record { n = n; starts = rowStarts n es; columns = columns n es; values = values n es }
+unfoldable pub ofTriplets : ℕ → List Triplet → Matrix
+ofTriplets n es = record { n = n; starts = rowStarts n es; columns = columns n es; values = values n es }
 
 -- the reader's matrix; of a text that is refused there is none
 unfoldable pub readMatrix : Parsed → Matrix
-readMatrix (matrixText n es) = matrixOf n es
-readMatrix (rejected q p) = matrixOf 0 []
+readMatrix (matrixText n es) = ofTriplets n es
+readMatrix (rejected q p) = ofTriplets 0 []
 
 -- The reader's reply: 1, 2, 3, 4, then "9 follows the text". Each list is then `lent` of the reply and readMatrix's list
 unfoldable pub readReply : Parsed → (starts columns values : ℕ) → Reply

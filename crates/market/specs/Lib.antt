@@ -3,6 +3,5 @@ pub mod Fields
 pub mod Parse
 pub mod FullRows
 pub mod Text
-pub mod Code
 pub mod WriteThenRead
 pub mod AcceptedText

@@ -17,7 +17,7 @@ use Rattle.matrix.specs.Product.{forceAt, product, productReply}
 use Rattle.market.specs.Bytes.{classOf, header}
 use Rattle.market.specs.Fields.{digits, isNumber, valueOf, number, spaces, field, value, valueField, fields}
 use Rattle.market.specs.Parse.{Triplet, Parsed, matrixText, rejected, entries, sizeLine, comments, parse}
-use Rattle.market.specs.FullRows.{full, cell, rowOf, rowsOf, startsFrom, rowStarts, columns, values, matrixOf, readMatrix, readReply}
+use Rattle.market.specs.FullRows.{full, cell, rowOf, rowsOf, startsFrom, rowStarts, columns, values, ofTriplets, readMatrix, readReply}
 use Rattle.market.specs.Text.{decimal, textOf, columnOf, lower, written, writeReply}
 use Rattle.plan.specs.Groups.{Group, Plan, fields as groupFields, ofFields, flat, records, planOf}
 use Rattle.plan.specs.Sound.{eachOnce, depthFirst, children, tiled, apart, rowsOf as groupRows, likeApart, childrenSound, allSound, sound, isSound, isPlan, planCheck, checkReply}
@@ -206,5 +206,5 @@ failing k (true ∷ bs) = failing (suc k) bs
 failing k (false ∷ bs) = k ∷ failing (suc k) bs
 
 all-hold : failing 0 samples ≡ []
-unfolding sumBelow sumℤ within same fits64 inTurn partOf columnsOf valuesOf lookup entry neighbours adjacent adjacentPairs ascending mirrored isRow lowerEntries isMatrix matrixCheck displacement areDisplacements forceAt product classOf header digits isNumber valueOf number spaces field value valueField fields entries sizeLine comments parse full cell rowOf rowsOf startsFrom rowStarts columns values matrixOf readMatrix decimal textOf columnOf lower written groupFields flat eachOnce depthFirst children tiled apart groupRows likeApart childrenSound allSound sound isSound near region root isNext levelsFrom levels ownLevels weight load endsFrom best nearest off serves extentOf extentFrom extent cutAt cut nothing _then_ leaf pairs planPairs splits split planGroup planRows plan areParameters planReply rowAt forest tree leaves holds ownerIn unfinished redOpen blocked entryAt displacementAt later withEach rowUpdates owner when upTo updates accesses finished noUpdate next waits fresh workersOf workers reason refusal onward loadSum total store access move stepIf step oneMore steps readyBelow ready bits allMade over positionOf original countsFine isState placeOf pickedOf readyOf forcesOf answerOf afterOf stateCheck answer after answers afterAll noCounts oneNoted note modelAnswer modelAfter modelAnswers modelCounts takenOf takenIn wholeRun firstLine restOf last second parametersOf spaced refusedLine orderLine titleLine groupLines planListing planned judged listing
+unfolding sumBelow sumℤ within same fits64 inTurn partOf columnsOf valuesOf lookup entry neighbours adjacent adjacentPairs ascending mirrored isRow lowerEntries isMatrix matrixCheck displacement areDisplacements forceAt product classOf header digits isNumber valueOf number spaces field value valueField fields entries sizeLine comments parse full cell rowOf rowsOf startsFrom rowStarts columns values ofTriplets readMatrix decimal textOf columnOf lower written groupFields flat eachOnce depthFirst children tiled apart groupRows likeApart childrenSound allSound sound isSound near region root isNext levelsFrom levels ownLevels weight load endsFrom best nearest off serves extentOf extentFrom extent cutAt cut nothing _then_ leaf pairs planPairs splits split planGroup planRows plan areParameters planReply rowAt forest tree leaves holds ownerIn unfinished redOpen blocked entryAt displacementAt later withEach rowUpdates owner when upTo updates accesses finished noUpdate next waits fresh workersOf workers reason refusal onward loadSum total store access move stepIf step oneMore steps readyBelow ready bits allMade over positionOf original countsFine isState placeOf pickedOf readyOf forcesOf answerOf afterOf stateCheck answer after answers afterAll noCounts oneNoted note modelAnswer modelAfter modelAnswers modelCounts takenOf takenIn wholeRun firstLine restOf last second parametersOf spaced refusedLine orderLine titleLine groupLines planListing planned judged listing
 all-hold = refl

@@ -18,7 +18,7 @@ use Rattle.matrix.proofs.Checks.{matrix-tidy}
 use Rattle.matrix.proofs.Rows.{columns-part, values-part, length-columns}
 use Rattle.matrix.proofs.Symmetry.{row-lengths}
 use Rattle.market.specs.Parse.{Triplet, triplet}
-use Rattle.market.specs.FullRows.{rowOf, rowsOf, startsFrom, rowStarts, columns, values, matrixOf}
+use Rattle.market.specs.FullRows.{rowOf, rowsOf, startsFrom, rowStarts, columns, values, ofTriplets}
 use Rattle.market.specs.Text.{lower}
 use Rattle.market.specs.WriteThenRead.{size, exactly}
 use Rattle.market.proofs.Pieces.{map-members, map-pieces, pieces-same, pieces-snoc}
@@ -111,6 +111,6 @@ module _ (m : Matrix) (ok : isMatrix m ≡ true) where
       (λ i l. values-beside (columnsOf m i) (valuesOf m i) (matrix-facts m ok .row i l .ascends) (row-lengths m (matrix-tidy m ok .shape) i l refl refl)) (values-part m)
 
   -- The full rows of the entries that are written are the matrix.
-  pub matrix-back : matrixOf (m .n) (lower m) ≡ exactly m
-  unfolding matrixOf exactly
+  pub matrix-back : ofTriplets (m .n) (lower m) ≡ exactly m
+  unfolding ofTriplets exactly
   matrix-back = rw (starts-are, columns-are, values-are)

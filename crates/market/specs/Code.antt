@@ -1,9 +1,0 @@
--- What the contracts of the code inside the crate speak of: positions, arrays, marks, buckets. Nothing here is part of document 01's meaning.
-pub mod Positions
-pub mod Arrays
-pub mod Opening
-pub mod Marks
-pub mod Slots
-pub mod Buckets
-pub mod Rows
-pub mod Puts

@@ -1,0 +1,73 @@
+-- The bits of the lower triangle differ, so that the marks say which entries are there.
+use mathlib.Core.Path.{_≡_, refl, _∙_}
+use mathlib.Core.Bool.{Bool, true, false, _&&_, _||_}
+use mathlib.Core.Logic.{⊎-elim}
+use mathlib.Core.List.{List, [], _∷_, _++_}
+use Prim.Native.Nat.{ℕ, zero, suc, _+_, _*_, _/_, _%_, _^_, _≤_, _<_}
+use native.Mathlib.Nat.{div-eq-of-lt, eq-or-lt-of-le, mul-le-mul}
+use native.Mathlib.Omega.{arith}
+use lib.Dec.{eqb, ltb}
+use lib.Pow.{pow-pos}
+use lib.ListN.{length, replicate}
+use borrow.Author.Tests.{eqb-true, eqb-false, ltb-true, ltb-false, eq-eqb, ne-eqb}
+use Rattle.base.proofs.Booleans.{eqb-sym}
+use Rattle.base.proofs.Lists.{getD-zeros}
+use Rattle.market.specs.Parse.{Triplet, isAt, isAmong}
+use Rattle.reader.specs.Marks.{isMarked, marked, triangle, bitOf}
+use Rattle.reader.proofs.marks.Bits.{marked-is}
+
+-- an earlier row's bits come first
+triangle-mono : (r s : ℕ) → r < s → triangle r + suc r ≤ triangle s
+unfolding triangle
+triangle-mono r zero h = absurd (omega arith)
+triangle-mono r (suc s) h = ⊎-elim (λ (e : suc r ≡ suc s). let f : r ≡ s = omega arith in rw f (omega arith)) (λ (l : suc r < suc s). omega (arith, triangle-mono r s (omega arith))) (eq-or-lt-of-le h)
+
+-- the bits of two places are the same if the places are
+pub bit-of-is : (r c s d : ℕ) → c ≤ r → d ≤ s → eqb (bitOf r c) (bitOf s d) ≡ eqb r s && eqb c d
+bit-of-is r c s d h k = go (eqb r s) refl (ltb r s) refl
+  where
+    go : (b : Bool) → eqb r s ≡ b → (l : Bool) → ltb r s ≡ l → eqb (bitOf r c) (bitOf s d) ≡ b && eqb c d
+    go true e l f = rw (eqb-true r s e) (same (eqb c d) refl)
+      where
+        same : (b : Bool) → eqb c d ≡ b → eqb (triangle s + c) (triangle s + d) ≡ b
+        same true f = eq-eqb (triangle s + c) (triangle s + d) (omega (arith, eqb-true c d f))
+        same false f = ne-eqb (triangle s + c) (triangle s + d) (λ (n : triangle s + c ≡ triangle s + d). eqb-false c d f (omega arith))
+    go false e true f = ne-eqb (bitOf r c) (bitOf s d) (λ (n : bitOf r c ≡ bitOf s d). omega (arith, triangle-mono r s (ltb-true r s f)))
+    go false e false f = ne-eqb (bitOf r c) (bitOf s d) (λ (n : bitOf r c ≡ bitOf s d). let l : s < r = omega (arith, ltb-false r s f, eqb-false r s e) in omega (arith, triangle-mono s r l))
+
+-- the marks say which places an entry names
+abbrev pub Marks : List ℕ → List Triplet → Type 0
+Marks ms es = (r c : ℕ) → c ≤ r → isMarked ms (bitOf r c) ≡ isAmong es r c
+
+among-snoc : (es : List Triplet) (e : Triplet) (r c : ℕ) → isAmong (es ++ e ∷ []) r c ≡ isAt r c e || isAmong es r c
+among-snoc [] e r c = refl
+among-snoc (d ∷ es) e r c = rw (among-snoc es e r c) (go (isAt r c d) (isAt r c e) (isAmong es r c))
+  where
+    go : (x y z : Bool) → x || (y || z) ≡ y || (x || z)
+    go true true z = refl
+    go true false z = refl
+    go false y z = refl
+
+-- one entry more, and its bit
+pub marks-more : (ms : List ℕ) (es : List Triplet) (e : Triplet) → Marks ms es → e .column ≤ e .row → bitOf (e .row) (e .column) / 64 < length ms → Marks (marked ms (bitOf (e .row) (e .column))) (es ++ e ∷ [])
+marks-more ms es e m h l r c k =
+    marked-is ms (bitOf (e .row) (e .column)) (bitOf r c) l
+    ∙ rw (bit-of-is r c (e .row) (e .column) k h, m r c k, among-snoc es e r c, eqb-sym r (e .row), eqb-sym c (e .column))
+
+-- no mark, no entry
+pub marks-none : (n : ℕ) → Marks (replicate n 0) []
+unfolding isMarked
+marks-none n r c h = rw (getD-zeros n (bitOf r c / 64), div-eq-of-lt {n = 0} {m = 2 ^ (bitOf r c % 64)} (pow-pos (bitOf r c % 64)))
+
+twice : (r : ℕ) → triangle r * 2 ≡ r * (r + 1)
+unfolding triangle
+twice zero = refl
+twice (suc r) = omega (arith, twice r)
+
+-- as the code computes it
+pub triangle-is : (r : ℕ) → r * (r + 1) / 2 ≡ triangle r
+triangle-is r = omega (arith, twice r)
+
+-- and it stays small
+pub square : (r : ℕ) → r < 4096 → r * (r + 1) ≤ 16773120
+square r h = mul-le-mul {n₁ = r} {m₁ = r + 1} {n₂ = 4095} {m₂ = 4096} (omega arith) (omega arith)

@@ -1,0 +1,8 @@
+-- What the contracts of the reader's parts speak of: positions, arrays, marks, buckets. Nothing here is part of document 01's meaning.
+pub mod Positions
+pub mod Arrays
+pub mod Opening
+pub mod Marks
+pub mod Slots
+pub mod Buckets
+pub mod Rows

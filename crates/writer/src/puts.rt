@@ -1,0 +1,117 @@
+// Numbers and lines, measured and put into a lent text.
+
+use market::HEADER;
+ghost use mathlib.Core.Path.{_≡_};
+ghost use mathlib.Core.List.{[], _∷_};
+ghost use Prim.Native.Nat.{_+_, _≤_};
+ghost use lib.IntN.{natAbs};
+ghost use lib.ListN.{length};
+ghost use Rattle.market.specs.Bytes.{header};
+ghost use Rattle.market.specs.Text.{natural, integer, lineOf};
+ghost use Rattle.writer.specs.Puts.{Put};
+
+// How many digits a number has.
+fn width(v: u32) -> usize
+    ensures { λ r. ⌜ r ≡ length (natural v) ⌝ }
+{
+    let mut x = v;
+    let mut k: usize = 1;
+    while 10 <= x {
+        x = x / 10;
+        k += 1;
+    }
+    k
+}
+
+// A byte, and the place after it.
+fn put_byte(text: &mut [u8], at: usize, b: u8) -> usize
+    requires { ⌜ at + 1 ≤ length (now text) ⌝ }
+    ensures { λ r. ⌜ Put (b ∷ []) at r (now (text .entry)) (now (text .exit)) ⌝ }
+{
+    text[at] = b;
+    at + 1
+}
+
+// A number's digits from the last to the first, and the place after them.
+fn put_number(text: &mut [u8], at: usize, v: u32) -> usize
+    requires { ⌜ at + length (natural v) ≤ length (now text) ⌝ }
+    ensures { λ r. ⌜ Put (natural v) at r (now (text .entry)) (now (text .exit)) ⌝ }
+{
+    let end = at + width(v);
+    let mut x = v;
+    let mut i = end;
+    while 10 <= x {
+        i = i - 1;
+        text[i] = (48 + x % 10) as u8;
+        x = x / 10;
+    }
+    i = i - 1;
+    text[i] = (48 + x) as u8;
+    end
+}
+
+// A value without its sign.
+fn magnitude(v: i32) -> u32
+    ensures { λ r. ⌜ r ≡ natAbs v ⌝ }
+{
+    let z = v as i64;
+    if z < 0 {
+        return (0 - z) as u32;
+    }
+    z as u32
+}
+
+// How many bytes a value takes.
+fn integer_width(v: i32) -> usize
+    ensures { λ r. ⌜ r ≡ length (integer v) ⌝ }
+{
+    if v < 0 {
+        return width(magnitude(v)) + 1;
+    }
+    width(magnitude(v))
+}
+
+// A value, and the place after it.
+fn put_integer(text: &mut [u8], at: usize, v: i32) -> usize
+    requires { ⌜ at + length (integer v) ≤ length (now text) ⌝ }
+    ensures { λ r. ⌜ Put (integer v) at r (now (text .entry)) (now (text .exit)) ⌝ }
+{
+    if v < 0 {
+        let p = put_byte(text, at, b'-');
+        return put_number(text, p, magnitude(v));
+    }
+    put_number(text, at, magnitude(v))
+}
+
+// How many bytes a line takes.
+pub(crate) fn line_width(r: u32, c: u32, v: i32) -> usize
+    ensures { λ k. ⌜ k ≡ length (lineOf r c v) ⌝ }
+{
+    width(r) + width(c) + integer_width(v) + 3
+}
+
+// A line, and the place after it.
+pub(crate) fn put_line(text: &mut [u8], at: usize, r: u32, c: u32, v: i32) -> usize
+    requires { ⌜ at + length (lineOf r c v) ≤ length (now text) ⌝ }
+    ensures { λ k. ⌜ Put (lineOf r c v) at k (now (text .entry)) (now (text .exit)) ⌝ }
+{
+    let row = put_number(text, at, r);
+    let space = put_byte(text, row, b' ');
+    let column = put_number(text, space, c);
+    let gap = put_byte(text, column, b' ');
+    let value = put_integer(text, gap, v);
+    put_byte(text, value, b'\n')
+}
+
+// Line 1, and the place after it.
+pub(crate) fn put_header(text: &mut [u8]) -> usize
+    requires { ⌜ 51 ≤ length (now text) ⌝ }
+    ensures { λ r. ⌜ Put header 0 r (now (text .entry)) (now (text .exit)) ⌝ }
+{
+    let mut i: usize = 0;
+    while i < 51 {
+        text[i] = HEADER[i];
+        i += 1;
+    }
+    51
+}
