@@ -49,3 +49,5 @@ pub mod PositionTable
 pub mod LaterRows
 pub mod PlacedRows
 pub mod JoinRows
+pub mod InTurn
+pub mod JobChecked

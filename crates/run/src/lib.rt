@@ -1,4 +1,5 @@
 // The run of a plan, one load or store a step: picks, ready set and force list.
+mod checks;
 mod later;
 mod state;
 mod sum;

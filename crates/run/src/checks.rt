@@ -1,0 +1,38 @@
+// The checks that every call begins with, in turn.
+use base::Answer;
+use base::MATRIX;
+use base::UNSOUND;
+use matrix::check_displacements;
+use matrix::is_matrix;
+use plan::is_plan;
+ghost use mathlib.Core.Path.{_≡_};
+ghost use Rattle.base.specs.Replies.{accepted, refused, inTurn};
+ghost use Rattle.base.specs.Answers.{replyOf};
+ghost use Rattle.matrix.specs.Checks.{matrixOf};
+ghost use Rattle.run.specs.Calls.{jobChecks};
+
+// 5, 6, 8: whether the lists hold a matrix, its displacements and a plan that is sound for it.
+pub(crate) fn check_job(
+    n: u32,
+    starts: &[u32],
+    columns: &[u32],
+    values: &[i32],
+    displacements: &[i32],
+    order: &[u32],
+    groups: &[u32],
+    count: u32,
+) -> Answer
+    ensures { λ r. ⌜ replyOf r ≡ inTurn refused (jobChecks (matrixOf n (now (starts .entry)) (now (columns .entry)) (now (values .entry))) (now (displacements .entry)) (now (order .entry)) (now (groups .entry)) count) (accepted 0) ⌝ }
+{
+    if !is_matrix(n, starts, columns, values) {
+        return Answer::Refused(MATRIX, 0);
+    }
+    let checked = check_displacements(n, displacements);
+    if let Answer::Refused(number, place) = checked {
+        return Answer::Refused(number, place);
+    }
+    if !is_plan(n, starts, columns, order, groups, count) {
+        return Answer::Refused(UNSOUND, 0);
+    }
+    Answer::Accepted(0)
+}
