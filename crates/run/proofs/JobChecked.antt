@@ -1,5 +1,5 @@
 -- The checks of a call's lent lists, 5, 6, 8 in turn: what the code finds, and what an accepted job is.
-use mathlib.Core.Path.{_≡_, refl, sym, _∙_}
+use mathlib.Core.Path.{_≡_, sym, _∙_}
 use mathlib.Core.Bool.{Bool, true, false}
 use mathlib.Core.List.{List, [], _∷_}
 use Prim.Native.Nat.{ℕ, _*_, _≤_}
@@ -14,7 +14,7 @@ use Rattle.base.proofs.Replies.{inTurn-pass, inTurn-fail, checked, checked-acce
 use Rattle.matrix.specs.Matrix.{Matrix, isMatrix, matrixCheck, displacementCheck}
 use Rattle.plan.specs.Groups.{width, planOf}
 use Rattle.plan.specs.Sound.{maxGroups, isSound, isPlan, planCheck}
-use Rattle.run.specs.Job.{Job, jobOf, Accepted}
+use Rattle.run.specs.Job.{jobOf, Accepted}
 use Rattle.run.specs.Calls.{jobChecks}
 use Rattle.run.proofs.InTurn.{turn-refused}
 

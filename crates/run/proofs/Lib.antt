@@ -51,3 +51,4 @@ pub mod PlacedRows
 pub mod JoinRows
 pub mod InTurn
 pub mod JobChecked
+pub mod Scattering

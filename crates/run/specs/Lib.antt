@@ -11,3 +11,4 @@ pub mod Record
 pub mod Sum
 pub mod Laid
 pub mod Tables
+pub mod Scatter

@@ -1,5 +1,6 @@
 // The run of a plan, one load or store a step: picks, ready set and force list.
 mod checks;
+mod forces;
 mod later;
 mod state;
 mod sum;
