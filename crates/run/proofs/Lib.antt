@@ -52,3 +52,4 @@ pub mod JoinRows
 pub mod InTurn
 pub mod JobChecked
 pub mod Scattering
+pub mod TableWaits
