@@ -53,3 +53,4 @@ pub mod InTurn
 pub mod JobChecked
 pub mod Scattering
 pub mod TableWaits
+pub mod ReadyBits

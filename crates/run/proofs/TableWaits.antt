@@ -1,19 +1,21 @@
 -- What the tables say of a worker's next access: whether there is one, whether it waits, and whether a state is fine or finished.
-use mathlib.Core.Path.{_≡_, refl, sym, ap, _∙_}
+use mathlib.Core.Path.{_≡_, refl, ap}
 use mathlib.Core.Bool.{Bool, true, false, _&&_}
 use mathlib.Core.List.{List}
 use Prim.Native.Nat.{ℕ, zero, suc, _+_, _*_, _/_, _≤_, _<_}
 use native.Mathlib.Omega.{arith}
 use lib.ListN.{length, getD}
-use lib.Dec.{leb}
+use lib.Dec.{eqb, ltb}
+use borrow.Author.Tests.{ltb-true, ltb-false}
 use lib.IntN.{ℤ}
 use Rattle.base.specs.Lists.{bit}
 use Rattle.plan.specs.Sound.{maxWorkers}
 use Rattle.run.specs.Job.{Job}
 use Rattle.run.specs.Updates.{count, updates, accesses, next, waits}
-use Rattle.run.specs.Machine.{allMade, countsFine}
+use Rattle.run.specs.Machine.{workers, refusal, allMade, countsFine}
 use Rattle.run.specs.Record.{allBelow, fine, done}
 use Rattle.run.specs.Laid.{Laid, Waits}
+use Rattle.run.proofs.Able.{in-order}
 use Rattle.run.proofs.Next.{next-at, next-row}
 
 module _ (j : Job) (counts first target : List ℕ) (amount : List ℤ) (leaf ends : List ℕ) (laid : Laid j counts first target amount leaf ends) where
@@ -30,6 +32,21 @@ module _ (j : Job) (counts first target : List ℕ) (amount : List ℤ) (leaf en
       let k : count made w / 2 < length (updates j w) = omega arith in
       let low : next j made w .row < j .matrix .n = rw (next-row j made w left) (next-at j made w left .below) in
       waits .is (getD leaf (getD first w 0 + count made w / 2) 0) (next j made w .row) (laid .leaves w (count made w / 2) l k) low (laid .rows w (count made w / 2) l k)
+
+  -- a worker of the plan is ready: it has an access left, and its leaf's entry is 0
+  pub table-ready : (made blocks : List ℕ) → Waits j made blocks → (w : ℕ) → w < maxWorkers → w < workers j
+      → ltb (count made w) (2 * getD counts w 0) && eqb (getD blocks (getD leaf (getD first w 0 + count made w / 2) 0) 0) 0 ≡ eqb (refusal j made w) 0
+  table-ready made blocks waiting w l p = go (ltb (count made w) (accesses j w)) refl (waits j made w) refl
+    where
+      go : (a : Bool) → ltb (count made w) (accesses j w) ≡ a → (b : Bool) → waits j made w ≡ b
+          → ltb (count made w) (2 * getD counts w 0) && eqb (getD blocks (getD leaf (getD first w 0 + count made w / 2) 0) 0) 0 ≡ eqb (refusal j made w) 0
+      go false x b y = rw (table-accesses w l, x, in-order j made w .done p (ltb-false (count made w) (accesses j w) x))
+      go true x true y =
+          let left = ltb-true (count made w) (accesses j w) x in
+          rw (table-accesses w l, x, table-waits made blocks waiting w l left, y, in-order j made w .waiting p left y)
+      go true x false y =
+          let left = ltb-true (count made w) (accesses j w) x in
+          rw (table-accesses w l, x, table-waits made blocks waiting w l left, y, in-order j made w .taken p left y)
 
   -- the counts of the workers below k
   pub table-fine : (made : List ℕ) (k : ℕ) → k ≤ maxWorkers → allBelow (fine counts made) k ≡ countsFine j made k

@@ -2,5 +2,6 @@
 mod checks;
 mod forces;
 mod later;
+mod ready;
 mod state;
 mod sum;
