@@ -6,7 +6,7 @@
  * width, rounded down; a trailing part is neither read nor written. Lists may be longer than what is read.
  *
  * Every call returns one word: the refusal's number in the high 32 bits (0: accepted), and in the low 32 bits the
- * refusal's place, or 0. On a refusal nothing is written.
+ * refusal's place, or the accepted call's count, 0 where none is named. On a refusal nothing is written.
  *
  * The lists belong to the caller; nothing is kept between calls, and calls may run at the same time on different
  * lists. A call uses up to 0.7 MiB of stack. */
@@ -15,6 +15,14 @@
 
 #include <stddef.h>
 #include <stdint.h>
+
+/* A matrix of n rows as text, its bytes into text; returns their number. The text is measured before it is written.
+ * Refused: 5 no matrix; 9 text too short (the number of bytes needed). */
+uint64_t mzk_write(uint32_t n,
+                   const uint8_t *row_starts, size_t row_starts_bytes,
+                   const uint8_t *columns, size_t columns_bytes,
+                   const uint8_t *values, size_t values_bytes,
+                   uint8_t *text, size_t text_bytes);
 
 /* The forces of a matrix of n rows: the full product with the movements, n numbers into forces.
  * Refused: 5 no matrix; 6 not n movements (place 0), or one is too large (its index); 9 forces too short (n). */

@@ -1,3 +1,5 @@
 pub mod Loads
+pub mod Answers
 pub mod Products
 pub mod PlanChecks
+pub mod Writes

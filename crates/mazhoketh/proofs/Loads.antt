@@ -3,8 +3,11 @@ use mathlib.Core.Path.{_≡_, sym, ap, _∙_}
 use mathlib.Core.List.{List}
 use Prim.Native.Nat.{ℕ, _/_, _≤_, min}
 use native.Mathlib.Omega.{arith}
+use lib.IntN.{ℤ}
 use lib.ListN.{length, take, drop, length-append, length-drop}
 use lib.Seq.{take-at, length-take-le}
+use Rattle.matrix.specs.Checks.{matrixOf}
+use Rattle.matrix.proofs.Cut.{mostStarts, mostEntries, cut}
 use Rattle.words.specs.LittleEndian.{stored}
 use Rattle.words.proofs.Copies.{take-min}
 use Rattle.words.proofs.Blocks.{decoded, length-decoded}
@@ -31,3 +34,9 @@ module _ {A : Type 0} {size : ℕ} {list array : List A} {count : ℕ} (l : Load
 
   pub loaded-size : count ≡ length (take count array)
   loaded-size = sym (length-take-le count array loaded-short)
+
+-- the matrix whose lists were loaded: that of the whole lists, cut
+pub loaded-matrix : (n : ℕ) {starts columns : List ℕ} {values : List ℤ} {s c : List ℕ} {v : List ℤ} {i j k : ℕ}
+    → Loaded mostStarts starts s i → Loaded mostEntries columns c j → Loaded mostEntries values v k
+    → matrixOf n (take i s) (take j c) (take k v) ≡ cut (matrixOf n starts columns values)
+loaded-matrix n ls lc lv = rw (ls .is, lc .is, lv .is)

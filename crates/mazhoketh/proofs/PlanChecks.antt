@@ -3,15 +3,13 @@ use mathlib.Core.Path.{_≡_}
 use mathlib.Core.Bool.{true}
 use mathlib.Core.List.{List}
 use Prim.Native.Nat.{ℕ}
-use lib.IntN.{ℤ}
 use lib.ListN.{take}
 use Rattle.base.specs.Replies.{refused}
 use Rattle.base.proofs.Replies.{inTurn-same}
 use Rattle.matrix.specs.Limits.{maxRows}
 use Rattle.matrix.specs.Matrix.{Matrix, isMatrix, matrixCheck}
-use Rattle.matrix.specs.Checks.{matrixOf}
 use Rattle.matrix.proofs.Matrix.{matrix-facts}
-use Rattle.matrix.proofs.Cut.{mostStarts, mostEntries, cut, cut-matrix}
+use Rattle.matrix.proofs.Cut.{cut, cut-matrix}
 use Rattle.plan.specs.Groups.{planOf}
 use Rattle.plan.specs.Sound.{isPlan, planCheck, checkReply}
 use Rattle.plan.proofs.Cut.{mostFields, cut-plan, cut-sound}
@@ -31,10 +29,8 @@ module _ (m : Matrix) (order groups : List ℕ) (count : ℕ) where
   plan-cut = inTurn-same refused (matrixCheck m) _ _ _ _ (λ ok. rw (cut-plan m order groups count (matrix-facts m ok .few)))
 
 -- the lists that a call decodes, cut, for the whole ones
-pub decoded-matrix : (n : ℕ) (starts columns : List ℕ) (values : List ℤ) (order groups : List ℕ) (count : ℕ) {s c : List ℕ} {v : List ℤ}
-    → s ≡ take mostStarts starts → c ≡ take mostEntries columns → v ≡ take mostEntries values
-    → checkReply (matrixOf n s c v) order groups count ≡ checkReply (matrixOf n starts columns values) order groups count
-decoded-matrix n starts columns values order groups count es ec ev = rw (es, ec, ev) (matrix-cut (matrixOf n starts columns values) order groups count)
+pub decoded-matrix : (m : Matrix) (order groups : List ℕ) (count : ℕ) {c : Matrix} → c ≡ cut m → checkReply c order groups count ≡ checkReply m order groups count
+decoded-matrix m order groups count e = rw e (matrix-cut m order groups count)
 
 pub decoded-plan : (m : Matrix) (order groups : List ℕ) (count : ℕ) {o g : List ℕ} → o ≡ take maxRows order → g ≡ take mostFields groups
     → checkReply m o g count ≡ checkReply m order groups count

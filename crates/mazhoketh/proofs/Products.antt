@@ -9,25 +9,18 @@ use lib.IntN.{ℤ}
 use lib.ListN.{length, take, drop, length-append}
 use lib.Seq.{take-at, take-all, length-take-le}
 use borrow.Author.Tests.{leb-true}
-use Rattle.base.specs.Replies.{Reply, accepted, refused, Check, roomFor, lent}
+use Rattle.base.specs.Replies.{accepted, refused, Check, roomFor, lent}
 use Rattle.base.proofs.Booleans.{leb-min}
-use Rattle.base.proofs.Replies.{inTurn-same, accepted-all, lent-same, lent-accepted, lent-refused}
+use Rattle.base.proofs.Replies.{inTurn-same, accepted-all, lent-accepted, lent-refused}
 use Rattle.base.proofs.Fill.{length-made}
 use Rattle.matrix.specs.Limits.{maxRows}
 use Rattle.matrix.specs.Matrix.{Matrix, isMatrix, matrixCheck, displacementCheck, areDisplacements}
-use Rattle.matrix.specs.Checks.{matrixOf}
 use Rattle.matrix.specs.Product.{forceAt, product, productReply}
 use Rattle.matrix.proofs.Matrix.{matrix-facts}
-use Rattle.matrix.proofs.Cut.{mostStarts, mostEntries, cut, cut-matrix, cut-product, cut-displacements, displacements-kept}
+use Rattle.matrix.proofs.Cut.{mostStarts, cut, cut-matrix, cut-product, cut-displacements, displacements-kept}
 use Rattle.words.specs.LittleEndian.{signedBytes, stored}
 use Rattle.mazhoketh.specs.Word.{word, Answered}
-
--- one call for another with the same reply, and with the same answer where that is accepted
-pub answered-same : {r s : Reply} {a b old : List ℕ} {w : ℕ} {new : List ℕ} → r ≡ s → ((k : ℕ) → s ≡ accepted k → a ≡ b) → Answered r a old w new → Answered s b old w new
-answered-same {r} {s} {a} {b} {old} e h t = record {
-  returns = t .returns ∙ ap word e;
-  leaves = t .leaves ∙ ap (λ (q : Reply). lent q a old) e ∙ lent-same s a b old h;
-}
+use Rattle.mazhoketh.proofs.Answers.{answered-same}
 
 module _ (m : Matrix) (x : List ℤ) (room : ℕ) where
   abbrev checks : List Check
@@ -74,11 +67,9 @@ module _ (m : Matrix) (x : List ℤ) (room : ℕ) where
   room-cut size enough = inTurn-same refused (matrixCheck m) _ _ _ _ (λ h. rw (min-comm room size, leb-min (m .n) size room (omega (arith, matrix-facts m h .few))))
 
 -- the lists that a call decodes, cut, for the whole ones
-pub decoded-matrix : (n : ℕ) (starts columns : List ℕ) (values : List ℤ) (x : List ℤ) (room : ℕ) {s c : List ℕ} {v : List ℤ} {old : List ℕ} {w : ℕ} {new : List ℕ}
-    → s ≡ take mostStarts starts → c ≡ take mostEntries columns → v ≡ take mostEntries values
-    → Answered (productReply (matrixOf n s c v) x room) (signedBytes 8 (product (matrixOf n s c v) x)) old w new
-    → Answered (productReply (matrixOf n starts columns values) x room) (signedBytes 8 (product (matrixOf n starts columns values) x)) old w new
-decoded-matrix n starts columns values x room es ec ev t = matrix-cut (matrixOf n starts columns values) x room (rw (es, ec, ev) at t)
+pub decoded-matrix : (m : Matrix) (x : List ℤ) (room : ℕ) {c : Matrix} {old : List ℕ} {w : ℕ} {new : List ℕ} → c ≡ cut m
+    → Answered (productReply c x room) (signedBytes 8 (product c x)) old w new → Answered (productReply m x room) (signedBytes 8 (product m x)) old w new
+decoded-matrix m x room e t = matrix-cut m x room (rw e at t)
 
 pub decoded-displacements : (m : Matrix) (X : List ℤ) (room : ℕ) {x : List ℤ} {old : List ℕ} {w : ℕ} {new : List ℕ} → x ≡ take mostStarts X
     → Answered (productReply m x room) (signedBytes 8 (product m x)) old w new → Answered (productReply m X room) (signedBytes 8 (product m X)) old w new

@@ -3,3 +3,4 @@ pub mod check;
 mod lists;
 pub mod product;
 mod word;
+pub mod write;

@@ -1,10 +1,11 @@
 -- `mzk_check` meets its contract: the lists of the matrix are decoded as far as a matrix can reach.
 use borrow.Author.Needs.{needs}
 use mathlib.Core.Path.{ap, _∙_}
-use Rattle.words.specs.LittleEndian.{unsigned, signed}
+use Rattle.words.specs.LittleEndian.{unsigned}
+use Rattle.mazhoketh.specs.Bytes.{matrixIn}
 use Rattle.mazhoketh.specs.Word.{word}
 use Rattle.mazhoketh.proofs.PlanChecks.{decoded-matrix}
-use Rattle.mazhoketh.proofs.Loads.{loaded-short, loaded-size}
+use Rattle.mazhoketh.proofs.Loads.{loaded-short, loaded-size, loaded-matrix}
 use Rattle.mazhoketh.proofs.check.mzk_check.Statement.{statement}
 use Rattle.mazhoketh.proofs.check.mzk_check.Tie as tie
 
@@ -47,8 +48,8 @@ returns c =
     let a = starts .before .before .before .before .before .before .before .args in
     made .check-of .ensures
     ∙ ap word
-    (decoded-matrix (a .n) (unsigned 4 (a .row-starts .now)) (unsigned 4 (a .columns .now)) (signed 4 (a .values .now)) (unsigned 4 (a .order .now)) (unsigned 4 (a .groups .now)) (a .group-count)
-    (starts .load-starts .ensures .is) (columns .load-columns .ensures .is) (values .load-values .ensures .is))
+    (decoded-matrix (matrixIn (a .n) (a .row-starts .now) (a .columns .now) (a .values .now)) (unsigned 4 (a .order .now)) (unsigned 4 (a .groups .now)) (a .group-count)
+    (loaded-matrix (a .n) (starts .load-starts .ensures) (columns .load-columns .ensures) (values .load-values .ensures)))
 
 pub mzk-check-spec : {M : Type 1} → statement M
 mzk-check-spec =

@@ -1,7 +1,8 @@
 -- `mzk_product` meets its contract: the lists of the matrix are decoded as far as a matrix can reach.
 use borrow.Author.Needs.{needs}
-use Rattle.words.specs.LittleEndian.{unsigned, signed}
-use Rattle.mazhoketh.proofs.Loads.{loaded-short, loaded-size}
+use Rattle.words.specs.LittleEndian.{signed}
+use Rattle.mazhoketh.proofs.Loads.{loaded-short, loaded-size, loaded-matrix}
+use Rattle.mazhoketh.specs.Bytes.{matrixIn}
 use Rattle.mazhoketh.proofs.Products.{decoded-matrix}
 use Rattle.mazhoketh.proofs.product.mzk_product.Statement.{statement}
 use Rattle.mazhoketh.proofs.product.mzk_product.Tie as tie
@@ -46,8 +47,8 @@ returns c =
     let columns = values .before .before in
     let starts = columns .before .before in
     let a = starts .before .before .before .before .before .before .before .args in
-    decoded-matrix (a .n) (unsigned 4 (a .row-starts .now)) (unsigned 4 (a .columns .now)) (signed 4 (a .values .now)) (signed 4 (a .movements .now)) _
-    (starts .load-starts .ensures .is) (columns .load-columns .ensures .is) (values .load-values .ensures .is) (made .product-of .ensures)
+    decoded-matrix (matrixIn (a .n) (a .row-starts .now) (a .columns .now) (a .values .now)) (signed 4 (a .movements .now)) _
+    (loaded-matrix (a .n) (starts .load-starts .ensures) (columns .load-columns .ensures) (values .load-values .ensures)) (made .product-of .ensures)
 
 pub mzk-product-spec : {M : Type 1} → statement M
 mzk-product-spec =
