@@ -54,3 +54,6 @@ pub mod JobChecked
 pub mod Scattering
 pub mod TableWaits
 pub mod ReadyBits
+pub mod Reached
+pub mod NextRecord
+pub mod Products

@@ -12,3 +12,4 @@ pub mod Sum
 pub mod Laid
 pub mod Tables
 pub mod Scatter
+pub mod UpdateTable

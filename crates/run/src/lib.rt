@@ -3,5 +3,7 @@ mod checks;
 mod forces;
 mod later;
 mod ready;
+mod leaf;
 mod state;
 mod sum;
+mod updates;

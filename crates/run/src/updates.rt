@@ -1,0 +1,63 @@
+// Every worker's updates in tables: each worker's after those of the workers before it, leaf by leaf, row by row.
+use crate::later::later;
+use crate::later::positions;
+use crate::leaf::is_leaf;
+use matrix::entry_at;
+use plan::fields::record_at;
+use plan::fields::wide_at;
+ghost use mathlib.Core.Path.{_≡_};
+ghost use mathlib.Core.Bool.{true};
+ghost use mathlib.Core.List.{List, _++_};
+ghost use Prim.Native.Nat.{ℕ, _+_, _*_, _≤_, _<_};
+ghost use lib.IntN.{_*ℤ_};
+ghost use lib.ListN.{length, getD, set, take};
+ghost use Rattle.matrix.specs.Limits.{maxRows};
+ghost use Rattle.matrix.specs.Matrix.{isMatrix, areDisplacements, entry, displacement};
+ghost use Rattle.matrix.specs.Checks.{matrixOf};
+ghost use Rattle.plan.specs.Groups.{Group};
+ghost use Rattle.plan.specs.Sound.{maxGroups, maxWorkers};
+ghost use Rattle.run.specs.Job.{jobOf};
+ghost use Rattle.run.specs.Updates.{Update, rowUpdates};
+ghost use Rattle.run.specs.Laid.{maxUpdates, Laid, Bounded};
+ghost use Rattle.run.specs.UpdateTable.{Given, Rows, Long, LeafOf, Listed, Filled, Ended, Counted, jobWith, reached};
+
+// An entry times a displacement.
+fn product(entry: i32, displacement: i32) -> i64
+    ensures { λ r. ⌜ r ≡ entry *ℤ displacement ⌝ }
+{
+    entry as i64 * displacement as i64
+}
+
+// A row's diagonal entry times its displacement.
+fn own_product(
+    n: usize,
+    starts: &[u32],
+    columns: &[u32],
+    values: &[i32],
+    displacements: &[i32],
+    row: usize,
+) -> i64
+    requires { ⌜ (isMatrix (matrixOf n (now starts) (now columns) (now values)) ≡ true) × (areDisplacements n (now displacements) ≡ true) × (row < n) ⌝ }
+    ensures { λ r. ⌜ r ≡ entry (matrixOf n (now (starts .entry)) (now (columns .entry)) (now (values .entry))) row row *ℤ displacement (now (displacements .entry)) row ⌝ }
+{
+    let i = row as u32;
+    entry_at(n as u32, starts, columns, values, i, i) * displacements[row] as i64
+}
+
+// One update at a place: its sum, its amount, its row's leaf.
+fn put(
+    place: usize,
+    sum: usize,
+    z: i64,
+    i: usize,
+    target: &mut [u16; 69632],
+    amount: &mut [i64; 69632],
+    leaf: &mut [u16; 69632],
+)
+    requires { ⌜ (place < maxUpdates) × (sum < maxRows) × (i < maxGroups) × Long (now target) (now amount) (now leaf) ⌝ }
+    ensures { λ _. ⌜ (now (target .exit) ≡ set (now (target .entry)) place sum) × (now (amount .exit) ≡ set (now (amount .entry)) place z) × (now (leaf .exit) ≡ set (now (leaf .entry)) place i) ⌝ }
+{
+    target[place] = sum as u16;
+    amount[place] = z;
+    leaf[place] = i as u16;
+}
