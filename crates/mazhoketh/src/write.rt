@@ -3,7 +3,7 @@ use crate::lists::load_columns;
 use crate::lists::load_starts;
 use crate::lists::load_values;
 use crate::word::word_of;
-use market::write;
+use writer::write;
 ghost use lib.ListN.{length};
 ghost use Rattle.market.specs.Text.{written, writeReply};
 ghost use Rattle.mazhoketh.specs.Bytes.{matrixIn};
