@@ -24,7 +24,7 @@ fn width(v: u32) -> usize
 }
 
 // A byte, and the place after it.
-fn put_byte(text: &mut [u8], at: usize, b: u8) -> usize
+pub fn put_byte(text: &mut [u8], at: usize, b: u8) -> usize
     requires { ⌜ at + 1 ≤ length (now text) ⌝ }
     ensures { λ r. ⌜ Put (b ∷ []) at r (now (text .entry)) (now (text .exit)) ⌝ }
 {
@@ -33,7 +33,7 @@ fn put_byte(text: &mut [u8], at: usize, b: u8) -> usize
 }
 
 // A number's digits from the last to the first, and the place after them.
-fn put_number(text: &mut [u8], at: usize, v: u32) -> usize
+pub fn put_number(text: &mut [u8], at: usize, v: u32) -> usize
     requires { ⌜ at + length (natural v) ≤ length (now text) ⌝ }
     ensures { λ r. ⌜ Put (natural v) at r (now (text .entry)) (now (text .exit)) ⌝ }
 {
