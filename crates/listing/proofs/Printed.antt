@@ -1,0 +1,78 @@
+-- The lines of the listing, number by number and record by record, and how long they are.
+use mathlib.Core.Path.{_≡_, refl, ap, _∙_}
+use mathlib.Core.List.{List, [], _∷_, _++_, append-assoc}
+use Prim.Native.Nat.{ℕ, zero, suc, _+_, _-_, _*_, _≤_, _<_}
+use native.Mathlib.Numerals.{add-one}
+use native.Mathlib.Omega.{arith}
+use lib.ListN.{length, getD, take, drop, length-append, length-drop, drop-of-length-le}
+use lib.Seq.{drop-cons}
+use Rattle.market.specs.Bytes.{blank, lineFeed}
+use Rattle.market.specs.Text.{natural}
+use Rattle.writer.proofs.puts.Digits.{natural-few}
+use Rattle.writer.proofs.puts.Putting.{Next}
+use Rattle.plan.specs.Groups.{Group, width, fields, ofFields, records}
+use Rattle.plan.specs.Checks.{recordAt}
+use Rattle.plan.proofs.FlatRecords.{records-at, records-none}
+use Rattle.listing.specs.Listing.{spaced, groupLines}
+
+-- the next byte
+pub bytes-next : (bs : List ℕ) (i : ℕ) → i < length bs → Next (drop i bs) (getD bs i 0 ∷ []) (drop (i + 1) bs)
+bytes-next bs i l = record { is = rw (add-one, drop-cons bs i 0) }
+
+-- numbers, each after a space, and the line feed
+abbrev pub fieldsLine : List ℕ → List ℕ
+fieldsLine ns = spaced ns ++ lineFeed ∷ []
+
+-- the next number
+pub fields-next : (ns : List ℕ) (i : ℕ) → i < length ns → Next (fieldsLine (drop i ns)) (blank ∷ natural (getD ns i 0)) (fieldsLine (drop (i + 1) ns))
+unfolding spaced
+fields-next ns i l = record { is = rw (add-one, drop-cons ns i 0) (simp append-assoc) }
+
+pub fields-last : (ns : List ℕ) (i : ℕ) → length ns ≤ i → Next (fieldsLine (drop i ns)) (lineFeed ∷ []) []
+unfolding spaced
+fields-last ns i l = record { is = rw (drop-of-length-le ns {i = i} l) }
+
+-- at most 11 bytes a number
+pub spaced-few : (ns : List ℕ) → length (spaced ns) ≤ 11 * length ns
+unfolding spaced
+spaced-few [] = omega arith
+spaced-few (n ∷ ns) = let h = spaced-few ns in rw length-append (omega (arith, natural-few n))
+
+pub fields-few : (ns : List ℕ) → length (fieldsLine ns) ≤ 11 * length ns + 1
+fields-few ns = rw length-append (omega (arith, spaced-few ns))
+
+-- the six numbers of a record
+six-fields : (ns : List ℕ) → 6 ≤ length ns → take 6 ns ≡ fields (ofFields ns)
+unfolding fields ofFields
+six-fields (a ∷ b ∷ c ∷ d ∷ e ∷ f ∷ ns) l = refl
+six-fields [] l = absurd (omega arith)
+six-fields (a ∷ []) l = absurd (omega arith)
+six-fields (a ∷ b ∷ []) l = absurd (omega arith)
+six-fields (a ∷ b ∷ c ∷ []) l = absurd (omega arith)
+six-fields (a ∷ b ∷ c ∷ d ∷ []) l = absurd (omega arith)
+six-fields (a ∷ b ∷ c ∷ d ∷ e ∷ []) l = absurd (omega arith)
+
+-- the record at an index is a part of the flat list
+pub record-part : (ns : List ℕ) (i from : ℕ) → from ≡ 6 * i → from + 6 ≤ length ns → take (from + 6 - from) (drop from ns) ≡ fields (recordAt ns i)
+unfolding recordAt
+record-part ns i from e l =
+    let z : from + 6 - from ≡ 6 = omega arith in
+    rw z (six-fields (drop from ns) (rw length-drop (omega arith)) ∙ ap (λ (k : ℕ). fields (ofFields (drop k ns))) e)
+
+-- the next record's line
+pub groups-next : (ns : List ℕ) (count i : ℕ) → i < count
+    → Next (groupLines i (drop i (records count ns))) (natural i ++ fieldsLine (fields (recordAt ns i))) (groupLines (i + 1) (drop (i + 1) (records count ns)))
+unfolding groupLines
+groups-next ns count i l = record { is = rw (add-one, records-at) (simp append-assoc) }
+
+pub groups-end : (ns : List ℕ) (count i : ℕ) → count ≤ i → groupLines i (drop i (records count ns)) ≡ []
+unfolding groupLines
+groups-end ns count i l = rw (records-none count i ns l)
+
+-- at most 77 bytes a record
+pub groups-few : (i : ℕ) (gs : List Group) → length (groupLines i gs) ≤ 77 * length gs
+unfolding groupLines fields
+groups-few i [] = omega arith
+groups-few i (g ∷ gs) =
+    let h = groups-few (suc i) gs in
+    simp length-append (omega (arith, natural-few i, spaced-few (fields g)))

@@ -1,0 +1,17 @@
+-- `narrow` meets its contract.
+use borrow.Author.Needs.{needs}
+use borrow.Author.Tests.{lt-ltb, le-ltb}
+use Rattle.listing.proofs.first_line.narrow.Statement.{statement}
+use Rattle.listing.proofs.first_line.narrow.Tie as tie
+
+cast-result : tie.Need-cast-result
+cast-result c = search needs
+
+returns : tie.Need-returns
+returns c = simp (lt-ltb _ _ (c .if1 .taken))
+
+returns-2 : tie.Need-returns-2
+returns-2 c = simp (le-ltb _ _ (c .if1 .left))
+
+pub narrow-spec : {M : Type 1} → statement M
+narrow-spec = tie.close (tie.spec cast-result returns returns-2)
