@@ -57,3 +57,4 @@ pub mod ReadyBits
 pub mod Reached
 pub mod NextRecord
 pub mod Products
+pub mod PassTurns

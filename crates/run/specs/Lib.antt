@@ -10,6 +10,7 @@ pub mod Consequences
 pub mod Record
 pub mod Sum
 pub mod Laid
+pub mod Waits
 pub mod Tables
 pub mod Scatter
 pub mod UpdateTable

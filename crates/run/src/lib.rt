@@ -7,3 +7,4 @@ mod leaf;
 mod state;
 mod sum;
 mod updates;
+mod waits;
