@@ -58,3 +58,5 @@ pub mod Reached
 pub mod NextRecord
 pub mod Products
 pub mod PassTurns
+pub mod ListedUpdates
+pub mod RowTable

@@ -36,6 +36,10 @@ module _ {a b : ℤ} (f : SFits w32 a) (g : SFits w32 b) where
     product = fits-abs (omega (arith, abs-mul-le a b (abs-32 f) (abs-32 g)));
   }
 
+-- two numbers of 32 bits, as the code has them
+pub read-back : (a b : ℤ) → SFits w32 a → SFits w32 b → toZ w32 (ofZ w32 a) *ℤ toZ w32 (ofZ w32 b) ≡ a *ℤ b
+read-back a b f g = rw (toZ-ofZ f, toZ-ofZ g)
+
 -- a number of 64 bits times one of 32 bits, as the code has it
 pub multiplied : {a b : ℤ} → SFits w64 a → SFits w32 b → SFits w64 b → SFits w64 (a *ℤ b) → toZ w64 (ofZ w64 (toZ w64 (ofZ w64 a) *ℤ toZ w64 (ofZ w64 (toZ w32 (ofZ w32 b))))) ≡ a *ℤ b
 multiplied f g h p = rw (toZ-ofZ f, toZ-ofZ g, toZ-ofZ h) (toZ-ofZ p)

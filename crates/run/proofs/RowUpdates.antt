@@ -17,7 +17,7 @@ use Rattle.run.specs.Job.{Job, rowAt}
 use Rattle.run.specs.Updates.{Update, entryAt, displacementAt, later, withEach, rowUpdates, noUpdate}
 
 module _ (j : Job) where
-  each-length : (p : ℕ) (qs : List ℕ) → length (withEach j p qs) ≡ 2 * length qs
+  pub each-length : (p : ℕ) (qs : List ℕ) → length (withEach j p qs) ≡ 2 * length qs
   unfolding withEach
   each-length p [] = refl
   each-length p (q ∷ qs) = omega (arith, each-length p qs)

@@ -4,7 +4,7 @@ use mathlib.Core.Logic.{_⊎_}
 use mathlib.Core.Bool.{true, cond}
 use mathlib.Core.List.{List, [], _∷_, _++_}
 use Prim.Native.Nat.{ℕ, zero, suc, _+_, _*_, _≤_, _<_}
-use lib.ListN.{length, getD, take}
+use lib.ListN.{length, getD, set, take}
 use lib.IntN.{ℤ, pos}
 use Rattle.matrix.specs.Limits.{maxRows}
 use Rattle.matrix.specs.Matrix.{Matrix, areDisplacements}
@@ -54,6 +54,12 @@ pub record Long (target : List ℕ) (amount : List ℤ) (leaf : List ℕ) : Type
   pub amount-long : length amount ≡ maxUpdates
   pub leaf-long : length leaf ≡ maxUpdates
 
+-- one update at place e: its target, its amount, its row's leaf
+pub record Written (e t : ℕ) (z : ℤ) (i : ℕ) (target : List ℕ) (amount : List ℤ) (leaf target′ : List ℕ) (amount′ : List ℤ) (leaf′ : List ℕ) : Type 0 where
+  pub target-is : target′ ≡ set target e t
+  pub amount-is : amount′ ≡ set amount e z
+  pub leaf-is : leaf′ ≡ set leaf e i
+
 -- the updates us from place 0 on, each beside the leaf of its row
 pub record Listed (j : Job) (us : List Update) (target : List ℕ) (amount : List ℤ) (leaf : List ℕ) : Type 0 where
   pub long : Long target amount leaf
@@ -62,6 +68,13 @@ pub record Listed (j : Job) (us : List Update) (target : List ℕ) (amount : Lis
   pub leaves : (k : ℕ) → k < length us → LeafOf j (getD leaf k 0) (getD us k noUpdate .row)
   pub target-low : (k : ℕ) → getD target k 0 < j .matrix .n
   pub leaf-low : (k : ℕ) → getD leaf k 0 < maxGroups
+
+-- whatever the groups and the updates us before this place, those of the row at p now follow them up to place r, if record i is its leaf
+pub record RowPut (m : Matrix) (x : List ℤ) (order : List ℕ) (p i place : ℕ) (target : List ℕ) (amount : List ℤ) (leaf : List ℕ)
+    (r : ℕ) (target′ : List ℕ) (amount′ : List ℤ) (leaf′ : List ℕ) : Type 0 where
+  pub follow : (groups : List Group) (us : List Update) → place ≡ length us → LeafOf (jobWith m x order groups) i p → Listed (jobWith m x order groups) us target amount leaf
+      → Listed (jobWith m x order groups) (us ++ rowUpdates (jobWith m x order groups) p) target′ amount′ leaf′
+  pub place-after : (groups : List Group) → r ≡ place + length (rowUpdates (jobWith m x order groups) p)
 
 -- the updates of the workers before w
 unfoldable pub before : Job → ℕ → List Update

@@ -19,7 +19,7 @@ ghost use Rattle.plan.specs.Sound.{maxGroups, maxWorkers};
 ghost use Rattle.run.specs.Job.{jobOf};
 ghost use Rattle.run.specs.Updates.{Update, rowUpdates};
 ghost use Rattle.run.specs.Laid.{maxUpdates, Laid, Bounded};
-ghost use Rattle.run.specs.UpdateTable.{Given, Rows, Long, LeafOf, Listed, Filled, Ended, Counted, jobWith, reached};
+ghost use Rattle.run.specs.UpdateTable.{Given, Rows, Long, Written, LeafOf, Listed, Filled, Ended, Counted, RowPut, reached};
 
 // An entry times a displacement.
 fn product(entry: i32, displacement: i32) -> i64
@@ -55,9 +55,52 @@ fn put(
     leaf: &mut [u16; 69632],
 )
     requires { ⌜ (place < maxUpdates) × (sum < maxRows) × (i < maxGroups) × Long (now target) (now amount) (now leaf) ⌝ }
-    ensures { λ _. ⌜ (now (target .exit) ≡ set (now (target .entry)) place sum) × (now (amount .exit) ≡ set (now (amount .entry)) place z) × (now (leaf .exit) ≡ set (now (leaf .entry)) place i) ⌝ }
+    ensures { λ _. ⌜ Written place sum z i (now (target .entry)) (now (amount .entry)) (now (leaf .entry)) (now (target .exit)) (now (amount .exit)) (now (leaf .exit)) ⌝ }
 {
     target[place] = sum as u16;
     amount[place] = z;
     leaf[place] = i as u16;
+}
+
+// The updates of the row at position p, which leaf i holds, from a place on; the place after them.
+fn put_row(
+    n: usize,
+    starts: &[u32],
+    columns: &[u32],
+    values: &[i32],
+    displacements: &[i32],
+    order: &[u32],
+    counts: &[u32; 4096],
+    at: &[u16; 65536],
+    beside: &[i32; 65536],
+    p: usize,
+    i: usize,
+    place: usize,
+    target: &mut [u16; 69632],
+    amount: &mut [i64; 69632],
+    leaf: &mut [u16; 69632],
+) -> usize
+    requires { ⌜ Rows n (now starts) (now columns) (now values) (now displacements) (now order) (now counts) (now at) (now beside) × (p < n) × (i < maxGroups)
+        × (place + (1 + 2 * getD (now counts) (getD (now order) p 0) 0) ≤ maxUpdates) × Long (now target) (now amount) (now leaf) ⌝ }
+    ensures { λ r. ⌜ RowPut (matrixOf n (now (starts .entry)) (now (columns .entry)) (now (values .entry))) (now (displacements .entry)) (take n (now (order .entry))) p i
+        place (now (target .entry)) (now (amount .entry)) (now (leaf .entry)) r (now (target .exit)) (now (amount .exit)) (now (leaf .exit)) ⌝ }
+{
+    let row = wide_at(order, p);
+    let own = displacements[row];
+    let z = own_product(n, starts, columns, values, displacements, row);
+    put(place, p, z, i, target, amount, leaf);
+    let start = wide_at(starts, row);
+    let later = counts[row] as usize;
+    let mut next = place + 1;
+    let mut k = 0;
+    while k < later {
+        let q = at[start + k] as usize;
+        let entry = beside[start + k];
+        let other = displacements[wide_at(order, q)];
+        put(next, p, product(entry, other), i, target, amount, leaf);
+        put(next + 1, q, product(entry, own), i, target, amount, leaf);
+        next += 2;
+        k += 1;
+    }
+    next
 }
