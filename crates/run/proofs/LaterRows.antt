@@ -55,7 +55,7 @@ one-below v (suc n) = go (eqb n v) refl (one-below v n)
     go false e ih = omega arith
 
 -- the different numbers of a list are no more than its length
-different : (n : ℕ) (xs : List ℕ) → sumBelow (λ v. bit (isIn xs v)) n ≤ length xs
+pub different : (n : ℕ) (xs : List ℕ) → sumBelow (λ v. bit (isIn xs v)) n ≤ length xs
 different n [] = omega (arith, sum-below-bound (λ v. 0) n 0 (λ v l. omega arith))
 different n (x ∷ xs) =
     omega (

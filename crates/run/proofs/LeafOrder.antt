@@ -23,7 +23,7 @@ module _ (j : Job) (w : ℕ) where
       ∙ sym (append-assoc (when (eqb (x .first) w) (rows j (x .start) (x .length))) (leafByLeaf j w xs) (leafByLeaf j w ys))
 
   -- one leaf, run by f
-  one-leaf : (f s m : ℕ) → ((q : ℕ) → s ≤ q → q < s + m → owner j q ≡ f) → upTo j w s ++ when (eqb f w) (rows j s m) ≡ upTo j w (s + m)
+  pub one-leaf : (f s m : ℕ) → ((q : ℕ) → s ≤ q → q < s + m → owner j q ≡ f) → upTo j w s ++ when (eqb f w) (rows j s m) ≡ upTo j w (s + m)
   unfolding rows when upTo
   one-leaf f s zero h = go (eqb f w) ∙ (let e : s ≡ s + 0 = omega arith in ap (upTo j w) e)
     where

@@ -60,3 +60,5 @@ pub mod Products
 pub mod PassTurns
 pub mod ListedUpdates
 pub mod RowTable
+pub mod UpdateRoom
+pub mod WorkerTable

@@ -243,11 +243,29 @@ module _ (adj : ℕ → List ℕ) (n : ℕ) (order : List ℕ) (c : ℕ) (ns : L
       }
 
   -- record i starts where the leaves before it end, and has a first worker
-  pub start-reached : (i : ℕ) → i < count → (recordAt ns i .start ≡ reached count ns i) × (recordAt ns i .first < maxWorkers)
+  start-at : (i : ℕ) → i < count → (recordAt ns i .start ≡ reached count ns i) × (recordAt ns i .first < maxWorkers)
   unfolding reached
-  start-reached zero l = (whole l .start, whole l .first)
-  start-reached (suc k) l = let x = next-at (suc k) l (before k (omega arith)) in (x .start, x .first)
+  start-at zero l = (whole l .start, whole l .first)
+  start-at (suc k) l = let x = next-at (suc k) l (before k (omega arith)) in (x .start, x .first)
+
+  -- the last leaf ends at n
+  end-at : reached count ns count ≡ n
+  end-at = let b = before c (omega arith) in open-none count ns n count count (b .path) (reached count ns count) (records-none count count ns (omega arith)) (b .opened)
+
+module _ (adj : ℕ → List ℕ) (n : ℕ) (order : List ℕ) (count : ℕ) (ns : List ℕ) (ok : sound adj n order (records count ns) ≡ true) where
+  -- record i starts where the leaves before it end, and has a first worker
+  pub start-reached : (i : ℕ) → i < count → (recordAt ns i .start ≡ reached count ns i) × (recordAt ns i .first < maxWorkers)
+  start-reached = go count ok
+    where
+      go : (k : ℕ) → sound adj n order (records k ns) ≡ true → (i : ℕ) → i < k → (recordAt ns i .start ≡ reached k ns i) × (recordAt ns i .first < maxWorkers)
+      go zero h i l = absurd (omega arith)
+      go (suc c) h i l = start-at adj n order c ns h i l
 
   -- the last leaf ends at n
   pub reached-end : reached count ns count ≡ n
-  reached-end = let b = before c (omega arith) in open-none count ns n count count (b .path) (reached count ns count) (records-none count count ns (omega arith)) (b .opened)
+  unfolding sound records
+  reached-end = go count ok
+    where
+      go : (k : ℕ) → sound adj n order (records k ns) ≡ true → reached k ns k ≡ n
+      go zero h = absurd (true≢false (sym h))
+      go (suc c) h = end-at adj n order c ns h

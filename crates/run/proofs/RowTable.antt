@@ -32,7 +32,7 @@ Follow m x order p i place k target amount leaf target′ amount′ leaf′ =
     (gs : List Group) (us : List Update) → place ≡ length us → LeafOf (jobWith m x order gs) i p → Listed (jobWith m x order gs) (us ++ part (jobWith m x order gs) p 0) target amount leaf
     → Listed (jobWith m x order gs) (us ++ part (jobWith m x order gs) p k) target′ amount′ leaf′
 
-module _ {n : ℕ} {starts columns : List ℕ} {values x : List ℤ} {order counts at : List ℕ} {beside : List ℤ} (r : Rows n starts columns values x order counts at beside) where
+module _ {n : ℕ} {starts columns : List ℕ} {values x : List ℤ} {order degrees at : List ℕ} {beside : List ℤ} (r : Rows n starts columns values x order degrees at beside) where
   abbrev m : Matrix
   m = matrixOf n starts columns values
 
@@ -53,7 +53,7 @@ module _ {n : ℕ} {starts columns : List ℕ} {values x : List ℤ} {order coun
     pub row-low : row < n
     pub moved-long : row < length x
     pub starts-long : n < length starts
-    pub counts-long : length counts ≡ maxRows
+    pub degrees-long : length degrees ≡ maxRows
     pub moved : (gs : List Group) → getD x row (pos 0) ≡ displacementAt (job gs) p
 
   pub row-at : (p : ℕ) → p < n → {row : ℕ} → row ≡ getD order p 0 → RowAt p row
@@ -69,7 +69,7 @@ module _ {n : ℕ} {starts columns : List ℕ} {values x : List ℤ} {order coun
         row-low = omega arith;
         moved-long = omega (arith, displacements-long m x (r .lent .ordered .matrix) (r .displaced));
         starts-long = f .startsLong;
-        counts-long = r .later .counts-long;
+        degrees-long = r .later .counts-long;
         moved = λ gs. ap (λ (i : ℕ). getD x i (pos 0)) q;
       }
 
@@ -78,9 +78,9 @@ module _ {n : ℕ} {starts columns : List ℕ} {values x : List ℤ} {order coun
     a = row-at p low row-is
 
     -- how many adjacent rows come after it
-    pub later-count : (gs : List Group) → getD counts row 0 ≡ length (later (job gs) p)
+    pub later-count : (gs : List Group) → getD degrees row 0 ≡ length (later (job gs) p)
     unfolding later laterTo rowAt
-    later-count gs = ap (λ (i : ℕ). getD counts i 0) (a .is) ∙ r .later .counted p low
+    later-count gs = ap (λ (i : ℕ). getD degrees i 0) (a .is) ∙ r .later .counted p low
 
     -- number k of them, at place s of the tables
     pub record LaterAt (k s : ℕ) : Type 0 where
@@ -91,7 +91,7 @@ module _ {n : ℕ} {starts columns : List ℕ} {values x : List ℤ} {order coun
       pub is : (gs : List Group) → getD at s 0 ≡ getD (later (job gs) p) k 0
       pub entry-is : (gs : List Group) → getD beside s (pos 0) ≡ entryAt (job gs) p (getD at s 0)
 
-    pub later-at : {k s : ℕ} → k < getD counts row 0 → s ≡ getD starts row 0 + k → LaterAt k s
+    pub later-at : {k s : ℕ} → k < getD degrees row 0 → s ≡ getD starts row 0 + k → LaterAt k s
     unfolding later laterTo rowAt entryAt
     later-at {k} {s} l e = record {
       place = place-below m (r .lent .ordered .matrix) row s (a .row-low) (subst (λ (i : ℕ). s < getD starts (suc i) 0) (sym (a .is)) (omega (arith, h, r .later .inside p low, place)));
@@ -116,7 +116,7 @@ module _ {n : ℕ} {starts columns : List ℕ} {values x : List ℤ} {order coun
 
     -- ---- what follows the updates before
 
-    module _ (i place : ℕ) (few : i < maxGroups) (room : place + (1 + 2 * getD counts row 0) ≤ maxUpdates) where
+    module _ (i place : ℕ) (few : i < maxGroups) (room : place + (1 + 2 * getD degrees row 0) ≤ maxUpdates) where
       -- room for all of them
       space : (gs : List Group) (us : List Update) → place ≡ length us → length us + (1 + 2 * length (later (job gs) p)) ≤ maxUpdates
       space gs us e = omega (arith, later-count gs)
@@ -129,7 +129,7 @@ module _ {n : ℕ} {starts columns : List ℕ} {values x : List ℤ} {order coun
 
       -- one more
       pub follow-next : {target target₁ target₂ target₃ : List ℕ} {amount amount₁ amount₂ amount₃ : List ℤ} {leaf leaf₁ leaf₂ leaf₃ : List ℕ} {k e s : ℕ} {y z : ℤ}
-          → k < getD counts row 0 → e ≡ place + (1 + 2 * k) → s ≡ getD starts row 0 + k
+          → k < getD degrees row 0 → e ≡ place + (1 + 2 * k) → s ≡ getD starts row 0 + k
           → y ≡ getD beside s (pos 0) *ℤ getD x (getD order (getD at s 0) 0) (pos 0) → z ≡ getD beside s (pos 0) *ℤ getD x row (pos 0)
           → Written e p y i target₁ amount₁ leaf₁ target₂ amount₂ leaf₂ → Written (e + 1) (getD at s 0) z i target₂ amount₂ leaf₂ target₃ amount₃ leaf₃
           → Follow m x o p i place k target amount leaf target₁ amount₁ leaf₁ → Follow m x o p i place (k + 1) target amount leaf target₃ amount₃ leaf₃
@@ -140,11 +140,11 @@ module _ {n : ℕ} {starts columns : List ℕ} {values x : List ℤ} {order coun
           (row-next (job gs) p i low few of us (space gs us h) k (omega (arith, later-count gs)) e (getD at s 0) (omega arith) (t′ .is gs) (f gs us h of t))
 
       -- all of them
-      pub follow-all : {target target′ : List ℕ} {amount amount′ : List ℤ} {leaf leaf′ : List ℕ} → Follow m x o p i place (getD counts row 0) target amount leaf target′ amount′ leaf′
+      pub follow-all : {target target′ : List ℕ} {amount amount′ : List ℤ} {leaf leaf′ : List ℕ} → Follow m x o p i place (getD degrees row 0) target amount leaf target′ amount′ leaf′
           → (gs : List Group) (us : List Update) → place ≡ length us → LeafOf (job gs) i p → Listed (job gs) (us ++ part (job gs) p 0) target amount leaf
           → Listed (job gs) (us ++ rowUpdates (job gs) p) target′ amount′ leaf′
       follow-all f gs us e of t =
           listed-same (job gs) (ap (λ (vs : List Update). us ++ vs) (ap (part (job gs) p) (later-count gs) ∙ part-all (job gs) p)) (f gs us e of t)
 
-      pub place-after : (gs : List Group) → place + (1 + 2 * getD counts row 0) ≡ place + length (rowUpdates (job gs) p)
+      pub place-after : (gs : List Group) → place + (1 + 2 * getD degrees row 0) ≡ place + length (rowUpdates (job gs) p)
       place-after gs = omega (arith, later-count gs, row-length (job gs) p)

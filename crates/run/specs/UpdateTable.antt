@@ -27,10 +27,10 @@ pub record Given (n : ℕ) (starts columns : List ℕ) (values displacements : L
   pub groups-long : width * count ≤ length groups
 
 -- a matrix and an order in lent lists, displacements, and the adjacent rows after each row
-pub record Rows (n : ℕ) (starts columns : List ℕ) (values displacements : List ℤ) (order counts at : List ℕ) (beside : List ℤ) : Type 0 where
+pub record Rows (n : ℕ) (starts columns : List ℕ) (values displacements : List ℤ) (order degrees at : List ℕ) (beside : List ℤ) : Type 0 where
   pub lent : Lent n starts columns values order
   pub displaced : areDisplacements n displacements ≡ true
-  pub later : Later (matrixOf n starts columns values) (take n order) n counts at beside
+  pub later : Later (matrixOf n starts columns values) (take n order) n degrees at beside
 
 -- a job with these groups
 abbrev pub jobWith : Matrix → List ℤ → (order : List ℕ) → List Group → Job
@@ -94,6 +94,11 @@ endOf j i = 2 * length (upTo j (groupAt j i .first) (groupAt j i .start + groupA
 pub record Ended (j : Job) (w i : ℕ) (ends : List ℕ) : Type 0 where
   pub long : length ends ≡ maxGroups
   pub is : (k : ℕ) → Leaf j k → (groupAt j k .first < w) ⊎ ((groupAt j k .first ≡ w) × (k < i)) → getD ends k 0 ≡ endOf j k
+
+-- both: the rows before position p, the records before i
+pub record Walked (j : Job) (w p i e : ℕ) (target : List ℕ) (amount : List ℤ) (leaf ends : List ℕ) : Type 0 where
+  pub filled : Filled j w p e target amount leaf
+  pub ended : Ended j w i ends
 
 -- how many updates each worker before w has, and where the first stands
 pub record Counted (j : Job) (w : ℕ) (counts first : List ℕ) : Type 0 where

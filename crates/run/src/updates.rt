@@ -16,10 +16,11 @@ ghost use Rattle.matrix.specs.Matrix.{isMatrix, areDisplacements, entry, displa
 ghost use Rattle.matrix.specs.Checks.{matrixOf};
 ghost use Rattle.plan.specs.Groups.{Group};
 ghost use Rattle.plan.specs.Sound.{maxGroups, maxWorkers};
+ghost use Rattle.plan.specs.Checks.{recordAt};
 ghost use Rattle.run.specs.Job.{jobOf};
 ghost use Rattle.run.specs.Updates.{Update, rowUpdates};
 ghost use Rattle.run.specs.Laid.{maxUpdates, Laid, Bounded};
-ghost use Rattle.run.specs.UpdateTable.{Given, Rows, Long, Written, LeafOf, Listed, Filled, Ended, Counted, RowPut, reached};
+ghost use Rattle.run.specs.UpdateTable.{Given, Rows, Long, Written, LeafOf, Listed, Filled, Ended, Walked, Counted, RowPut, reached};
 
 // An entry times a displacement.
 fn product(entry: i32, displacement: i32) -> i64
@@ -70,7 +71,7 @@ fn put_row(
     values: &[i32],
     displacements: &[i32],
     order: &[u32],
-    counts: &[u32; 4096],
+    degrees: &[u32; 4096],
     at: &[u16; 65536],
     beside: &[i32; 65536],
     p: usize,
@@ -80,8 +81,8 @@ fn put_row(
     amount: &mut [i64; 69632],
     leaf: &mut [u16; 69632],
 ) -> usize
-    requires { ⌜ Rows n (now starts) (now columns) (now values) (now displacements) (now order) (now counts) (now at) (now beside) × (p < n) × (i < maxGroups)
-        × (place + (1 + 2 * getD (now counts) (getD (now order) p 0) 0) ≤ maxUpdates) × Long (now target) (now amount) (now leaf) ⌝ }
+    requires { ⌜ Rows n (now starts) (now columns) (now values) (now displacements) (now order) (now degrees) (now at) (now beside) × (p < n) × (i < maxGroups)
+        × (place + (1 + 2 * getD (now degrees) (getD (now order) p 0) 0) ≤ maxUpdates) × Long (now target) (now amount) (now leaf) ⌝ }
     ensures { λ r. ⌜ RowPut (matrixOf n (now (starts .entry)) (now (columns .entry)) (now (values .entry))) (now (displacements .entry)) (take n (now (order .entry))) p i
         place (now (target .entry)) (now (amount .entry)) (now (leaf .entry)) r (now (target .exit)) (now (amount .exit)) (now (leaf .exit)) ⌝ }
 {
@@ -90,7 +91,7 @@ fn put_row(
     let z = own_product(n, starts, columns, values, displacements, row);
     put(place, p, z, i, target, amount, leaf);
     let start = wide_at(starts, row);
-    let later = counts[row] as usize;
+    let later = degrees[row] as usize;
     let mut next = place + 1;
     let mut k = 0;
     while k < later {
@@ -101,6 +102,118 @@ fn put_row(
         put(next + 1, q, product(entry, own), i, target, amount, leaf);
         next += 2;
         k += 1;
+    }
+    next
+}
+
+// The updates of the rows of record i, if it is a leaf, from a place on; the place after them.
+fn put_leaf(
+    n: usize,
+    starts: &[u32],
+    columns: &[u32],
+    values: &[i32],
+    displacements: &[i32],
+    order: &[u32],
+    groups: &[u32],
+    count: usize,
+    degrees: &[u32; 4096],
+    at: &[u16; 65536],
+    beside: &[i32; 65536],
+    i: usize,
+    place: usize,
+    target: &mut [u16; 69632],
+    amount: &mut [i64; 69632],
+    leaf: &mut [u16; 69632],
+) -> usize
+    requires { ⌜ Given n (now starts) (now columns) (now values) (now displacements) (now order) (now groups) count
+        × Rows n (now starts) (now columns) (now values) (now displacements) (now order) (now degrees) (now at) (now beside) × (i < count)
+        × Filled (jobOf (matrixOf n (now starts) (now columns) (now values)) (now displacements) (now order) (now groups) count) (recordAt (now groups) i .first) (reached count (now groups) i)
+        place (now target) (now amount) (now leaf) ⌝ }
+    ensures { λ r. ⌜ Filled (jobOf (matrixOf n (now (starts .entry)) (now (columns .entry)) (now (values .entry))) (now (displacements .entry)) (now (order .entry)) (now (groups .entry)) count)
+        (recordAt (now (groups .entry)) i .first) (reached count (now (groups .entry)) (i + 1)) r (now (target .exit)) (now (amount .exit)) (now (leaf .exit)) ⌝ }
+{
+    if !is_leaf(groups, count, i) {
+        return place;
+    }
+    let g = record_at(groups, i);
+    let mut p = g.start;
+    let end = p + g.length;
+    let mut next = place;
+    while p < end {
+        next = put_row(
+            n,
+            starts,
+            columns,
+            values,
+            displacements,
+            order,
+            degrees,
+            at,
+            beside,
+            p,
+            i,
+            next,
+            target,
+            amount,
+            leaf,
+        );
+        p += 1;
+    }
+    next
+}
+
+// The updates of worker w, from a place on, and where its leaves end; the place after them.
+fn put_worker(
+    n: usize,
+    starts: &[u32],
+    columns: &[u32],
+    values: &[i32],
+    displacements: &[i32],
+    order: &[u32],
+    groups: &[u32],
+    count: usize,
+    degrees: &[u32; 4096],
+    at: &[u16; 65536],
+    beside: &[i32; 65536],
+    w: usize,
+    place: usize,
+    target: &mut [u16; 69632],
+    amount: &mut [i64; 69632],
+    leaf: &mut [u16; 69632],
+    ends: &mut [u32; 512],
+) -> usize
+    requires { ⌜ Given n (now starts) (now columns) (now values) (now displacements) (now order) (now groups) count
+        × Rows n (now starts) (now columns) (now values) (now displacements) (now order) (now degrees) (now at) (now beside) × (w < maxWorkers)
+        × Walked (jobOf (matrixOf n (now starts) (now columns) (now values)) (now displacements) (now order) (now groups) count) w 0 0 place (now target) (now amount) (now leaf) (now ends) ⌝ }
+    ensures { λ r. ⌜ Walked (jobOf (matrixOf n (now (starts .entry)) (now (columns .entry)) (now (values .entry))) (now (displacements .entry)) (now (order .entry)) (now (groups .entry)) count)
+        w n count r (now (target .exit)) (now (amount .exit)) (now (leaf .exit)) (now (ends .exit)) ⌝ }
+{
+    let mut next = place;
+    let mut i = 0;
+    while i < count {
+        let g = record_at(groups, i);
+        if g.first == w {
+            next = put_leaf(
+                n,
+                starts,
+                columns,
+                values,
+                displacements,
+                order,
+                groups,
+                count,
+                degrees,
+                at,
+                beside,
+                i,
+                next,
+                target,
+                amount,
+                leaf,
+            );
+            ends[i] = (2 * (next - place)) as u32;
+        }
+        i += 1;
     }
     next
 }

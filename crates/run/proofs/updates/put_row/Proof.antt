@@ -26,12 +26,12 @@ use Rattle.run.proofs.updates.product.Reads as product-reads
 use Rattle.run.proofs.updates.put.Reads as put-reads
 
 abbrev Inv-loop : tie.InvT-loop
-Inv-loop n starts columns values displacements order counts at beside p i place target₀ amount₀ leaf₀ row own z start later next₀ k₀ target amount leaf next k =
+Inv-loop n starts columns values displacements order degrees at beside p i place target₀ amount₀ leaf₀ row own z start later next₀ k₀ target amount leaf next k =
     (k ≤ later) × (next ≡ place + (1 + 2 * k)) × Long target amount leaf
     × Follow (matrixOf n starts columns values) displacements (take n order) p i place k target₀ amount₀ leaf₀ target amount leaf
 
 abbrev μ-loop : tie.MeasureT-loop
-μ-loop n starts columns values displacements order counts at beside p i place target₀ amount₀ leaf₀ row own z start later next₀ k₀ target amount leaf next k = later - k
+μ-loop n starts columns values displacements order degrees at beside p i place target₀ amount₀ leaf₀ row own z start later next₀ k₀ target amount leaf next k = later - k
 
 -- where the row is read, and the function's entry
 abbrev row : tie.After-later Inv-loop μ-loop → tie.After-wide-at Inv-loop μ-loop
@@ -43,10 +43,10 @@ start c = c .before .before .before .before
 at : (c : tie.After-wide-at Inv-loop μ-loop) → let s = start c in RowAt (s .pre .0) (s .args .p) (c .wide-at .result)
 at c = let s = start c in row-at (s .pre .0) (s .args .p) (s .pre .1) (c .wide-at .ensures .0)
 
-room : (c : tie.After-wide-at Inv-loop μ-loop) → let s = start c in s .args .place + (1 + 2 * getD (s .args .counts .now) (c .wide-at .result) 0) ≤ maxUpdates
+room : (c : tie.After-wide-at Inv-loop μ-loop) → let s = start c in s .args .place + (1 + 2 * getD (s .args .degrees .now) (c .wide-at .result) 0) ≤ maxUpdates
 room c =
     let s = start c in
-    subst (λ (y : ℕ). s .args .place + (1 + 2 * getD (s .args .counts .now) y 0) ≤ maxUpdates) (sym (c .wide-at .ensures .0)) (s .pre .3)
+    subst (λ (y : ℕ). s .args .place + (1 + 2 * getD (s .args .degrees .now) y 0) ≤ maxUpdates) (sym (c .wide-at .ensures .0)) (s .pre .3)
 
 wide-at-requires : tie.Need-wide-at-requires Inv-loop μ-loop
 wide-at-requires c κs = let s = c .before .before .before in row-at (s .pre .0) (s .args .p) (s .pre .1) refl .in-order
@@ -227,7 +227,7 @@ loop-again c =
     )
 
 end : (c : tie.After-loop Inv-loop μ-loop) → let l = c .before in let w = row (l .before) in let s = start w in
-    l .loop .next ≡ s .args .place + (1 + 2 * getD (s .args .counts .now) (w .wide-at .result) 0)
+    l .loop .next ≡ s .args .place + (1 + 2 * getD (s .args .degrees .now) (w .wide-at .result) 0)
 end c = omega (arith, c .before .loop .inv .0, c .before .loop .inv .1, c .loop-test .left)
 
 own-amount : (c : tie.After-own-product Inv-loop μ-loop) → let w = c .before .before in let a = start w .args in
@@ -235,14 +235,14 @@ own-amount : (c : tie.After-own-product Inv-loop μ-loop) → let w = c .before 
 own-amount c = toZ-ofZ (record { sfits = c .own-product .ok }) ∙ c .own-product .ensures
 
 last : (c : tie.After-loop Inv-loop μ-loop) → let l = c .before in let w = row (l .before) in let a = start w .args in let p = l .before .before .before .put .last in
-    Follow (matrixOf (a .n) (a .starts .now) (a .columns .now) (a .values .now)) (a .displacements .now) (take (a .n) (a .order .now)) (a .p) (a .i) (a .place) (getD (a .counts .now) (w .wide-at .result) 0)
+    Follow (matrixOf (a .n) (a .starts .now) (a .columns .now) (a .values .now)) (a .displacements .now) (take (a .n) (a .order .now)) (a .p) (a .i) (a .place) (getD (a .degrees .now) (w .wide-at .result) 0)
     (p .1 .1 .1 .1 .0) (p .1 .1 .1 .1 .1 .0) (p .1 .1 .1 .1 .1 .1 .0) (l .loop .target) (l .loop .amount) (l .loop .leaf)
 last c =
     let l = c .before in
     let w = row (l .before) in
     let a = start w .args in
     let p = l .before .before .before .put .last in
-    let e : l .loop .k ≡ getD (a .counts .now) (w .wide-at .result) 0 = omega (arith, l .loop .inv .0, c .loop-test .left) in
+    let e : l .loop .k ≡ getD (a .degrees .now) (w .wide-at .result) 0 = omega (arith, l .loop .inv .0, c .loop-test .left) in
     subst (λ (k : ℕ). Follow (matrixOf (a .n) (a .starts .now) (a .columns .now) (a .values .now)) (a .displacements .now) (take (a .n) (a .order .now)) (a .p) (a .i) (a .place) k
     (p .1 .1 .1 .1 .0) (p .1 .1 .1 .1 .1 .0) (p .1 .1 .1 .1 .1 .1 .0) (l .loop .target) (l .loop .amount) (l .loop .leaf)) e (l .loop .inv .3)
 
