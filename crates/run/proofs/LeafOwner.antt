@@ -1,4 +1,4 @@
--- Whose the rows of a leaf are, and when the worker of its next row waits: by the record of the leaf.
+-- Whose the rows of a leaf are, and whether they are blocked: by the record of the leaf.
 use mathlib.Core.Path.{_≡_, refl, sym, ap, _∙_}
 use mathlib.Core.Bool.{Bool, true, false, true≢false}
 use mathlib.Core.List.{List, [], _∷_}
@@ -12,7 +12,7 @@ use Rattle.plan.specs.Sound.{sound, isSound}
 use Rattle.plan.proofs.Sound.{sound-facts}
 use Rattle.run.specs.Job.{Job}
 use Rattle.run.specs.Tree.{none, forest, tree, holds, ownerIn, blocked}
-use Rattle.run.specs.Updates.{owner, finished, next, waits}
+use Rattle.run.specs.Updates.{owner}
 use Rattle.run.specs.Laid.{Leaf, hasChild}
 use Rattle.run.proofs.Holds.{in-holds, owner-here, owner-next}
 use Rattle.run.proofs.FlatOpen.{openReds}
@@ -69,18 +69,13 @@ module _ (j : Job) (ok : isSound (j .matrix) (j .plan) ≡ true) (d : Group) whe
       go [] s a b c = absurd (true≢false (sym s))
       go (g ∷ gs) s a b c = leaf-owner (neighbours (j .matrix)) (j .matrix .n) (j .plan .order) g gs s q low i d (leaf-at q g gs i d a c b)
 
-  -- a worker whose next row lies in a leaf waits if the forward pass has the leaf blocked
-  pub leaf-waits : (made : List ℕ) (w i : ℕ) → Leaf j i → next j made w .row < j .matrix .n → holds (getD (j .plan .groups) i d) (next j made w .row) ≡ true
-      → (blocks : ℕ → Bool) → blocks 0 ≡ false → Forward (λ up. openReds (finished j made) up 1 (drop 1 (j .plan .groups))) blocks 1 (drop 1 (j .plan .groups)) → waits j made w ≡ blocks i
-  unfolding waits isSound sound
-  leaf-waits made w i l low h blocks start pass = go (j .plan .groups) ok (l .inside) (l .childless) h pass
+  -- a row of a leaf is blocked if the forward pass has the leaf blocked
+  pub leaf-blocked : (fin : Group → Bool) (q i : ℕ) → Leaf j i → q < j .matrix .n → holds (getD (j .plan .groups) i d) q ≡ true
+      → (blocks : ℕ → Bool) → blocks 0 ≡ false → Forward (λ up. openReds fin up 1 (drop 1 (j .plan .groups))) blocks 1 (drop 1 (j .plan .groups))
+      → blocked fin q (tree (j .plan .groups)) (tree (j .plan .groups)) ≡ blocks i
+  unfolding isSound sound
+  leaf-blocked fin q i l low h blocks start pass = go (j .plan .groups) ok (l .inside) (l .childless) h pass
     where
-      q : ℕ
-      q = next j made w .row
-
-      fin : Group → Bool
-      fin = finished j made
-
       go : (gs : List Group) → sound (neighbours (j .matrix)) (j .matrix .n) (j .plan .order) gs ≡ true → i < length gs → hasChild i (drop 1 gs) ≡ false → holds (getD gs i d) q ≡ true
           → Forward (λ up. openReds fin up 1 (drop 1 gs)) blocks 1 (drop 1 gs) → blocked fin q (tree gs) (tree gs) ≡ blocks i
       go [] s a b c p = absurd (true≢false (sym s))

@@ -62,3 +62,4 @@ pub mod ListedUpdates
 pub mod RowTable
 pub mod UpdateRoom
 pub mod WorkerTable
+pub mod BlockedLeaves

@@ -34,7 +34,8 @@ module _ (count : ℕ) (ns : List ℕ) (nested : standsDepthFirst count ns ≡ t
   last-none l = by-next (children-over count i (i + 1) ns l)
 
   module _ (l : i + 1 < count) where
-    parent-before : recordAt ns (i + 1) .parent < i + 1
+    -- the next record's parent stands before it
+    pub parent-before : recordAt ns (i + 1) .parent < i + 1
     parent-before =
         let d : Group = ofFields [] in
         let e : 1 + i ≡ i + 1 = omega arith in

@@ -17,7 +17,6 @@ use Rattle.plan.specs.Groups.{Group, red, records}
 use Rattle.plan.specs.Sound.{maxWorkers, maxGroups}
 use Rattle.plan.specs.Checks.{recordAt, belowWhole}
 use Rattle.plan.proofs.FlatRecords.{records-at, records-none}
-use Rattle.run.specs.Tree.{forest, redOpen}
 use Rattle.run.specs.Laid.{hasChild}
 use Rattle.run.specs.Waits.{Recorded, Ended, openIf, openRed, blockedIf, nextEnd, OpenReds, Passed, Ahead}
 use Rattle.run.proofs.FlatOpen.{openChildren, openAt, openReds, red-flat}

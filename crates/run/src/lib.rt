@@ -2,8 +2,8 @@
 mod checks;
 mod forces;
 mod later;
-mod ready;
 mod leaf;
+mod ready;
 mod state;
 mod sum;
 mod updates;
