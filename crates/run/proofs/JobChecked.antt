@@ -54,22 +54,14 @@ module _ (m : Matrix) (x : List ℤ) (order groups : List ℕ) (count : ℕ) whe
       unfolding planCheck inTurn
       job-taken s = moved-pass ∙ rw s
 
-  -- what holds of lists that pass
-  pub record Taken : Type 0 where
-    pub job : Accepted (jobOf m x order groups count)
-    pub order-long : m .n ≤ length order
-    pub groups-few : count ≤ maxGroups
-    pub groups-long : width * count ≤ length groups
-
-  pub taken : (k : ℕ) → reply ≡ accepted k → Taken
+  -- lists that pass hold an accepted job
+  pub job-given : (k : ℕ) → reply ≡ accepted k → Accepted (jobOf m x order groups count) × (m .n ≤ length order) × (width * count ≤ length groups)
   unfolding jobChecks matrixCheck displacementCheck planCheck isPlan jobOf
-  taken k e =
+  job-given k e =
       let all = accepted-all (jobChecks m x order groups count) (accepted 0) k e in
       let plan : isPlan m order groups count ≡ true = all .1 .1 .0 in
-      let bs : List Bool = leb count maxGroups ∷ leb (width * count) (length groups) ∷ isSound m (planOf (m .n) order groups count) ∷ [] in
-      record {
-        job = record { matrix = all .0; displacements = all .1 .0; plan = conj-at (leb (m .n) (length order)) bs plan 2 };
-        order-long = leb-true (m .n) (length order) (conj-first (leb (m .n) (length order)) bs plan);
-        groups-few = leb-true count maxGroups (conj-at (leb (m .n) (length order)) bs plan 0);
-        groups-long = leb-true (width * count) (length groups) (conj-at (leb (m .n) (length order)) bs plan 1);
-      }
+      let bs : List Bool = leb count maxGroups ∷ leb (width * count) (length groups) ∷ isSound m (planOf (m .n) order groups count) ∷ [] in (
+        record { matrix = all .0; displacements = all .1 .0; plan = conj-at (leb (m .n) (length order)) bs plan 2 },
+        leb-true (m .n) (length order) (conj-first (leb (m .n) (length order)) bs plan),
+        leb-true (width * count) (length groups) (conj-at (leb (m .n) (length order)) bs plan 1),
+      )

@@ -63,3 +63,7 @@ pub mod RowTable
 pub mod UpdateRoom
 pub mod WorkerTable
 pub mod BlockedLeaves
+pub mod Beginning
+pub mod Begun
+pub mod ForcesReply
+pub mod PlanCrew

@@ -6,13 +6,13 @@ use Prim.Native.Nat.{ℕ, zero, suc, _+_, _*_, _/_, _≤_, _<_}
 use native.Mathlib.Omega.{arith}
 use lib.ListN.{length, getD}
 use lib.Dec.{eqb, ltb}
-use borrow.Author.Tests.{ltb-true, ltb-false}
+use borrow.Author.Tests.{eq-eqb, ltb-true, ltb-false}
 use lib.IntN.{ℤ}
 use Rattle.base.specs.Lists.{bit}
 use Rattle.plan.specs.Sound.{maxWorkers}
 use Rattle.run.specs.Job.{Job}
 use Rattle.run.specs.Updates.{count, updates, accesses, next, waits}
-use Rattle.run.specs.Machine.{workers, refusal, allMade, countsFine}
+use Rattle.run.specs.Machine.{State, workers, refusal, allMade, over, countsFine, isState}
 use Rattle.run.specs.Record.{allBelow, fine, done}
 use Rattle.run.specs.Laid.{Laid, Waits}
 use Rattle.run.proofs.Able.{in-order}
@@ -54,8 +54,18 @@ module _ (j : Job) (counts first target : List ℕ) (amount : List ℤ) (leaf en
   table-fine made zero l = refl
   table-fine made (suc w) l = rw (table-accesses w l, table-fine made w (omega arith))
 
+  -- n sums: the counts decide whether there is a state
+  pub table-state : (s : State) → length (s .sums) ≡ j .matrix .n → isState j s ≡ allBelow (fine counts (s .made)) maxWorkers
+  unfolding isState
+  table-state s e = rw (eq-eqb (length (s .sums)) (j .matrix .n) e, table-fine (s .made) maxWorkers (omega arith))
+
   -- .. are all made
   pub table-done : (made : List ℕ) (k : ℕ) → k ≤ maxWorkers → allBelow (done counts made) k ≡ allMade j made k
   unfolding allBelow allMade
   table-done made zero l = refl
   table-done made (suc w) l = rw (table-accesses w l, table-done made w (omega arith))
+
+  -- .. of every worker of the plan: the run is finished
+  pub table-over : (made : List ℕ) (crew : ℕ) → crew ≡ workers j → workers j ≤ maxWorkers → allBelow (done counts made) crew ≡ over j made
+  unfolding over
+  table-over made crew e l = rw e (table-done made (workers j) l)

@@ -14,3 +14,5 @@ pub mod Waits
 pub mod Tables
 pub mod Scatter
 pub mod UpdateTable
+pub mod Begun
+pub mod Answers

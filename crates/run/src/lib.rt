@@ -1,9 +1,10 @@
 // The run of a plan, one load or store a step: picks, ready set and force list.
 mod checks;
-mod forces;
 mod later;
 mod leaf;
 mod ready;
+mod ready_set;
+mod scatter;
 mod state;
 mod sum;
 mod updates;

@@ -6,8 +6,8 @@ use lib.ListN.{getD}
 use borrow.Author.Needs.{needs}
 use borrow.Author.Tests.{lt-ltb, le-ltb}
 use Rattle.plan.specs.Sound.{maxGroups}
-use Rattle.run.proofs.ready.can_move.Statement.{statement}
-use Rattle.run.proofs.ready.can_move.Tie as tie
+use Rattle.run.proofs.ready_set.can_move.Statement.{statement}
+use Rattle.run.proofs.ready_set.can_move.Tie as tie
 
 mul-if1 : tie.Need-mul-if1
 mul-if1 c = search needs

@@ -11,8 +11,8 @@ use Rattle.run.specs.Machine.{workers, refusal, readyBelow, ready, bits}
 use Rattle.run.specs.Laid.{Laid, Waits}
 use Rattle.run.proofs.TableWaits.{table-ready}
 use Rattle.run.proofs.ReadyBits.{bits-turn}
-use Rattle.run.proofs.ready.ready_bits.Statement.{statement}
-use Rattle.run.proofs.ready.ready_bits.Tie as tie
+use Rattle.run.proofs.ready_set.ready_bits.Statement.{statement}
+use Rattle.run.proofs.ready_set.ready_bits.Tie as tie
 
 abbrev Inv-loop : tie.InvT-loop
 Inv-loop state crew leaf blocks counts first set₀ w₀ set w =

@@ -11,8 +11,8 @@ use borrow.Author.Needs.{needs}
 use Rattle.plan.proofs.Once.{once}
 use Rattle.run.specs.Scatter.{Scattered}
 use Rattle.run.proofs.Scattering.{scattered-none, scattered-next, place-below}
-use Rattle.run.proofs.forces.scatter.Statement.{statement}
-use Rattle.run.proofs.forces.scatter.Tie as tie
+use Rattle.run.proofs.scatter.scatter.Statement.{statement}
+use Rattle.run.proofs.scatter.scatter.Tie as tie
 
 abbrev Inv-loop : tie.InvT-loop
 Inv-loop n order sums forces₀ p₀ forces p = (p ≤ n) × Scattered p n (take n order) sums forces₀ forces

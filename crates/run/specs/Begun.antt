@@ -1,0 +1,35 @@
+-- What every call on lent lists begins with: the checks that it makes, and the tables of a job that passes them.
+use mathlib.Core.Path.{_≡_}
+use mathlib.Core.List.{List}
+use Prim.Native.Nat.{ℕ}
+use lib.IntN.{ℤ}
+use lib.ListN.{length}
+use Rattle.base.specs.Replies.{Reply, accepted, refused, inTurn}
+use Rattle.base.specs.Answers.{replyOf}
+use Rattle.base.specs.declared.Answer.{Answer}
+use Rattle.base.specs.declared.Answer.the-variants.{Accepted}
+use Rattle.matrix.specs.Matrix.{Matrix}
+use Rattle.matrix.specs.Checks.{matrixOf}
+use Rattle.run.specs.Job.{jobOf}
+use Rattle.run.specs.Machine as machine
+use Rattle.run.specs.Calls.{jobChecks, stateCheck}
+use Rattle.run.specs.Record.{stateOf}
+use Rattle.run.specs.Laid.{Laid, Bounded}
+use Rattle.run.specs.UpdateTable.{Given}
+use Rattle.run.specs.declared.state.State.{State}
+
+-- 5, 6, 8, 11 in turn
+unfoldable pub beginReply : Matrix → List ℤ → (order groups : List ℕ) (count : ℕ) → machine.State → Reply
+beginReply m x order groups count s =
+    inTurn refused (jobChecks m x order groups count) (inTurn refused (stateCheck (jobOf m x order groups count) s) (accepted 0))
+
+-- the tables are the job's
+pub record Tabled (n : ℕ) (starts columns : List ℕ) (values displacements : List ℤ) (order groups : List ℕ) (count : ℕ) (counts first target : List ℕ) (amount : List ℤ) (leaf ends : List ℕ) : Type 0 where
+  pub given : Given n starts columns values displacements order groups count
+  pub laid : Laid (jobOf (matrixOf n starts columns values) displacements order groups count) counts first target amount leaf ends
+  pub bounded : Bounded n counts first target amount leaf ends
+
+-- the answer r to a call with a record of a state and `size` sums
+pub record Begun (n : ℕ) (starts columns : List ℕ) (values displacements : List ℤ) (order groups : List ℕ) (count : ℕ) (state : State) (size : ℕ) (counts first target : List ℕ) (amount : List ℤ) (leaf ends : List ℕ) (r : Answer) : Type 0 where
+  pub replied : (sums : List ℤ) → length sums ≡ size → replyOf r ≡ beginReply (matrixOf n starts columns values) displacements order groups count (stateOf state sums)
+  pub tabled : (k : ℕ) → r ≡ Accepted k → Tabled n starts columns values displacements order groups count counts first target amount leaf ends
