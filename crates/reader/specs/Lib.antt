@@ -1,4 +1,5 @@
--- What the contracts of the reader's parts speak of: positions, arrays, marks, buckets. Nothing here is part of document 01's meaning.
+-- What the contracts of the reader's parts speak of: the table of classes, positions, arrays, marks, buckets. Nothing here is part of document 01's meaning.
+pub mod Classes
 pub mod Positions
 pub mod Arrays
 pub mod Opening

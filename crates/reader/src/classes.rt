@@ -2,6 +2,7 @@
 
 ghost use mathlib.Core.Path.{_≡_};
 ghost use Rattle.market.specs.Bytes.{classOf};
+ghost use Rattle.reader.specs.Classes.{Classes};
 
 pub(crate) const DIGIT: u8 = 1;
 
@@ -271,8 +272,16 @@ const CLASSES: [u8; 256] = [
     0,
 ];
 
-pub(crate) fn class_of(b: u8) -> u8
+// The table, made once for a text and lent to all that look bytes up in it.
+pub(crate) fn table() -> [u8; 256]
+    ensures { λ r. ⌜ Classes r ⌝ }
+{
+    CLASSES
+}
+
+pub(crate) fn class_of(classes: &[u8; 256], b: u8) -> u8
+    requires { ⌜ Classes (now classes) ⌝ }
     ensures { λ r. ⌜ r ≡ classOf b ⌝ }
 {
-    CLASSES[b as usize]
+    classes[b as usize]
 }

@@ -11,6 +11,7 @@ ghost use lib.ListN.{drop};
 ghost use Rattle.base.specs.Integers.{within};
 ghost use Rattle.matrix.specs.Limits.{maxRows, maxValue};
 ghost use Rattle.market.specs.Parse.{isEntry, entries};
+ghost use Rattle.reader.specs.Classes.{Classes};
 ghost use Rattle.reader.specs.Arrays.{parsed, Arrays, Within};
 
 // A text's rows and count of entries, or its refusal with number and line.
@@ -51,6 +52,7 @@ fn is_entry(n: usize, row: u64, column: u64, v: i64) -> bool
 
 // The m entry lines from a position on, the first of which has the given number; nothing may follow them.
 pub(crate) fn read_entries(
+    classes: &[u8; 256],
     s: &[u8],
     at: usize,
     n: usize,
@@ -60,7 +62,7 @@ pub(crate) fn read_entries(
     columns: &mut [u32; 32768],
     values: &mut [i32; 32768],
 ) -> Scanned
-    requires { ⌜ Within n m line × Arrays (now rows) (now columns) (now values) ⌝ }
+    requires { ⌜ Classes (now classes) × Within n m line × Arrays (now rows) (now columns) (now values) ⌝ }
     ensures { λ r. ⌜ (entries n m line [] (drop at (now (s .entry))) ≡ parsed r (now (rows .exit)) (now (columns .exit)) (now (values .exit))) × Arrays (now (rows .exit)) (now (columns .exit)) (now (values .exit)) ⌝ }
 {
     let mut marks = [0u64; 131104];
@@ -68,7 +70,7 @@ pub(crate) fn read_entries(
     let mut i: usize = 0;
     while i < m {
         let here = line + (i as u32);
-        let found = read_line(s, p);
+        let found = read_line(classes, s, p);
         let Fields::Line {
             row,
             column,

@@ -8,6 +8,7 @@ ghost use Prim.Native.Nat.{_≤_};
 ghost use lib.ListN.{length};
 ghost use Rattle.base.specs.Lists.{begins};
 ghost use Rattle.market.specs.Bytes.{header};
+ghost use Rattle.reader.specs.Classes.{Classes};
 ghost use Rattle.reader.specs.Opening.{LineEnds, Skipped};
 
 // Whether a text begins with line 1.
@@ -34,13 +35,14 @@ pub(crate) enum LineEnd {
 }
 
 // Where the line at a position ends.
-fn line_end(s: &[u8], at: usize) -> LineEnd
+fn line_end(classes: &[u8; 256], s: &[u8], at: usize) -> LineEnd
+    requires { ⌜ Classes (now classes) ⌝ }
     ensures { λ r. ⌜ LineEnds (now (s .entry)) at r ⌝ }
 {
     let mut i = at;
     while i < s.len() {
         let b = s[i];
-        if class_of(b) == LINE_END {
+        if class_of(classes, b) == LINE_END {
             return LineEnd::At(i + 1);
         }
         i += 1;
@@ -55,8 +57,8 @@ pub(crate) struct LineStart {
 }
 
 // The first line from a position on that does not begin with %; the line at the position has the given number.
-pub(crate) fn skip_comments(s: &[u8], at: usize, first: u32) -> LineStart
-    requires { ⌜ (first ≤ at) × (at ≤ length (now s)) × (length (now s) ≤ 1048576) ⌝ }
+pub(crate) fn skip_comments(classes: &[u8; 256], s: &[u8], at: usize, first: u32) -> LineStart
+    requires { ⌜ Classes (now classes) × (first ≤ at) × (at ≤ length (now s)) × (length (now s) ≤ 1048576) ⌝ }
     ensures { λ r. ⌜ Skipped (now (s .entry)) at first r ⌝ }
 {
     let mut i = at;
@@ -66,7 +68,7 @@ pub(crate) fn skip_comments(s: &[u8], at: usize, first: u32) -> LineStart
         if b != b'%' {
             return LineStart { line: line, pos: i };
         }
-        let found = line_end(s, i);
+        let found = line_end(classes, s, i);
         let LineEnd::At(e) = found else {
             return LineStart {
                 line: line,

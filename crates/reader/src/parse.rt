@@ -1,5 +1,6 @@
 // A whole text: its rows and entries, or its refusal.
 
+use crate::classes::table;
 use crate::entries::Scanned;
 use crate::entries::read_entries;
 use crate::lines::Fields;
@@ -13,6 +14,7 @@ ghost use lib.Dec.{eqb, leb};
 ghost use lib.ListN.{drop};
 ghost use Rattle.matrix.specs.Limits.{maxRows, maxEntries};
 ghost use Rattle.market.specs.Parse.{sizeLine, parse};
+ghost use Rattle.reader.specs.Classes.{Classes};
 ghost use Rattle.reader.specs.Arrays.{parsed, Arrays};
 
 // Whether rows, columns and entry count are a size within limits.
@@ -33,6 +35,7 @@ fn is_size(rows: u64, columns: u64, count: u64) -> bool
 
 // The size line, at a position and with its number, and all after it.
 fn parse_size(
+    classes: &[u8; 256],
     s: &[u8],
     pos: usize,
     line: u32,
@@ -40,10 +43,10 @@ fn parse_size(
     columns: &mut [u32; 32768],
     values: &mut [i32; 32768],
 ) -> Scanned
-    requires { ⌜ (line ≤ 1048577) × Arrays (now rows) (now columns) (now values) ⌝ }
+    requires { ⌜ Classes (now classes) × (line ≤ 1048577) × Arrays (now rows) (now columns) (now values) ⌝ }
     ensures { λ r. ⌜ (sizeLine line (drop pos (now (s .entry))) ≡ parsed r (now (rows .exit)) (now (columns .exit)) (now (values .exit))) × Arrays (now (rows .exit)) (now (columns .exit)) (now (values .exit)) ⌝ }
 {
-    let found = read_line(s, pos);
+    let found = read_line(classes, s, pos);
     let Fields::Line {
         row,
         column,
@@ -61,6 +64,7 @@ fn parse_size(
         return Scanned::Rejected(base::SIZE, line);
     }
     read_entries(
+        classes,
         s,
         next,
         row as usize,
@@ -88,8 +92,9 @@ pub(crate) fn parse_text(
     if !has_header(s) {
         return Scanned::Rejected(base::HEADER, 1);
     }
-    let start = skip_comments(s, 51, 2);
+    let classes = table();
+    let start = skip_comments(&classes, s, 51, 2);
     let line = start.line;
     let pos = start.pos;
-    parse_size(s, pos, line, rows, columns, values)
+    parse_size(&classes, s, pos, line, rows, columns, values)
 }

@@ -22,10 +22,10 @@ use Rattle.reader.proofs.entries.read_entries.Statement.{statement}
 use Rattle.reader.proofs.entries.read_entries.Tie as tie
 
 abbrev Inv-loop : tie.InvT-loop
-Inv-loop s at n m line rows₀ columns₀ values₀ marks₀ p₀ i₀ rows columns values marks p i = Going s at n m line marks rows columns values p i
+Inv-loop classes s at n m line rows₀ columns₀ values₀ marks₀ p₀ i₀ rows columns values marks p i = Going s at n m line marks rows columns values p i
 
 abbrev μ-loop : tie.MeasureT-loop
-μ-loop s at n m line rows₀ columns₀ values₀ marks₀ p₀ i₀ rows columns values marks p i = m - i
+μ-loop classes s at n m line rows₀ columns₀ values₀ marks₀ p₀ i₀ rows columns values marks p i = m - i
 
 -- the line that was found
 abbrev row : tie.After-found Inv-loop μ-loop → ℕ
@@ -73,7 +73,7 @@ small c =
     inside-fits _ (row f) (column f) (value f) (entry x)
 
 loop-holds : tie.Need-loop-holds Inv-loop μ-loop
-loop-holds c = let a = c .before .args in going-start (a .s .now) (a .at) (a .n) (a .m) (a .line) 131104 (a .rows .now) (a .columns .now) (a .values .now) refl (c .before .pre .0) (c .before .pre .1)
+loop-holds c = let a = c .before .args in going-start (a .s .now) (a .at) (a .n) (a .m) (a .line) 131104 (a .rows .now) (a .columns .now) (a .values .now) refl (c .before .pre .1) (c .before .pre .2)
 
 cast-here : tie.Need-cast-here Inv-loop μ-loop
 cast-here c = search needs
@@ -144,8 +144,8 @@ element-write-columns c = search needs
 cast-values : tie.Need-cast-values Inv-loop μ-loop
 cast-values c = rw (toZ-ofZ (in-range (c .before .before .before .before .before .before))) (small c)
 
-mul-t26 : tie.Need-mul-t26 Inv-loop μ-loop
-mul-t26 c = search needs
+mul-t27 : tie.Need-mul-t27 Inv-loop μ-loop
+mul-t27 c = search needs
 
 element-set-from-values : tie.Need-element-set-from-values Inv-loop μ-loop
 element-set-from-values c = search needs
@@ -163,11 +163,11 @@ loop-again c =
     let b = c .before .before in
     going-more (f .before .before .before .before .loop .inv) (f .before .before .before .loop-test .taken) (found f) (is-one x) (was (c .before) ∙ c .if2 .left) (b .bit-of .ensures .0) (b .bit-of .ensures .1) (c .before .mark .ensures .1) (simp (toZ-ofZ (in-range (x .before .before)), toZ-ofZ (small c)))
 
-cast-t36 : tie.Need-cast-t36 Inv-loop μ-loop
-cast-t36 c = search needs
+cast-t37 : tie.Need-cast-t37 Inv-loop μ-loop
+cast-t37 c = search needs
 
-add-t37 : tie.Need-add-t37 Inv-loop μ-loop
-add-t37 c = search needs
+add-t38 : tie.Need-add-t38 Inv-loop μ-loop
+add-t38 c = search needs
 
 returns-4 : tie.Need-returns-4 Inv-loop μ-loop
 returns-4 c = let l = c .before .before in (too-many (l .loop .inv) (c .before .loop-test .left) (c .if3 .taken), l .loop .inv .arrays)
@@ -202,12 +202,12 @@ read-entries-spec =
     mul-columns
     element-write-columns
     cast-values
-    mul-t26
+    mul-t27
     element-set-from-values
     add-i
     loop-less
     loop-again
-    cast-t36
-    add-t37
+    cast-t37
+    add-t38
     returns-4
     returns-5)
