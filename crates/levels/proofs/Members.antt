@@ -1,17 +1,17 @@
 -- A group's levels depend on who is in it, not on its order. A group's rows in ascending order are as many.
 use mathlib.Core.Path.{_≡_, refl, sym, ap, _∙_, fun-ext}
 use mathlib.Core.Bool.{Bool, true, false, not, _||_, cond}
-use mathlib.Core.List.{List, [], _∷_}
+use mathlib.Core.List.{List, [], _∷_, map}
 use Prim.Native.Nat.{ℕ, zero, suc, _*_, _≤_}
 use native.Mathlib.Omega.{arith}
 use lib.Dec.{eqb}
 use lib.ListN.{length, getD}
-use Rattle.base.specs.Lists.{filter, any, isIn, range, count, bit}
+use Rattle.base.specs.Lists.{filter, any, isIn, range, trim, count, bit}
 use Rattle.base.proofs.Booleans.{both-ways}
 use Rattle.base.proofs.Lists.{filter-ext, filter-passes, filter-of, isIn-range, length-filter-le, length-range}
 use Rattle.base.proofs.Counts.{same-length, count-filter, count-range, in-count, out-count}
 use Rattle.levels.specs.Group.{Proper}
-use Rattle.levels.specs.Levels.{near, region, isNext, levelsFrom, levels}
+use Rattle.levels.specs.Levels.{near, region, isNext, levelsFrom, levels, ownLevels}
 use Rattle.levels.specs.Marks.{atMark, Marked}
 use Rattle.levels.specs.Search.{Levelled, Searched}
 use Rattle.levels.proofs.Root.{root-same}
@@ -36,6 +36,10 @@ module _ (adj : ℕ → List ℕ) (n : ℕ) (S T : List ℕ) (same : isIn S ≡ 
   pub levels-same : levels adj n S ≡ levels adj n T
   unfolding levels
   levels-same = ap (levelsFrom adj (2 * n) S []) region-same ∙ from-same (2 * n) [] (region adj n T)
+
+  pub own-levels-same : ownLevels adj n S ≡ ownLevels adj n T
+  unfolding ownLevels
+  own-levels-same = ap (λ (p : ℕ → Bool). trim (map (filter p) (levels adj n S))) same ∙ ap (λ (ls : List (List ℕ)). trim (map (filter (isIn T)) ls)) levels-same
 
 -- T's rows, ascending
 module _ {n : ℕ} {T : List ℕ} (pr : Proper n T) where

@@ -1,5 +1,5 @@
 -- T's own levels: they hold T's rows as often as T does, and rows of levels three or more apart are neither adjacent nor have a common adjacent row.
-use mathlib.Core.Path.{_≡_, refl, ap, _∙_}
+use mathlib.Core.Path.{_≡_, refl, ap, _∙_, fun-ext}
 use mathlib.Core.Logic.{_⊎_, inl, inr}
 use mathlib.Core.Bool.{Bool, true, false}
 use mathlib.Core.List.{List, [], map}
@@ -7,11 +7,13 @@ use Prim.Native.Nat.{ℕ, _+_, _*_, _<_}
 use native.Mathlib.Omega.{arith}
 use lib.ListN.{getD, List·getD-map}
 use Rattle.base.specs.Lists.{filter, isIn, concat, bit}
+use Rattle.base.proofs.Booleans.{both-ways}
 use Rattle.base.proofs.Lists.{filter-in, filter-passes, concat-filter, concat-trim, trim-at}
-use Rattle.base.proofs.Counts.{count, Same, count-filter, in-count, out-count}
+use Rattle.base.proofs.Counts.{count, Same, count-filter, count-in, in-count, out-count}
 use Rattle.base.proofs.Graph.{Graph}
 use Rattle.levels.specs.Levels.{reach, region, levels, ownLevels}
 use Rattle.levels.proofs.Proper.{Proper}
+use Rattle.levels.proofs.Members.{own-levels-same}
 use Rattle.levels.proofs.Region.{region-own, region-adjacent, region-cases, length-region, count-region}
 use Rattle.levels.proofs.Close.{levels-close}
 use Rattle.levels.proofs.Reached.{Fed, reached, levels-count}
@@ -56,6 +58,13 @@ module _ (adj : ℕ → List ℕ) (n : ℕ) (T : List ℕ) (pr : Proper n T) whe
       go true e =
           omega (arith, in-count v (region adj n T) (region-own adj n T v (pr .inside v e) e), count-region adj n T v, in-count v T e, pr .once v)
       go false e = omega (arith, out-count v T e)
+
+  -- sorted by level, T has the same levels
+  pub sorted-levels : ownLevels adj n (concat (ownLevels adj n T)) ≡ ownLevels adj n T
+  sorted-levels =
+      let sorted = concat (ownLevels adj n T) in
+      own-levels-same adj n sorted T
+      (fun-ext (λ v. both-ways (isIn sorted v) (isIn T v) (λ h. count-in v T (omega (arith, own-same v, in-count v sorted h))) (λ h. count-in v sorted (omega (arith, own-same v, in-count v T h)))))
 
   -- rows of own levels more than reach apart are apart
   pub own-apart : Graph adj n → (i j u v : ℕ) → isIn (getD (ownLevels adj n T) i []) u ≡ true → isIn (getD (ownLevels adj n T) j []) v ≡ true

@@ -1,18 +1,19 @@
 -- The plan of one group: a leaf, or its record and the plans of its pairs.
-use mathlib.Core.Path.{_≡_, refl, ap}
+use mathlib.Core.Path.{_≡_, refl, sym, ap, _∙_}
+use mathlib.Core.Logic.{_⊎_, inl, inr}
 use mathlib.Core.Bool.{Bool, true, false}
 use mathlib.Core.List.{List, [], _∷_, _++_, map}
 use Prim.Native.Nat.{ℕ, zero, suc, _+_, _*_, _-_, _≤_, _<_}
 use native.Mathlib.Omega.{arith}
 use lib.Dec.{leb}
-use lib.ListN.{length, take, length-map}
-use borrow.Author.Tests.{le-leb, lt-leb}
+use lib.ListN.{length, take, length-map, length-append}
+use borrow.Author.Tests.{leb-true, le-leb, lt-leb}
 use Rattle.base.specs.Lists.{concat, filter, isIn, trim, trimCons}
-use Rattle.base.proofs.Booleans.{and-false}
+use Rattle.base.proofs.Booleans.{and-right, and-false}
 use Rattle.levels.specs.Levels.{reach, ownLevels, levels, levelsFrom, region}
 use Rattle.plan.specs.Groups.{Group, Plan, width, fields}
 use Rattle.planner.specs.Loads.{load}
-use Rattle.planner.specs.Planner.{pairs, planPairs, _then_, leaf, splits, split, planGroup}
+use Rattle.planner.specs.Planner.{Pair, pairs, planPairs, _then_, leaf, splits, split, planGroup}
 use Rattle.planner.specs.Records.{Holds}
 use Rattle.planner.proofs.Holding.{holds-leaf, holds-then}
 
@@ -120,3 +121,48 @@ module _ (adj : ℕ → List ℕ) (n p : ℕ) where
       → length (planGroup adj n p stages index g T .groups) ≡ 1 + length (pairsBelow (stages - 1) index g (ownLevels adj n T) .groups)
   unfolding _then_ leaf
   count-split stages index g T s w l = rw (group-split stages index g T s w l) (omega arith)
+
+  -- ---- the same rows in two orders
+
+  split-is : (stages index : ℕ) (g : Group) (T : List ℕ) → splits g (ownLevels adj n T) ≡ true
+      → planGroup adj n p (suc stages) index g T ≡ split adj (planGroup adj n p stages) p index g (ownLevels adj n T)
+  unfolding planGroup
+  split-is stages index g T e = rw (e, planGroup)
+
+  pairs-first : (w R free : ℕ) (ls : List (List ℕ)) → 1 ≤ length ls → 1 ≤ length (pairs adj (length ls) w R p free ls)
+  unfolding pairs
+  pairs-first w R free [] l = absurd (omega arith)
+  pairs-first w R free (x ∷ ls) l = omega arith
+
+  then-some : (a b : Plan) → 1 ≤ length (a .groups) → 1 ≤ length ((a then b) .groups)
+  unfolding _then_
+  then-some a b h = omega (arith, length-append (a .groups) (b .groups))
+
+  pairs-some : (stages up start first index : ℕ) (cs : List Pair) → 1 ≤ length cs → 1 ≤ length (planPairs (planGroup adj n p stages) up start first index cs .groups)
+  unfolding planPairs
+  pairs-some stages up start first index [] l = absurd (omega arith)
+  pairs-some stages up start first index (c ∷ cs) l = then-some _ _ (groups-some stages index _ (c .reds))
+
+  -- a group that is split has more than its own record
+  split-more : (stages index : ℕ) (g : Group) (ls : List (List ℕ)) → splits g ls ≡ true → 2 ≤ length (split adj (planGroup adj n p stages) p index g ls .groups)
+  unfolding splits split _then_ leaf
+  split-more stages index g ls e =
+      let long : 2 * reach ≤ length ls = leb-true (2 * reach) (length ls) (and-right (leb 2 (g .workers)) (leb (2 * reach) (length ls)) e) in
+      let R = load adj (concat ls) in
+      let cs = pairs adj (length ls) (g .workers) R p (g .workers) ls in
+      omega (arith, pairs-some stages index (g .start) (g .first) (index + 1) cs (pairs-first (g .workers) R (g .workers) ls (omega arith)))
+
+  -- rows with the same levels: a leaf in both orders, or the same plan, of several groups
+  pub two-orders : (stages index : ℕ) (g : Group) (S T : List ℕ) → ownLevels adj n S ≡ ownLevels adj n T
+      → let plan = planGroup adj n p (suc stages) index g in ((plan S ≡ leaf g S) × (plan T ≡ leaf g T)) ⊎ ((plan S ≡ plan T) × (2 ≤ length (plan S .groups)))
+  two-orders stages index g S T same = go (splits g (ownLevels adj n T)) refl
+    where
+      go : (b : Bool) → splits g (ownLevels adj n T) ≡ b
+          → let plan = planGroup adj n p (suc stages) index g in ((plan S ≡ leaf g S) × (plan T ≡ leaf g T)) ⊎ ((plan S ≡ plan T) × (2 ≤ length (plan S .groups)))
+      go false e = inl (unsplit (suc stages) index g S (ap (splits g) same ∙ e), unsplit (suc stages) index g T e)
+      go true e =
+          let s = split-is stages index g S (ap (splits g) same ∙ e) in
+          inr (
+            s ∙ ap (split adj (planGroup adj n p stages) p index g) same ∙ sym (split-is stages index g T e),
+            rw (s, same) (split-more stages index g (ownLevels adj n T) e),
+          )

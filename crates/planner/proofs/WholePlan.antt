@@ -1,28 +1,29 @@
 -- The whole: its rows by their numbers, by their levels, and its plan.
 use mathlib.Core.Path.{_≡_, refl, sym, ap, _∙_}
-use mathlib.Core.List.{List, [], _∷_, map, append-nil}
-use Prim.Native.Nat.{ℕ, _*_, _≤_}
+use mathlib.Core.Logic.{_⊎_, inl, inr}
+use mathlib.Core.List.{List, [], _∷_, _++_, map, append-nil}
+use Prim.Native.Nat.{ℕ, _+_, _*_, _≤_}
 use native.Mathlib.Omega.{arith}
-use lib.ListN.{length}
+use lib.ListN.{length, take}
 use lib.Seq.{drop-length}
 use borrow.Author.Tests.{le-leb}
 use Rattle.base.specs.Lists.{concat, range}
 use Rattle.base.proofs.Lists.{length-range}
-use Rattle.base.proofs.Counts.{same-length}
 use Rattle.base.proofs.Fill.{filled}
 use Rattle.levels.specs.Levels.{ownLevels}
 use Rattle.levels.specs.Rows.{Rows, adjOf}
 use Rattle.levels.specs.Sorted.{Sorted}
-use Rattle.levels.proofs.Proper.{proper-range, proper-same}
-use Rattle.levels.proofs.Own.{own-same}
+use Rattle.levels.proofs.Proper.{proper-range}
+use Rattle.levels.proofs.Own.{sorted-levels}
 use Rattle.levels.proofs.Rows.{rows-graph}
-use Rattle.plan.specs.Groups.{width, whole}
+use Rattle.plan.specs.Groups.{Plan, width, whole, flat}
 use Rattle.plan.specs.Sound.{maxWorkers, maxGroups}
-use Rattle.planner.specs.Planner.{planGroup, planRows}
+use Rattle.planner.specs.Planner.{leaf, planGroup, planRows}
 use Rattle.planner.specs.Records.{groupOf, Holds}
 use Rattle.planner.specs.Cycle.{GroupTask}
 use Rattle.planner.specs.declared.records.Group.{Group}
 use Rattle.planner.proofs.Planned.{rows-few}
+use Rattle.planner.proofs.GroupPlans.{two-orders}
 
 map-same : (xs : List ℕ) → map (λ x. x) xs ≡ xs
 map-same [] = refl
@@ -43,28 +44,61 @@ module _ (n : ℕ) (starts columns : List ℕ) (rows : Rows n starts columns) wh
   pub sorted-is : {m : ℕ} {order ends : List ℕ} → Sorted adj n 0 (range 0 n) m order ends → order ≡ sorted
   sorted-is {m} s = s .order-is ∙ rw (le-leb 0 m (omega arith))
 
-  sorted-length : length sorted ≡ n
-  sorted-length = same-length sorted (range 0 n) (own-same adj n (range 0 n) (proper-range n)) ∙ length-range 0 n
-
   -- the whole's record
   abbrev pub wholeGroup : (workers : ℕ) → Group
   wholeGroup workers = record { start = 0; length = n; first = 0; workers = workers; colour = whole; parent = 0 }
 
-  pub whole-task : (p workers : ℕ) (records : List ℕ) → p ≤ 100 → workers ≤ maxWorkers → length records ≡ width * maxGroups → GroupTask n p 4 0 starts columns sorted records (wholeGroup workers)
-  unfolding planRows
-  whole-task p workers records a b c = record {
-    rows = rows;
-    proper = proper-same n sorted (range 0 n) (own-same adj n (range 0 n) (proper-range n)) (proper-range n);
-    share = a;
-    size = sym sorted-length;
-    inside = omega (arith, sorted-length, rows .small);
-    workers = omega arith;
-    few = omega arith;
-    room = omega (arith, rows-few adj n (rows-graph rows) p workers b);
-  }
+  module _ (p workers : ℕ) where
+    -- its plan by the group planner, its rows by their numbers
+    abbrev pub numberedPlan : Plan
+    numberedPlan = planGroup adj n p 4 0 (groupOf (wholeGroup workers)) (range 0 n)
 
-  -- the group planner's plan of it is the plan of all rows
-  pub whole-held : (p workers count : ℕ) (order before stretch records : List ℕ) → stretch ≡ sorted
-      → Holds (planGroup adj n p 4 0 (groupOf (wholeGroup workers)) stretch) 0 before order records count → Holds (planRows adj n p workers) 0 before order records count
-  unfolding planRows
-  whole-held p workers count order before stretch records e h = rw e at h
+    -- a leaf, or the plan of all rows
+    abbrev Cases : Type 0
+    Cases =
+        ((numberedPlan ≡ leaf (groupOf (wholeGroup workers)) (range 0 n)) × (planRows adj n p workers ≡ leaf (groupOf (wholeGroup workers)) sorted))
+        ⊎ ((numberedPlan ≡ planRows adj n p workers) × (2 ≤ length (numberedPlan .groups)))
+
+    cases : Cases
+    unfolding planRows
+    cases = two-orders adj n p 3 0 (groupOf (wholeGroup workers)) (range 0 n) sorted (sym (sorted-levels adj n (range 0 n) (proper-range n)))
+
+    pub whole-task : (records : List ℕ) → p ≤ 100 → workers ≤ maxWorkers → length records ≡ width * maxGroups → GroupTask n p 4 0 starts columns (range 0 n) records (wholeGroup workers)
+    unfolding leaf
+    whole-task records a b c = record {
+      rows = rows;
+      proper = proper-range n;
+      share = a;
+      size = sym (length-range 0 n);
+      inside = omega (arith, length-range 0 n, rows .small);
+      workers = omega arith;
+      few = omega arith;
+      room = go cases;
+    }
+      where
+        go : Cases → width * (0 + length (numberedPlan .groups)) ≤ length records
+        go (inl (e, _)) = rw e (omega arith)
+        go (inr (e, _)) = rw e (omega (arith, rows-few adj n (rows-graph rows) p workers b))
+
+    module _ {count : ℕ} {order before records : List ℕ} (h : Holds numberedPlan 0 before order records count) where
+      -- one group: the rows are left to be sorted
+      pub leaf-held : count ≡ 1 → (order ≡ range 0 n) × ((order′ : List ℕ) → order′ ≡ sorted → Holds (planRows adj n p workers) 0 before order′ records count)
+      unfolding leaf
+      leaf-held one = go cases
+        where
+          go : Cases
+              → (order ≡ range 0 n) × ((order′ : List ℕ) → order′ ≡ sorted → Holds (planRows adj n p workers) 0 before order′ records count)
+          go (inl (e, f)) = (
+            h .order-is ∙ ap (λ (o : Plan). o .order) e,
+            λ order′ s. rw f (record { order-is = s; count-is = one; records-are = h .records-are ∙ ap (λ (o : Plan). take (width * 0) before ++ flat (o .groups)) e }),
+          )
+          go (inr (e, l)) = absurd (omega (arith, h .count-is))
+
+      -- several: the plan is that of all rows
+      pub split-held : (count ≡ 1 → ⊥) → Holds (planRows adj n p workers) 0 before order records count
+      unfolding leaf
+      split-held more = go cases
+        where
+          go : Cases → Holds (planRows adj n p workers) 0 before order records count
+          go (inl (e, f)) = absurd (more (h .count-is ∙ ap (λ (o : Plan). 0 + length (o .groups)) e))
+          go (inr (e, l)) = rw e at h

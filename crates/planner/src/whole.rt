@@ -28,15 +28,14 @@ fn number(order: &mut [u32])
 
 // The rows by their levels.
 fn sort_rows(starts: &[u32], columns: &[u32], order: &mut [u32], n: usize)
-    requires { ⌜ Rows n (now starts) (now columns) × (length (now order) ≡ n) ⌝ }
+    requires { ⌜ Rows n (now starts) (now columns) × (now order ≡ range 0 n) ⌝ }
     ensures { λ _. ⌜ now (order .exit) ≡ concat (ownLevels (adjOf n (now (starts .entry)) (now (columns .entry))) n (range 0 n)) ⌝ }
 {
     let mut ends = [0u32; 8192];
-    number(order);
     level_sort(starts, columns, order, &mut ends, n, 0);
 }
 
-// The plan of all rows; the answer is how many groups it has.
+// The plan of all rows; the answer is how many groups it has. If it is one, the whole is a leaf, and its rows are still by their numbers.
 pub fn plan_rows(
     starts: &[u32],
     columns: &[u32],
@@ -49,7 +48,7 @@ pub fn plan_rows(
     requires { ⌜ Rows n (now starts) (now columns) × (length (now order) ≡ n) × (length (now records) ≡ width * maxGroups) × (p ≤ 100) × (workers ≤ maxWorkers) ⌝ }
     ensures { λ r. ⌜ Holds (planRows (adjOf n (now (starts .entry)) (now (columns .entry))) n p workers) 0 (now (records .entry)) (now (order .exit)) (now (records .exit)) r ⌝ }
 {
-    sort_rows(starts, columns, order, n);
+    number(order);
     let whole = Group {
         start: 0,
         length: n as u32,
@@ -58,5 +57,9 @@ pub fn plan_rows(
         colour: WHOLE,
         parent: 0,
     };
-    plan_group(starts, columns, order, records, n, p, 4, 0, whole)
+    let count = plan_group(starts, columns, order, records, n, p, 4, 0, whole);
+    if count == 1 {
+        sort_rows(starts, columns, order, n);
+    }
+    count
 }
