@@ -2,7 +2,6 @@
 mod checks;
 mod later;
 mod leaf;
-mod ready;
 mod ready_set;
 mod scatter;
 mod state;
