@@ -67,3 +67,4 @@ pub mod Beginning
 pub mod Begun
 pub mod ForcesReply
 pub mod PlanCrew
+pub mod AllWorkers

@@ -140,6 +140,19 @@ module _ (m : Matrix) (order : List ℕ) (o : Ordered m order) (L : ℕ → List
       entries = slots-next (t .inside) p low b q room (pos 0) (λ r c. entry m (getD order r 0) (getD order c 0)) beside v is (omega (arith, slot-below, t .beside-long)) (t .entries);
     }
 
+-- no position is in a list
+pub placed-none : (m : Matrix) (order : List ℕ) → Ordered m order → (L : ℕ → List ℕ) → ((p : ℕ) → L p ≡ []) → {counts at : List ℕ} {beside : List ℤ}
+    → length counts ≡ maxRows → ((i : ℕ) → getD counts i 0 ≡ 0) → length at ≡ 2 * maxEntries → length beside ≡ 2 * maxEntries → Placed m order L counts at beside
+placed-none m order o L none l z a b = record {
+  counts-long = l;
+  at-long = a;
+  beside-long = b;
+  counted = λ p h. z (getD order p 0) ∙ ap length (sym (none p));
+  inside = λ p h. rw (none p) (omega (arith, matrix-facts m (o .matrix) .row (getD order p 0) (low-at (m .n) order p (once (m .n) order (o .once) .low) (omega (arith, once (m .n) order (o .once) .long))) .rises));
+  positions = λ p c h k. absurd (omega (arith, ap length (none p)));
+  entries = λ p c h k. absurd (omega (arith, ap length (none p)));
+}
+
 -- only the lists count
 pub placed-same : (m : Matrix) (order : List ℕ) (L L′ : ℕ → List ℕ) {counts at : List ℕ} {beside : List ℤ} → ((p : ℕ) → p < m .n → L p ≡ L′ p)
     → Placed m order L counts at beside → Placed m order L′ counts at beside

@@ -3,14 +3,14 @@ use mathlib.Core.Path.{_≡_, refl, sym, ap, _∙_, subst}
 use mathlib.Core.Logic.{_⊎_, inl, inr, _≢_}
 use mathlib.Core.Bool.{Bool, true, false, not, _&&_, cond, true≢false}
 use mathlib.Core.List.{List, [], _∷_}
-use Prim.Native.Nat.{ℕ, zero, suc, _+_, _*_, _≤_, _<_}
+use Prim.Native.Nat.{ℕ, zero, suc, _+_, _≤_, _<_}
 use native.Mathlib.Omega.{arith}
 use native.Mathlib.Numerals.{add-one}
 use lib.Dec.{eqb, leb}
 use lib.ListN.{length, getD, drop}
 use lib.Seq.{getD-drop}
 use borrow.Author.Tests.{eqb-true, eqb-false, eq-eqb, leb-true}
-use Rattle.base.specs.Lists.{isIn, isEmpty, fromFirst}
+use Rattle.base.specs.Lists.{isIn, isEmpty}
 use Rattle.base.proofs.Booleans.{and-left, and-right, or-cases, conj-first, conj-at}
 use Rattle.plan.specs.Groups.{Group, red, blue, width, records, ofFields}
 use Rattle.plan.specs.Sound.{maxWorkers, depthFirst, children, tiled, likeApart, childrenSound, sound}

@@ -1,18 +1,16 @@
 -- The updates of a row, from the tables of the adjacent rows after it: what is read, and what follows the updates before.
 use mathlib.Core.Path.{_≡_, refl, sym, ap, _∙_, subst}
-use mathlib.Core.Bool.{true}
 use mathlib.Core.List.{List, [], _++_}
 use Prim.Native.Nat.{ℕ, suc, _+_, _*_, _≤_, _<_}
 use native.Mathlib.Omega.{arith}
 use lib.IntN.{ℤ, pos, _*ℤ_}
 use lib.ListN.{length, getD, take}
 use lib.Seq.{getD-take}
-use Rattle.base.specs.Lists.{isIn}
 use Rattle.base.proofs.Lists.{in-get}
 use Rattle.matrix.specs.Limits.{maxRows, maxEntries}
 use Rattle.matrix.specs.Matrix.{Matrix, entry, displacement}
 use Rattle.matrix.specs.Checks.{matrixOf}
-use Rattle.matrix.proofs.Matrix.{MatrixFacts, matrix-facts}
+use Rattle.matrix.proofs.Matrix.{matrix-facts}
 use Rattle.plan.specs.Groups.{Group}
 use Rattle.plan.specs.Sound.{maxGroups}
 use Rattle.plan.proofs.Once.{Once, once, low-at}

@@ -19,8 +19,7 @@ use Rattle.run.specs.Updates.{owner, upTo, updates, accesses}
 use Rattle.run.specs.EveryRun.{wholeRun}
 use Rattle.run.specs.Laid.{maxUpdates}
 use Rattle.run.specs.UpdateTable.{before}
-use Rattle.run.proofs.Work.{cum, cum-mono}
-use Rattle.run.proofs.Facts.{Facts}
+use Rattle.run.proofs.Work.{cum-mono}
 use Rattle.run.proofs.Owners.{owned}
 use Rattle.run.proofs.Counting.{all-accesses}
 use Rattle.run.proofs.LaterRows.{different}

@@ -11,7 +11,7 @@ use lib.IntN.{ℤ}
 use lib.ListN.{length, getD, set, take, drop, length-append, length-set}
 use lib.Seq.{getD-set-same, getD-set-other}
 use borrow.Author.Tests.{eq-eqb, ne-eqb}
-use Rattle.base.proofs.Booleans.{same-or, clash}
+use Rattle.base.proofs.Booleans.{same-or}
 use Rattle.matrix.specs.Matrix.{neighbours}
 use Rattle.matrix.specs.Checks.{matrixOf}
 use Rattle.plan.specs.Groups.{Group, records, ofFields, planOf}
@@ -19,11 +19,11 @@ use Rattle.plan.specs.Sound.{maxWorkers, maxGroups, depthFirst, sound, isSound}
 use Rattle.plan.specs.Checks.{recordAt, belowWhole, standsDepthFirst}
 use Rattle.plan.proofs.FlatRecords.{length-records}
 use Rattle.plan.proofs.Sound.{sound-facts}
-use Rattle.run.specs.Job.{Job, jobOf, Accepted}
+use Rattle.run.specs.Job.{Job, jobOf}
 use Rattle.run.specs.Tree.{holds}
 use Rattle.run.specs.Updates.{Update, rowUpdates, owner, when, upTo, rows}
 use Rattle.run.specs.Laid.{hasChild, groupAt, Leaf, maxUpdates}
-use Rattle.run.specs.UpdateTable.{Given, Rows, LeafOf, Listed, Filled, Ended, Walked, RowPut, before, endOf, reached}
+use Rattle.run.specs.UpdateTable.{Given, Rows, LeafOf, Filled, Ended, Walked, RowPut, before, endOf, reached}
 use Rattle.run.proofs.Holds.{in-holds}
 use Rattle.run.proofs.LeafOrder.{one-leaf}
 use Rattle.run.proofs.LeafOwner.{leaf-rows}

@@ -2,11 +2,10 @@
 use mathlib.Core.Path.{_≡_}
 use mathlib.Core.Logic.{_⊎_}
 use mathlib.Core.Bool.{true, cond}
-use mathlib.Core.List.{List, [], _∷_, _++_}
+use mathlib.Core.List.{List, [], _++_}
 use Prim.Native.Nat.{ℕ, zero, suc, _+_, _*_, _≤_, _<_}
 use lib.ListN.{length, getD, set, take}
 use lib.IntN.{ℤ, pos}
-use Rattle.matrix.specs.Limits.{maxRows}
 use Rattle.matrix.specs.Matrix.{Matrix, areDisplacements}
 use Rattle.matrix.specs.Checks.{matrixOf}
 use Rattle.plan.specs.Groups.{Group, width}
@@ -75,6 +74,13 @@ pub record RowPut (m : Matrix) (x : List ℤ) (order : List ℕ) (p i place : �
   pub follow : (groups : List Group) (us : List Update) → place ≡ length us → LeafOf (jobWith m x order groups) i p → Listed (jobWith m x order groups) us target amount leaf
       → Listed (jobWith m x order groups) (us ++ rowUpdates (jobWith m x order groups) p) target′ amount′ leaf′
   pub place-after : (groups : List Group) → r ≡ place + length (rowUpdates (jobWith m x order groups) p)
+
+-- tables to write them into: room for all, and nothing that is no row's sum or no record
+pub record Blank (n : ℕ) (target : List ℕ) (amount : List ℤ) (leaf ends : List ℕ) : Type 0 where
+  pub long : Long target amount leaf
+  pub ends-long : length ends ≡ maxGroups
+  pub target-low : (k : ℕ) → getD target k 0 < n
+  pub leaf-low : (k : ℕ) → getD leaf k 0 < maxGroups
 
 -- the updates of the workers before w
 unfoldable pub before : Job → ℕ → List Update

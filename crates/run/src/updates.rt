@@ -7,20 +7,17 @@ use plan::fields::record_at;
 use plan::fields::wide_at;
 ghost use mathlib.Core.Path.{_≡_};
 ghost use mathlib.Core.Bool.{true};
-ghost use mathlib.Core.List.{List, _++_};
-ghost use Prim.Native.Nat.{ℕ, _+_, _*_, _≤_, _<_};
+ghost use Prim.Native.Nat.{_+_, _*_, _≤_, _<_};
 ghost use lib.IntN.{_*ℤ_};
-ghost use lib.ListN.{length, getD, set, take};
+ghost use lib.ListN.{length, getD, take};
 ghost use Rattle.matrix.specs.Limits.{maxRows};
 ghost use Rattle.matrix.specs.Matrix.{isMatrix, areDisplacements, entry, displacement};
 ghost use Rattle.matrix.specs.Checks.{matrixOf};
-ghost use Rattle.plan.specs.Groups.{Group};
 ghost use Rattle.plan.specs.Sound.{maxGroups, maxWorkers};
 ghost use Rattle.plan.specs.Checks.{recordAt};
 ghost use Rattle.run.specs.Job.{jobOf};
-ghost use Rattle.run.specs.Updates.{Update, rowUpdates};
 ghost use Rattle.run.specs.Laid.{maxUpdates, Laid, Bounded};
-ghost use Rattle.run.specs.UpdateTable.{Given, Rows, Long, Written, LeafOf, Listed, Filled, Ended, Walked, Counted, RowPut, reached};
+ghost use Rattle.run.specs.UpdateTable.{Given, Rows, Blank, Long, Written, Filled, Walked, RowPut, reached};
 
 // An entry times a displacement.
 fn product(entry: i32, displacement: i32) -> i64
@@ -216,4 +213,120 @@ fn put_worker(
         i += 1;
     }
     next
+}
+
+// The updates of all workers: how many each has, where its first one stands, and where leaves end.
+fn put_workers(
+    n: usize,
+    starts: &[u32],
+    columns: &[u32],
+    values: &[i32],
+    displacements: &[i32],
+    order: &[u32],
+    groups: &[u32],
+    count: usize,
+    degrees: &[u32; 4096],
+    at: &[u16; 65536],
+    beside: &[i32; 65536],
+    counts: &mut [u32; 16],
+    first: &mut [u32; 16],
+    target: &mut [u16; 69632],
+    amount: &mut [i64; 69632],
+    leaf: &mut [u16; 69632],
+    ends: &mut [u32; 512],
+)
+    requires { ⌜ Given n (now starts) (now columns) (now values) (now displacements) (now order) (now groups) count
+        × Rows n (now starts) (now columns) (now values) (now displacements) (now order) (now degrees) (now at) (now beside)
+        × (length (now counts) ≡ maxWorkers) × (length (now first) ≡ maxWorkers) × Blank n (now target) (now amount) (now leaf) (now ends) ⌝ }
+    ensures { λ _. ⌜ Laid (jobOf (matrixOf n (now (starts .entry)) (now (columns .entry)) (now (values .entry))) (now (displacements .entry)) (now (order .entry)) (now (groups .entry)) count)
+        (now (counts .exit)) (now (first .exit)) (now (target .exit)) (now (amount .exit)) (now (leaf .exit)) (now (ends .exit))
+        × Bounded n (now (counts .exit)) (now (first .exit)) (now (target .exit)) (now (amount .exit)) (now (leaf .exit)) (now (ends .exit)) ⌝ }
+{
+    let mut place = 0;
+    let mut w = 0;
+    while w < 16 {
+        let next = put_worker(
+            n,
+            starts,
+            columns,
+            values,
+            displacements,
+            order,
+            groups,
+            count,
+            degrees,
+            at,
+            beside,
+            w,
+            place,
+            target,
+            amount,
+            leaf,
+            ends,
+        );
+        first[w] = place as u32;
+        counts[w] = (next - place) as u32;
+        place = next;
+        w += 1;
+    }
+}
+
+// The tables of an accepted job: every worker's updates, and where its leaves end.
+pub(crate) fn lay(
+    n: usize,
+    starts: &[u32],
+    columns: &[u32],
+    values: &[i32],
+    displacements: &[i32],
+    order: &[u32],
+    groups: &[u32],
+    count: usize,
+    counts: &mut [u32; 16],
+    first: &mut [u32; 16],
+    target: &mut [u16; 69632],
+    amount: &mut [i64; 69632],
+    leaf: &mut [u16; 69632],
+    ends: &mut [u32; 512],
+)
+    requires { ⌜ Given n (now starts) (now columns) (now values) (now displacements) (now order) (now groups) count
+        × (length (now counts) ≡ maxWorkers) × (length (now first) ≡ maxWorkers) × Blank n (now target) (now amount) (now leaf) (now ends) ⌝ }
+    ensures { λ _. ⌜ Laid (jobOf (matrixOf n (now (starts .entry)) (now (columns .entry)) (now (values .entry))) (now (displacements .entry)) (now (order .entry)) (now (groups .entry)) count)
+        (now (counts .exit)) (now (first .exit)) (now (target .exit)) (now (amount .exit)) (now (leaf .exit)) (now (ends .exit))
+        × Bounded n (now (counts .exit)) (now (first .exit)) (now (target .exit)) (now (amount .exit)) (now (leaf .exit)) (now (ends .exit)) ⌝ }
+{
+    let mut position = [0u32; 4096];
+    let mut degrees = [0u32; 4096];
+    let mut at = [0u16; 65536];
+    let mut beside = [0i32; 65536];
+    positions(order, n, &mut position);
+    later(
+        n,
+        starts,
+        columns,
+        values,
+        order,
+        &position,
+        &mut degrees,
+        &mut at,
+        &mut beside,
+    );
+    put_workers(
+        n,
+        starts,
+        columns,
+        values,
+        displacements,
+        order,
+        groups,
+        count,
+        &degrees,
+        &at,
+        &beside,
+        counts,
+        first,
+        target,
+        amount,
+        leaf,
+        ends,
+    );
 }

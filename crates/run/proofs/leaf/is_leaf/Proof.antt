@@ -1,14 +1,12 @@
 -- `run::leaf::is_leaf` meets its contract: only the next record can be the first child.
-use mathlib.Core.Path.{_≡_, sym, ap, _∙_}
-use mathlib.Core.Bool.{Bool, not}
-use Prim.Native.Nat.{ℕ}
+use mathlib.Core.Path.{sym, ap, _∙_}
+use mathlib.Core.Bool.{not}
 use lib.Dec.{eqb}
 use Rattle.plan.specs.Groups.{Group}
 use Rattle.run.proofs.NextRecord.{last-none, next-child}
 use borrow.Author.Needs.{needs}
 use Rattle.run.proofs.leaf.is_leaf.Statement.{statement}
 use Rattle.run.proofs.leaf.is_leaf.Tie as tie
-use Rattle.plan.proofs.fields.record_at.Reads as record-at-reads
 
 add-next : tie.Need-add-next
 add-next c = search needs

@@ -13,7 +13,6 @@ use Rattle.run.proofs.Products.{displacements-long, displacement-fits, 
 use borrow.Author.Needs.{needs, sfits-of}
 use Rattle.run.proofs.updates.own_product.Statement.{statement}
 use Rattle.run.proofs.updates.own_product.Tie as tie
-use Rattle.matrix.proofs.entry_at.Reads as entry-at-reads
 
 abbrev given : tie.Start → Matrix
 given s = let a = s .args in matrixOf (a .n) (a .starts .now) (a .columns .now) (a .values .now)

@@ -1,28 +1,23 @@
 -- `run::updates::put_leaf` meets its contract: the rows of the leaf before position p have their updates.
-use mathlib.Core.Path.{_≡_, sym, ap, _∙_, subst}
+use mathlib.Core.Path.{_≡_, sym, ap, _∙_}
 use mathlib.Core.Logic.{inl}
-use mathlib.Core.Bool.{true, false}
-use Prim.Native.Nat.{ℕ, suc, _+_, _-_, _≤_, _<_}
+use mathlib.Core.Bool.{false}
+use Prim.Native.Nat.{suc, _+_, _-_, _≤_}
 use native.Mathlib.Omega.{arith}
 use native.Mathlib.Numerals.{add-one}
-use lib.ListN.{length, take}
+use lib.ListN.{length}
 use borrow.Author.Tests.{not-true, not-false}
 use Rattle.base.proofs.Booleans.{fails, holds}
 use Rattle.matrix.specs.Checks.{matrixOf}
 use Rattle.plan.specs.Groups.{Group}
 use Rattle.plan.specs.Checks.{recordAt, belowWhole}
-use Rattle.run.specs.Job.{Job, jobOf}
+use Rattle.run.specs.Job.{jobOf}
 use Rattle.run.specs.Laid.{hasChild}
 use Rattle.run.specs.UpdateTable.{Filled, reached}
 use Rattle.run.proofs.WorkerTable.{in-order, start-is, reached-leaf, RowOf, row-of, row-room, filled-row, filled-at, filled-skip}
 use borrow.Author.Needs.{needs}
 use Rattle.run.proofs.updates.put_leaf.Statement.{statement}
 use Rattle.run.proofs.updates.put_leaf.Tie as tie
-use Rattle.run.proofs.updates.put_leaf.Reads as reads
-use Rattle.run.proofs.updates.put_leaf.Lts as lts
-use Rattle.plan.proofs.fields.record_at.Reads as record-at-reads
-use Rattle.run.proofs.leaf.is_leaf.Reads as is-leaf-reads
-use Rattle.run.proofs.updates.put_row.Reads as put-row-reads
 
 abbrev Inv-loop : tie.InvT-loop
 Inv-loop n starts columns values displacements order groups count degrees at beside i place target₀ amount₀ leaf₀ p₀ end next₀ target amount leaf p next =

@@ -2,7 +2,7 @@
 use mathlib.Core.Path.{_≡_, refl, sym, ap, _∙_, subst}
 use Prim.Native.Nat.{ℕ, _+_, _-_, _*_, _≤_, _<_}
 use native.Mathlib.Omega.{arith}
-use lib.ListN.{length, getD, take}
+use lib.ListN.{getD, take}
 use lib.IntN.{ℤ, pos, _*ℤ_}
 use mir.Syntax.{w64}
 use mir.Val.{ofZ, toZ}
@@ -14,16 +14,10 @@ use Rattle.run.specs.Laid.{maxUpdates}
 use Rattle.run.specs.UpdateTable.{Long}
 use Rattle.run.proofs.Products.{read-back}
 use Rattle.run.proofs.ListedUpdates.{long-written}
-use Rattle.run.proofs.RowTable.{Follow, RowAt, row-at, later-count, LaterAt, later-at, follow-first, follow-next, follow-all, place-after}
+use Rattle.run.proofs.RowTable.{Follow, RowAt, row-at, LaterAt, later-at, follow-first, follow-next, follow-all, place-after}
 use borrow.Author.Needs.{needs, sfits-of}
 use Rattle.run.proofs.updates.put_row.Statement.{statement}
 use Rattle.run.proofs.updates.put_row.Tie as tie
-use Rattle.run.proofs.updates.put_row.Reads as reads
-use Rattle.run.proofs.updates.put_row.Lts as lts
-use Rattle.plan.proofs.fields.wide_at.Reads as wide-at-reads
-use Rattle.run.proofs.updates.own_product.Reads as own-product-reads
-use Rattle.run.proofs.updates.product.Reads as product-reads
-use Rattle.run.proofs.updates.put.Reads as put-reads
 
 abbrev Inv-loop : tie.InvT-loop
 Inv-loop n starts columns values displacements order degrees at beside p i place target₀ amount₀ leaf₀ row own z start later next₀ k₀ target amount leaf next k =

@@ -1,23 +1,18 @@
 -- `run::updates::put_worker` meets its contract: the records before i have been walked.
-use mathlib.Core.Path.{_≡_, sym, ap, _∙_, subst}
-use mathlib.Core.Logic.{_≢_, ⊎-elim}
-use Prim.Native.Nat.{ℕ, suc, _+_, _-_, _≤_, _<_}
+use mathlib.Core.Path.{_≡_, sym, ap, _∙_}
+use mathlib.Core.Logic.{⊎-elim}
+use Prim.Native.Nat.{ℕ, _+_, _-_, _≤_}
 use native.Mathlib.Omega.{arith}
-use lib.ListN.{length, take}
 use Rattle.matrix.specs.Checks.{matrixOf}
 use Rattle.plan.specs.Groups.{Group}
 use Rattle.plan.specs.Checks.{recordAt}
-use Rattle.run.specs.Job.{Job, jobOf}
+use Rattle.run.specs.Job.{jobOf}
 use Rattle.run.specs.Laid.{maxUpdates}
 use Rattle.run.specs.UpdateTable.{Walked, reached}
 use Rattle.run.proofs.WorkerTable.{reached-low, filled-worker, walked-by, walked-count, walked-other, walked-own, walked-end, in-order}
 use borrow.Author.Needs.{needs}
 use Rattle.run.proofs.updates.put_worker.Statement.{statement}
 use Rattle.run.proofs.updates.put_worker.Tie as tie
-use Rattle.run.proofs.updates.put_worker.Reads as reads
-use Rattle.run.proofs.updates.put_worker.Lts as lts
-use Rattle.plan.proofs.fields.record_at.Reads as record-at-reads
-use Rattle.run.proofs.updates.put_leaf.Reads as put-leaf-reads
 
 abbrev Inv-loop : tie.InvT-loop
 Inv-loop n starts columns values displacements order groups count degrees at beside w place target₀ amount₀ leaf₀ ends₀ next₀ i₀ target amount leaf ends next i =
