@@ -68,3 +68,4 @@ pub mod Begun
 pub mod ForcesReply
 pub mod PlanCrew
 pub mod AllWorkers
+pub mod TableSteps

@@ -11,6 +11,7 @@ pub mod Record
 pub mod Sum
 pub mod Laid
 pub mod Waits
+pub mod Steps
 pub mod Tables
 pub mod Scatter
 pub mod UpdateTable

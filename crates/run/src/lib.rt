@@ -5,6 +5,7 @@ mod leaf;
 mod ready_set;
 mod scatter;
 mod state;
+mod steps;
 mod sum;
 mod updates;
 mod waits;
