@@ -50,7 +50,7 @@ module _ {n : ℕ} {starts columns : List ℕ} {values x : List ℤ} {order grou
     {counts first target : List ℕ} {amount : List ℤ} {leaf ends : List ℕ} where
   -- the lists are refused
   pub begun-refused : (q p : ℕ) → refused q p ≡ reply n starts columns values x order groups count → Begun n starts columns values x order groups count state size counts first target amount leaf ends (Refused q p)
-  begun-refused q p e = record { replied = λ sums l. sym (begin-refused (matrixOf n starts columns values) x order groups count (stateOf state sums) q p (sym e)); tabled = λ k f. absurd (no-accepted f) }
+  begun-refused q p e = record { replied = λ sums l. sym (begin-refused (matrixOf n starts columns values) x order groups count (stateOf state sums) q p (sym e)); prepared = λ k f. absurd (no-accepted f) }
 
   module _ (k : ℕ) (e : accepted k ≡ reply n starts columns values x order groups count) where
     -- another number of sums
@@ -58,7 +58,7 @@ module _ {n : ℕ} {starts columns : List ℕ} {values x : List ℤ} {order grou
     unfolding jobOf
     begun-size d = record {
       replied = λ sums l. sym (begin-unfit (matrixOf n starts columns values) x order groups count (stateOf state sums) k (sym e) (state-size (jobOf (matrixOf n starts columns values) x order groups count) (stateOf state sums) (λ (f : length sums ≡ n). d (sym l ∙ f))));
-      tabled = λ k f. absurd (no-accepted f);
+      prepared = λ k f. absurd (no-accepted f);
     }
 
     module _ (same : size ≡ n) (laid : Laid (jobOf (matrixOf n starts columns values) x order groups count) counts first target amount leaf ends) where
@@ -67,7 +67,7 @@ module _ {n : ℕ} {starts columns : List ℕ} {values x : List ℤ} {order grou
       unfolding jobOf
       begun-unfit f = record {
         replied = λ sums l. sym (begin-unfit (matrixOf n starts columns values) x order groups count (stateOf state sums) k (sym e) (table-state (jobOf (matrixOf n starts columns values) x order groups count) counts first target amount leaf ends laid (stateOf state sums) (l ∙ same) ∙ f));
-        tabled = λ k f. absurd (no-accepted f);
+        prepared = λ k f. absurd (no-accepted f);
       }
 
       -- all is as it should be
@@ -75,5 +75,5 @@ module _ {n : ℕ} {starts columns : List ℕ} {values x : List ℤ} {order grou
       unfolding jobOf
       begun t b = record {
         replied = λ sums l. sym (begin-taken (matrixOf n starts columns values) x order groups count (stateOf state sums) k (sym e) (table-state (jobOf (matrixOf n starts columns values) x order groups count) counts first target amount leaf ends laid (stateOf state sums) (l ∙ same) ∙ t));
-        tabled = λ i f. record { given = begun-given k e; laid = laid; bounded = b };
+        prepared = λ i f. record { given = begun-given k e; laid = laid; bounded = b };
       }

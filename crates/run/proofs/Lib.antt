@@ -69,3 +69,7 @@ pub mod ForcesReply
 pub mod PlanCrew
 pub mod AllWorkers
 pub mod TableSteps
+pub mod Prepared
+pub mod PassTurns
+pub mod ReadyAnswer
+pub mod PicksAnswer

@@ -24,7 +24,7 @@ beginReply m x order groups count s =
     inTurn refused (jobChecks m x order groups count) (inTurn refused (stateCheck (jobOf m x order groups count) s) (accepted 0))
 
 -- the tables are the job's
-pub record Tabled (n : ℕ) (starts columns : List ℕ) (values displacements : List ℤ) (order groups : List ℕ) (count : ℕ) (counts first target : List ℕ) (amount : List ℤ) (leaf ends : List ℕ) : Type 0 where
+pub record Prepared (n : ℕ) (starts columns : List ℕ) (values displacements : List ℤ) (order groups : List ℕ) (count : ℕ) (counts first target : List ℕ) (amount : List ℤ) (leaf ends : List ℕ) : Type 0 where
   pub given : Given n starts columns values displacements order groups count
   pub laid : Laid (jobOf (matrixOf n starts columns values) displacements order groups count) counts first target amount leaf ends
   pub bounded : Bounded n counts first target amount leaf ends
@@ -32,4 +32,4 @@ pub record Tabled (n : ℕ) (starts columns : List ℕ) (values displacements : 
 -- the answer r to a call with a record of a state and `size` sums
 pub record Begun (n : ℕ) (starts columns : List ℕ) (values displacements : List ℤ) (order groups : List ℕ) (count : ℕ) (state : State) (size : ℕ) (counts first target : List ℕ) (amount : List ℤ) (leaf ends : List ℕ) (r : Answer) : Type 0 where
   pub replied : (sums : List ℤ) → length sums ≡ size → replyOf r ≡ beginReply (matrixOf n starts columns values) displacements order groups count (stateOf state sums)
-  pub tabled : (k : ℕ) → r ≡ Accepted k → Tabled n starts columns values displacements order groups count counts first target amount leaf ends
+  pub prepared : (k : ℕ) → r ≡ Accepted k → Prepared n starts columns values displacements order groups count counts first target amount leaf ends

@@ -16,7 +16,7 @@ use Rattle.run.specs.Job.{Job, jobOf, Accepted}
 use Rattle.run.specs.Machine.{workersOf, workers, over}
 use Rattle.run.specs.Record.{allBelow, done}
 use Rattle.run.specs.UpdateTable.{Given}
-use Rattle.run.specs.Begun.{Tabled}
+use Rattle.run.specs.Begun.{Prepared}
 use Rattle.run.proofs.Accepted.{facts}
 use Rattle.run.proofs.TableWaits.{table-over}
 
@@ -55,7 +55,7 @@ module _ {n : ℕ} {starts columns : List ℕ} {values x : List ℤ} {order grou
   given-few g r h = omega (arith, given-crew g r h, facts (jobOf (matrixOf n starts columns values) x order groups count) (g .accepted) .few)
 
   -- whether they all made all their accesses
-  pub given-over : {counts first target : List ℕ} {amount : List ℤ} {leaf ends : List ℕ} → Tabled n starts columns values x order groups count counts first target amount leaf ends
+  pub given-over : {counts first target : List ℕ} {amount : List ℤ} {leaf ends : List ℕ} → Prepared n starts columns values x order groups count counts first target amount leaf ends
       → (made : List ℕ) (r : Record) → Reads r (recordAt groups 0) → allBelow (done counts made) (r .workers) ≡ over (jobOf (matrixOf n starts columns values) x order groups count) made
   given-over {counts} {first} {target} {amount} {leaf} {ends} t made r h =
       let j : Job = jobOf (matrixOf n starts columns values) x order groups count in

@@ -1,0 +1,33 @@
+-- What a call of picks answers, and the state that it leaves.
+use mathlib.Core.Path.{_≡_, sym, ap, _∙_}
+use mathlib.Core.List.{List}
+use Prim.Native.Nat.{ℕ}
+use lib.IntN.{ℤ}
+use Rattle.base.specs.Replies.{accepted, refused}
+use Rattle.matrix.specs.Matrix.{Matrix}
+use Rattle.run.specs.Job.{Job, jobOf}
+use Rattle.run.specs.Machine.{State, Stepped, steps}
+use Rattle.run.specs.Calls as calls
+use Rattle.run.specs.Calls.{picks, placeOf, pickedOf, answerOf, afterOf, answerLent, afterLent}
+use Rattle.run.specs.Begun.{beginReply}
+use Rattle.run.proofs.Beginning.{lent-refused, lent-taken}
+
+module _ (m : Matrix) (x : List ℤ) (order groups : List ℕ) (count : ℕ) (s : State) (schedule : List ℕ) where
+  abbrev job : Job
+  job = jobOf m x order groups count
+
+  -- a call with the answer a that leaves t
+  abbrev Made : calls.Answer → State → Type 0
+  Made a t = (a ≡ answerLent m x order groups count s (picks schedule)) × (t ≡ afterLent m x order groups count s (picks schedule))
+
+  -- the checks refuse
+  pub picks-refused : (q p : ℕ) → refused q p ≡ beginReply m x order groups count s → Made (calls.refused q p) s
+  picks-refused q p e = let l = lent-refused m x order groups count s (picks schedule) q p (sym e) in (sym (l .0), sym (l .1))
+
+  -- the steps that are taken, and why they end
+  pub picks-made : (k : ℕ) → accepted k ≡ beginReply m x order groups count s → (t : State) (taken number : ℕ) → record { state = t; taken = taken; number = number } ≡ steps job s schedule
+      → Made (calls.picked taken number (placeOf number taken)) t
+  unfolding answerOf afterOf pickedOf
+  picks-made k e t taken number f =
+      let l = lent-taken m x order groups count s (picks schedule) k (sym e) in
+      (ap (λ (r : Stepped). calls.picked (r .taken) (r .number) (placeOf (r .number) (r .taken))) f ∙ sym (l .0), ap (λ (r : Stepped). r .state) f ∙ sym (l .1))
