@@ -9,12 +9,23 @@
  * refusal's place, or the accepted call's count, 0 where none is named. On a refusal nothing is written.
  *
  * The lists belong to the caller; nothing is kept between calls, and calls may run at the same time on different
- * lists. A call uses up to 0.7 MiB of stack. */
+ * lists. A call uses up to 0.7 MiB of stack, mzk_read up to 2.3 MiB. */
 #ifndef MAZHOKETH_H
 #define MAZHOKETH_H
 
 #include <stddef.h>
 #include <stdint.h>
+
+/* The matrix of a text, in full rows, into row_starts, columns and values; returns its number of rows. It has one row
+ * start more than rows, and the last one is the number of its columns and of its values; at most 4,097, 65,536 and
+ * 65,536 numbers are written.
+ * Refused: 1 line 1 differs (place 1); 2 text too long (0), or a line breaks the form (its line); 3 the size line is
+ * outside the limits (its line); 4 an entry is (its line); 9 row_starts, columns or values too short (the numbers
+ * needed by the first such). */
+uint64_t mzk_read(const uint8_t *text, size_t text_bytes,
+                  uint8_t *row_starts, size_t row_starts_bytes,
+                  uint8_t *columns, size_t columns_bytes,
+                  uint8_t *values, size_t values_bytes);
 
 /* A matrix of n rows as text, its bytes into text; returns their number. The text is measured before it is written.
  * Refused: 5 no matrix; 9 text too short (the number of bytes needed). */

@@ -2,4 +2,5 @@ pub mod Loads
 pub mod Answers
 pub mod Products
 pub mod PlanChecks
-pub mod Writes
+pub mod TextWrites
+pub mod TextReads

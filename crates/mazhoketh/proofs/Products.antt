@@ -1,26 +1,25 @@
 -- The product's call on lists that are cut, and on sums that are made beside the lent list.
 use mathlib.Core.Path.{_≡_, sym, ap, _∙_}
 use mathlib.Core.Bool.{true}
-use mathlib.Core.List.{List, [], _∷_, _++_, append-assoc}
+use mathlib.Core.List.{List, [], _∷_, _++_}
 use Prim.Native.Nat.{ℕ, _/_, _≤_, min}
 use native.Mathlib.Nat.{min-comm}
 use native.Mathlib.Omega.{arith}
 use lib.IntN.{ℤ}
-use lib.ListN.{length, take, drop, length-append}
-use lib.Seq.{take-at, take-all, length-take-le}
+use lib.ListN.{length, take}
 use borrow.Author.Tests.{leb-true}
 use Rattle.base.specs.Replies.{accepted, refused, Check, roomFor, lent}
 use Rattle.base.proofs.Booleans.{leb-min}
-use Rattle.base.proofs.Replies.{inTurn-same, accepted-all, lent-accepted, lent-refused}
+use Rattle.base.proofs.Replies.{inTurn-same, accepted-all, lent-refused}
 use Rattle.base.proofs.Fill.{length-made}
 use Rattle.matrix.specs.Limits.{maxRows}
 use Rattle.matrix.specs.Matrix.{Matrix, isMatrix, matrixCheck, displacementCheck, areDisplacements}
 use Rattle.matrix.specs.Product.{forceAt, product, productReply}
 use Rattle.matrix.proofs.Matrix.{matrix-facts}
 use Rattle.matrix.proofs.Cut.{mostStarts, cut, cut-matrix, cut-product, cut-displacements, displacements-kept}
-use Rattle.words.specs.LittleEndian.{signedBytes, stored}
+use Rattle.words.specs.LittleEndian.{signedBytesOf, signedBytes, stored}
 use Rattle.mazhoketh.specs.Word.{word, Answered}
-use Rattle.mazhoketh.proofs.Answers.{answered-same}
+use Rattle.mazhoketh.proofs.Answers.{answered-same, Begins, begins, begins-stored}
 
 module _ (m : Matrix) (x : List ℤ) (room : ℕ) where
   abbrev checks : List Check
@@ -98,23 +97,12 @@ module _ (m : Matrix) (x : List ℤ) (size many : ℕ) (enough : maxRows ≤ siz
     made : Made m x many
     made = product-made m x many k (sym e)
 
-    pub product-fits : (sums rest : List ℤ) → length sums ≡ many → m .n ≤ length (sums ++ rest)
-    product-fits sums rest l = rw length-append (omega (arith, made .long))
-
-    pub product-size : (sums rest : List ℤ) → length sums ≡ many → m .n ≡ length (take (m .n) (sums ++ rest))
-    product-size sums rest l = sym (length-take-le (m .n) (sums ++ rest) (product-fits sums rest l))
-
     module _ (old sums rest : List ℤ) (s : sums ≡ lent (productReply m x many) (product m x) old) where
-      first : take (m .n) (sums ++ rest) ≡ product m x
-      first =
-          rw (s, lent-accepted (product m x) old _ k (sym e), append-assoc (product m x) (drop (length (product m x)) old) rest)
-          (take-at (product m x) (drop (length (product m x)) old ++ rest) (m .n) (length-product m x))
+      pub product-begins : Begins (sums ++ rest) (product m x) (m .n)
+      product-begins = begins (sym e) (product m x) old s rest (length-product m x)
 
       pub product-stored : {w : ℕ} {new : List ℕ} → w ≡ word (accepted k) → new ≡ stored (signedBytes 8 (take (length forces / 8) (take (m .n) (sums ++ rest)))) forces
           → Answered (productReply m x (length forces / 8)) (signedBytes 8 (product m x)) forces w new
       product-stored f g =
-          let reply = sym (e ∙ many-reply) in
-          record {
-            returns = f ∙ ap word (sym reply);
-            leaves = g ∙ rw (first, take-all (length forces / 8) (product m x) (omega (arith, made .long, length-product m x))) (sym (lent-accepted (signedBytes 8 (product m x)) forces _ k reply));
-          }
+          let reply = e ∙ many-reply in
+          record { returns = f ∙ ap word reply; leaves = begins-stored product-begins (signedBytesOf 8) 8 forces (sym reply) (omega (arith, made .long)) g }

@@ -2,5 +2,6 @@
 pub mod check;
 mod lists;
 pub mod product;
+pub mod read;
 mod word;
 pub mod write;

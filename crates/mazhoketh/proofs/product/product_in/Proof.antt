@@ -12,7 +12,8 @@ use Rattle.matrix.specs.Matrix.{Matrix}
 use Rattle.matrix.specs.Checks.{matrixOf}
 use Rattle.matrix.specs.Product.{productReply}
 use Rattle.mazhoketh.specs.Word.{word}
-use Rattle.mazhoketh.proofs.Products.{product-refused, product-fits, product-size, product-stored}
+use Rattle.mazhoketh.proofs.Answers.{begins-fits, begins-size}
+use Rattle.mazhoketh.proofs.Products.{product-refused, product-begins, product-stored}
 use Rattle.mazhoketh.proofs.product.product_in.Statement.{statement}
 use Rattle.mazhoketh.proofs.product.product_in.Tie as tie
 
@@ -65,7 +66,7 @@ slice-reshare-prefix-store-i64 c =
     let p = c .before .before .before in
     let l = p .before .before in
     let s = l .before .before .before .before in
-    product-fits (given s) (s .args .displacements .now) (length (s .args .sums .now)) _ (s .pre) (s .args .forces .now) (least l) _ (told c) (p .product .last .1 .1 .1 .1 .1 .0) _ (p .product .kept .1 .1 .1 .1 .1 .0)
+    begins-fits (product-begins (given s) (s .args .displacements .now) (length (s .args .sums .now)) _ (s .pre) (s .args .forces .now) (least l) _ (told c) _ _ _ (p .product .ensures .1))
 
 slice-aggregate-store-i64 : tie.Need-slice-aggregate-store-i64
 slice-aggregate-store-i64 c =
@@ -73,7 +74,7 @@ slice-aggregate-store-i64 c =
     let p = t .before .before .before in
     let l = p .before .before in
     let s = l .before .before .before .before in
-    product-size (given s) (s .args .displacements .now) (length (s .args .sums .now)) _ (s .pre) (s .args .forces .now) (least l) _ (told t) (p .product .last .1 .1 .1 .1 .1 .0) _ (p .product .kept .1 .1 .1 .1 .1 .0)
+    begins-size (product-begins (given s) (s .args .displacements .now) (length (s .args .sums .now)) _ (s .pre) (s .args .forces .now) (least l) _ (told t) _ _ _ (p .product .ensures .1))
 
 store-i64-requires : tie.Need-store-i64-requires
 store-i64-requires c κs = search needs

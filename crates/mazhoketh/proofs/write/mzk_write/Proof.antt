@@ -4,7 +4,7 @@ use mathlib.Core.Path.{ap, _∙_}
 use Rattle.mazhoketh.specs.Bytes.{matrixIn}
 use Rattle.mazhoketh.specs.Word.{word}
 use Rattle.mazhoketh.proofs.Loads.{loaded-size, loaded-matrix}
-use Rattle.mazhoketh.proofs.Writes.{decoded-matrix}
+use Rattle.mazhoketh.proofs.TextWrites.{decoded-matrix}
 use Rattle.mazhoketh.proofs.write.mzk_write.Statement.{statement}
 use Rattle.mazhoketh.proofs.write.mzk_write.Tie as tie
 
