@@ -1,8 +1,8 @@
 -- The first line: its end, byte by byte, and its two numbers.
-use mathlib.Core.Path.{_≡_, refl, sym, ap, _∙_}
+use mathlib.Core.Path.{_≡_, refl, ap, _∙_}
 use mathlib.Core.Bool.{Bool, true, false, _&&_, cond}
 use mathlib.Core.List.{List, [], _∷_}
-use Prim.Native.Nat.{ℕ, zero, suc, _+_, _-_, _≤_, _<_}
+use Prim.Native.Nat.{ℕ, suc, _+_, _-_, _≤_, _<_}
 use native.Mathlib.Numerals.{add-one}
 use native.Mathlib.Omega.{arith}
 use lib.Dec.{leb, eqb}
@@ -11,7 +11,7 @@ use lib.Seq.{getD-drop}
 use borrow.Author.Tests.{eq-eqb, ne-eqb}
 use Rattle.reader.specs.declared.numbers.Number.the-variants as num
 use Rattle.market.specs.Bytes.{classOf, isEnd, isSpace, blank, lineFeed, minus, digit0, digit9}
-use Rattle.market.specs.Fields.{Scan, got, none, number}
+use Rattle.market.specs.Fields.{got, number}
 use Rattle.reader.specs.Positions.{numberAt}
 use Rattle.reader.proofs.Left.{left-cons}
 use Rattle.reader.proofs.numbers.Answers.{scan-at, scan-no}

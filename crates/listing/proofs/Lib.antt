@@ -1,2 +1,4 @@
 pub mod FirstLine
+pub mod Judged
+pub mod PlanLists
 pub mod Printed

@@ -1,19 +1,20 @@
 -- The lines of the listing, number by number and record by record, and how long they are.
 use mathlib.Core.Path.{_≡_, refl, ap, _∙_}
 use mathlib.Core.List.{List, [], _∷_, _++_, append-assoc}
-use Prim.Native.Nat.{ℕ, zero, suc, _+_, _-_, _*_, _≤_, _<_}
+use Prim.Native.Nat.{ℕ, suc, _+_, _-_, _*_, _≤_, _<_}
 use native.Mathlib.Numerals.{add-one}
 use native.Mathlib.Omega.{arith}
 use lib.ListN.{length, getD, take, drop, length-append, length-drop, drop-of-length-le}
 use lib.Seq.{drop-cons}
 use Rattle.market.specs.Bytes.{blank, lineFeed}
 use Rattle.market.specs.Text.{natural}
+use Rattle.writer.specs.Puts.{Put}
 use Rattle.writer.proofs.puts.Digits.{natural-few}
 use Rattle.writer.proofs.puts.Putting.{Next}
-use Rattle.plan.specs.Groups.{Group, width, fields, ofFields, records}
+use Rattle.plan.specs.Groups.{Group, fields, ofFields, records}
 use Rattle.plan.specs.Checks.{recordAt}
 use Rattle.plan.proofs.FlatRecords.{records-at, records-none}
-use Rattle.listing.specs.Listing.{spaced, groupLines}
+use Rattle.listing.specs.Listing.{spaced, orderLine, titleLine, groupLines}
 
 -- the next byte
 pub bytes-next : (bs : List ℕ) (i : ℕ) → i < length bs → Next (drop i bs) (getD bs i 0 ∷ []) (drop (i + 1) bs)
@@ -76,3 +77,12 @@ groups-few i [] = omega arith
 groups-few i (g ∷ gs) =
     let h = groups-few (suc i) gs in
     simp length-append (omega (arith, natural-few i, spaced-few (fields g)))
+
+-- the order's line and the title line
+pub order-few : (order : List ℕ) → length (orderLine order ++ titleLine) ≤ 53 + 11 * length order
+unfolding orderLine titleLine
+order-few order = simp length-append (omega (arith, spaced-few order))
+
+-- bytes put from the start
+pub put-whole : {xs old new : List ℕ} {r : ℕ} → Put xs 0 r old new → (r ≡ length xs) × (new ≡ xs ++ drop (length xs) old)
+put-whole {xs} a = let z : 0 + length xs ≡ length xs = omega arith in (a .next ∙ z, a .text ∙ rw z)

@@ -1,7 +1,7 @@
 -- What `netplan` writes for what it reads, byte for byte.
-use mathlib.Core.Bool.{Bool, true, false, cond}
+use mathlib.Core.Bool.{cond}
 use mathlib.Core.List.{List, [], _∷_, _++_, map}
-use Prim.Native.Nat.{ℕ, zero, suc, _+_}
+use Prim.Native.Nat.{ℕ, suc}
 use lib.Dec.{eqb, ltb}
 use lib.ListN.{length, drop, getD}
 use Rattle.base.specs.Lists.{concat}
@@ -10,7 +10,7 @@ use Rattle.base.specs.Refusals as no
 use Rattle.matrix.specs.Matrix.{Matrix}
 use Rattle.market.specs.Bytes.{isEnd, isSpace, blank, lineFeed}
 use Rattle.market.specs.Fields.{Scan, got, none, number}
-use Rattle.market.specs.Parse.{Triplet, Parsed, matrixText, rejected, parse}
+use Rattle.market.specs.Parse.{Parsed, matrixText, rejected, parse}
 use Rattle.market.specs.FullRows.{ofTriplets}
 use Rattle.market.specs.Text.{natural}
 use Rattle.plan.specs.Groups.{Group, Plan, fields}
@@ -19,6 +19,10 @@ use Rattle.planner.specs.Planner.{areParameters, plan}
 -- "24,576 bytes together at most"
 abbrev pub maxInput : ℕ
 maxInput = 24576
+
+-- what it writes is never longer: an order line of 4,096 numbers, the title line and 512 group lines, where a number takes at most 10 bytes, and a space or line feed 1
+abbrev pub maxOutput : ℕ
+maxOutput = 84533
 
 -- "The first line ends at the first line feed, or with the input": the line without it, and what follows
 unfoldable pub firstLine : List ℕ → List ℕ

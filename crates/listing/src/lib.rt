@@ -2,3 +2,99 @@
 
 mod first_line;
 mod lines;
+
+use crate::first_line::Parameters;
+use crate::first_line::line_length;
+use crate::first_line::read_parameters;
+use crate::lines::put_plan;
+use crate::lines::put_refusal;
+use base::Answer;
+use base::FORM;
+use base::PARAMETER;
+use planner::plan;
+use reader::read;
+ghost use mathlib.Core.Path.{_≡_};
+ghost use mathlib.Core.Bool.{true};
+ghost use mathlib.Core.List.{_++_};
+ghost use Prim.Native.Nat.{_≤_};
+ghost use lib.ListN.{length, drop};
+ghost use Rattle.matrix.specs.Matrix.{isMatrix};
+ghost use Rattle.matrix.specs.Checks.{matrixOf};
+ghost use Rattle.market.specs.Parse.{parse};
+ghost use Rattle.writer.specs.Puts.{Put};
+ghost use Rattle.listing.specs.Listing.{maxOutput, parameters, parametersOf, planned, judged, listing};
+
+// What is written for a matrix and two parameters, and the place after it.
+fn put_planned(
+    output: &mut [u8],
+    n: u32,
+    starts: &[u32],
+    columns: &[u32],
+    values: &[i32],
+    workers: u32,
+    p: u32,
+) -> usize
+    requires { ⌜ (isMatrix (matrixOf n (now starts) (now columns) (now values)) ≡ true) × (maxOutput ≤ length (now output)) ⌝ }
+    ensures { λ r. ⌜ Put (planned (matrixOf n (now (starts .entry)) (now (columns .entry)) (now (values .entry))) (parameters workers p)) 0 r (now (output .entry)) (now (output .exit)) ⌝ }
+{
+    let mut order = [0u32; 4096];
+    let mut groups = [0u32; 3072];
+    let made = plan(
+        n,
+        starts,
+        columns,
+        values,
+        workers,
+        p,
+        &mut order,
+        &mut groups,
+    );
+    match made {
+        Answer::Refused(number, place) => put_refusal(output, number, place),
+        Answer::Accepted(count) => put_plan(output, n as usize, &order, &groups, count),
+    }
+}
+
+// What is written for a first line and a matrix text, and the place after it.
+fn put_judged(output: &mut [u8], line: &[u8], text: &[u8]) -> usize
+    requires { ⌜ maxOutput ≤ length (now output) ⌝ }
+    ensures { λ r. ⌜ Put (judged (parse (now (text .entry))) (parametersOf (now (line .entry)))) 0 r (now (output .entry)) (now (output .exit)) ⌝ }
+{
+    let mut starts = [0u32; 4097];
+    let mut columns = [0u32; 65536];
+    let mut values = [0i32; 65536];
+    let found = read(text, &mut starts, &mut columns, &mut values);
+    let n = match found {
+        Answer::Refused(number, place) => return put_refusal(output, number, place),
+        Answer::Accepted(n) => n,
+    };
+    let given = read_parameters(line);
+    match given {
+        Parameters::Missing => put_refusal(output, PARAMETER, 0),
+        Parameters::Given(workers, p) => put_planned(
+            output,
+            n,
+            &starts,
+            &columns,
+            &values,
+            workers,
+            p,
+        ),
+    }
+}
+
+// What netplan writes for what it reads, and how many bytes that is; the rest of the output is as it was.
+pub fn listing(input: &[u8], output: &mut [u8; 84533]) -> usize
+    ensures { λ r. ⌜ r ≡ length (listing (now (input .entry))) ⌝ }
+    ensures { λ _. ⌜ now (output .exit) ≡ listing (now (input .entry)) ++ drop (length (listing (now (input .entry)))) (now (output .entry)) ⌝ }
+{
+    if 24576 < input.len() {
+        return put_refusal(output, FORM, 0);
+    }
+    let end = line_length(input);
+    if end < input.len() {
+        let next = end + 1;
+        return put_judged(output, &input[..end], &input[next..]);
+    }
+    put_judged(output, input, &[])
+}

@@ -7,8 +7,8 @@ ghost use Prim.Native.Nat.{_+_, _*_, _≤_};
 ghost use lib.ListN.{length};
 ghost use Rattle.market.specs.Bytes.{lineFeed};
 ghost use Rattle.writer.specs.Puts.{Put};
-ghost use Rattle.plan.specs.Groups.{records};
-ghost use Rattle.listing.specs.Listing.{spaced, refusedLine, orderLine, titleLine, groupLines};
+ghost use Rattle.plan.specs.Groups.{records, planOf};
+ghost use Rattle.listing.specs.Listing.{spaced, refusedLine, orderLine, titleLine, groupLines, planListing};
 
 // Bytes, and the place after them.
 fn put_bytes(output: &mut [u8], at: usize, bytes: &[u8]) -> usize
@@ -49,7 +49,7 @@ pub(crate) fn put_refusal(output: &mut [u8], number: u32, place: u32) -> usize
 }
 
 // The order's line and the title line, and the place after them.
-pub(crate) fn put_order(output: &mut [u8], order: &[u32]) -> usize
+fn put_order(output: &mut [u8], order: &[u32]) -> usize
     requires { ⌜ 53 + 11 * length (now order) ≤ length (now output) ⌝ }
     ensures { λ r. ⌜ Put (orderLine (now (order .entry)) ++ titleLine) 0 r (now (output .entry)) (now (output .exit)) ⌝ }
 {
@@ -63,7 +63,7 @@ pub(crate) fn put_order(output: &mut [u8], order: &[u32]) -> usize
 }
 
 // The lines of the first records of a flat list, and the place after them.
-pub(crate) fn put_groups(output: &mut [u8], at: usize, groups: &[u32], count: u32) -> usize
+fn put_groups(output: &mut [u8], at: usize, groups: &[u32], count: u32) -> usize
     requires { ⌜ (6 * count ≤ length (now groups)) × (at + 77 * count ≤ length (now output)) ⌝ }
     ensures { λ r. ⌜ Put (groupLines 0 (records count (now (groups .entry)))) at r (now (output .entry)) (now (output .exit)) ⌝ }
 {
@@ -78,4 +78,19 @@ pub(crate) fn put_groups(output: &mut [u8], at: usize, groups: &[u32], count: u3
         i += 1;
     }
     p
+}
+
+// The plan of n rows in two lists, and the place after it.
+pub(crate) fn put_plan(
+    output: &mut [u8],
+    n: usize,
+    order: &[u32],
+    groups: &[u32],
+    count: u32,
+) -> usize
+    requires { ⌜ (n ≤ length (now order)) × (6 * count ≤ length (now groups)) × (53 + 11 * n + 77 * count ≤ length (now output)) ⌝ }
+    ensures { λ r. ⌜ Put (planListing (planOf n (now (order .entry)) (now (groups .entry)) count)) 0 r (now (output .entry)) (now (output .exit)) ⌝ }
+{
+    let rows = put_order(output, &order[..n]);
+    put_groups(output, rows, groups, count)
 }
