@@ -1,6 +1,6 @@
 -- `plan` meets its contract: the checks in turn, then the plan is made in two lists of its own and copied.
 use mathlib.Core.Path.{_≡_, refl, sym, ap, _∙_}
-use mathlib.Core.Bool.{true}
+use mathlib.Core.Bool.{true, false}
 use mathlib.Core.List.{List, _++_}
 use Prim.Native.Nat.{ℕ, _*_, _≤_}
 use native.Mathlib.Omega.{arith}
@@ -16,6 +16,9 @@ use Rattle.planner.proofs.plan.Tie as tie
 
 abbrev given : tie.Start → Matrix
 given c = let a = c .args in matrixOf (a .n) (a .starts .now) (a .columns .now) (a .values .now)
+
+is-not : (c : tie.Then1) → isMatrix (given (c .before .before .before .before .before .before)) ≡ false
+is-not c = fails (c .before .is-matrix .ensures) (c .if1 .taken)
 
 is : (c : tie.Else1) → isMatrix (given (c .before .before .before .before .before .before)) ≡ true
 is c = holds (c .before .is-matrix .ensures) (c .if1 .left)
@@ -65,7 +68,7 @@ is-matrix-requires c κs = tt
 returns : tie.Need-returns
 returns c =
     let a = c .before .before .before .before .before .before .args in
-    refuses-matrix (given (c .before .before .before .before .before .before)) (a .workers) (a .p) (a .order .now) (a .groups .now) (fails (c .before .is-matrix .ensures) (c .if1 .taken))
+    refuses-matrix (given (c .before .before .before .before .before .before)) (a .workers) (a .p) (a .order .now) (a .groups .now) (is-not c)
 
 are-parameters-requires : tie.Need-are-parameters-requires
 are-parameters-requires c κs = tt
