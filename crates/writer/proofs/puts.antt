@@ -1,4 +1,5 @@
 pub mod Digits
+pub mod Widths
 pub mod Spelling
 pub mod Putting
 pub mod Signs

@@ -3,24 +3,29 @@
 use market::HEADER;
 ghost use mathlib.Core.Path.{_≡_};
 ghost use mathlib.Core.List.{[], _∷_};
-ghost use Prim.Native.Nat.{_+_, _≤_};
+ghost use Prim.Native.Nat.{_+_, _^_, _≤_, _<_};
 ghost use lib.IntN.{natAbs};
 ghost use lib.ListN.{length};
+ghost use Rattle.matrix.specs.Limits.{maxRows};
 ghost use Rattle.market.specs.Bytes.{header};
 ghost use Rattle.market.specs.Text.{natural, integer, lineOf};
 ghost use Rattle.writer.specs.Puts.{Put};
 
-// How many digits a number has.
-fn width(v: u32) -> usize
+// How many digits a number of at most `most` digits has: one, and one for each power of ten from 10 on that it has reached.
+fn width(v: u32, most: usize) -> usize
+    requires { ⌜ (1 ≤ most) × (most ≤ 10) × (v < 10 ^ most) ⌝ }
     ensures { λ r. ⌜ r ≡ length (natural v) ⌝ }
 {
-    let mut x = v;
+    let x = v as u64;
+    let mut digits: usize = 1;
+    let mut power: u64 = 10;
     let mut k: usize = 1;
-    while 10 <= x {
-        x = x / 10;
+    while k < most {
+        digits = digits + (power <= x) as usize;
+        power = power * 10;
         k += 1;
     }
-    k
+    digits
 }
 
 // A byte, and the place after it.
@@ -32,12 +37,12 @@ pub fn put_byte(text: &mut [u8], at: usize, b: u8) -> usize
     at + 1
 }
 
-// A number's digits from the last to the first, and the place after them.
-pub fn put_number(text: &mut [u8], at: usize, v: u32) -> usize
-    requires { ⌜ at + length (natural v) ≤ length (now text) ⌝ }
+// A number's digits, of which the count is given, from the last to the first, and the place after them.
+fn put_digits(text: &mut [u8], at: usize, digits: usize, v: u32) -> usize
+    requires { ⌜ (digits ≡ length (natural v)) × (at + digits ≤ length (now text)) ⌝ }
     ensures { λ r. ⌜ Put (natural v) at r (now (text .entry)) (now (text .exit)) ⌝ }
 {
-    let end = at + width(v);
+    let end = at + digits;
     let mut x = v;
     let mut i = end;
     while 10 <= x {
@@ -48,6 +53,14 @@ pub fn put_number(text: &mut [u8], at: usize, v: u32) -> usize
     i = i - 1;
     text[i] = (48 + x) as u8;
     end
+}
+
+// A number, and the place after it.
+pub fn put_number(text: &mut [u8], at: usize, v: u32) -> usize
+    requires { ⌜ at + length (natural v) ≤ length (now text) ⌝ }
+    ensures { λ r. ⌜ Put (natural v) at r (now (text .entry)) (now (text .exit)) ⌝ }
+{
+    put_digits(text, at, width(v, 10), v)
 }
 
 // A value without its sign.
@@ -65,39 +78,36 @@ fn magnitude(v: i32) -> u32
 fn integer_width(v: i32) -> usize
     ensures { λ r. ⌜ r ≡ length (integer v) ⌝ }
 {
-    if v < 0 {
-        return width(magnitude(v)) + 1;
-    }
-    width(magnitude(v))
+    width(magnitude(v), 10) + (v < 0) as usize
 }
 
-// A value, and the place after it.
+// A value, and the place after it. A sign is put first; the digits of a value that has none are put over it.
 fn put_integer(text: &mut [u8], at: usize, v: i32) -> usize
     requires { ⌜ at + length (integer v) ≤ length (now text) ⌝ }
     ensures { λ r. ⌜ Put (integer v) at r (now (text .entry)) (now (text .exit)) ⌝ }
 {
-    if v < 0 {
-        let p = put_byte(text, at, b'-');
-        return put_number(text, p, magnitude(v));
-    }
-    put_number(text, at, magnitude(v))
+    text[at] = b'-';
+    let m = magnitude(v);
+    let first = at + (v < 0) as usize;
+    put_digits(text, first, width(m, 10), m)
 }
 
 // How many bytes a line takes.
 pub(crate) fn line_width(r: u32, c: u32, v: i32) -> usize
+    requires { ⌜ (r ≤ maxRows) × (c ≤ maxRows) ⌝ }
     ensures { λ k. ⌜ k ≡ length (lineOf r c v) ⌝ }
 {
-    width(r) + width(c) + integer_width(v) + 3
+    width(r, 4) + width(c, 4) + integer_width(v) + 3
 }
 
 // A line, and the place after it.
 pub(crate) fn put_line(text: &mut [u8], at: usize, r: u32, c: u32, v: i32) -> usize
-    requires { ⌜ at + length (lineOf r c v) ≤ length (now text) ⌝ }
+    requires { ⌜ (r ≤ maxRows) × (c ≤ maxRows) × (at + length (lineOf r c v) ≤ length (now text)) ⌝ }
     ensures { λ k. ⌜ Put (lineOf r c v) at k (now (text .entry)) (now (text .exit)) ⌝ }
 {
-    let row = put_number(text, at, r);
+    let row = put_digits(text, at, width(r, 4), r);
     let space = put_byte(text, row, b' ');
-    let column = put_number(text, space, c);
+    let column = put_digits(text, space, width(c, 4), c);
     let gap = put_byte(text, column, b' ');
     let value = put_integer(text, gap, v);
     put_byte(text, value, b'\n')

@@ -5,7 +5,7 @@ use Prim.Native.Nat.{ℕ, _+_, _≤_, _<_}
 use native.Mathlib.Numerals.{add-one}
 use native.Mathlib.Omega.{arith}
 use lib.ListN.{length, getD, set, take, drop, length-append, length-set, take-append-drop}
-use lib.Seq.{set-split, take-length, length-take-le, take-at, drop-at, drop-drop}
+use lib.Seq.{set-split, take-length, length-take-le, take-at, drop-at, drop-drop, take-set-le, drop-set-lt}
 use Rattle.writer.specs.Puts.{Put}
 use Rattle.base.proofs.Fill.{copy-one}
 
@@ -27,6 +27,14 @@ put-then {xs} {ys} {at} {p} {q} {old} {mid} {new} h a b =
       long = b .long ∙ a .long;
       text = b .text ∙ rw (front, back, far) (append-assoc (take at old) xs (ys ++ drop (at + length (xs ++ ys)) old) ∙ ap (λ (l : List ℕ). take at old ++ l) (sym (append-assoc xs ys (drop (at + length (xs ++ ys)) old))));
     }
+
+-- xs over a byte
+pub put-over : (b : ℕ) {xs : List ℕ} {at r : ℕ} {old new : List ℕ} → 1 ≤ length xs → Put xs at r (set old at b) new → Put xs at r old new
+put-over b {xs} {at} {r} {old} {new} h a = record {
+  next = a .next;
+  long = a .long ∙ length-set old at b;
+  text = a .text ∙ rw (take-set-le at old at b (omega arith), drop-set-lt (at + length xs) old at b (omega arith));
+}
 
 -- nothing
 pub put-none : (old : List ℕ) (at : ℕ) → Put [] at at old old

@@ -1,17 +1,22 @@
 -- A value and its sign.
-use mathlib.Core.Path.{_≡_, refl, ap, _∙_}
-use mathlib.Core.Bool.{true, false, true≢false}
-use mathlib.Core.List.{_∷_}
+use mathlib.Core.Path.{_≡_, ap, _∙_}
+use mathlib.Core.Bool.{true}
+use mathlib.Core.List.{List}
+use Prim.Native.Nat.{ℕ, _+_, _≤_}
 use native.Mathlib.Omega.{arith}
 use lib.Dec.{T}
 use lib.IntN.{ℤ, pos, negsuc, negℤ, natAbs, _-ℤ_, +ℤ-idl}
+use lib.ListN.{length, set}
 use lib.Signed.{ltZ, nonNeg, natAbs-le}
 use mir.Syntax.{w32, w64}
-use mir.Val.{SFits, Fits}
-use borrow.Author.Tests.{ltb-true}
+use mir.Val.{SFits, Fits, boolByte}
+use borrow.Author.Tests.{ltb-true, le-ltb}
 use Rattle.base.proofs.Integers.{abs-sub, abs-negℤ, fits-abs}
 use Rattle.market.specs.Bytes.{minus}
 use Rattle.market.specs.Text.{natural, integer}
+use Rattle.writer.specs.Puts.{Put}
+use Rattle.market.proofs.Decimal.{decimal-some}
+use Rattle.writer.proofs.puts.Putting.{put-one, put-then, put-over}
 
 -- the magnitude of a value of 32 bits fits them without a sign
 pub abs-fits : (z : ℤ) → SFits w32 z → Fits w32 (natAbs z)
@@ -28,11 +33,14 @@ pub minus-positive : (z : ℤ) → ltZ z (pos 0) ≡ true → T (nonNeg (pos 0 -
 minus-positive (pos n) h = absurd (omega (arith, ltb-true n 0 h))
 minus-positive (negsuc n) h = tt
 
--- as it is written
-pub integer-negative : (z : ℤ) → ltZ z (pos 0) ≡ true → integer z ≡ minus ∷ natural (natAbs z)
-integer-negative (pos n) h = absurd (omega (arith, ltb-true n 0 h))
-integer-negative (negsuc n) h = refl
+-- how many bytes it is written in: the digits, and one for a sign
+pub length-integer : (z : ℤ) → length (integer z) ≡ length (natural (natAbs z)) + boolByte (ltZ z (pos 0))
+length-integer (pos n) = rw (le-ltb n 0 (omega arith)) (omega arith)
+length-integer (negsuc n) = omega arith
 
-pub integer-positive : (z : ℤ) → ltZ z (pos 0) ≡ false → integer z ≡ natural (natAbs z)
-integer-positive (pos n) h = refl
-integer-positive (negsuc n) h = absurd (true≢false h)
+-- the digits put over a sign, or after it
+pub put-value : (z : ℤ) {at r : ℕ} {old new : List ℕ} → at + length (integer z) ≤ length old → Put (natural (natAbs z)) (at + boolByte (ltZ z (pos 0))) r (set old at minus) new → Put (integer z) at r old new
+put-value (pos n) {at} h p =
+    let e : at + 0 ≡ at = omega arith in
+    put-over minus (decimal-some 9 n) (rw (le-ltb n 0 (omega arith), e) at p)
+put-value (negsuc n) {at} {old = old} h p = put-then (omega arith) (put-one old at minus (omega arith)) p

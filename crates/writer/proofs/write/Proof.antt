@@ -11,10 +11,12 @@ use mir.Val.{toZ}
 use mir.ValLaws.{toZ-pos}
 use borrow.Author.Tests.{not-true, not-false}
 use Rattle.matrix.specs.Matrix.{Matrix, isMatrix}
+use Rattle.matrix.specs.Limits.{maxRows}
 use Rattle.matrix.specs.Checks.{matrixOf}
 use Rattle.market.specs.Text.{lineOf, lower, written}
 use Rattle.writer.specs.Puts.{Put}
 use Rattle.base.proofs.Replies.{lent-refused}
+use Rattle.matrix.proofs.Matrix.{matrix-facts}
 use Rattle.market.proofs.Lower.Count.{lower-few}
 use Rattle.market.proofs.Written.{header-length}
 use Rattle.writer.proofs.puts.Digits.{natural-few, integer-few, length-line}
@@ -30,6 +32,10 @@ held s = matrixOf (s .args .n) (s .args .starts .now) (s .args .columns .now) (s
 -- it is one
 is-one : (c : tie.Else1) → isMatrix (held (c .before .before .before .before .before)) ≡ true
 is-one c = sym (c .before .is-matrix .ensures) ∙ not-false (c .before .is-matrix .result) (c .if1 .left)
+
+-- its rows are few
+low : (c : tie.Else1) → c .before .before .before .before .before .args .n ≤ maxRows
+low c = matrix-facts (held (c .before .before .before .before .before)) (is-one c) .few
 
 -- its entries and bytes are few
 few : (c : tie.After-tally-rows) → (c .tally-rows .result .entries ≤ 32768) × (c .tally-rows .result .bytes ≤ 34 * 32768)
@@ -84,7 +90,7 @@ cast-count : tie.Need-cast-count
 cast-count c = let f = few c in record { sfits = omega arith }
 
 line-width-requires : tie.Need-line-width-requires
-line-width-requires c κs = search needs
+line-width-requires c κs = (low (c .before), low (c .before))
 
 add-needed : tie.Need-add-needed
 add-needed c = omega (arith, short c)
@@ -109,7 +115,7 @@ put-line-requires : tie.Need-put-line-requires
 put-line-requires c κs =
     let h = c .before .before .before in
     let w = h .before .before .before in
-    rw (count (w .before)) (omega (arith, h .before .before .if2 .left, width w, h .put-header .ensures .next, h .put-header .ensures .long, header-length))
+    (low (w .before .before), low (w .before .before), rw (count (w .before)) (omega (arith, h .before .before .if2 .left, width w, h .put-header .ensures .next, h .put-header .ensures .long, header-length)))
 
 put-rows-requires : tie.Need-put-rows-requires
 put-rows-requires c κs =

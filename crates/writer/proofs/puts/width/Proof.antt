@@ -1,35 +1,47 @@
--- `width` meets its contract: each turn takes one digit off.
+-- `width` meets its contract: each turn tests one power of ten.
 use borrow.Author.Needs.{needs}
 use mathlib.Core.Path.{_≡_}
-use Prim.Native.Nat.{_+_, _<_}
+use Prim.Native.Nat.{_-_, _≤_}
+use native.Mathlib.Nat.{pow-le-pow-right}
 use native.Mathlib.Omega.{arith}
-use lib.ListN.{length}
-use Rattle.market.specs.Text.{natural}
-use Rattle.market.proofs.Decimal.{decimal-length}
-use Rattle.writer.proofs.puts.Digits.{length-digit, length-digits}
+use Rattle.writer.proofs.puts.Widths.{Reached, reached-start, reached-more}
 use Rattle.writer.proofs.puts.width.Statement.{statement}
 use Rattle.writer.proofs.puts.width.Tie as tie
 
 abbrev Inv-loop : tie.InvT-loop
-Inv-loop v x₀ k₀ x k = (x < 10000000000) × (v < 10000000000) × (k + length (natural x) ≡ length (natural v) + 1)
+Inv-loop v most x digits₀ power₀ k₀ digits power k = Reached v k power digits × (k ≤ most)
 
 abbrev μ-loop : tie.MeasureT-loop
-μ-loop v x₀ k₀ x k = x
+μ-loop v most x digits₀ power₀ k₀ digits power k = most - k
 
 loop-holds : tie.Need-loop-holds Inv-loop μ-loop
-loop-holds c = (search needs, search needs, omega arith)
+loop-holds c = (reached-start (c .args .v) (search needs), c .pre .0)
+
+cast-digits : tie.Need-cast-digits Inv-loop μ-loop
+cast-digits c = search needs
+
+add-digits : tie.Need-add-digits Inv-loop μ-loop
+add-digits c = let g = reached-more (c .before .loop .inv .0) in omega arith
+
+mul-power : tie.Need-mul-power Inv-loop μ-loop
+mul-power c = let g = c .before .loop .inv .0 in let l : c .before .loop .k ≤ 9 = omega arith in omega (arith, pow-le-pow-right {n = 10} (omega arith) l)
 
 add-k : tie.Need-add-k Inv-loop μ-loop
-add-k c = let i = c .before .loop .inv in omega (arith, decimal-length 10 10 (c .before .before .args .v) (omega arith) (i .1))
+add-k c = search needs
 
 loop-less : tie.Need-loop-less Inv-loop μ-loop
 loop-less c = search needs
 
 loop-again : tie.Need-loop-again Inv-loop μ-loop
-loop-again c = let i = c .before .loop .inv in (omega arith, i .1, omega (arith, length-digits (c .before .loop .x) (c .loop-test .taken) (i .0)))
+loop-again c = (reached-more (c .before .loop .inv .0), omega arith)
 
 returns : tie.Need-returns Inv-loop μ-loop
-returns c = let i = c .before .loop .inv in omega (arith, length-digit (c .before .loop .x) (c .loop-test .left))
+returns c =
+    let g = c .before .loop .inv in
+    let e : c .before .loop .k ≡ c .before .before .args .most = omega arith in
+    g .0 .done (rw (g .0 .is, e) (c .before .before .pre .2))
 
 pub width-spec : {M : Type 1} → statement M
-width-spec = tie.close (tie.spec Inv-loop μ-loop loop-holds add-k loop-less loop-again returns)
+width-spec =
+    tie.close
+    (tie.spec Inv-loop μ-loop loop-holds cast-digits add-digits mul-power add-k loop-less loop-again returns)
