@@ -1,82 +1,164 @@
 //! The verified library, called as C calls it (include/mazhoketh.h).
+//!
+//! Each function here is linked only where it is used, so that a test needs no more of the library than it tests.
 
-/// A list lent for reading: a pointer and a length in bytes.
-macro_rules! lent {
-    ($list:expr) => {
-        ($list.as_ptr(), $list.len())
-    };
-}
+use crate::lists::{MatrixLists, PlanLists, RunLists};
 
+/// A list lent for reading, and one lent for writing; its length in bytes follows.
+type In = *const u8;
+type Out = *mut u8;
+
+#[rustfmt::skip]
 #[link(name = "mazhoketh", kind = "static")]
 extern "C" {
+    fn mzk_read(
+        text: In, text_bytes: usize,
+        row_starts: Out, row_starts_bytes: usize, columns: Out, columns_bytes: usize, values: Out, values_bytes: usize,
+    ) -> u64;
+    fn mzk_write(
+        n: u32,
+        row_starts: In, row_starts_bytes: usize, columns: In, columns_bytes: usize, values: In, values_bytes: usize,
+        text: Out, text_bytes: usize,
+    ) -> u64;
     fn mzk_product(
         n: u32,
-        row_starts: *const u8,
-        row_starts_bytes: usize,
-        columns: *const u8,
-        columns_bytes: usize,
-        values: *const u8,
-        values_bytes: usize,
-        movements: *const u8,
-        movements_bytes: usize,
-        forces: *mut u8,
-        forces_bytes: usize,
+        row_starts: In, row_starts_bytes: usize, columns: In, columns_bytes: usize, values: In, values_bytes: usize,
+        movements: In, movements_bytes: usize, forces: Out, forces_bytes: usize,
+    ) -> u64;
+    fn mzk_plan(
+        n: u32,
+        row_starts: In, row_starts_bytes: usize, columns: In, columns_bytes: usize, values: In, values_bytes: usize,
+        workers: u32, p: u32, order: Out, order_bytes: usize, groups: Out, groups_bytes: usize,
     ) -> u64;
     fn mzk_check(
         n: u32,
-        row_starts: *const u8,
-        row_starts_bytes: usize,
-        columns: *const u8,
-        columns_bytes: usize,
-        values: *const u8,
-        values_bytes: usize,
-        order: *const u8,
-        order_bytes: usize,
-        groups: *const u8,
-        groups_bytes: usize,
-        group_count: u32,
+        row_starts: In, row_starts_bytes: usize, columns: In, columns_bytes: usize, values: In, values_bytes: usize,
+        order: In, order_bytes: usize, groups: In, groups_bytes: usize, group_count: u32,
+    ) -> u64;
+    fn mzk_picks(
+        n: u32,
+        row_starts: In, row_starts_bytes: usize, columns: In, columns_bytes: usize, values: In, values_bytes: usize,
+        movements: In, movements_bytes: usize,
+        order: In, order_bytes: usize, groups: In, groups_bytes: usize, group_count: u32,
+        state: Out, state_bytes: usize, sums: Out, sums_bytes: usize, picks: In, picks_bytes: usize,
+    ) -> u64;
+    fn mzk_ready(
+        n: u32,
+        row_starts: In, row_starts_bytes: usize, columns: In, columns_bytes: usize, values: In, values_bytes: usize,
+        movements: In, movements_bytes: usize,
+        order: In, order_bytes: usize, groups: In, groups_bytes: usize, group_count: u32,
+        state: In, state_bytes: usize, sums: In, sums_bytes: usize,
+    ) -> u64;
+    fn mzk_forces(
+        n: u32,
+        row_starts: In, row_starts_bytes: usize, columns: In, columns_bytes: usize, values: In, values_bytes: usize,
+        movements: In, movements_bytes: usize,
+        order: In, order_bytes: usize, groups: In, groups_bytes: usize, group_count: u32,
+        state: In, state_bytes: usize, sums: In, sums_bytes: usize, forces: Out, forces_bytes: usize,
     ) -> u64;
 }
 
-/// The product of a matrix and movements on one core.
-pub fn product(
-    n: u32,
-    row_starts: &[u8],
-    columns: &[u8],
-    values: &[u8],
-    movements: &[u8],
-    forces: &mut [u8],
-) -> u64 {
-    let ((s, sn), (c, cn), (v, vn)) = (lent!(row_starts), lent!(columns), lent!(values));
-    let (x, xn) = lent!(movements);
+/// A matrix text into row starts, columns and values; counts n.
+#[rustfmt::skip]
+pub fn read(text: &[u8], row_starts: &mut [u8], columns: &mut [u8], values: &mut [u8]) -> u64 {
     unsafe {
-        mzk_product(
-            n,
-            s,
-            sn,
-            c,
-            cn,
-            v,
-            vn,
-            x,
-            xn,
-            forces.as_mut_ptr(),
-            forces.len(),
+        mzk_read(
+            text.as_ptr(), text.len(),
+            row_starts.as_mut_ptr(), row_starts.len(), columns.as_mut_ptr(), columns.len(), values.as_mut_ptr(), values.len(),
         )
     }
 }
 
-/// Whether a plan is sound for a matrix.
-pub fn check(
-    n: u32,
-    row_starts: &[u8],
-    columns: &[u8],
-    values: &[u8],
-    order: &[u8],
-    groups: &[u8],
-    group_count: u32,
-) -> u64 {
-    let ((s, sn), (c, cn), (v, vn)) = (lent!(row_starts), lent!(columns), lent!(values));
-    let ((o, on), (g, gn)) = (lent!(order), lent!(groups));
-    unsafe { mzk_check(n, s, sn, c, cn, v, vn, o, on, g, gn, group_count) }
+/// The text of a matrix; counts the bytes written.
+#[rustfmt::skip]
+pub fn write(matrix: MatrixLists, text: &mut [u8]) -> u64 {
+    let MatrixLists { n, row_starts, columns, values } = matrix;
+    unsafe {
+        mzk_write(
+            n, row_starts.as_ptr(), row_starts.len(), columns.as_ptr(), columns.len(), values.as_ptr(), values.len(),
+            text.as_mut_ptr(), text.len(),
+        )
+    }
+}
+
+/// The product of a matrix and movements on one core.
+#[rustfmt::skip]
+pub fn product(matrix: MatrixLists, movements: &[u8], forces: &mut [u8]) -> u64 {
+    let MatrixLists { n, row_starts, columns, values } = matrix;
+    unsafe {
+        mzk_product(
+            n, row_starts.as_ptr(), row_starts.len(), columns.as_ptr(), columns.len(), values.as_ptr(), values.len(),
+            movements.as_ptr(), movements.len(), forces.as_mut_ptr(), forces.len(),
+        )
+    }
+}
+
+/// The plan of a matrix; counts its groups.
+#[rustfmt::skip]
+pub fn plan(matrix: MatrixLists, workers: u32, p: u32, order: &mut [u8], groups: &mut [u8]) -> u64 {
+    let MatrixLists { n, row_starts, columns, values } = matrix;
+    unsafe {
+        mzk_plan(
+            n, row_starts.as_ptr(), row_starts.len(), columns.as_ptr(), columns.len(), values.as_ptr(), values.len(),
+            workers, p, order.as_mut_ptr(), order.len(), groups.as_mut_ptr(), groups.len(),
+        )
+    }
+}
+
+/// The check of a plan.
+#[rustfmt::skip]
+pub fn check(matrix: MatrixLists, plan: PlanLists) -> u64 {
+    let MatrixLists { n, row_starts, columns, values } = matrix;
+    let PlanLists { order, groups, group_count } = plan;
+    unsafe {
+        mzk_check(
+            n, row_starts.as_ptr(), row_starts.len(), columns.as_ptr(), columns.len(), values.as_ptr(), values.len(),
+            order.as_ptr(), order.len(), groups.as_ptr(), groups.len(), group_count,
+        )
+    }
+}
+
+/// Picks of a run; counts those taken.
+#[rustfmt::skip]
+pub fn picks(run: RunLists, state: &mut [u8], sums: &mut [u8], picks: &[u8]) -> u64 {
+    let RunLists { matrix: MatrixLists { n, row_starts, columns, values }, movements, plan } = run;
+    let PlanLists { order, groups, group_count } = plan;
+    unsafe {
+        mzk_picks(
+            n, row_starts.as_ptr(), row_starts.len(), columns.as_ptr(), columns.len(), values.as_ptr(), values.len(),
+            movements.as_ptr(), movements.len(),
+            order.as_ptr(), order.len(), groups.as_ptr(), groups.len(), group_count,
+            state.as_mut_ptr(), state.len(), sums.as_mut_ptr(), sums.len(), picks.as_ptr(), picks.len(),
+        )
+    }
+}
+
+/// The ready set of a run: sixteen bits, plus the count × 65,536.
+#[rustfmt::skip]
+pub fn ready(run: RunLists, state: &[u8], sums: &[u8]) -> u64 {
+    let RunLists { matrix: MatrixLists { n, row_starts, columns, values }, movements, plan } = run;
+    let PlanLists { order, groups, group_count } = plan;
+    unsafe {
+        mzk_ready(
+            n, row_starts.as_ptr(), row_starts.len(), columns.as_ptr(), columns.len(), values.as_ptr(), values.len(),
+            movements.as_ptr(), movements.len(),
+            order.as_ptr(), order.len(), groups.as_ptr(), groups.len(), group_count,
+            state.as_ptr(), state.len(), sums.as_ptr(), sums.len(),
+        )
+    }
+}
+
+/// The force list of a finished run.
+#[rustfmt::skip]
+pub fn forces(run: RunLists, state: &[u8], sums: &[u8], forces: &mut [u8]) -> u64 {
+    let RunLists { matrix: MatrixLists { n, row_starts, columns, values }, movements, plan } = run;
+    let PlanLists { order, groups, group_count } = plan;
+    unsafe {
+        mzk_forces(
+            n, row_starts.as_ptr(), row_starts.len(), columns.as_ptr(), columns.len(), values.as_ptr(), values.len(),
+            movements.as_ptr(), movements.len(),
+            order.as_ptr(), order.len(), groups.as_ptr(), groups.len(), group_count,
+            state.as_ptr(), state.len(), sums.as_ptr(), sums.len(), forces.as_mut_ptr(), forces.len(),
+        )
+    }
 }

@@ -1,15 +1,11 @@
 //! The calls on byte lists against the functions on numbers, on good and damaged lists of every length.
 
+use mazhoketh_tests::lists::{bytes, MatrixLists, PlanLists, RunLists};
 use mazhoketh_tests::oracle::machine::{self, Lent, State};
 use mazhoketh_tests::oracle::matrix::{Matrix, Rows};
 use mazhoketh_tests::oracle::planner::Plan;
 use mazhoketh_tests::oracle::prng::Prng;
 use mazhoketh_tests::oracle::{calls, damage, nets, planner, plans, soundness, text, Refusal};
-
-/// A way to turn a number into bytes.
-fn bytes<T: Copy, const W: usize>(list: &[T], word: fn(T) -> [u8; W]) -> Vec<u8> {
-    list.iter().flat_map(|&number| word(number)).collect()
-}
 
 /// The answer word.
 fn word(answer: Result<u32, Refusal>) -> u64 {
@@ -36,6 +32,7 @@ impl Case {
     fn new(rng: &mut Prng) -> Case {
         let matrix = nets::random_net(rng, 16);
         let plan: Plan = plans::random_plan(rng, &matrix);
+        let any: Vec<u8> = (0..=plan.groups[0][3] as u8).collect();
         let mut case = Case {
             movements: nets::random_movements(rng, matrix.n),
             order: plan.order.clone(),
@@ -43,7 +40,7 @@ impl Case {
             group_count: plan.group_count(),
             state: State::fresh(),
             sums: vec![0; matrix.n as usize],
-            picks: plans::random_picks(rng, plan.groups[0][3] as usize, 40),
+            picks: plans::random_picks(rng, &any, 40),
             matrix,
         };
         case.damage(rng);
@@ -141,31 +138,32 @@ impl Bytes {
         }
     }
 
-    /// The ready-set call with a state.
-    #[rustfmt::skip]
-    fn ready(&self, state: &[u8]) -> u64 {
-        calls::ready(
-            self.n, &self.starts, &self.columns, &self.values, &self.movements, &self.order, &self.groups, self.count,
-            state, &self.sums,
-        )
+    /// The lists of the matrix.
+    fn matrix(&self) -> MatrixLists<'_> {
+        MatrixLists {
+            n: self.n,
+            row_starts: &self.starts,
+            columns: &self.columns,
+            values: &self.values,
+        }
     }
 
-    /// The force-list call.
-    #[rustfmt::skip]
-    fn forces(&self, forces: &mut [u8]) -> u64 {
-        calls::forces(
-            self.n, &self.starts, &self.columns, &self.values, &self.movements, &self.order, &self.groups, self.count,
-            &self.state, &self.sums, forces,
-        )
+    /// The lists of the plan.
+    fn plan(&self) -> PlanLists<'_> {
+        PlanLists {
+            order: &self.order,
+            groups: &self.groups,
+            group_count: self.count,
+        }
     }
 
-    /// The call of picks.
-    #[rustfmt::skip]
-    fn picks(&mut self, picks: &[u8]) -> u64 {
-        calls::picks(
-            self.n, &self.starts, &self.columns, &self.values, &self.movements, &self.order, &self.groups, self.count,
-            &mut self.state, &mut self.sums, picks,
-        )
+    /// The lists of the run.
+    fn run(&self) -> RunLists<'_> {
+        RunLists {
+            matrix: self.matrix(),
+            movements: &self.movements,
+            plan: self.plan(),
+        }
     }
 }
 
@@ -189,7 +187,9 @@ fn run_calls() {
         let mut case = Case::new(&mut rng);
         let mut b = Bytes::new(&mut rng, &case);
         let before = (b.state.clone(), b.sums.clone());
-        let answer = b.picks(&case.picks);
+        let (mut list, mut sums) = before.clone();
+        let answer = calls::picks(b.run(), &mut list, &mut sums, &case.picks);
+        (b.state, b.sums) = (list, sums);
         let (mut state, mut sums) = (case.state.clone(), case.sums.clone());
         let picked = machine::picks(&case.lent(), &mut state, &mut sums, &case.picks);
         (case.state, case.sums) = (state, sums);
@@ -208,19 +208,19 @@ fn run_calls() {
 
 /// Compares the two calls that change no state.
 fn ready_and_forces(rng: &mut Prng, case: &Case, b: &Bytes) {
-    let ready = b.ready(&b.state);
+    let ready = calls::ready(b.run(), &b.state, &b.sums);
     let told = machine::ready(&case.lent(), &case.state, &case.sums);
     let told = told.map(|ready| u32::from(ready.set) + 65_536 * ready.count);
     assert_eq!(ready, word(told));
     let length = (case.order.len() + rng.below(3)).saturating_sub(1);
     let mut list = vec![0xcc; 8 * length + rng.below(8)];
     let kept = list.clone();
-    let answer = b.forces(&mut list);
+    let answer = calls::forces(b.run(), &b.state, &b.sums, &mut list);
     let mut forces = vec![0xcccc_cccc_cccc_ccccu64 as i64; length];
     let told = machine::forces(&case.lent(), &case.state, &case.sums, &mut forces);
     assert_eq!(answer, word(told.map(|()| 0)));
     assert_eq!(list, over(bytes(&forces, i64::to_le_bytes), &kept));
-    let short = b.ready(&b.state[1..]);
+    let short = calls::ready(b.run(), &b.state[1..], &b.sums);
     assert_eq!(
         short,
         word(Err(case.lent().judge().err().unwrap_or(Refusal::at(11, 0))))
@@ -233,22 +233,13 @@ fn matrix_calls() {
     for _ in 0..20_000 {
         let case = Case::new(&mut rng);
         let b = Bytes::new(&mut rng, &case);
-        let check = calls::check(
-            b.n, &b.starts, &b.columns, &b.values, &b.order, &b.groups, b.count,
-        );
+        let check = calls::check(b.matrix(), b.plan());
         let sound = |rows| soundness::check(rows, &case.order, &case.groups, case.group_count);
         assert_eq!(check, word(case.rows().and_then(sound).map(|_| 0)));
         let length = rng.below(20);
         let mut list = vec![0xcc; 8 * length + rng.below(8)];
         let kept = list.clone();
-        let answer = calls::product(
-            b.n,
-            &b.starts,
-            &b.columns,
-            &b.values,
-            &b.movements,
-            &mut list,
-        );
+        let answer = calls::product(b.matrix(), &b.movements, &mut list);
         let mut forces = vec![0xcccc_cccc_cccc_ccccu64 as i64; length];
         let told = case
             .rows()
@@ -263,7 +254,7 @@ fn matrix_calls() {
 fn write_and_plan(rng: &mut Prng, case: &Case, b: &Bytes) {
     let length = rng.below(600);
     let (mut list, mut told) = (vec![0xcc; length], vec![0xcc; length]);
-    let answer = calls::write(b.n, &b.starts, &b.columns, &b.values, &mut list);
+    let answer = calls::write(b.matrix(), &mut list);
     let expected = case
         .rows()
         .and_then(|rows| text::write_into(rows, &mut told));
@@ -273,16 +264,7 @@ fn write_and_plan(rng: &mut Prng, case: &Case, b: &Bytes) {
     let mut order = vec![0xcc; 4 * order_length + rng.below(4)];
     let mut groups = vec![0xcc; 4 * groups_length + rng.below(4)];
     let kept = (order.clone(), groups.clone());
-    let answer = calls::plan(
-        b.n,
-        &b.starts,
-        &b.columns,
-        &b.values,
-        workers,
-        p,
-        &mut order,
-        &mut groups,
-    );
+    let answer = calls::plan(b.matrix(), workers, p, &mut order, &mut groups);
     let mut numbers = (
         vec![0xcccc_cccc; order_length],
         vec![0xcccc_cccc; groups_length],

@@ -1,7 +1,6 @@
 //! Whole runs on random nets and on the matrix files: plans are sound, and machine, book and product agree.
 
-use std::path::PathBuf;
-
+use mazhoketh_tests::files;
 use mazhoketh_tests::oracle::book::Book;
 use mazhoketh_tests::oracle::machine::{self, Lent, State};
 use mazhoketh_tests::oracle::matrix::{Matrix, Rows};
@@ -116,14 +115,11 @@ impl Run {
     }
 }
 
-/// Picks of ready workers, of any workers, or of one worker again and again.
+/// Picks of ready workers, or of any workers and one that is none.
 fn some_picks(rng: &mut Prng, ready: &[u8], workers: usize, most: usize) -> Vec<u8> {
-    let count = 1 + rng.below(most);
-    match rng.below(4) {
-        0 => plans::random_picks(rng, workers, most),
-        1 => vec![rng.one_of(ready); count],
-        _ => (0..count).map(|_| rng.one_of(ready)).collect(),
-    }
+    let any: Vec<u8> = (0..=workers as u8).collect();
+    let among = if rng.chance(20) { &any } else { ready };
+    plans::random_picks(rng, among, most)
 }
 
 /// The planner's plan, which must be sound.
@@ -247,25 +243,11 @@ fn large_nets() {
     }
 }
 
-/// The matrix files: all of the folder MATRICES, else of ../data.
-fn matrix_files() -> Vec<PathBuf> {
-    let folder = std::env::var("MATRICES").unwrap_or("../data".into());
-    let listing = std::fs::read_dir(&folder);
-    let listing = listing.unwrap_or_else(|error| panic!("folder of matrices {folder}: {error}"));
-    let path = |entry: std::io::Result<std::fs::DirEntry>| entry.expect("a file's name").path();
-    let is_matrix = |path: &PathBuf| path.extension().is_some_and(|end| end == "mtx");
-    let mut files: Vec<PathBuf> = listing.map(path).filter(is_matrix).collect();
-    files.sort();
-    assert!(!files.is_empty(), "no .mtx file in {folder}");
-    files
-}
-
 #[test]
 fn matrix_files_run() {
     let mut rng = Prng::new(5);
-    for file in matrix_files() {
-        let text = std::fs::read(&file).expect("the file is read");
-        let matrix = text::read(&text).unwrap_or_else(|refusal| panic!("{file:?}: {refusal:?}"));
+    for file in files::matrix_files() {
+        let (_, matrix) = files::read(&file);
         write_and_read(&matrix);
         for workers in [1, 2, 5, 16] {
             planned(&matrix, workers, 60);

@@ -584,7 +584,8 @@ fn made_up_runs_agree() {
         };
         let (mut state, mut sums) = made_up(&mut rng, &run, matrix.n as usize);
         for _ in 0..6 {
-            let picks = plans::random_picks(&mut rng, run.moves.len(), 12);
+            let any: Vec<u8> = (0..=run.moves.len() as u8).collect();
+            let picks = plans::random_picks(&mut rng, &any, 12);
             let (mut slow_state, mut slow_sums) = (state.clone(), sums.clone());
             let stopped = run.picks(&mut slow_state, &mut slow_sums, &picks);
             let picked = machine::picks(&lent, &mut state, &mut sums, &picks);

@@ -1,5 +1,6 @@
 //! The samples of document 01 and the examples of its readings.
 
+use mazhoketh_tests::lists::{bytes, MatrixLists, PlanLists, RunLists};
 use mazhoketh_tests::oracle::book::Book;
 use mazhoketh_tests::oracle::machine::{self, Lent, Picked, State};
 use mazhoketh_tests::oracle::matrix::{judge_movements, Matrix, Rows};
@@ -586,14 +587,6 @@ fn netplan_refuses() {
     assert_eq!(netplan(&short), "refused 2 3\n");
 }
 
-/// Little-endian bytes of numbers.
-fn bytes(numbers: &[u32]) -> Vec<u8> {
-    numbers
-        .iter()
-        .flat_map(|number| number.to_le_bytes())
-        .collect()
-}
-
 #[test]
 fn words_of_read_and_write() {
     let text = text::write(&nets::chain(8));
@@ -606,7 +599,13 @@ fn words_of_read_and_write() {
         8
     );
     let mut written = vec![0; text.len() + 1];
-    let word = calls::write(8, &starts, &columns, &values, &mut written);
+    let matrix = MatrixLists {
+        n: 8,
+        row_starts: &starts,
+        columns: &columns,
+        values: &values,
+    };
+    let word = calls::write(matrix, &mut written);
     assert_eq!(word, text.len() as u64);
     assert_eq!(written[..text.len()], text);
 }
@@ -625,57 +624,83 @@ impl ChainBytes {
     /// The bytes of the lists.
     fn new() -> ChainBytes {
         let lists = Lists::new(nets::chain(8), 1, 2, 60);
-        let values = lists.matrix.values.iter();
         ChainBytes {
-            starts: bytes(&lists.matrix.starts),
-            columns: bytes(&lists.matrix.columns),
-            values: values.flat_map(|value| value.to_le_bytes()).collect(),
-            ones: bytes(&[1; 8]),
-            order: bytes(&lists.plan.order),
-            groups: bytes(&lists.groups),
+            starts: bytes(&lists.matrix.starts, u32::to_le_bytes),
+            columns: bytes(&lists.matrix.columns, u32::to_le_bytes),
+            values: bytes(&lists.matrix.values, i32::to_le_bytes),
+            ones: bytes(&lists.movements, i32::to_le_bytes),
+            order: bytes(&lists.plan.order, u32::to_le_bytes),
+            groups: bytes(&lists.groups, u32::to_le_bytes),
         }
     }
 
-    /// The call of picks.
-    #[rustfmt::skip]
-    fn picks(&self, state: &mut [u8], sums: &mut [u8], picks: &[u8]) -> u64 {
-        calls::picks(
-            8, &self.starts, &self.columns, &self.values, &self.ones, &self.order, &self.groups, 5, state, sums, picks,
-        )
+    /// The lists of the matrix.
+    fn matrix(&self) -> MatrixLists<'_> {
+        MatrixLists {
+            n: 8,
+            row_starts: &self.starts,
+            columns: &self.columns,
+            values: &self.values,
+        }
+    }
+
+    /// The lists of the plan, said to have so many groups.
+    fn plan(&self, group_count: u32) -> PlanLists<'_> {
+        PlanLists {
+            order: &self.order,
+            groups: &self.groups,
+            group_count,
+        }
+    }
+
+    /// The lists of a run.
+    fn run(&self) -> RunLists<'_> {
+        RunLists {
+            matrix: self.matrix(),
+            movements: &self.ones,
+            plan: self.plan(5),
+        }
     }
 }
 
 #[test]
-#[rustfmt::skip]
 fn words_of_plan_and_check() {
-    let ChainBytes { starts, columns, values, .. } = ChainBytes::new();
+    let chain = ChainBytes::new();
     let (mut order, mut groups) = (vec![0; 32], vec![1; 4 * 30 + 3]);
-    let word = calls::plan(8, &starts, &columns, &values, 2, 60, &mut order, &mut groups[..119]);
+    let word = calls::plan(chain.matrix(), 2, 60, &mut order, &mut groups[..119]);
     assert_eq!(word, 9 << 32 | 5);
-    let word = calls::plan(8, &starts, &columns, &values, 2, 60, &mut order, &mut groups);
+    let word = calls::plan(chain.matrix(), 2, 60, &mut order, &mut groups);
     assert_eq!(word, 5);
-    assert_eq!(groups[..120], bytes(CHAIN_GROUPS.as_flattened()));
+    assert_eq!((&order, &groups[..120]), (&chain.order, &chain.groups[..]));
     assert_eq!(groups[120..], [1; 3]);
-    assert_eq!(calls::check(8, &starts, &columns, &values, &order, &groups, 5), 0);
-    assert_eq!(calls::check(8, &starts, &columns, &values, &order, &groups, 6), 8 << 32);
+    assert_eq!(
+        chain.groups,
+        bytes(CHAIN_GROUPS.as_flattened(), u32::to_le_bytes)
+    );
+    assert_eq!(calls::check(chain.matrix(), chain.plan(5)), 0);
+    assert_eq!(calls::check(chain.matrix(), chain.plan(6)), 8 << 32);
 }
 
 #[test]
-#[rustfmt::skip]
 fn words_of_a_run() {
-    let b = ChainBytes::new();
+    let chain = ChainBytes::new();
+    let run = chain.run();
     let (mut state, mut sums) = (vec![0; calls::STATE_BYTES], vec![0; 64]);
-    assert_eq!(b.picks(&mut state[..191], &mut sums, &[0]), 11 << 32);
-    assert_eq!(b.picks(&mut state, &mut sums, &[0; 13]), 13 << 32 | 12);
-    assert_eq!(b.picks(&mut state, &mut sums, &[1; 21]), 12 << 32 | 20);
-    assert_eq!(b.picks(&mut state, &mut sums, &[0; 11]), 11);
-    let ready = calls::ready(
-        8, &b.starts, &b.columns, &b.values, &b.ones, &b.order, &b.groups, 5, &state, &sums,
+    assert_eq!(
+        calls::picks(run, &mut state[..191], &mut sums, &[0]),
+        11 << 32
     );
-    assert_eq!(ready, 1 << 16 | 1);
+    assert_eq!(
+        calls::picks(run, &mut state, &mut sums, &[0; 13]),
+        13 << 32 | 12
+    );
+    assert_eq!(
+        calls::picks(run, &mut state, &mut sums, &[1; 21]),
+        12 << 32 | 20
+    );
+    assert_eq!(calls::picks(run, &mut state, &mut sums, &[0; 11]), 11);
+    assert_eq!(calls::ready(run, &state, &sums), 1 << 16 | 1);
     let mut forces = vec![9; 64];
-    let word = calls::forces(
-        8, &b.starts, &b.columns, &b.values, &b.ones, &b.order, &b.groups, 5, &state, &sums, &mut forces,
-    );
+    let word = calls::forces(run, &state, &sums, &mut forces);
     assert_eq!((word, &forces), (15 << 32, &vec![9; 64]));
 }

@@ -1,105 +1,138 @@
-//! Benchmarks: the verified library beside the other implementation, in one run.
+//! Benchmarks: the verified library beside the other implementation, in one run, as a Markdown table.
 //!
-//! A line for each call and net: the least time of many rounds of each, their ratio, and how ours grows from the net of half the size.
+//! A line for each net and call: the least time of many rounds of each, their ratio, and how the library's time grows
+//! from the net of half the size.
 
 use std::hint::black_box;
-use std::time::Instant;
+use std::thread;
+use std::time::{Duration, Instant};
 
-use mazhoketh_tests::guarded::on_large_stack;
-use mazhoketh_tests::library;
+use mazhoketh_tests::guarded::STACK;
+use mazhoketh_tests::lists::{bytes, MatrixLists, PlanLists};
 use mazhoketh_tests::oracle::matrix::Matrix;
 use mazhoketh_tests::oracle::nets::{self, Roof};
 use mazhoketh_tests::oracle::prng::Prng;
-use mazhoketh_tests::oracle::{calls, planner, text};
+use mazhoketh_tests::oracle::{calls, planner};
+use mazhoketh_tests::{files, library};
 
-/// The rounds that each call is timed in.
-const ROUNDS: usize = 300;
+/// A call is timed at least so long, and in so many rounds.
+const TIME: Duration = Duration::from_millis(500);
+const ROUNDS: usize = 5;
 
-/// The least time of a call, in µs.
-fn least(mut call: impl FnMut() -> u64) -> f64 {
-    let time = |_| {
-        let start = Instant::now();
-        black_box(call());
-        start.elapsed().as_secs_f64()
-    };
-    (0..ROUNDS).map(time).fold(f64::MAX, f64::min) * 1e6
-}
-
-/// Little-endian bytes of numbers.
-fn bytes<T: Copy, const W: usize>(list: &[T], word: fn(T) -> [u8; W]) -> Vec<u8> {
-    list.iter().flat_map(|&number| word(number)).collect()
-}
-
-/// The lists of a matrix and of its plan for 16 workers, as bytes.
-struct Lists {
+/// What calls read: the lists of a net, and of its plan for 16 workers.
+struct Given {
     n: u32,
-    starts: Vec<u8>,
+    row_starts: Vec<u8>,
     columns: Vec<u8>,
     values: Vec<u8>,
     movements: Vec<u8>,
-    forces: Vec<u8>,
     order: Vec<u8>,
     groups: Vec<u8>,
-    count: u32,
+    group_count: u32,
 }
 
-impl Lists {
-    /// The bytes of a matrix.
-    fn new(matrix: &Matrix) -> Lists {
-        let n = matrix.n as usize;
+impl Given {
+    /// The lists of a net.
+    fn new(matrix: &Matrix) -> Given {
         let plan = planner::plan(matrix.rows(), 16, 60);
-        Lists {
+        let movements = vec![-999_999; matrix.n as usize];
+        Given {
             n: matrix.n,
-            starts: bytes(&matrix.starts, u32::to_le_bytes),
+            row_starts: bytes(&matrix.starts, u32::to_le_bytes),
             columns: bytes(&matrix.columns, u32::to_le_bytes),
             values: bytes(&matrix.values, i32::to_le_bytes),
-            movements: bytes(&vec![-999_999; n], i32::to_le_bytes),
-            forces: vec![0; 8 * n],
+            movements: bytes(&movements, i32::to_le_bytes),
             order: bytes(&plan.order, u32::to_le_bytes),
             groups: bytes(&plan.flat(), u32::to_le_bytes),
-            count: plan.group_count(),
+            group_count: plan.group_count(),
         }
     }
 
-    /// The times of a call, ours and theirs; both must give the same word.
-    fn times(&mut self, call: &str) -> [f64; 2] {
-        assert_eq!(self.call(call, true), self.call(call, false), "{call}");
-        [true, false].map(|ours| least(|| self.call(call, ours)))
+    /// The lists of the matrix.
+    fn matrix(&self) -> MatrixLists<'_> {
+        MatrixLists {
+            n: self.n,
+            row_starts: &self.row_starts,
+            columns: &self.columns,
+            values: &self.values,
+        }
     }
 
-    /// A call, of the library or of the other implementation; the answer word.
-    #[rustfmt::skip]
-    fn call(&mut self, call: &str, ours: bool) -> u64 {
-        let Lists { n, starts, columns, values, movements, forces, order, groups, count } = self;
-        match (call, ours) {
-            ("product", true) => library::product(*n, starts, columns, values, movements, forces),
-            ("product", false) => calls::product(*n, starts, columns, values, movements, forces),
-            ("check", true) => library::check(*n, starts, columns, values, order, groups, *count),
-            ("check", false) => calls::check(*n, starts, columns, values, order, groups, *count),
-            _ => panic!("no call {call}"),
+    /// The lists of the plan.
+    fn plan(&self) -> PlanLists<'_> {
+        PlanLists {
+            order: &self.order,
+            groups: &self.groups,
+            group_count: self.group_count,
         }
     }
 }
 
-/// The calls that are timed.
-const CALLS: [&str; 2] = ["product", "check"];
+/// A list that a call writes.
+type Out<'a> = &'a mut [u8];
 
-/// Times every call on a net and on one of half its size.
-fn bench(name: &str, net: &Matrix, half: Option<&Matrix>) {
-    let mut lists = Lists::new(net);
-    let mut halves = half.map(Lists::new);
-    for call in CALLS {
-        let [ours, theirs] = lists.times(call);
-        let growth = halves
-            .as_mut()
-            .map(|lists| ours / least(|| lists.call(call, true)));
-        let growth = growth.map_or("".into(), |g| format!("{g:.2}"));
+/// The calls of an implementation.
+struct Implementation {
+    product: fn(MatrixLists, &[u8], Out) -> u64,
+    check: fn(MatrixLists, PlanLists) -> u64,
+}
+
+const LIBRARY: Implementation = Implementation {
+    product: library::product,
+    check: library::check,
+};
+
+const RUST: Implementation = Implementation {
+    product: calls::product,
+    check: calls::check,
+};
+
+/// A call that is timed.
+type Work = fn(&Implementation, &Given, Out) -> u64;
+
+/// All that is timed, by name.
+#[rustfmt::skip]
+const WORKS: [(&str, Work); 2] = [
+    ("product", |by, given, forces| (by.product)(given.matrix(), &given.movements, forces)),
+    ("check", |by, given, _| (by.check)(given.matrix(), given.plan())),
+];
+
+/// The least times of a work, in µs: by the library and by the other implementation, timed in turn.
+fn least_times(work: Work, given: &Given) -> [f64; 2] {
+    let mut forces = vec![0; 8 * given.n as usize];
+    let (ours, theirs) = (
+        work(&LIBRARY, given, &mut forces),
+        work(&RUST, given, &mut forces),
+    );
+    assert_eq!(ours, theirs, "the answer words");
+    let mut least = [f64::MAX; 2];
+    let start = Instant::now();
+    let mut rounds = 0;
+    while rounds < ROUNDS || start.elapsed() < TIME {
+        for (least, by) in least.iter_mut().zip([&LIBRARY, &RUST]) {
+            let start = Instant::now();
+            black_box(work(by, black_box(given), &mut forces));
+            *least = least.min(start.elapsed().as_secs_f64() * 1e6);
+        }
+        rounds += 1;
+    }
+    least
+}
+
+/// Prints the lines of a net, with the growth from a net of half its size if there is one.
+fn print_net(name: &str, net: &Matrix, half: Option<&Matrix>) {
+    let given = Given::new(net);
+    let half = half.map(Given::new);
+    for (call, work) in WORKS {
+        let [ours, theirs] = least_times(work, &given);
+        let growth = half.as_ref().map(|half| ours / least_times(work, half)[0]);
+        let growth = growth.map_or(String::new(), |growth| format!("{growth:.2}"));
         let ratio = ours / theirs;
-        println!("| {call} | {name} | {ours:.0} | {theirs:.0} | {ratio:.2} | {growth} |");
+        println!("| {name} | {call} | {ours:.0} | {theirs:.0} | {ratio:.2} | {growth} |");
     }
 }
 
-/// A roof of so many spokes.
+/// A roof of so many spokes, 75 freedoms each.
 fn roof(spokes: usize) -> Matrix {
     let roof = Roof {
         spokes,
@@ -108,24 +141,21 @@ fn roof(spokes: usize) -> Matrix {
     nets::roof(&mut Prng::new(1), roof)
 }
 
+/// Prints the table.
+fn print_table() {
+    println!("| net | call | library µs | Rust µs | ratio | growth from half |");
+    println!("|---|---|---:|---:|---:|---:|");
+    print_net("roof of 3,900 rows", &roof(52), Some(&roof(26)));
+    let (_, bcsstk14) = files::read(&files::folder().join("bcsstk14.mtx"));
+    print_net("bcsstk14", &bcsstk14, None);
+    let (chain, half) = (nets::chain(4_096), nets::chain(2_048));
+    print_net("chain of 4,096", &chain, Some(&half));
+    let (unjoined, half) = (nets::unjoined(4_096), nets::unjoined(2_048));
+    print_net("4,096 unjoined rows", &unjoined, Some(&half));
+}
+
 fn main() {
-    on_large_stack(|| {
-        let folder = std::env::var("MATRICES").unwrap_or("../data".into());
-        let bcsstk14 = std::fs::read(format!("{folder}/bcsstk14.mtx")).expect("bcsstk14.mtx");
-        let bcsstk14 = text::read(&bcsstk14).expect("an accepted text");
-        println!("| call | net | library µs | Rust µs | ratio | growth from half |");
-        println!("|---|---|---|---|---|---|");
-        bench("roof of 3,900", &roof(52), Some(&roof(26)));
-        bench("bcsstk14", &bcsstk14, None);
-        bench(
-            "chain of 4,096",
-            &nets::chain(4_096),
-            Some(&nets::chain(2_048)),
-        );
-        bench(
-            "4,096 unjoined",
-            &nets::unjoined(4_096),
-            Some(&nets::unjoined(2_048)),
-        );
-    });
+    let thread = thread::Builder::new().stack_size(STACK).spawn(print_table);
+    let ended = thread.expect("a thread can be started").join();
+    ended.expect("the table is printed");
 }

@@ -15,12 +15,11 @@
 
 use std::fmt::{Display, Write};
 
-use mazhoketh_tests::oracle::leaves::Leaves;
 use mazhoketh_tests::oracle::machine::{self, Lent, Ready, State};
 use mazhoketh_tests::oracle::matrix::Matrix;
 use mazhoketh_tests::oracle::planner::{self, Plan};
 use mazhoketh_tests::oracle::prng::Prng;
-use mazhoketh_tests::oracle::{damage, nets, plans, soundness, text, Refusal, WORKERS};
+use mazhoketh_tests::oracle::{damage, nets, plans, soundness, states, text, Refusal, WORKERS};
 
 /// The most freedoms of a case.
 const MOST: u32 = 12;
@@ -123,27 +122,10 @@ fn text_case(rng: &mut Prng) -> Line {
     line
 }
 
-/// A plan of the planner, of a random tree, or of a random tree that may not be sound.
-fn any_plan(rng: &mut Prng, matrix: &Matrix) -> Plan {
-    let workers = 1 + rng.below(WORKERS) as u32;
-    match rng.below(4) {
-        0 => planner::plan(matrix.rows(), workers, 50 + rng.below(50) as u32),
-        1 => plans::random_plan(rng, matrix),
-        2 => {
-            let order: Vec<u32> = (0..matrix.n).collect();
-            plans::flawed_tree(rng, &order, workers.min(3))
-        }
-        _ => {
-            let order = planner::plan(matrix.rows(), workers, 60).order;
-            plans::random_tree(rng, &order, workers.min(4), 2)
-        }
-    }
-}
-
 /// A case of the check of plans.
 fn sound_case(rng: &mut Prng) -> Line {
     let matrix = nets::random_net(rng, MOST);
-    let plan = any_plan(rng, &matrix);
+    let plan = plans::any_plan(rng, &matrix);
     let (mut order, mut groups) = (plan.order.clone(), plan.flat());
     let mut count = plan.group_count();
     for _ in 0..rng.below(3) {
@@ -158,27 +140,16 @@ fn sound_case(rng: &mut Prng) -> Line {
     line
 }
 
-/// A state: fresh, or made up, with now and then a count past its worker's moves.
+/// A state and sums: fresh, or made up, with now and then a count past its worker's moves.
 fn any_state(rng: &mut Prng, matrix: &Matrix, plan: &Plan) -> (State, Vec<i64>) {
-    let n = matrix.n as usize;
-    let mut state = State::fresh();
-    if rng.chance(50) {
-        return (state, vec![0; n]);
-    }
-    let (groups, count) = (plan.flat(), plan.group_count());
-    let sound = soundness::check(matrix.rows(), &plan.order, &groups, count);
-    let leaves = sound.map(|sound| Leaves::of(matrix.rows(), &sound));
-    let moves = leaves.map_or([0; WORKERS], |leaves| leaves.moves);
-    let past = usize::from(rng.chance(2));
-    let whole = rng.chance(20);
-    for (made, moves) in state.made.iter_mut().zip(moves) {
-        let some = rng.below(moves as usize + 1 + past) as u32;
-        *made = if whole { moves } else { some };
-    }
-    let odd = [i64::MAX, i64::MIN, i64::MAX - 1_000, 0, 1, -1];
-    state.held = state.held.map(|_| rng.one_of(&odd));
-    let sums = (0..n).map(|_| rng.one_of(&odd)).collect();
-    (state, sums)
+    let moves = states::moves(matrix, plan);
+    let mut state = match rng.below(10) {
+        0..5 => return (State::fresh(), vec![0; matrix.n as usize]),
+        5 => states::finished(rng, moves),
+        _ => states::made_up(rng, moves),
+    };
+    state.made[0] += u32::from(rng.chance(2));
+    (state, states::sums(rng, matrix.n))
 }
 
 /// A case of a run: calls from a state on.
@@ -219,10 +190,11 @@ fn picks_call(rng: &mut Prng, line: &mut Line, lent: &Lent, state: &mut State, s
     let ready: Vec<u8> = (0..WORKERS as u8)
         .filter(|worker| ready >> worker & 1 == 1)
         .collect();
+    let any: Vec<u8> = (0..=workers as u8).collect();
     let picks = if ready.is_empty() || rng.chance(60) {
-        plans::random_picks(rng, workers + 1, 20)
+        plans::random_picks(rng, &any, 20)
     } else {
-        (0..rng.below(40)).map(|_| rng.one_of(&ready)).collect()
+        plans::random_picks(rng, &ready, 40)
     };
     let picked = machine::picks(lent, state, sums, &picks);
     line.one("call", "picks")

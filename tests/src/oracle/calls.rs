@@ -5,6 +5,7 @@
 use super::machine::{self, Lent, State};
 use super::matrix::Rows;
 use super::{planner, soundness, text, Refusal, WORKERS};
+use crate::lists::{MatrixLists, PlanLists, RunLists};
 
 /// The bytes of a state: sixteen counts of moves, then sixteen held numbers.
 pub const STATE_BYTES: usize = WORKERS * (4 + 8);
@@ -27,21 +28,14 @@ pub fn read(text: &[u8], row_starts: &mut [u8], columns: &mut [u8], values: &mut
 }
 
 /// The text of a matrix; counts the bytes written.
-pub fn write(n: u32, row_starts: &[u8], columns: &[u8], values: &[u8], text: &mut [u8]) -> u64 {
-    let lists = Lists::of(n, row_starts, columns, values);
+pub fn write(matrix: MatrixLists, text: &mut [u8]) -> u64 {
+    let lists = Lists::of(matrix);
     word(lists.rows().and_then(|rows| text::write_into(rows, text)))
 }
 
 /// The product of a matrix and movements on one core.
-pub fn product(
-    n: u32,
-    row_starts: &[u8],
-    columns: &[u8],
-    values: &[u8],
-    movements: &[u8],
-    forces: &mut [u8],
-) -> u64 {
-    let lists = Lists::of(n, row_starts, columns, values);
+pub fn product(matrix: MatrixLists, movements: &[u8], forces: &mut [u8]) -> u64 {
+    let lists = Lists::of(matrix);
     let movements = get(movements, usize::MAX, i32::from_le_bytes);
     let mut product = || {
         let rows = lists.rows()?;
@@ -54,18 +48,8 @@ pub fn product(
 }
 
 /// The plan of a matrix; counts its groups.
-#[allow(clippy::too_many_arguments)]
-pub fn plan(
-    n: u32,
-    row_starts: &[u8],
-    columns: &[u8],
-    values: &[u8],
-    workers: u32,
-    p: u32,
-    order: &mut [u8],
-    groups: &mut [u8],
-) -> u64 {
-    let lists = Lists::of(n, row_starts, columns, values);
+pub fn plan(matrix: MatrixLists, workers: u32, p: u32, order: &mut [u8], groups: &mut [u8]) -> u64 {
+    let lists = Lists::of(matrix);
     let mut plan = || {
         let rows = lists.rows()?;
         planner::judge_limits(workers, p)?;
@@ -80,42 +64,18 @@ pub fn plan(
 }
 
 /// The check of a plan.
-pub fn check(
-    n: u32,
-    row_starts: &[u8],
-    columns: &[u8],
-    values: &[u8],
-    order: &[u8],
-    groups: &[u8],
-    group_count: u32,
-) -> u64 {
-    let lists = Lists::of(n, row_starts, columns, values);
-    let order = get(order, MOST_READ, u32::from_le_bytes);
-    let groups = get(groups, MOST_READ, u32::from_le_bytes);
-    let checked = lists
-        .rows()
-        .and_then(|rows| soundness::check(rows, &order, &groups, group_count).map(|_| 0));
+pub fn check(matrix: MatrixLists, plan: PlanLists) -> u64 {
+    let lists = Lists::of(matrix).with_plan(plan);
+    let checked = lists.rows().and_then(|rows| {
+        soundness::check(rows, &lists.order, &lists.groups, lists.group_count).map(|_| 0)
+    });
     word(checked)
 }
 
 /// Picks of a run; counts those taken.
-#[allow(clippy::too_many_arguments)]
-pub fn picks(
-    n: u32,
-    row_starts: &[u8],
-    columns: &[u8],
-    values: &[u8],
-    movements: &[u8],
-    order: &[u8],
-    groups: &[u8],
-    group_count: u32,
-    state: &mut [u8],
-    sums: &mut [u8],
-    picks: &[u8],
-) -> u64 {
-    let lists =
-        Lists::of(n, row_starts, columns, values).with_plan(movements, order, groups, group_count);
-    let mut run = || {
+pub fn picks(run: RunLists, state: &mut [u8], sums: &mut [u8], picks: &[u8]) -> u64 {
+    let lists = Lists::of_run(run);
+    let mut take = || {
         let mut numbers = lists.state(state)?;
         let mut list = get(sums, usize::MAX, i64::from_le_bytes);
         let picked = machine::picks(&lists.lent(), &mut numbers, &mut list, picks);
@@ -129,25 +89,12 @@ pub fn picks(
         }
         picked.stopped.map_or(Ok(picked.taken), Err)
     };
-    word(run())
+    word(take())
 }
 
 /// The ready set of a run: sixteen bits, plus the count × 65,536.
-#[allow(clippy::too_many_arguments)]
-pub fn ready(
-    n: u32,
-    row_starts: &[u8],
-    columns: &[u8],
-    values: &[u8],
-    movements: &[u8],
-    order: &[u8],
-    groups: &[u8],
-    group_count: u32,
-    state: &[u8],
-    sums: &[u8],
-) -> u64 {
-    let lists =
-        Lists::of(n, row_starts, columns, values).with_plan(movements, order, groups, group_count);
+pub fn ready(run: RunLists, state: &[u8], sums: &[u8]) -> u64 {
+    let lists = Lists::of_run(run);
     let ready = || {
         let numbers = lists.state(state)?;
         let list = get(sums, usize::MAX, i64::from_le_bytes);
@@ -158,31 +105,17 @@ pub fn ready(
 }
 
 /// The force list of a finished run.
-#[allow(clippy::too_many_arguments)]
-pub fn forces(
-    n: u32,
-    row_starts: &[u8],
-    columns: &[u8],
-    values: &[u8],
-    movements: &[u8],
-    order: &[u8],
-    groups: &[u8],
-    group_count: u32,
-    state: &[u8],
-    sums: &[u8],
-    forces: &mut [u8],
-) -> u64 {
-    let lists =
-        Lists::of(n, row_starts, columns, values).with_plan(movements, order, groups, group_count);
-    let mut run = || {
+pub fn forces(run: RunLists, state: &[u8], sums: &[u8], forces: &mut [u8]) -> u64 {
+    let lists = Lists::of_run(run);
+    let mut tell = || {
         let numbers = lists.state(state)?;
         let list = get(sums, usize::MAX, i64::from_le_bytes);
-        let mut out = vec![0; (forces.len() / 8).min(n as usize)];
+        let mut out = vec![0; (forces.len() / 8).min(lists.n as usize)];
         machine::forces(&lists.lent(), &numbers, &list, &mut out)?;
         put(forces, &out, i64::to_le_bytes);
         Ok(0)
     };
-    word(run())
+    word(tell())
 }
 
 /// The answer word.
@@ -241,14 +174,15 @@ struct Lists {
 
 impl Lists {
     /// The lists of a matrix alone.
-    fn of(n: u32, row_starts: &[u8], columns: &[u8], values: &[u8]) -> Lists {
-        let starts = get(row_starts, MOST_READ, u32::from_le_bytes);
-        let stored = starts.get(n as usize).map_or(0, |&end| end as usize);
+    fn of(matrix: MatrixLists) -> Lists {
+        let starts = get(matrix.row_starts, MOST_READ, u32::from_le_bytes);
+        let stored = starts.get(matrix.n as usize).map_or(0, |&end| end as usize);
+        let stored = stored.min(MOST_READ);
         Lists {
-            n,
+            n: matrix.n,
             starts,
-            columns: get(columns, stored.min(MOST_READ), u32::from_le_bytes),
-            values: get(values, stored.min(MOST_READ), i32::from_le_bytes),
+            columns: get(matrix.columns, stored, u32::from_le_bytes),
+            values: get(matrix.values, stored, i32::from_le_bytes),
             movements: Vec::new(),
             order: Vec::new(),
             groups: Vec::new(),
@@ -256,13 +190,19 @@ impl Lists {
         }
     }
 
-    /// The same with movements and a plan.
-    fn with_plan(mut self, movements: &[u8], order: &[u8], groups: &[u8], count: u32) -> Lists {
-        self.movements = get(movements, usize::MAX, i32::from_le_bytes);
-        self.order = get(order, MOST_READ, u32::from_le_bytes);
-        self.groups = get(groups, MOST_READ, u32::from_le_bytes);
-        self.group_count = count;
+    /// The same with a plan.
+    fn with_plan(mut self, plan: PlanLists) -> Lists {
+        self.order = get(plan.order, MOST_READ, u32::from_le_bytes);
+        self.groups = get(plan.groups, MOST_READ, u32::from_le_bytes);
+        self.group_count = plan.group_count;
         self
+    }
+
+    /// The lists of a run.
+    fn of_run(run: RunLists) -> Lists {
+        let mut lists = Lists::of(run.matrix).with_plan(run.plan);
+        lists.movements = get(run.movements, usize::MAX, i32::from_le_bytes);
+        lists
     }
 
     /// The matrix, or 5.

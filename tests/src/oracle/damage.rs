@@ -29,6 +29,9 @@ const ODD_FIELDS: [&str; 18] = [
     "10000000000",
 ];
 
+/// What may be appended to a text, all of it too much.
+const APPENDED: [&str; 6] = ["\n", " ", "%\n", "1 1 1\n", "1 1 1", "2 1 0\n\n"];
+
 /// A legal text of a matrix: entries in any order, spaces and `%` lines as may be.
 pub fn random_text(rng: &mut Prng, matrix: &Matrix) -> Vec<u8> {
     let mut out = LINE_1.to_vec();
@@ -77,27 +80,26 @@ pub fn damage_text(rng: &mut Prng, text: &mut Vec<u8>) {
         .collect();
     let first = usize::from(lines.len() > 1 && rng.chance(95));
     let line = first + rng.below(lines.len() - first);
-    match rng.below(7) {
-        0 => lines.insert(line, lines[rng.below(lines.len())].clone()),
+    let other = first + rng.below(lines.len() - first);
+    match rng.below(8) {
+        0 => lines.insert(line, lines[other].clone()),
         1 => drop(lines.remove(line)),
-        2 => {
-            let other = first + rng.below(lines.len() - first);
-            lines.swap(line, other);
-        }
-        3 => {
-            let other = first + rng.below(lines.len() - first);
-            lines[line] = lines[other].clone();
-        }
+        2 => lines.swap(line, other),
+        3 => lines[line] = lines[other].clone(),
+        4 => lines.push(rng.one_of(&APPENDED).as_bytes().to_vec()),
         _ => damage_field(rng, &mut lines[line]),
     }
     *text = lines.concat();
 }
 
-/// Changes, puts in or takes out one byte, or cuts the text.
+/// Changes, puts in or takes out one byte, or cuts the text; often enough in line 1.
 fn damage_byte(rng: &mut Prng, text: &mut Vec<u8>) {
-    let tail = text.len().saturating_sub(LINE_1.len());
-    let from = if rng.chance(97) { text.len() - tail } else { 0 };
-    let at = from + rng.below(text.len() - from + 1);
+    let line_1 = text.len().min(LINE_1.len());
+    let at = if rng.chance(20) {
+        rng.below(line_1 + 1)
+    } else {
+        line_1 + rng.below(text.len() - line_1 + 1)
+    };
     let byte = rng.one_of(b"0123456789 \n-+%\r\t.\x00\xff");
     match rng.below(5) {
         0 => text.truncate(at),

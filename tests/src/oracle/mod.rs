@@ -12,6 +12,7 @@ pub mod planner;
 pub mod plans;
 pub mod prng;
 pub mod soundness;
+pub mod states;
 pub mod text;
 
 /// The most workers of a plan, and the workers that a state has room for.

@@ -138,6 +138,12 @@ pub fn unjoined(n: u32) -> Matrix {
     of_triples(n, (0..n).map(|row| (row, row, 1)))
 }
 
+/// The first so many entries of a band nine wide: the largest matrices have them.
+pub fn filled_band(n: u32, entries: usize) -> Matrix {
+    let row = |row: u32| (row.saturating_sub(8)..=row).map(move |column| (row, column, 1));
+    of_triples(n, (0..n).flat_map(row).take(entries))
+}
+
 /// The matrix of rows, columns and values.
 pub fn of_triples(n: u32, triples: impl Iterator<Item = (u32, u32, i32)>) -> Matrix {
     let entry = |(row, column, value)| Entry { row, column, value };

@@ -1,4 +1,4 @@
-//! Generators of sound plans that the planner would not make, and of schedules.
+//! Generators of plans that the planner would not make, and of schedules.
 
 use super::matrix::Matrix;
 use super::planner::{self, Plan};
@@ -25,6 +25,23 @@ pub fn random_plan(rng: &mut Prng, matrix: &Matrix) -> Plan {
         }
     }
     random_tree(rng, &order, workers, 1)
+}
+
+/// A plan that need not be sound: of the planner, or of a random tree.
+pub fn any_plan(rng: &mut Prng, matrix: &Matrix) -> Plan {
+    let workers = 1 + rng.below(WORKERS) as u32;
+    match rng.below(4) {
+        0 => planner::plan(matrix.rows(), workers, 50 + rng.below(50) as u32),
+        1 => random_plan(rng, matrix),
+        2 => {
+            let order: Vec<u32> = (0..matrix.n).collect();
+            flawed_tree(rng, &order, workers.min(3))
+        }
+        _ => {
+            let order = planner::plan(matrix.rows(), workers, 60).order;
+            random_tree(rng, &order, workers.min(4), 2)
+        }
+    }
 }
 
 /// Whether a plan is sound for a matrix.
@@ -113,18 +130,16 @@ fn cut_in(rng: &mut Prng, length: u32, parts: u32) -> Vec<u32> {
     cuts.into_iter().map(&mut part).collect()
 }
 
-/// Random picks for a plan of so many workers: bursts of one worker, or any, now and then one that is none.
-pub fn random_picks(rng: &mut Prng, workers: usize, most: usize) -> Vec<u8> {
-    let count = rng.below(most + 1);
-    let burst = rng.chance(40);
-    let mut worker = rng.below(workers);
-    let mut picks = Vec::with_capacity(count);
-    for _ in 0..count {
-        if !burst || rng.chance(20) {
-            worker = rng.below(workers);
+/// At most so many picks of these workers: one at a time, or many of one after another.
+pub fn random_picks(rng: &mut Prng, workers: &[u8], most: usize) -> Vec<u8> {
+    let change = rng.one_of(&[100, 20]);
+    let mut worker = rng.one_of(workers);
+    let mut picks = vec![0; rng.below(most + 1)];
+    for pick in &mut picks {
+        if rng.chance(change) {
+            worker = rng.one_of(workers);
         }
-        let none = rng.chance(1) && rng.chance(30);
-        picks.push(if none { 255 } else { worker } as u8);
+        *pick = worker;
     }
     picks
 }

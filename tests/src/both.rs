@@ -1,0 +1,214 @@
+//! Calls made to the library and to the other implementation, and compared: the answer word, and every list that was lent.
+
+use crate::guarded::Twin;
+use crate::library;
+use crate::lists::{MatrixLists, PlanLists, RunLists};
+use crate::oracle::calls;
+
+/// The lists of a matrix, twice.
+pub struct MatrixTwins {
+    pub n: u32,
+    pub row_starts: Twin,
+    pub columns: Twin,
+    pub values: Twin,
+}
+
+impl MatrixTwins {
+    /// The library's lists.
+    fn ours(&self) -> MatrixLists<'_> {
+        MatrixLists {
+            n: self.n,
+            row_starts: self.row_starts.ours(),
+            columns: self.columns.ours(),
+            values: self.values.ours(),
+        }
+    }
+
+    /// The other implementation's lists.
+    pub fn theirs(&self) -> MatrixLists<'_> {
+        MatrixLists {
+            n: self.n,
+            row_starts: &self.row_starts.theirs,
+            columns: &self.columns.theirs,
+            values: &self.values.theirs,
+        }
+    }
+
+    /// Every list.
+    fn lists(&self) -> Vec<&Twin> {
+        vec![&self.row_starts, &self.columns, &self.values]
+    }
+}
+
+/// The lists of a plan, twice.
+pub struct PlanTwins {
+    pub order: Twin,
+    pub groups: Twin,
+    pub group_count: u32,
+}
+
+impl PlanTwins {
+    /// The library's lists.
+    fn ours(&self) -> PlanLists<'_> {
+        PlanLists {
+            order: self.order.ours(),
+            groups: self.groups.ours(),
+            group_count: self.group_count,
+        }
+    }
+
+    /// The other implementation's lists.
+    pub fn theirs(&self) -> PlanLists<'_> {
+        PlanLists {
+            order: &self.order.theirs,
+            groups: &self.groups.theirs,
+            group_count: self.group_count,
+        }
+    }
+}
+
+/// The lists of a run, its state and sums apart, twice.
+pub struct RunTwins {
+    pub matrix: MatrixTwins,
+    pub movements: Twin,
+    pub plan: PlanTwins,
+}
+
+impl RunTwins {
+    /// The library's lists.
+    fn ours(&self) -> RunLists<'_> {
+        RunLists {
+            matrix: self.matrix.ours(),
+            movements: self.movements.ours(),
+            plan: self.plan.ours(),
+        }
+    }
+
+    /// The other implementation's lists.
+    pub fn theirs(&self) -> RunLists<'_> {
+        RunLists {
+            matrix: self.matrix.theirs(),
+            movements: &self.movements.theirs,
+            plan: self.plan.theirs(),
+        }
+    }
+
+    /// Every list.
+    fn lists(&self) -> Vec<&Twin> {
+        let others = [&self.movements, &self.plan.order, &self.plan.groups];
+        self.matrix.lists().into_iter().chain(others).collect()
+    }
+}
+
+/// The state and the sums of a run, twice.
+pub struct StateTwins {
+    pub state: Twin,
+    pub sums: Twin,
+}
+
+/// The answer word of a call, if the two words are alike and so are both copies of each list.
+fn alike(call: &str, ours: u64, theirs: u64, read: Vec<&Twin>, others: &[&Twin]) -> u64 {
+    assert_eq!(
+        ours, theirs,
+        "{call}: the answer words {ours:#x} and {theirs:#x}"
+    );
+    for list in read.iter().chain(others) {
+        list.check(call);
+    }
+    ours
+}
+
+/// Reads a text into row starts, columns and values.
+pub fn read(text: &Twin, lists: &mut [Twin; 3]) -> u64 {
+    let [starts, columns, values] = lists;
+    let ours = library::read(
+        text.ours(),
+        starts.ours_mut(),
+        columns.ours_mut(),
+        values.ours_mut(),
+    );
+    let theirs = calls::read(
+        &text.theirs,
+        &mut starts.theirs,
+        &mut columns.theirs,
+        &mut values.theirs,
+    );
+    alike("read", ours, theirs, vec![text], &[starts, columns, values])
+}
+
+/// Writes the text of a matrix.
+pub fn write(matrix: &MatrixTwins, text: &mut Twin) -> u64 {
+    let ours = library::write(matrix.ours(), text.ours_mut());
+    let theirs = calls::write(matrix.theirs(), &mut text.theirs);
+    alike("write", ours, theirs, matrix.lists(), &[text])
+}
+
+/// Multiplies a matrix by movements.
+pub fn product(matrix: &MatrixTwins, movements: &Twin, forces: &mut Twin) -> u64 {
+    let ours = library::product(matrix.ours(), movements.ours(), forces.ours_mut());
+    let theirs = calls::product(matrix.theirs(), &movements.theirs, &mut forces.theirs);
+    alike(
+        "product",
+        ours,
+        theirs,
+        matrix.lists(),
+        &[movements, forces],
+    )
+}
+
+/// Plans a matrix.
+pub fn plan(matrix: &MatrixTwins, workers: u32, p: u32, lists: &mut [Twin; 2]) -> u64 {
+    let [order, groups] = lists;
+    let (matrix_ours, matrix_theirs) = (matrix.ours(), matrix.theirs());
+    let ours = library::plan(matrix_ours, workers, p, order.ours_mut(), groups.ours_mut());
+    let theirs = calls::plan(
+        matrix_theirs,
+        workers,
+        p,
+        &mut order.theirs,
+        &mut groups.theirs,
+    );
+    alike("plan", ours, theirs, matrix.lists(), &[order, groups])
+}
+
+/// Checks a plan.
+pub fn check(matrix: &MatrixTwins, plan: &PlanTwins) -> u64 {
+    let ours = library::check(matrix.ours(), plan.ours());
+    let theirs = calls::check(matrix.theirs(), plan.theirs());
+    let lists = [&plan.order, &plan.groups];
+    alike("check", ours, theirs, matrix.lists(), &lists)
+}
+
+/// Takes picks.
+pub fn picks(run: &RunTwins, at: &mut StateTwins, picks: &Twin) -> u64 {
+    let StateTwins { state, sums } = at;
+    let ours = library::picks(run.ours(), state.ours_mut(), sums.ours_mut(), picks.ours());
+    let theirs = calls::picks(
+        run.theirs(),
+        &mut state.theirs,
+        &mut sums.theirs,
+        &picks.theirs,
+    );
+    alike("picks", ours, theirs, run.lists(), &[state, sums, picks])
+}
+
+/// Asks for the ready set.
+pub fn ready(run: &RunTwins, at: &StateTwins) -> u64 {
+    let StateTwins { state, sums } = at;
+    let ours = library::ready(run.ours(), state.ours(), sums.ours());
+    let theirs = calls::ready(run.theirs(), &state.theirs, &sums.theirs);
+    alike("ready", ours, theirs, run.lists(), &[state, sums])
+}
+
+/// Asks for the force list.
+pub fn forces(run: &RunTwins, at: &StateTwins, forces: &mut Twin) -> u64 {
+    let StateTwins { state, sums } = at;
+    let ours = library::forces(run.ours(), state.ours(), sums.ours(), forces.ours_mut());
+    let theirs = calls::forces(
+        run.theirs(),
+        &state.theirs,
+        &sums.theirs,
+        &mut forces.theirs,
+    );
+    alike("forces", ours, theirs, run.lists(), &[state, sums, forces])
+}

@@ -1,0 +1,189 @@
+//! Random cases of each call, made to the library and to the other implementation and compared.
+
+pub mod matrix;
+pub mod plan;
+pub mod run;
+
+use std::fmt::{self, Display, Formatter};
+use std::ops::Range;
+use std::panic::resume_unwind;
+use std::thread::{self, Builder, ScopedJoinHandle};
+
+use crate::both::MatrixTwins;
+use crate::files;
+use crate::guarded::{Twin, STACK};
+use crate::lists::{bytes, refusal_number};
+use crate::oracle::matrix::Matrix;
+use crate::oracle::prng::Prng;
+
+/// How often each refusal's number was met; at 0, how many calls were accepted.
+#[derive(Default)]
+pub struct Seen([usize; 16]);
+
+impl Seen {
+    /// Counts an answer word.
+    pub fn note(&mut self, word: u64) {
+        self.0[refusal_number(word)] += 1;
+    }
+
+    /// Adds what another has counted.
+    pub fn add(&mut self, other: &Seen) {
+        for (count, more) in self.0.iter_mut().zip(other.0) {
+            *count += more;
+        }
+    }
+
+    /// Panics unless each of these numbers was met at least so often.
+    pub fn require(&self, numbers: impl IntoIterator<Item = usize>, least: usize) {
+        for number in numbers {
+            let count = self.0[number];
+            assert!(count >= least, "refusal {number} was met {count} times");
+        }
+    }
+}
+
+impl Display for Seen {
+    /// A line for each number.
+    fn fmt(&self, out: &mut Formatter) -> fmt::Result {
+        writeln!(out, "accepted: {}", self.0[0])?;
+        for (number, count) in self.0.iter().enumerate().skip(1) {
+            writeln!(out, "refusal {number}: {count}")?;
+        }
+        Ok(())
+    }
+}
+
+/// Names the case at hand if it fails.
+struct Case {
+    seed: u64,
+    number: u64,
+}
+
+impl Drop for Case {
+    fn drop(&mut self) {
+        if thread::panicking() {
+            eprintln!("in case {} of seed {}", self.number, self.seed);
+        }
+    }
+}
+
+/// Runs a seed's cases with these numbers.
+///
+/// Each has a generator of its own, so that a seed's cases are the same on every machine.
+pub fn each(seed: u64, numbers: Range<u64>, case: impl Fn(&mut Prng, &mut Seen) + Sync) -> Seen {
+    numbered(seed, numbers, |_, rng, seen| case(rng, seen))
+}
+
+/// Runs a case for each matrix file: its text, and the matrix that it stands for.
+pub fn each_file(seed: u64, case: impl Fn(&mut Prng, &[u8], &Matrix) + Sync) {
+    let files = files::matrix_files();
+    numbered(seed, 0..files.len() as u64, |number, rng, _| {
+        let (text, matrix) = files::read(&files[number as usize]);
+        case(rng, &text, &matrix);
+    });
+}
+
+/// Runs numbered cases on all cores, on threads with room for the library's local arrays.
+fn numbered(
+    seed: u64,
+    numbers: Range<u64>,
+    case: impl Fn(u64, &mut Prng, &mut Seen) + Sync,
+) -> Seen {
+    let cores = thread::available_parallelism().map_or(1, |cores| cores.get());
+    let share = |core: usize| {
+        let mut seen = Seen::default();
+        for number in numbers.clone().skip(core).step_by(cores) {
+            let _named = Case { seed, number };
+            let mut rng = Prng::new((seed << 32) + number);
+            case(number, &mut rng, &mut seen);
+        }
+        seen
+    };
+    let share = &share;
+    let mut seen = Seen::default();
+    thread::scope(|scope| {
+        let start = |core| {
+            let thread = Builder::new().stack_size(STACK);
+            let thread = thread.spawn_scoped(scope, move || share(core));
+            thread.expect("a thread can be started")
+        };
+        let threads: Vec<ScopedJoinHandle<Seen>> = (0..cores).map(start).collect();
+        for thread in threads {
+            let share = thread.join();
+            seen.add(&share.unwrap_or_else(|panic| resume_unwind(panic)));
+        }
+    });
+    seen
+}
+
+/// A length in bytes for a list that so many numbers of a width are to be written to: now and then too short.
+fn room_about(rng: &mut Prng, needed: usize, width: usize) -> usize {
+    let numbers = match rng.below(20) {
+        0 => needed.saturating_sub(1),
+        1 => rng.below(needed + 1),
+        2..8 => needed,
+        _ => needed + rng.below(8),
+    };
+    numbers * width + rng.below(width)
+}
+
+/// The bytes of numbers, ended by fewer stray bytes than make another number.
+pub fn with_stray<T: Copy, const W: usize>(
+    rng: &mut Prng,
+    numbers: &[T],
+    word: fn(T) -> [u8; W],
+) -> Twin {
+    let tail = rng.below(W);
+    with_tail(rng, numbers, word, tail)
+}
+
+/// The bytes of numbers in a list that may be longer than what is read, now and then by far.
+fn with_rest<T: Copy, const W: usize>(
+    rng: &mut Prng,
+    numbers: &[T],
+    word: fn(T) -> [u8; W],
+) -> Twin {
+    let tail = match rng.below(100) {
+        0 => 600_000,
+        1..5 => rng.below(20_000),
+        _ => rng.below(W),
+    };
+    with_tail(rng, numbers, word, tail)
+}
+
+/// The bytes of numbers, and so many bytes after them.
+fn with_tail<T: Copy, const W: usize>(
+    rng: &mut Prng,
+    numbers: &[T],
+    word: fn(T) -> [u8; W],
+    tail: usize,
+) -> Twin {
+    let mut list = bytes(numbers, word);
+    list.resize(list.len() + tail, rng.one_of(&[0, 1, 0xee, 0xff]));
+    Twin::new(list)
+}
+
+/// The lists of a matrix.
+pub fn matrix_twins(rng: &mut Prng, matrix: &Matrix) -> MatrixTwins {
+    MatrixTwins {
+        n: matrix.n,
+        row_starts: with_rest(rng, &matrix.starts, u32::to_le_bytes),
+        columns: with_rest(rng, &matrix.columns, u32::to_le_bytes),
+        values: with_rest(rng, &matrix.values, i32::to_le_bytes),
+    }
+}
+
+/// A case of any call.
+pub fn any(rng: &mut Prng, seen: &mut Seen) {
+    match rng.below(32) {
+        0..8 => matrix::read(rng, seen),
+        8..11 => matrix::write(rng, seen),
+        11..14 => matrix::product(rng, seen),
+        14..17 => plan::plan(rng, seen),
+        17..20 => plan::check(rng, seen),
+        20..25 => run::picks(rng, seen),
+        25..28 => run::ready(rng, seen),
+        28..31 => run::forces(rng, seen),
+        _ => run::whole(rng, seen),
+    }
+}

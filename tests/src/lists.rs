@@ -1,0 +1,36 @@
+//! Byte lists as C hands them over; those that a call reads are grouped by what they stand for.
+
+/// The lists of a matrix.
+#[derive(Clone, Copy, Debug)]
+pub struct MatrixLists<'a> {
+    pub n: u32,
+    pub row_starts: &'a [u8],
+    pub columns: &'a [u8],
+    pub values: &'a [u8],
+}
+
+/// The lists of a plan.
+#[derive(Clone, Copy, Debug)]
+pub struct PlanLists<'a> {
+    pub order: &'a [u8],
+    pub groups: &'a [u8],
+    pub group_count: u32,
+}
+
+/// The lists of a run, its state and sums apart.
+#[derive(Clone, Copy, Debug)]
+pub struct RunLists<'a> {
+    pub matrix: MatrixLists<'a>,
+    pub movements: &'a [u8],
+    pub plan: PlanLists<'a>,
+}
+
+/// The bytes of a list of numbers, each number's low byte first.
+pub fn bytes<T: Copy, const W: usize>(numbers: &[T], word: fn(T) -> [u8; W]) -> Vec<u8> {
+    numbers.iter().flat_map(|&number| word(number)).collect()
+}
+
+/// The refusal's number in an answer word; 0 if the call was accepted.
+pub fn refusal_number(word: u64) -> usize {
+    (word >> 32) as usize
+}
