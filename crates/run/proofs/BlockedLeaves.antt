@@ -38,7 +38,7 @@ recorded adj n order (suc c) groups ok l = record {
   some = omega arith;
   few = omega (arith, facts .short, length-records c (drop width groups));
   parents = λ i a b. at i a b;
-  firsts = λ i b. start-reached adj n order c groups ok i b .1;
+  firsts = λ i b. start-reached adj n order (suc c) groups ok i b .1;
 }
   where
     facts : SoundFacts adj n order (ofFields groups) (records c (drop width groups))

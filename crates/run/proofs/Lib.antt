@@ -66,10 +66,8 @@ pub mod BlockedLeaves
 pub mod Beginning
 pub mod Begun
 pub mod ForcesReply
-pub mod PlanCrew
 pub mod AllWorkers
 pub mod TableSteps
 pub mod Prepared
-pub mod PassTurns
 pub mod ReadyAnswer
 pub mod PicksAnswer
