@@ -138,11 +138,11 @@ module _ {n : ℕ} {starts columns : List ℕ} {values x : List ℤ} {order degr
           (row-next (job gs) p i low few of us (space gs us h) k (omega (arith, later-count gs)) e (getD at s 0) (omega arith) (t′ .is gs) (f gs us h of t))
 
       -- all of them
-      pub follow-all : {target target′ : List ℕ} {amount amount′ : List ℤ} {leaf leaf′ : List ℕ} → Follow m x o p i place (getD degrees row 0) target amount leaf target′ amount′ leaf′
+      pub follow-all : {target target′ : List ℕ} {amount amount′ : List ℤ} {leaf leaf′ : List ℕ} {k : ℕ} → k ≡ getD degrees row 0 → Follow m x o p i place k target amount leaf target′ amount′ leaf′
           → (gs : List Group) (us : List Update) → place ≡ length us → LeafOf (job gs) i p → Listed (job gs) (us ++ part (job gs) p 0) target amount leaf
           → Listed (job gs) (us ++ rowUpdates (job gs) p) target′ amount′ leaf′
-      follow-all f gs us e of t =
-          listed-same (job gs) (ap (λ (vs : List Update). us ++ vs) (ap (part (job gs) p) (later-count gs) ∙ part-all (job gs) p)) (f gs us e of t)
+      follow-all q f gs us e of t =
+          listed-same (job gs) (ap (λ (vs : List Update). us ++ vs) (ap (part (job gs) p) (q ∙ later-count gs) ∙ part-all (job gs) p)) (f gs us e of t)
 
       pub place-after : (gs : List Group) → place + (1 + 2 * getD degrees row 0) ≡ place + length (rowUpdates (job gs) p)
       place-after gs = omega (arith, later-count gs, row-length (job gs) p)

@@ -220,25 +220,9 @@ loop-again c =
           (l .loop .inv .3),
     )
 
-end : (c : tie.After-loop Inv-loop μ-loop) → let l = c .before in let w = row (l .before) in let s = start w in
-    l .loop .next ≡ s .args .place + (1 + 2 * getD (s .args .degrees .now) (w .wide-at .result) 0)
-end c = omega (arith, c .before .loop .inv .0, c .before .loop .inv .1, c .loop-test .left)
-
 own-amount : (c : tie.After-own-product Inv-loop μ-loop) → let w = c .before .before in let a = start w .args in
     toZ w64 (ofZ w64 (c .own-product .result)) ≡ entry (matrixOf (a .n) (a .starts .now) (a .columns .now) (a .values .now)) (w .wide-at .result) (w .wide-at .result) *ℤ displacement (a .displacements .now) (w .wide-at .result)
 own-amount c = toZ-ofZ (record { sfits = c .own-product .ok }) ∙ c .own-product .ensures
-
-last : (c : tie.After-loop Inv-loop μ-loop) → let l = c .before in let w = row (l .before) in let a = start w .args in let p = l .before .before .before .put .last in
-    Follow (matrixOf (a .n) (a .starts .now) (a .columns .now) (a .values .now)) (a .displacements .now) (take (a .n) (a .order .now)) (a .p) (a .i) (a .place) (getD (a .degrees .now) (w .wide-at .result) 0)
-    (p .1 .1 .1 .1 .0) (p .1 .1 .1 .1 .1 .0) (p .1 .1 .1 .1 .1 .1 .0) (l .loop .target) (l .loop .amount) (l .loop .leaf)
-last c =
-    let l = c .before in
-    let w = row (l .before) in
-    let a = start w .args in
-    let p = l .before .before .before .put .last in
-    let e : l .loop .k ≡ getD (a .degrees .now) (w .wide-at .result) 0 = omega (arith, l .loop .inv .0, c .loop-test .left) in
-    subst (λ (k : ℕ). Follow (matrixOf (a .n) (a .starts .now) (a .columns .now) (a .values .now)) (a .displacements .now) (take (a .n) (a .order .now)) (a .p) (a .i) (a .place) k
-    (p .1 .1 .1 .1 .0) (p .1 .1 .1 .1 .1 .0) (p .1 .1 .1 .1 .1 .1 .0) (l .loop .target) (l .loop .amount) (l .loop .leaf)) e (l .loop .inv .3)
 
 returns : tie.Need-returns Inv-loop μ-loop
 returns c =
@@ -246,10 +230,11 @@ returns c =
     let f = l .before in
     let w = row f in
     let s = start w in
+    let q : l .loop .k ≡ getD (s .args .degrees .now) (w .wide-at .result) 0 = omega (arith, l .loop .inv .0, c .loop-test .left) in
     record {
-      follow = λ gs us e of t. follow-all (s .pre .0) (s .args .p) (s .pre .1) (w .wide-at .ensures .0) (s .args .i) (s .args .place) (s .pre .2) (room w) (last c) gs us e of
+      follow = λ gs us e of t. follow-all (s .pre .0) (s .args .p) (s .pre .1) (w .wide-at .ensures .0) (s .args .i) (s .args .place) (s .pre .2) (room w) q (l .loop .inv .3) gs us e of
           (follow-first (s .pre .0) (s .args .p) (s .pre .1) (w .wide-at .ensures .0) (s .args .i) (s .args .place) (s .pre .2) (room w) (own-amount (f .before .before .before .before .before .before)) (f .before .before .put .ensures) gs us e of t);
-      place-after = λ gs. end c ∙ place-after (s .pre .0) (s .args .p) (s .pre .1) (w .wide-at .ensures .0) (s .args .i) (s .args .place) (s .pre .2) (room w) gs;
+      place-after = λ gs. l .loop .inv .1 ∙ ap (λ (k : ℕ). s .args .place + (1 + 2 * k)) q ∙ place-after (s .pre .0) (s .args .p) (s .pre .1) (w .wide-at .ensures .0) (s .args .i) (s .args .place) (s .pre .2) (room w) gs;
     }
 
 pub put-row-spec : {M : Type 1} → statement M
