@@ -71,3 +71,4 @@ pub mod TableSteps
 pub mod Prepared
 pub mod ReadyAnswer
 pub mod PicksAnswer
+pub mod RunTurns

@@ -12,6 +12,7 @@ pub mod Sum
 pub mod Laid
 pub mod Waits
 pub mod Steps
+pub mod Stepped
 pub mod Tables
 pub mod Scatter
 pub mod UpdateTable

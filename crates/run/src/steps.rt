@@ -1,6 +1,9 @@
 // Steps: one load or store each.
+use crate::state::State;
 use crate::sum::Sum;
 use crate::sum::add_checked;
+use crate::waits::blocked_groups;
+use crate::waits::next_ends;
 use base::DONE;
 use base::OVERFLOW;
 use base::STRANGER;
@@ -9,7 +12,14 @@ ghost use mathlib.Core.Path.{_≡_};
 ghost use Prim.Native.Nat.{_≤_};
 ghost use lib.ListN.{length};
 ghost use Rattle.plan.specs.Sound.{maxWorkers};
+ghost use Rattle.plan.specs.Groups.{records};
+ghost use Rattle.run.specs.Job.{Job, Accepted};
+ghost use Rattle.run.specs.Machine as machine;
+ghost use Rattle.run.specs.Record.{stateOf};
+ghost use Rattle.run.specs.Laid.{Laid};
+ghost use Rattle.run.specs.Waits.{Recorded};
 ghost use Rattle.run.specs.Steps.{stateWith, reasonAt, laidUpdate, Inside, Tabled, StepMade};
+ghost use Rattle.run.specs.Stepped.{steppedOf};
 
 // Why a step of worker w is refused by the counts: 10, 12, 13, or 0 if it is not.
 fn refusal(
@@ -73,4 +83,79 @@ fn step(
     sums[t] = sum;
     made[w] = count + 1;
     0
+}
+
+// What a schedule comes to: the state, how many steps were taken, and the number that ended it, 0 if all were.
+pub struct Stepped {
+    pub state: State,
+    pub taken: usize,
+    pub number: u32,
+}
+
+// The steps of a schedule, up to the first that is refused.
+pub(crate) fn run(
+    state: State,
+    sums: &mut [i64],
+    schedule: &[u8],
+    workers: usize,
+    groups: &[u32],
+    count: usize,
+    counts: &[u32; 16],
+    first: &[u32; 16],
+    target: &[u16; 69632],
+    amount: &[i64; 69632],
+    leaf: &[u16; 69632],
+    ends: &[u32; 512],
+) -> Stepped
+    requires { ⌜ (workers ≤ maxWorkers) × Recorded count (now groups) × Tabled (length (now sums)) (now counts) (now first) (now target) (now leaf) ⌝ }
+    ensures { λ r. ⌜ ((j : Job) → Accepted j → workers ≡ machine.workers j → j .plan .groups ≡ records count (now (groups .entry))
+        → Laid j (now (counts .entry)) (now (first .entry)) (now (target .entry)) (now (amount .entry)) (now (leaf .entry)) (now (ends .entry))
+        → steppedOf r (now (sums .exit)) ≡ machine.steps j (stateOf state (now (sums .entry))) (now (schedule .entry))) ⌝ }
+{
+    let mut made = state.made;
+    let mut held = state.held;
+    let mut blocks = blocked_groups(groups, count, ends, &made);
+    let mut stops = next_ends(groups, count, ends, &made);
+    let mut k = 0;
+    while k < schedule.len() {
+        let w = schedule[k] as usize;
+        let number = step(
+            &mut made,
+            &mut held,
+            sums,
+            w,
+            workers,
+            counts,
+            first,
+            target,
+            amount,
+            leaf,
+            &blocks,
+        );
+        if number != 0 {
+            let last = State {
+                made: made,
+                held: held,
+            };
+            return Stepped {
+                state: last,
+                taken: k,
+                number: number,
+            };
+        }
+        if stops[w] <= made[w] {
+            blocks = blocked_groups(groups, count, ends, &made);
+            stops = next_ends(groups, count, ends, &made);
+        }
+        k += 1;
+    }
+    let last = State {
+        made: made,
+        held: held,
+    };
+    Stepped {
+        state: last,
+        taken: k,
+        number: 0,
+    }
 }
