@@ -6,20 +6,22 @@ use mathlib.Core.List.{List}
 use Prim.Native.Nat.{ℕ, _^_, _<_}
 use native.Mathlib.Omega.{arith}
 use lib.Dec.{ltb}
-use lib.IntN.{ℤ}
-use lib.ListN.{length, getD, List·getD-eq-default}
+use lib.IntN.{ℤ, pos}
+use lib.ListN.{length, getD, replicate, length-replicate, List·getD-eq-default}
 use borrow.Author.Tests.{ltb-true, ltb-false}
 use Rattle.base.specs.Refusals as no
 use Rattle.base.specs.Replies.{Reply, accepted, refused, inTurn}
 use Rattle.base.specs.declared.Answer.the-variants.{Accepted, Refused}
+use Rattle.base.proofs.Lists.{getD-zeros}
 use Rattle.matrix.specs.Checks.{matrixOf}
-use Rattle.plan.specs.Sound.{maxWorkers}
+use Rattle.matrix.proofs.Matrix.{matrix-facts}
+use Rattle.plan.specs.Sound.{maxWorkers, maxGroups}
 use Rattle.run.specs.Job.{jobOf}
 use Rattle.run.specs.Calls.{jobChecks}
 use Rattle.run.specs.Record.{stateOf, allBelow, fine, Halves}
-use Rattle.run.specs.Laid.{Laid, Bounded}
-use Rattle.run.specs.UpdateTable.{Given}
-use Rattle.run.specs.Begun.{Begun}
+use Rattle.run.specs.Laid.{maxUpdates, Laid, Bounded}
+use Rattle.run.specs.UpdateTable.{Given, Blank}
+use Rattle.run.specs.Begun.{Zeros, Begun}
 use Rattle.run.specs.declared.state.State.{State}
 use Rattle.run.proofs.JobChecked.{job-given}
 use Rattle.run.proofs.TableWaits.{table-state}
@@ -45,6 +47,31 @@ pub begun-given : {n : ℕ} {starts columns : List ℕ} {values x : List ℤ} {o
     → accepted k ≡ reply n starts columns values x order groups count → Given n starts columns values x order groups count
 begun-given {n} {starts} {columns} {values} {x} {order} {groups} {count} k e =
     let g = job-given (matrixOf n starts columns values) x order groups count k (sym e) in record { accepted = g .0; order-long = g .1; groups-long = g .2 }
+
+-- tables of zeros
+length-zeros : (k : ℕ) → length (replicate {A = ℕ} k 0) ≡ k
+length-zeros k = length-replicate {A = ℕ} k 0
+
+pub zeros : Zeros (replicate maxWorkers 0) (replicate maxWorkers 0) (replicate maxUpdates 0) (replicate maxUpdates (pos 0)) (replicate maxUpdates 0) (replicate maxGroups 0)
+zeros = record {
+  counts-long = length-zeros maxWorkers;
+  first-long = length-zeros maxWorkers;
+  long = record { target-long = length-zeros maxUpdates; amount-long = length-replicate maxUpdates (pos 0); leaf-long = length-zeros maxUpdates };
+  ends-long = length-zeros maxGroups;
+  targets = getD-zeros maxUpdates;
+  leaves = getD-zeros maxUpdates;
+}
+
+-- .. are blank
+pub begun-blank : {n : ℕ} {starts columns : List ℕ} {values x : List ℤ} {order groups : List ℕ} {count : ℕ} {counts first target : List ℕ} {amount : List ℤ} {leaf ends : List ℕ}
+    → Given n starts columns values x order groups count → Zeros counts first target amount leaf ends → Blank n target amount leaf ends
+unfolding jobOf
+begun-blank {n} {starts} {columns} {values} g z = record {
+  long = z .long;
+  ends-long = z .ends-long;
+  target-low = λ k. omega (arith, z .targets k, matrix-facts (matrixOf n starts columns values) (g .accepted .matrix) .some);
+  leaf-low = λ k. omega (arith, z .leaves k);
+}
 
 module _ {n : ℕ} {starts columns : List ℕ} {values x : List ℤ} {order groups : List ℕ} {count : ℕ} {state : State} {size : ℕ}
     {counts first target : List ℕ} {amount : List ℤ} {leaf ends : List ℕ} where

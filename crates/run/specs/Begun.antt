@@ -3,25 +3,35 @@ use mathlib.Core.Path.{_≡_}
 use mathlib.Core.List.{List}
 use Prim.Native.Nat.{ℕ}
 use lib.IntN.{ℤ}
-use lib.ListN.{length}
+use lib.ListN.{length, getD}
 use Rattle.base.specs.Replies.{Reply, accepted, refused, inTurn}
 use Rattle.base.specs.Answers.{replyOf}
 use Rattle.base.specs.declared.Answer.{Answer}
 use Rattle.base.specs.declared.Answer.the-variants.{Accepted}
 use Rattle.matrix.specs.Matrix.{Matrix}
 use Rattle.matrix.specs.Checks.{matrixOf}
+use Rattle.plan.specs.Sound.{maxWorkers, maxGroups}
 use Rattle.run.specs.Job.{jobOf}
 use Rattle.run.specs.Machine as machine
 use Rattle.run.specs.Calls.{jobChecks, stateCheck}
 use Rattle.run.specs.Record.{stateOf}
 use Rattle.run.specs.Laid.{Laid, Bounded}
-use Rattle.run.specs.UpdateTable.{Given}
+use Rattle.run.specs.UpdateTable.{Given, Long}
 use Rattle.run.specs.declared.state.State.{State}
 
 -- 5, 6, 8, 11 in turn
 unfoldable pub beginReply : Matrix → List ℤ → (order groups : List ℕ) (count : ℕ) → machine.State → Reply
 beginReply m x order groups count s =
     inTurn refused (jobChecks m x order groups count) (inTurn refused (stateCheck (jobOf m x order groups count) s) (accepted 0))
+
+-- tables before they are made: zeros
+pub record Zeros (counts first target : List ℕ) (amount : List ℤ) (leaf ends : List ℕ) : Type 0 where
+  pub counts-long : length counts ≡ maxWorkers
+  pub first-long : length first ≡ maxWorkers
+  pub long : Long target amount leaf
+  pub ends-long : length ends ≡ maxGroups
+  pub targets : (k : ℕ) → getD target k 0 ≡ 0
+  pub leaves : (k : ℕ) → getD leaf k 0 ≡ 0
 
 -- the tables are the job's
 pub record Prepared (n : ℕ) (starts columns : List ℕ) (values displacements : List ℤ) (order groups : List ℕ) (count : ℕ) (counts first target : List ℕ) (amount : List ℤ) (leaf ends : List ℕ) : Type 0 where
