@@ -4,3 +4,4 @@ pub mod Products
 pub mod PlanChecks
 pub mod TextWrites
 pub mod TextReads
+pub mod Plans

@@ -1,0 +1,86 @@
+// mzk_plan: the plan of a matrix.
+use crate::lists::load_columns;
+use crate::lists::load_starts;
+use crate::lists::load_values;
+use crate::word::word_of;
+use base::Answer;
+use words::least;
+use words::store::store_u32;
+ghost use Prim.Native.Nat.{_≤_};
+ghost use lib.ListN.{length};
+ghost use Rattle.matrix.specs.Checks.{matrixOf};
+ghost use Rattle.mazhoketh.specs.Bytes.{matrixIn};
+ghost use Rattle.mazhoketh.specs.Lent.{PlanAnswered};
+
+// The matrix is decoded. The plan is made in order and groups, as far as the lent lists have room; then it is stored.
+fn plan_in(
+    n: u32,
+    starts: &[u32],
+    columns: &[u32],
+    values: &[i32],
+    workers: u32,
+    p: u32,
+    order: &mut [u32],
+    groups: &mut [u32],
+    order_bytes: &mut [u8],
+    group_bytes: &mut [u8],
+) -> u64
+    requires { ⌜ (4096 ≤ length (now order)) × (3072 ≤ length (now groups)) ⌝ }
+    ensures { λ r. ⌜ PlanAnswered (matrixOf n (now (starts .entry)) (now (columns .entry)) (now (values .entry))) workers p (now («order_bytes» .entry)) (now («group_bytes» .entry)) r (now («order_bytes» .exit)) (now («group_bytes» .exit)) ⌝ }
+{
+    let order_room = least(order_bytes.len() / 4, order.len());
+    let groups_room = least(group_bytes.len() / 4, groups.len());
+    let answer = planner::plan(
+        n,
+        starts,
+        columns,
+        values,
+        workers,
+        p,
+        &mut order[..order_room],
+        &mut groups[..groups_room],
+    );
+    let Answer::Accepted(count) = answer else {
+        return word_of(answer);
+    };
+    let rows = n as usize;
+    let fields = 6 * (count as usize);
+    store_u32(&order[..rows], order_bytes);
+    store_u32(&groups[..fields], group_bytes);
+    word_of(answer)
+}
+
+#[no_mangle]
+pub extern "C" fn mzk_plan(
+    n: u32,
+    row_starts: &[u8],
+    columns: &[u8],
+    values: &[u8],
+    workers: u32,
+    p: u32,
+    order: &mut [u8],
+    groups: &mut [u8],
+) -> u64
+    ensures { λ r. ⌜ PlanAnswered (matrixIn n (now («row_starts» .entry)) (now (columns .entry)) (now (values .entry))) workers p (now (order .entry)) (now (groups .entry)) r (now (order .exit)) (now (groups .exit)) ⌝ }
+{
+    let mut starts = [0u32; 4097];
+    let starts_len = load_starts(row_starts, &mut starts);
+    let mut column_list = [0u32; 65536];
+    let columns_len = load_columns(columns, &mut column_list);
+    let mut value_list = [0i32; 65536];
+    let values_len = load_values(values, &mut value_list);
+    let mut order_list = [0u32; 4096];
+    let mut group_list = [0u32; 3072];
+    plan_in(
+        n,
+        &starts[..starts_len],
+        &column_list[..columns_len],
+        &value_list[..values_len],
+        workers,
+        p,
+        &mut order_list,
+        &mut group_list,
+        order,
+        groups,
+    )
+}
