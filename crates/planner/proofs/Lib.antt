@@ -1,4 +1,3 @@
-pub mod Extents
 pub mod Tiles
 pub mod Parts
 pub mod Colours
@@ -9,10 +8,6 @@ pub mod Walks
 pub mod Fine
 pub mod Planned
 pub mod PlannedSound
-pub mod Ends
-pub mod FirstEnd
-pub mod NearestEnd
-pub mod PairEnd
 pub mod Weights
 pub mod Stretches
 pub mod LevelLoads

@@ -9,7 +9,8 @@ use lib.Seq.{take-take}
 use Rattle.base.specs.Lists.{concat}
 use Rattle.levels.specs.Rows.{adjOf}
 use Rattle.plan.specs.Groups.{Plan, red, blue}
-use Rattle.planner.specs.Loads.{Extent, load, extent, cut}
+use Rattle.planner.specs.Loads.{load}
+use Rattle.extents.specs.Extents.{Extent, extent, cut}
 use Rattle.planner.specs.Planner as planner
 use Rattle.planner.specs.Planner.{Planner, pairs, planPairs, _then_, planGroup}
 use Rattle.planner.specs.Records.{groupOf}
@@ -18,7 +19,7 @@ use Rattle.planner.specs.declared.records.Group.{Group}
 use Rattle.planner.specs.declared.groups.Parent.{Parent}
 use Rattle.planner.specs.declared.groups.Left.{Left}
 use Rattle.planner.specs.declared.groups.Pair.{Pair}
-use Rattle.planner.proofs.Extents.{Taken}
+use Rattle.extents.proofs.Extents.{Taken}
 use Rattle.planner.proofs.Stretches.{rowsIn, ends-at, rows-split}
 use Rattle.planner.proofs.PairPlans.{extentOf, cutOf, extent-of, taken-most, Bounds, pair-bounds, pairs-next}
 

@@ -8,9 +8,10 @@ use lib.ListN.{length, take, drop, length-map, length-drop, drop-of-length-le}
 use lib.Seq.{length-take-le}
 use Rattle.base.specs.Lists.{concat}
 use Rattle.levels.specs.Levels.{reach}
-use Rattle.planner.specs.Loads.{Extent, load, extent, cut}
+use Rattle.planner.specs.Loads.{load}
+use Rattle.extents.specs.Extents.{Extent, extent, cut}
 use Rattle.planner.specs.Planner.{pairs}
-use Rattle.planner.proofs.Extents.{Taken, extent-taken, cut-levels}
+use Rattle.extents.proofs.Extents.{Taken, extent-taken, cut-levels}
 
 -- a pair takes no more than there is
 pub taken-most : {all free : ℕ} {e : Extent} → Taken all free e → (e .levels ≤ all) × (e .workers ≤ free)

@@ -11,8 +11,8 @@ use Rattle.levels.specs.Group.{Proper}
 use Rattle.levels.specs.Rows.{Rows, adjOf}
 use Rattle.levels.proofs.Members.{proper-short}
 use Rattle.planner.specs.Loads.{weight, load}
-use Rattle.planner.specs.Scans.{maxLoad}
-use Rattle.planner.proofs.Ends.{sum-append}
+use Rattle.extents.specs.Scans.{maxLoad}
+use Rattle.extents.proofs.Ends.{sum-append}
 
 module _ (adj : ℕ → List ℕ) where
   pub load-append : (us vs : List ℕ) → load adj (us ++ vs) ≡ load adj us + load adj vs

@@ -11,7 +11,7 @@ use Rattle.plan.specs.Groups.{Plan, width}
 use Rattle.plan.specs.Sound.{maxWorkers, maxGroups}
 use Rattle.planner.specs.Loads.{load}
 use Rattle.planner.specs.Planner.{pairs, planPairs, planGroup}
-use Rattle.planner.specs.Scans.{Scale}
+use Rattle.extents.specs.Scans.{Scale}
 use Rattle.planner.specs.Stretches.{Levelled}
 use Rattle.planner.specs.Records.{groupOf}
 use Rattle.planner.specs.declared.records.Group.{Group}

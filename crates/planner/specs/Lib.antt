@@ -1,7 +1,6 @@
 pub mod Loads
 pub mod Planner
 pub mod PlannedSound
-pub mod Scans
 pub mod Stretches
 pub mod Records
 pub mod Cycle

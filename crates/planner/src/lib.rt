@@ -10,7 +10,6 @@ use matrix::is_matrix;
 mod groups;
 mod loads;
 mod records;
-mod scans;
 mod whole;
 
 ghost use mathlib.Core.Path.{_≡_};

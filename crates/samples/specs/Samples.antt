@@ -22,7 +22,8 @@ use Rattle.market.specs.Text.{decimal, textOf, columnOf, lower, written, writeR
 use Rattle.plan.specs.Groups.{Group, Plan, fields as groupFields, ofFields, flat, records, planOf}
 use Rattle.plan.specs.Sound.{eachOnce, depthFirst, children, tiled, apart, rowsOf as groupRows, likeApart, childrenSound, allSound, sound, isSound, isPlan, planCheck, checkReply}
 use Rattle.levels.specs.Levels.{near, region, root, isNext, levelsFrom, levels, ownLevels}
-use Rattle.planner.specs.Loads.{weight, load, Extent, endsFrom, best, nearest, off, serves, extentOf, extentFrom, extent, cutAt, cut}
+use Rattle.extents.specs.Extents.{Extent, endsFrom, best, nearest, off, serves, extentOf, extentFrom, extent, cutAt, cut}
+use Rattle.planner.specs.Loads.{weight, load}
 use Rattle.planner.specs.Planner.{nothing, _then_, leaf, pairs, planPairs, splits, split, planGroup, planRows, plan, areParameters, planReply}
 use Rattle.run.specs.Job.{Job, Accepted, rowAt, jobOf}
 use Rattle.run.specs.Tree.{forest, tree, leaves, holds, ownerIn, unfinished, redOpen, blocked}

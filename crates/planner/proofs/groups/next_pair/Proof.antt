@@ -5,8 +5,8 @@ use native.Mathlib.Omega.{arith}
 use borrow.Author.Needs.{needs}
 use lib.ListN.{length}
 use lib.Seq.{length-take-le}
-use Rattle.planner.proofs.Ends.{sum-split}
-use Rattle.planner.proofs.Extents.{extent-taken}
+use Rattle.extents.proofs.Ends.{sum-split}
+use Rattle.extents.proofs.Extents.{extent-taken}
 use Rattle.planner.proofs.PairPlans.{taken-most, Bounds, pair-bounds}
 use Rattle.planner.proofs.groups.next_pair.Statement.{statement}
 use Rattle.planner.proofs.groups.next_pair.Tie as tie

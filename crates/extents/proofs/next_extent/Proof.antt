@@ -4,11 +4,11 @@ use native.Mathlib.Omega.{arith}
 use Prim.Native.Nat.{ℕ}
 use borrow.Author.Needs.{needs}
 use lib.Seq.{length-take-le}
-use Rattle.planner.specs.Loads.{nearest}
-use Rattle.planner.proofs.Ends.{product-few, nearest-few, sum-split}
-use Rattle.planner.proofs.PairEnd.{extent-none, extent-short, extent-full, extent-part}
-use Rattle.planner.proofs.scans.next_extent.Statement.{statement}
-use Rattle.planner.proofs.scans.next_extent.Tie as tie
+use Rattle.extents.specs.Extents.{nearest}
+use Rattle.extents.proofs.Ends.{product-few, nearest-few, sum-split}
+use Rattle.extents.proofs.PairEnd.{extent-none, extent-short, extent-full, extent-part}
+use Rattle.extents.proofs.next_extent.Statement.{statement}
+use Rattle.extents.proofs.next_extent.Tie as tie
 
 first-end-requires : tie.Need-first-end-requires
 first-end-requires c κs = search needs

@@ -3,8 +3,8 @@ ghost use mathlib.Core.Path.{_≡_};
 ghost use Prim.Native.Nat.{_+_, _-_, _*_, _<_, _≤_};
 ghost use lib.ListN.{length};
 ghost use Rattle.base.specs.Lists.{sum, distance, fromFirst};
-ghost use Rattle.planner.specs.Loads.{nearest, serves, extent, cut};
-ghost use Rattle.planner.specs.Scans.{maxLoad, endsOn, nearestEnd, Scale};
+ghost use Rattle.extents.specs.Extents.{nearest, serves, extent, cut};
+ghost use Rattle.extents.specs.Scans.{maxLoad, endsOn, nearestEnd, Scale};
 
 // How many levels and workers a pair takes.
 pub struct Extent {

@@ -6,9 +6,9 @@ use Prim.Native.Nat.{ℕ, _+_, _-_, _≤_, _<_}
 use native.Mathlib.Omega.{arith}
 use lib.ListN.{length, take, drop, getD, drop-of-length-le}
 use Rattle.base.specs.Lists.{sum, fromFirst}
-use Rattle.planner.specs.Loads.{End, endsFrom}
-use Rattle.planner.specs.Scans.{endsOn}
-use Rattle.planner.proofs.Ends.{sum-next, ends-next, ends-after}
+use Rattle.extents.specs.Extents.{End, endsFrom}
+use Rattle.extents.specs.Scans.{endsOn}
+use Rattle.extents.proofs.Ends.{sum-next, ends-next, ends-after}
 
 -- no end of 4 to k levels passes; q is the load of the first k
 pub record Seeking (test : End → Bool) (qs : List ℕ) (k q : ℕ) : Type 0 where

@@ -1,10 +1,10 @@
 -- `serves` meets its contract.
 use native.Mathlib.Omega.{arith}
 use borrow.Author.Needs.{needs}
-use Rattle.planner.specs.Loads.{serves, off}
-use Rattle.planner.proofs.Ends.{product-few, nearest-few, share-few}
-use Rattle.planner.proofs.scans.serves.Statement.{statement}
-use Rattle.planner.proofs.scans.serves.Tie as tie
+use Rattle.extents.specs.Extents.{serves, off}
+use Rattle.extents.proofs.Ends.{product-few, nearest-few, share-few}
+use Rattle.extents.proofs.serves.Statement.{statement}
+use Rattle.extents.proofs.serves.Tie as tie
 
 nearest-requires : tie.Need-nearest-requires
 nearest-requires c κs = search needs

@@ -5,10 +5,10 @@ use native.Mathlib.Omega.{arith}
 use borrow.Author.Needs.{needs}
 use lib.ListN.{length}
 use lib.Seq.{length-take-le}
-use Rattle.planner.proofs.Ends.{sum-split}
-use Rattle.planner.proofs.PairEnd.{cut-is}
-use Rattle.planner.proofs.scans.cut.Statement.{statement}
-use Rattle.planner.proofs.scans.cut.Tie as tie
+use Rattle.extents.proofs.Ends.{sum-split}
+use Rattle.extents.proofs.PairEnd.{cut-is}
+use Rattle.extents.proofs.cut.Statement.{statement}
+use Rattle.extents.proofs.cut.Tie as tie
 
 sub-end : tie.Need-sub-end
 sub-end c = search needs

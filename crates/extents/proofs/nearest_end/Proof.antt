@@ -5,10 +5,10 @@ use native.Mathlib.Omega.{arith}
 use borrow.Author.Needs.{needs}
 use lib.ListN.{length, getD}
 use lib.Seq.{length-take-le}
-use Rattle.planner.proofs.Ends.{product-few, sum-next, sum-split}
-use Rattle.planner.proofs.NearestEnd.{Nearing, nearing-start, nearing-nearer, nearing-further, nearing-past, nearing-end}
-use Rattle.planner.proofs.scans.nearest_end.Statement.{statement}
-use Rattle.planner.proofs.scans.nearest_end.Tie as tie
+use Rattle.extents.proofs.Ends.{product-few, sum-next, sum-split}
+use Rattle.extents.proofs.NearestEnd.{Nearing, nearing-start, nearing-nearer, nearing-further, nearing-past, nearing-end}
+use Rattle.extents.proofs.nearest_end.Statement.{statement}
+use Rattle.extents.proofs.nearest_end.Tie as tie
 
 abbrev Inv-loop : tie.InvT-loop
 Inv-loop loads k x y q₀ best₀ least₀ i₀ q best least i = Nearing loads k x y q best least i

@@ -1,9 +1,9 @@
--- What the scans over loads of levels leave: for the contracts of src/scans.rt. qs are the loads of the levels that are left.
+-- What the scans over loads of levels leave: for the contracts of src/lib.rt. qs are the loads of the levels that are left.
 use mathlib.Core.List.{List, [], _∷_}
 use Prim.Native.Nat.{ℕ, _*_, _-_, _≤_, _<_, _^_}
 use lib.ListN.{drop}
 use Rattle.base.specs.Lists.{distance}
-use Rattle.planner.specs.Loads.{End, endsFrom, best}
+use Rattle.extents.specs.Extents.{End, endsFrom, best}
 
 -- no group has more load: what the scans compute then has at most 32 bits
 abbrev pub maxLoad : ℕ

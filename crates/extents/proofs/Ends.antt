@@ -8,8 +8,8 @@ use native.Mathlib.Omega.{arith}
 use lib.ListN.{length, take, drop, getD, take-append-drop}
 use lib.Seq.{take-suc, drop-cons}
 use Rattle.base.specs.Lists.{sum}
-use Rattle.planner.specs.Loads.{End, endsFrom, nearest}
-use Rattle.planner.specs.Scans.{maxLoad, endsOn}
+use Rattle.extents.specs.Extents.{End, endsFrom, nearest}
+use Rattle.extents.specs.Scans.{maxLoad, endsOn}
 
 -- ---- at most 32 bits
 

@@ -1,10 +1,10 @@
 -- `nearest` meets its contract.
 use borrow.Author.Needs.{needs}
 use native.Mathlib.Omega.{arith}
-use Rattle.planner.specs.Loads.{nearest}
-use Rattle.planner.proofs.Ends.{product-few}
-use Rattle.planner.proofs.scans.nearest.Statement.{statement}
-use Rattle.planner.proofs.scans.nearest.Tie as tie
+use Rattle.extents.specs.Extents.{nearest}
+use Rattle.extents.proofs.Ends.{product-few}
+use Rattle.extents.proofs.nearest.Statement.{statement}
+use Rattle.extents.proofs.nearest.Tie as tie
 
 mul-b : tie.Need-mul-b
 mul-b c = omega (arith, product-few (c .args .q) (c .args .w) (omega arith) (omega arith))

@@ -6,9 +6,9 @@ use borrow.Author.Needs.{needs}
 use lib.ListN.{length, take}
 use lib.Seq.{take-all}
 use Rattle.base.specs.Lists.{sum}
-use Rattle.planner.proofs.Ends.{sum-next, sum-split}
-use Rattle.planner.proofs.scans.total.Statement.{statement}
-use Rattle.planner.proofs.scans.total.Tie as tie
+use Rattle.extents.proofs.Ends.{sum-next, sum-split}
+use Rattle.extents.proofs.total.Statement.{statement}
+use Rattle.extents.proofs.total.Tie as tie
 
 abbrev Inv-loop : tie.InvT-loop
 Inv-loop loads s₀ k₀ s k = (k ≤ length loads) × (s ≡ sum (take k loads))

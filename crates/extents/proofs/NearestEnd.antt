@@ -9,9 +9,9 @@ use lib.Dec.{ltb}
 use lib.ListN.{length, take, drop, getD, drop-of-length-le}
 use borrow.Author.Tests.{lt-ltb, le-ltb}
 use Rattle.base.specs.Lists.{sum, distance}
-use Rattle.planner.specs.Loads.{End, endsFrom, best}
-use Rattle.planner.specs.Scans.{endsOn, nearestEnd}
-use Rattle.planner.proofs.Ends.{endAt, sum-next, ends-next, ends-on}
+use Rattle.extents.specs.Extents.{End, endsFrom, best}
+use Rattle.extents.specs.Scans.{endsOn, nearestEnd}
+use Rattle.extents.proofs.Ends.{endAt, sum-next, ends-next, ends-on}
 
 -- where no later load has a lower score, the best end so far stays the best
 pub best-stays : (score : End → ℕ) (e : End) (i q : ℕ) (qs : List ℕ)

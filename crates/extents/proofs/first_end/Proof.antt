@@ -5,11 +5,11 @@ use native.Mathlib.Omega.{arith}
 use borrow.Author.Needs.{needs}
 use lib.ListN.{length}
 use lib.Seq.{length-take-le}
-use Rattle.planner.specs.Loads.{serves}
-use Rattle.planner.proofs.Ends.{sum-next, sum-split}
-use Rattle.planner.proofs.FirstEnd.{Seeking, seek-start, seek-next, seek-found, seek-none}
-use Rattle.planner.proofs.scans.first_end.Statement.{statement}
-use Rattle.planner.proofs.scans.first_end.Tie as tie
+use Rattle.extents.specs.Extents.{serves}
+use Rattle.extents.proofs.Ends.{sum-next, sum-split}
+use Rattle.extents.proofs.FirstEnd.{Seeking, seek-start, seek-next, seek-found, seek-none}
+use Rattle.extents.proofs.first_end.Statement.{statement}
+use Rattle.extents.proofs.first_end.Tie as tie
 
 abbrev Inv-loop : tie.InvT-loop
 Inv-loop loads w load p k₀ q₀ k q = Seeking (λ e. serves (e .load) w load p) loads k q

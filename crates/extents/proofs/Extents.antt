@@ -12,7 +12,7 @@ use Rattle.base.specs.Lists.{fromFirst, sum, distance}
 use Rattle.base.proofs.Booleans.{or-left-false, or-right-false}
 use Rattle.base.proofs.Each.{Each, each-map}
 use Rattle.levels.specs.Levels.{reach}
-use Rattle.planner.specs.Loads.{End, Extent, endsFrom, best, nearest, off, serves, extentOf, extentFrom, extent, cutAt, cut}
+use Rattle.extents.specs.Extents.{End, Extent, endsFrom, best, nearest, off, serves, extentOf, extentFrom, extent, cutAt, cut}
 
 -- ---- ends
 

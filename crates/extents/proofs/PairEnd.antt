@@ -9,9 +9,9 @@ use lib.ListN.{length, take, drop, drop-of-length-le}
 use lib.Seq.{length-take-le}
 use borrow.Author.Tests.{lt-ltb, le-ltb, le-leb, lt-leb}
 use Rattle.base.specs.Lists.{sum, distance, fromFirst}
-use Rattle.planner.specs.Loads.{End, endsFrom, best, nearest, off, serves, extent, extentFrom, extentOf, cut, cutAt}
-use Rattle.planner.specs.Scans.{endsOn, nearestEnd}
-use Rattle.planner.proofs.Ends.{endAt, sum-split, ends-after, ends-on}
+use Rattle.extents.specs.Extents.{End, endsFrom, best, nearest, off, serves, extent, extentFrom, extentOf, cut, cutAt}
+use Rattle.extents.specs.Scans.{endsOn, nearestEnd}
+use Rattle.extents.proofs.Ends.{endAt, sum-split, ends-after, ends-on}
 
 -- no end has more levels than there are
 ends-none : (k : ℕ) (qs : List ℕ) → length qs < k → endsOn k qs ≡ []

@@ -1,0 +1,5 @@
+pub mod Extents
+pub mod Ends
+pub mod FirstEnd
+pub mod NearestEnd
+pub mod PairEnd
