@@ -2,12 +2,13 @@
 use mathlib.Core.Path.{_≡_}
 use mathlib.Core.Bool.{cond}
 use mathlib.Core.List.{List, [], _∷_, _++_, map}
-use Prim.Native.Nat.{ℕ, _+_, _≤_, _<_}
+use Prim.Native.Nat.{ℕ, _+_, _/_, _%_, _≤_, _<_}
 use lib.Dec.{ltb}
 use lib.IntN.{ℤ}
 use lib.ListN.{length, getD, take, drop}
 use Rattle.base.specs.Lists.{concat}
 use Rattle.matrix.specs.Limits.{maxRows}
+use Rattle.market.specs.Bytes.{digit0}
 use Rattle.market.specs.Parse.{Triplet, triplet}
 use Rattle.market.specs.Text.{entryLine}
 
@@ -16,6 +17,10 @@ pub record Put (xs : List ℕ) (at r : ℕ) (old new : List ℕ) : Type 0 where
   pub next : r ≡ at + length xs
   pub long : length new ≡ length old
   pub text : new ≡ take at old ++ (xs ++ drop (at + length xs) old)
+
+-- the digit of a number at a power of ten, if the number has reached it
+unfoldable pub digitAt : (power v : ℕ) → List ℕ
+digitAt power v = cond (ltb v power) [] ((digit0 + v / power % 10) ∷ [])
 
 -- the entry of row j and column c, mirrored, if c is not before the diagonal
 unfoldable pub ifLower : (j c : ℕ) → ℤ → List Triplet

@@ -9,7 +9,7 @@ ghost use lib.ListN.{length};
 ghost use Rattle.matrix.specs.Limits.{maxRows};
 ghost use Rattle.market.specs.Bytes.{header};
 ghost use Rattle.market.specs.Text.{natural, integer, lineOf};
-ghost use Rattle.writer.specs.Puts.{Put};
+ghost use Rattle.writer.specs.Puts.{Put, digitAt};
 
 // How many digits a number of at most `most` digits has: one, and one for each power of ten from 10 on that it has reached.
 fn width(v: u32, most: usize) -> usize
@@ -37,12 +37,34 @@ pub fn put_byte(text: &mut [u8], at: usize, b: u8) -> usize
     at + 1
 }
 
-// A number's digits, of which the count is given, from the last to the first, and the place after them.
-fn put_digits(text: &mut [u8], at: usize, digits: usize, v: u32) -> usize
-    requires { ⌜ (digits ≡ length (natural v)) × (at + digits ≤ length (now text)) ⌝ }
+// A digit of a number at a power of ten, if the number has reached it, and the place after it.
+fn put_digit(text: &mut [u8], at: usize, v: u32, power: u32) -> usize
+    requires { ⌜ (1 ≤ power) × (at + length (digitAt power v) ≤ length (now text)) ⌝ }
+    ensures { λ r. ⌜ Put (digitAt power v) at r (now (text .entry)) (now (text .exit)) ⌝ }
+{
+    if v < power {
+        return at;
+    }
+    put_byte(text, at, (48 + v / power % 10) as u8)
+}
+
+// A row's or column's number, of at most four digits that do not wait for each other, and the place after it.
+fn put_index(text: &mut [u8], at: usize, v: u32) -> usize
+    requires { ⌜ (v ≤ maxRows) × (at + length (natural v) ≤ length (now text)) ⌝ }
     ensures { λ r. ⌜ Put (natural v) at r (now (text .entry)) (now (text .exit)) ⌝ }
 {
-    let end = at + digits;
+    let hundreds = put_digit(text, at, v, 1000);
+    let tens = put_digit(text, hundreds, v, 100);
+    let ones = put_digit(text, tens, v, 10);
+    put_byte(text, ones, (48 + v % 10) as u8)
+}
+
+// A number's digits from the last to the first, and the place after them.
+pub fn put_number(text: &mut [u8], at: usize, v: u32) -> usize
+    requires { ⌜ at + length (natural v) ≤ length (now text) ⌝ }
+    ensures { λ r. ⌜ Put (natural v) at r (now (text .entry)) (now (text .exit)) ⌝ }
+{
+    let end = at + width(v, 10);
     let mut x = v;
     let mut i = end;
     while 10 <= x {
@@ -53,14 +75,6 @@ fn put_digits(text: &mut [u8], at: usize, digits: usize, v: u32) -> usize
     i = i - 1;
     text[i] = (48 + x) as u8;
     end
-}
-
-// A number, and the place after it.
-pub fn put_number(text: &mut [u8], at: usize, v: u32) -> usize
-    requires { ⌜ at + length (natural v) ≤ length (now text) ⌝ }
-    ensures { λ r. ⌜ Put (natural v) at r (now (text .entry)) (now (text .exit)) ⌝ }
-{
-    put_digits(text, at, width(v, 10), v)
 }
 
 // A value without its sign.
@@ -87,9 +101,8 @@ fn put_integer(text: &mut [u8], at: usize, v: i32) -> usize
     ensures { λ r. ⌜ Put (integer v) at r (now (text .entry)) (now (text .exit)) ⌝ }
 {
     text[at] = b'-';
-    let m = magnitude(v);
     let first = at + (v < 0) as usize;
-    put_digits(text, first, width(m, 10), m)
+    put_number(text, first, magnitude(v))
 }
 
 // How many bytes a line takes.
@@ -105,9 +118,9 @@ pub(crate) fn put_line(text: &mut [u8], at: usize, r: u32, c: u32, v: i32) -> us
     requires { ⌜ (r ≤ maxRows) × (c ≤ maxRows) × (at + length (lineOf r c v) ≤ length (now text)) ⌝ }
     ensures { λ k. ⌜ Put (lineOf r c v) at k (now (text .entry)) (now (text .exit)) ⌝ }
 {
-    let row = put_digits(text, at, width(r, 4), r);
+    let row = put_index(text, at, r);
     let space = put_byte(text, row, b' ');
-    let column = put_digits(text, space, width(c, 4), c);
+    let column = put_index(text, space, c);
     let gap = put_byte(text, column, b' ');
     let value = put_integer(text, gap, v);
     put_byte(text, value, b'\n')

@@ -14,36 +14,32 @@ use Rattle.writer.proofs.puts.put_integer.Statement.{statement}
 use Rattle.writer.proofs.puts.put_integer.Tie as tie
 
 -- the digits are those of the value's magnitude
-size : (c : tie.After-magnitude) → c .magnitude .result ≡ natAbs (c .before .before .args .v)
-size c = simp (toZ-ofZ (c .before .before .fits .v)) at (c .magnitude .ensures)
+size : (c : tie.After-magnitude) → c .magnitude .result ≡ natAbs (c .before .before .before .args .v)
+size c = simp (toZ-ofZ (c .before .before .before .fits .v)) at (c .magnitude .ensures)
 
 -- the value is put
-whole : (c : tie.After-put-digits) → let s = c .before .before .before .before .before in Put (integer (s .args .v)) (s .args .at) (c .put-digits .result) (s .args .text .now) (c .put-digits .last .0)
+whole : (c : tie.After-put-number) → let s = c .before .before .before .before in Put (integer (s .args .v)) (s .args .at) (c .put-number .result) (s .args .text .now) (c .put-number .last .0)
 whole c =
-    let m = c .before .before .before in
-    let s = m .before .before in
-    put-value (s .args .v) (s .pre) (simp (toZ-ofZ (s .fits .v), size m) at (c .put-digits .ensures))
+    let m = c .before in
+    let s = m .before .before .before in
+    put-value (s .args .v) (s .pre) (simp (toZ-ofZ (s .fits .v), size m) at (c .put-number .ensures))
 
 slice-write-text : tie.Need-slice-write-text
 slice-write-text c = let s = c .before in omega (arith, s .pre, length-integer (s .args .v), decimal-some 9 (natAbs (s .args .v)))
-
-magnitude-requires : tie.Need-magnitude-requires
-magnitude-requires c κs = search needs
 
 cast-first : tie.Need-cast-first
 cast-first c = search needs
 
 add-first : tie.Need-add-first
-add-first c = let s = c .before .before in simp (toZ-ofZ (s .fits .v)) (omega (arith, s .pre, length-integer (s .args .v)))
+add-first c = let s = c .before in simp (toZ-ofZ (s .fits .v)) (omega (arith, s .pre, length-integer (s .args .v)))
 
-width-requires : tie.Need-width-requires
-width-requires c κs = search needs
+magnitude-requires : tie.Need-magnitude-requires
+magnitude-requires c κs = search needs
 
-put-digits-requires : tie.Need-put-digits-requires
-put-digits-requires c κs =
-    let m = c .before .before in
-    let s = m .before .before in
-    (c .width .ensures, simp (toZ-ofZ (s .fits .v), length-set) (omega (arith, s .pre, length-integer (s .args .v), c .width .ensures, ap (λ (k : ℕ). length (natural k)) (size m))))
+put-number-requires : tie.Need-put-number-requires
+put-number-requires c κs =
+    let s = c .before .before .before in
+    simp (toZ-ofZ (s .fits .v), length-set) (omega (arith, s .pre, length-integer (s .args .v), ap (λ (k : ℕ). length (natural k)) (size c)))
 
 same-length : tie.Need-same-length
 same-length c = whole (c .before .before) .long
@@ -56,10 +52,9 @@ put-integer-spec =
     tie.close
     (tie.spec
     slice-write-text
-    magnitude-requires
     cast-first
     add-first
-    width-requires
-    put-digits-requires
+    magnitude-requires
+    put-number-requires
     same-length
     returns)

@@ -1,4 +1,4 @@
--- `put_digits` meets its contract: each turn puts the last digit that is left.
+-- `put_number` meets its contract: each turn puts the last digit that is left.
 use borrow.Author.Needs.{needs}
 use mathlib.Core.Path.{_≡_}
 use Prim.Native.Nat.{_+_}
@@ -7,22 +7,26 @@ use lib.ListN.{length}
 use Rattle.market.specs.Text.{natural}
 use Rattle.writer.proofs.puts.Digits.{length-digit, length-digits}
 use Rattle.writer.proofs.puts.Spelling.{Spelling, spelling-start, spelling-more, spelling-last}
-use Rattle.writer.proofs.puts.put_digits.Statement.{statement}
-use Rattle.writer.proofs.puts.put_digits.Tie as tie
+use Rattle.writer.proofs.puts.put_number.Statement.{statement}
+use Rattle.writer.proofs.puts.put_number.Tie as tie
 
 abbrev Inv-loop : tie.InvT-loop
-Inv-loop text₀ at digits v end x₀ i₀ text x i = Spelling v at text₀ text x i × (end ≡ at + length (natural v))
+Inv-loop text₀ at v end x₀ i₀ text x i = Spelling v at text₀ text x i × (end ≡ at + length (natural v))
 
 abbrev μ-loop : tie.MeasureT-loop
-μ-loop text₀ at digits v end x₀ i₀ text x i = x
+μ-loop text₀ at v end x₀ i₀ text x i = x
+
+width-requires : tie.Need-width-requires Inv-loop μ-loop
+width-requires c κs = search needs
 
 add-end : tie.Need-add-end Inv-loop μ-loop
-add-end c = search needs
+add-end c = omega (arith, c .before .before .pre, c .width .ensures)
 
 loop-holds : tie.Need-loop-holds Inv-loop μ-loop
 loop-holds c =
-    let e : c .args .at + c .args .digits ≡ c .args .at + length (natural (c .args .v)) = omega (arith, c .pre .0) in
-    (spelling-start (c .args .v) (c .args .at) (c .args .text .now) (search needs) (omega (arith, c .pre .1)) e, e)
+    let s = c .before .before in
+    let e : s .args .at + c .width .result ≡ s .args .at + length (natural (s .args .v)) = omega (arith, c .width .ensures) in
+    (spelling-start (s .args .v) (s .args .at) (s .args .text .now) (search needs) (s .pre) e, e)
 
 sub-i : tie.Need-sub-i Inv-loop μ-loop
 sub-i c = let g = c .before .loop .inv .0 in omega (arith, g .here, length-digits (c .before .loop .x) (c .loop-test .taken) (g .small))
@@ -60,12 +64,13 @@ same-length c = let l = c .before in spelling-last (l .loop .inv .0) (c .loop-te
 returns : tie.Need-returns Inv-loop μ-loop
 returns c = let l = c .before in spelling-last (l .loop .inv .0) (c .loop-test .left) (l .loop .inv .1)
 
-pub put-digits-spec : {M : Type 1} → statement M
-put-digits-spec =
+pub put-number-spec : {M : Type 1} → statement M
+put-number-spec =
     tie.close
     (tie.spec
     Inv-loop
     μ-loop
+    width-requires
     add-end
     loop-holds
     sub-i
