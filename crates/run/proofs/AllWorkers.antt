@@ -5,15 +5,16 @@ use mathlib.Core.List.{List, [], _++_, append-nil}
 use Prim.Native.Nat.{ℕ, zero, suc, _+_, _-_, _*_, _≤_, _<_}
 use native.Mathlib.Omega.{arith}
 use native.Mathlib.Numerals.{add-one}
-use lib.IntN.{ℤ}
-use lib.ListN.{length, getD, set, take, length-append, length-set, List·getD-append}
+use lib.IntN.{ℤ, pos}
+use lib.ListN.{length, getD, set, take, replicate, length-append, length-set, List·getD-append}
 use lib.Seq.{getD-set-same, getD-set-other, getD-append-add}
 use Rattle.base.proofs.Booleans.{same-or}
+use Rattle.base.proofs.Lists.{getD-zeros}
 use Rattle.matrix.specs.Limits.{maxRows, maxEntries}
 use Rattle.matrix.specs.Checks.{matrixOf}
 use Rattle.matrix.proofs.Matrix.{matrix-facts}
 use Rattle.plan.specs.Groups.{planOf}
-use Rattle.plan.specs.Sound.{maxWorkers}
+use Rattle.plan.specs.Sound.{maxWorkers, maxGroups}
 use Rattle.plan.proofs.FlatRecords.{length-records}
 use Rattle.run.specs.Job.{Job, jobOf}
 use Rattle.run.specs.Updates.{Update, upTo, updates, noUpdate}
@@ -66,6 +67,16 @@ module _ {n : ℕ} {starts columns : List ℕ} {values x : List ℤ} {order grou
   rows-of t = record { lent = lent-of; displaced = g .accepted .displacements; later = t }
 
   -- ---- worker by worker
+
+  -- tables of zeros
+  pub blank-zeros : Blank n (replicate maxUpdates 0) (replicate maxUpdates (pos 0)) (replicate maxUpdates 0) (replicate maxGroups 0)
+  unfolding jobOf
+  blank-zeros = record {
+    long = record { target-long = refl; amount-long = refl; leaf-long = refl };
+    ends-long = refl;
+    target-low = λ k. omega (arith, getD-zeros maxUpdates k, matrix-facts (j .matrix) (g .accepted .matrix) .some);
+    leaf-low = λ k. omega (arith, getD-zeros maxUpdates k);
+  }
 
   -- nothing is listed
   pub walked-none : {target : List ℕ} {amount : List ℤ} {leaf ends : List ℕ} → Blank n target amount leaf ends → Walked j 0 0 0 0 target amount leaf ends
