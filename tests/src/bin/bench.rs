@@ -12,7 +12,7 @@ use mazhoketh_tests::lists::{bytes, MatrixLists, PlanLists};
 use mazhoketh_tests::oracle::matrix::Matrix;
 use mazhoketh_tests::oracle::nets::{self, Roof};
 use mazhoketh_tests::oracle::prng::Prng;
-use mazhoketh_tests::oracle::{calls, planner};
+use mazhoketh_tests::oracle::{calls, planner, text};
 use mazhoketh_tests::{files, library};
 
 /// A call is timed at least so long, and in so many rounds.
@@ -21,6 +21,7 @@ const ROUNDS: usize = 5;
 
 /// What calls read: the lists of a net, and of its plan for 16 workers.
 struct Given {
+    text: Vec<u8>,
     n: u32,
     row_starts: Vec<u8>,
     columns: Vec<u8>,
@@ -37,6 +38,7 @@ impl Given {
         let plan = planner::plan(matrix.rows(), 16, 60);
         let movements = vec![-999_999; matrix.n as usize];
         Given {
+            text: text::write(matrix),
             n: matrix.n,
             row_starts: bytes(&matrix.starts, u32::to_le_bytes),
             columns: bytes(&matrix.columns, u32::to_le_bytes),
@@ -68,41 +70,79 @@ impl Given {
     }
 }
 
+/// What calls write.
+struct Lent {
+    text: Vec<u8>,
+    row_starts: Vec<u8>,
+    columns: Vec<u8>,
+    values: Vec<u8>,
+    order: Vec<u8>,
+    groups: Vec<u8>,
+    forces: Vec<u8>,
+}
+
+impl Lent {
+    /// Lists of the lengths needed.
+    fn new(given: &Given) -> Lent {
+        Lent {
+            text: given.text.clone(),
+            row_starts: given.row_starts.clone(),
+            columns: given.columns.clone(),
+            values: given.values.clone(),
+            order: given.order.clone(),
+            groups: given.groups.clone(),
+            forces: vec![0; 8 * given.n as usize],
+        }
+    }
+}
+
 /// A list that a call writes.
 type Out<'a> = &'a mut [u8];
 
 /// The calls of an implementation.
 struct Implementation {
+    read: fn(&[u8], Out, Out, Out) -> u64,
+    write: fn(MatrixLists, Out) -> u64,
     product: fn(MatrixLists, &[u8], Out) -> u64,
+    plan: fn(MatrixLists, u32, u32, Out, Out) -> u64,
     check: fn(MatrixLists, PlanLists) -> u64,
 }
 
 const LIBRARY: Implementation = Implementation {
+    read: library::read,
+    write: library::write,
     product: library::product,
+    plan: library::plan,
     check: library::check,
 };
 
 const RUST: Implementation = Implementation {
+    read: calls::read,
+    write: calls::write,
     product: calls::product,
+    plan: calls::plan,
     check: calls::check,
 };
 
 /// A call that is timed.
-type Work = fn(&Implementation, &Given, Out) -> u64;
+type Work = fn(&Implementation, &Given, &mut Lent) -> u64;
 
 /// All that is timed, by name.
 #[rustfmt::skip]
-const WORKS: [(&str, Work); 2] = [
-    ("product", |by, given, forces| (by.product)(given.matrix(), &given.movements, forces)),
+const WORKS: [(&str, Work); 5] = [
+    ("read", |by, given, lent| (by.read)(&given.text, &mut lent.row_starts, &mut lent.columns, &mut lent.values)),
+    ("write", |by, given, lent| (by.write)(given.matrix(), &mut lent.text)),
+    ("product", |by, given, lent| (by.product)(given.matrix(), &given.movements, &mut lent.forces)),
+    ("plan", |by, given, lent| (by.plan)(given.matrix(), 16, 60, &mut lent.order, &mut lent.groups)),
     ("check", |by, given, _| (by.check)(given.matrix(), given.plan())),
 ];
 
 /// The least times of a work, in µs: by the library and by the other implementation, timed in turn.
 fn least_times(work: Work, given: &Given) -> [f64; 2] {
-    let mut forces = vec![0; 8 * given.n as usize];
+    let mut lent = Lent::new(given);
     let (ours, theirs) = (
-        work(&LIBRARY, given, &mut forces),
-        work(&RUST, given, &mut forces),
+        work(&LIBRARY, given, &mut lent),
+        work(&RUST, given, &mut lent),
     );
     assert_eq!(ours, theirs, "the answer words");
     let mut least = [f64::MAX; 2];
@@ -111,7 +151,7 @@ fn least_times(work: Work, given: &Given) -> [f64; 2] {
     while rounds < ROUNDS || start.elapsed() < TIME {
         for (least, by) in least.iter_mut().zip([&LIBRARY, &RUST]) {
             let start = Instant::now();
-            black_box(work(by, black_box(given), &mut forces));
+            black_box(work(by, black_box(given), &mut lent));
             *least = least.min(start.elapsed().as_secs_f64() * 1e6);
         }
         rounds += 1;
