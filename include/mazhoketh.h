@@ -9,7 +9,8 @@
  * refusal's place, or the accepted call's count, 0 where none is named. On a refusal nothing is written.
  *
  * The lists belong to the caller; nothing is kept between calls, and calls may run at the same time on different
- * lists. A call uses up to 0.7 MiB of stack, mzk_read up to 2.3 MiB. */
+ * lists. A list that is written overlaps no other list of the call, and no pointer is null, also of an empty list.
+ * A call uses up to 0.6 MiB of stack, mzk_plan up to 1 MiB and mzk_read up to 2.2 MiB. */
 #ifndef MAZHOKETH_H
 #define MAZHOKETH_H
 
