@@ -45,9 +45,9 @@ uint64_t mzk_product(uint32_t n,
                      const uint8_t *movements, size_t movements_bytes,
                      uint8_t *forces, size_t forces_bytes);
 
-/* The plan of a matrix for workers, 1 to 16, and a share p of 50 to 99 per cent: n rows into order, and for each group
- * a record of six numbers into groups (start, length, first worker, workers, colour, parent); returns the number of
- * groups. At most 4,096 and 6 x 481 numbers are written.
+/* The plan of a matrix for workers, 1 to 16, and p, 50 to 99: n rows into order, and for each group a record of six
+ * numbers into groups (start, length, first worker, workers, colour, parent); returns the number of groups.
+ * At most 4,096 and 6 x 481 numbers are written.
  * Refused: 5 no matrix; 7 workers or p outside the limits; 9 order too short (n), or groups (the records needed). */
 uint64_t mzk_plan(uint32_t n,
                   const uint8_t *row_starts, size_t row_starts_bytes,
