@@ -51,7 +51,8 @@ recorded adj n order (suc c) groups ok l = record {
 
 -- ---- a job with these groups
 
-eqb-bit : (b : Bool) → eqb (bit b) 1 ≡ b
+-- a test as a number, and back
+pub eqb-bit : (b : Bool) → eqb (bit b) 1 ≡ b
 eqb-bit true = refl
 eqb-bit false = refl
 

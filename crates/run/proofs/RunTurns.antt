@@ -10,8 +10,7 @@ use lib.Dec.{eqb, leb, ltb}
 use lib.IntN.{ℤ, pos, _+ℤ_}
 use lib.ListN.{length, getD, set, length-set}
 use lib.Seq.{getD-set-same, getD-set-other}
-use borrow.Author.Tests.{le-leb, lt-leb, ltb-true, ltb-false, leb-true, leb-false, le-ltb, lt-ltb}
-use Rattle.base.specs.Lists.{bit}
+use borrow.Author.Tests.{le-leb, lt-leb, ltb-true, ltb-false, leb-true, leb-false}
 use Rattle.base.specs.Integers.{fits64}
 use Rattle.base.proofs.Booleans.{same-or}
 use Rattle.plan.specs.Sound.{maxWorkers}
@@ -19,14 +18,14 @@ use Rattle.plan.specs.Groups.{records}
 use Rattle.plan.specs.Checks.{recordAt}
 use Rattle.run.specs.Job.{Job, Accepted}
 use Rattle.run.specs.Updates.{Update, count, accesses, updates, next, waits}
-use Rattle.run.specs.Machine.{State, workers, reason, refusal, Outcome, moved, halted, onward, load, store, total, access, move, stepIf, step, Stepped, steps}
+use Rattle.run.specs.Machine.{State, workers, reason, refusal, moved, onward, load, store, total, access, move, stepIf, step, Stepped, steps}
 use Rattle.run.specs.Laid.{Laid, Waits}
 use Rattle.run.specs.Waits.{Recorded, Blocks, Ahead}
 use Rattle.run.specs.Steps.{placeAt, reasonAt, laidUpdate, outcomeOf, StepMade}
 use Rattle.run.proofs.Able.{in-order}
 use Rattle.run.proofs.TableWaits.{table-accesses, table-waits}
 use Rattle.run.proofs.TableSteps.{reason-none}
-use Rattle.run.proofs.BlockedLeaves.{waits-of}
+use Rattle.run.proofs.BlockedLeaves.{eqb-bit, waits-of}
 use Rattle.run.proofs.ScheduleLoop.{Left, left-start, left-step, left-halt, left-none}
 
 -- ---- the step that is taken
@@ -63,10 +62,6 @@ module _ (s : State) (w : ℕ) (u : Update) where
       go false false = refl
 
 -- ---- it is the machine's
-
-eqb-bit : (b : Bool) → eqb (bit b) 1 ≡ b
-eqb-bit true = refl
-eqb-bit false = refl
 
 module _ (j : Job) (counts first target : List ℕ) (amount : List ℤ) (leaf ends : List ℕ) (laid : Laid j counts first target amount leaf ends) where
   pub table-step : (crew : ℕ) → crew ≡ workers j → crew ≤ maxWorkers → (s : State) (blocks : List ℕ) → Waits j (s .made) blocks → (w : ℕ)

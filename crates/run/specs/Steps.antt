@@ -35,7 +35,7 @@ pub record Inside (counts first leaf : List ℕ) : Type 0 where
   pub leaf-low : (k : ℕ) → k < maxUpdates → getD leaf k 0 < maxGroups
 
 -- .. and every target is one of n sums
-pub record Tabled (n : ℕ) (counts first target leaf : List ℕ) : Type 0 where
+pub record StepTables (n : ℕ) (counts first target leaf : List ℕ) : Type 0 where
   pub inside : Inside counts first leaf
   pub target-low : (k : ℕ) → k < maxUpdates → getD target k 0 < n
 

@@ -16,10 +16,10 @@ ghost use Rattle.plan.specs.Groups.{records};
 ghost use Rattle.run.specs.Job.{Job, Accepted};
 ghost use Rattle.run.specs.Machine as machine;
 ghost use Rattle.run.specs.Record.{stateOf};
-ghost use Rattle.run.specs.Laid.{Laid};
+ghost use Rattle.run.specs.Laid.{Laid, Bounded};
 ghost use Rattle.run.specs.Waits.{Recorded};
-ghost use Rattle.run.specs.Steps.{stateWith, reasonAt, laidUpdate, Inside, Tabled, StepMade};
-ghost use Rattle.run.specs.Stepped.{steppedOf};
+ghost use Rattle.run.specs.Steps.{stateWith, reasonAt, laidUpdate, Inside, StepTables, StepMade};
+ghost use Rattle.run.specs.Stepped.{endedWith, steppedOf};
 
 // Why a step of worker w is refused by the counts: 10, 12, 13, or 0 if it is not.
 fn refusal(
@@ -60,7 +60,7 @@ fn step(
     leaf: &[u16; 69632],
     blocks: &[u8; 512],
 ) -> u32
-    requires { ⌜ (workers ≤ maxWorkers) × Tabled (length (now sums)) (now counts) (now first) (now target) (now leaf) ⌝ }
+    requires { ⌜ (workers ≤ maxWorkers) × StepTables (length (now sums)) (now counts) (now first) (now target) (now leaf) ⌝ }
     ensures { λ r. ⌜ StepMade (reasonAt workers (now (counts .entry)) (now (first .entry)) (now (leaf .entry)) (now (blocks .entry)) (now (made .entry)) w)
         (stateWith (now (made .entry)) (now (held .entry)) (now (sums .entry))) w (laidUpdate (now (first .entry)) (now (target .entry)) (now (amount .entry)) (now (made .entry)) w)
         r (stateWith (now (made .exit)) (now (held .exit)) (now (sums .exit))) ⌝ }
@@ -92,6 +92,21 @@ pub struct Stepped {
     pub number: u32,
 }
 
+// The state of these counts and held numbers, beside what else a schedule comes to.
+fn ended(made: [u32; 16], held: [i64; 16], taken: usize, number: u32) -> Stepped
+    ensures { λ r. ⌜ r ≡ endedWith made held taken number ⌝ }
+{
+    let state = State {
+        made: made,
+        held: held,
+    };
+    Stepped {
+        state: state,
+        taken: taken,
+        number: number,
+    }
+}
+
 // The steps of a schedule, up to the first that is refused.
 pub(crate) fn run(
     state: State,
@@ -107,7 +122,7 @@ pub(crate) fn run(
     leaf: &[u16; 69632],
     ends: &[u32; 512],
 ) -> Stepped
-    requires { ⌜ (workers ≤ maxWorkers) × Recorded count (now groups) × Tabled (length (now sums)) (now counts) (now first) (now target) (now leaf) ⌝ }
+    requires { ⌜ (workers ≤ maxWorkers) × Recorded count (now groups) × Bounded (length (now sums)) (now counts) (now first) (now target) (now amount) (now leaf) (now ends) ⌝ }
     ensures { λ r. ⌜ ((j : Job) → Accepted j → workers ≡ machine.workers j → j .plan .groups ≡ records count (now (groups .entry))
         → Laid j (now (counts .entry)) (now (first .entry)) (now (target .entry)) (now (amount .entry)) (now (leaf .entry)) (now (ends .entry))
         → steppedOf r (now (sums .exit)) ≡ machine.steps j (stateOf state (now (sums .entry))) (now (schedule .entry))) ⌝ }
@@ -133,15 +148,7 @@ pub(crate) fn run(
             &blocks,
         );
         if number != 0 {
-            let last = State {
-                made: made,
-                held: held,
-            };
-            return Stepped {
-                state: last,
-                taken: k,
-                number: number,
-            };
+            return ended(made, held, k, number);
         }
         if stops[w] <= made[w] {
             blocks = blocked_groups(groups, count, ends, &made);
@@ -149,13 +156,5 @@ pub(crate) fn run(
         }
         k += 1;
     }
-    let last = State {
-        made: made,
-        held: held,
-    };
-    Stepped {
-        state: last,
-        taken: k,
-        number: 0,
-    }
+    ended(made, held, k, 0)
 }

@@ -1,11 +1,11 @@
 -- `steps::run` meets its contract: k steps are taken.
-use mathlib.Core.Path.{_≡_, refl, sym, _∙_, subst}
+use mathlib.Core.Path.{_≡_, refl, _∙_}
 use mathlib.Core.Logic.{⊎-elim}
-use Prim.Native.Nat.{ℕ, _-_, _≤_, _<_}
+use Prim.Native.Nat.{_-_, _≤_, _<_}
 use native.Mathlib.Omega.{arith}
 use lib.ListN.{length, getD}
 use borrow.Author.Needs.{needs}
-use Rattle.run.specs.Steps.{stateWith, Tabled}
+use Rattle.run.specs.Steps.{stateWith}
 use Rattle.run.proofs.RunTurns.{Running, running-start, running-none, running-halt, running-worker, running-renewed, running-on}
 use Rattle.run.proofs.steps.run.Statement.{statement}
 use Rattle.run.proofs.steps.run.Tie as tie
@@ -18,6 +18,10 @@ Inv-loop sums₀ schedule workers groups count counts first target amount leaf e
 abbrev μ-loop : tie.MeasureT-loop
 μ-loop sums₀ schedule workers groups count counts first target amount leaf ends made₀ held₀ blocks₀ stops₀ k₀ sums made held blocks stops k =
     length schedule - k
+
+-- from a turn back to the function's entry
+abbrev entry : tie.In-loop Inv-loop μ-loop → tie.Start Inv-loop μ-loop
+entry t = t .before .before .before .before .before .before .before .before .before .before
 
 blocked-groups-requires : tie.Need-blocked-groups-requires Inv-loop μ-loop
 blocked-groups-requires c κs = search needs
@@ -36,26 +40,31 @@ cast-w c = omega (arith, c .shared-slice-known3 .given (c .before .before .loop 
 
 step-requires : tie.Need-step-requires Inv-loop μ-loop
 step-requires c κs =
-    let l = c .before .before .before .before .before .before in
-    let s = c .before .before .before .before .before .before .before .before .before .before .before .before .before .before .before in
-    (s .pre .0, subst (λ (n : ℕ). Tabled n (s .args .counts .now) (s .args .first .now) (s .args .target .now) (s .args .leaf .now)) (sym (l .loop .inv .1)) (s .pre .2))
+    let t = c .before .before .before .before .before in
+    let l = t .before in
+    let s = entry t in
+    let b = s .pre .2 in
+    (s .pre .0, record { inside = record { few = b .inside; leaf-low = b .leaf-low }; target-low = λ k low. rw (l .loop .inv .1) (b .target-low k low) })
+
+ended-requires : tie.Need-ended-requires Inv-loop μ-loop
+ended-requires c κs = search needs
 
 same-length : tie.Need-same-length Inv-loop μ-loop
 same-length c = search needs
 
 returns : tie.Need-returns Inv-loop μ-loop
 returns c =
-    let x = c .before .before in
+    let x = c .before .before .before in
     let t = x .before .before .before .before .before .before in
-    let s = x .before .before .before .before .before .before .before .before .before .before .before .before .before .before .before .before in
-    running-halt _ _ _ _ _ _ _ _ _ _ _ (t .before .loop .inv .2) (s .pre .0) (s .pre .1) (t .loop-test .taken) (x .step .ensures) (c .if1 .taken)
+    let s = entry t in
+    rw (c .ended .ensures) (running-halt _ _ _ _ _ _ _ _ _ _ _ (t .before .loop .inv .2) (s .pre .0) (s .pre .1) (t .loop-test .taken) (x .step .ensures) (c .before .if1 .taken))
 
 -- a step that is taken is of a worker of the plan
-worker : (c : tie.Else1 Inv-loop μ-loop) → let t = c .before .before .before .before .before .before .before .before in getD (t .before .before .before .before .before .before .before .before .before .before .args .schedule .now) (t .before .loop .k) 0 < 16
+worker : (c : tie.Else1 Inv-loop μ-loop) → let t = c .before .before .before .before .before .before .before .before in getD (entry t .args .schedule .now) (t .before .loop .k) 0 < 16
 worker c =
     let x = c .before .before in
     let t = x .before .before .before .before .before .before in
-    let s = x .before .before .before .before .before .before .before .before .before .before .before .before .before .before .before .before in
+    let s = entry t in
     omega (arith, running-worker _ _ _ _ _ _ _ _ _ _ _ (t .before .loop .inv .2) (s .pre .0) (s .pre .1) (t .loop-test .taken) (x .step .ensures) (search needs) .0, s .pre .0)
 
 mul-if2 : tie.Need-mul-if2 Inv-loop μ-loop
@@ -74,10 +83,10 @@ blocked-groups-requires-2 : tie.Need-blocked-groups-requires-2 Inv-loop μ-loop
 blocked-groups-requires-2 c κs = search needs
 
 next-ends-requires-2 : tie.Need-next-ends-requires-2 Inv-loop μ-loop
-next-ends-requires-2 c κs = c .before .before .before .before .before .before .before .before .before .before .before .before .before .before .before .before .before .before .before .before .before .before .pre .1
+next-ends-requires-2 c κs = entry (c .before .before .before .before .before .before .before .before .before .before .before .before) .pre .1
 
 add-k : tie.Need-add-k Inv-loop μ-loop
-add-k c = omega (arith, c .before .before .before .before .before .before .before .before .before .loop-test .taken, c .before .before .before .before .before .before .before .before .before .before .before .before .before .before .before .before .before .before .before .good .1 .1 .0 .0)
+add-k c = let t = c .before .before .before .before .before .before .before .before .before in omega (arith, t .loop-test .taken, entry t .good .1 .1 .0 .0)
 
 loop-less : tie.Need-loop-less Inv-loop μ-loop
 loop-less c = search needs
@@ -87,7 +96,7 @@ loop-again c =
     let x = c .before .before .before in
     let t = x .before .before .before .before .before .before in
     let l = t .before in
-    let s = x .before .before .before .before .before .before .before .before .before .before .before .before .before .before .before .before in
+    let s = entry t in
     let none : x .step .result ≡ 0 = search needs in
     let low = worker (c .before) in (
       omega (arith, t .loop-test .taken),
@@ -98,13 +107,14 @@ loop-again c =
           (c .if2 .came),
     )
 
+ended-requires-2 : tie.Need-ended-requires-2 Inv-loop μ-loop
+ended-requires-2 c κs = search needs
+
 same-length-2 : tie.Need-same-length-2 Inv-loop μ-loop
 same-length-2 c = search needs
 
 returns-2 : tie.Need-returns-2 Inv-loop μ-loop
-returns-2 c =
-    let l = c .before in
-    running-none _ _ _ _ _ _ _ _ _ _ _ (l .loop .inv .2) (search needs)
+returns-2 c = rw (c .ended2 .ensures) (running-none _ _ _ _ _ _ _ _ _ _ _ (c .before .before .loop .inv .2) (search needs))
 
 pub run-spec : {M : Type 1} → statement M
 run-spec =
@@ -118,6 +128,7 @@ run-spec =
     shared-slice-read-w
     cast-w
     step-requires
+    ended-requires
     same-length
     returns
     mul-if2
@@ -129,5 +140,6 @@ run-spec =
     add-k
     loop-less
     loop-again
+    ended-requires-2
     same-length-2
     returns-2)
