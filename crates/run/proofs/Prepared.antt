@@ -16,6 +16,7 @@ use Rattle.run.specs.Machine.{workersOf, workers, over}
 use Rattle.run.specs.Record.{allBelow, done}
 use Rattle.run.specs.Laid.{Waits}
 use Rattle.run.specs.Waits.{Recorded, Blocks}
+use Rattle.run.specs.Steps.{Tabled}
 use Rattle.run.specs.UpdateTable.{Given}
 use Rattle.run.specs.Begun.{Prepared}
 use Rattle.run.proofs.Accepted.{facts}
@@ -67,3 +68,10 @@ module _ {n : ℕ} {starts columns : List ℕ} {values x : List ℤ} {order grou
         let m : Matrix = matrixOf n starts columns values in
         let j : Job = jobOf m x order groups count in
         waits-of j (p .given .accepted) count groups (job-groups m x order groups count) counts first target amount leaf ends (p .laid) made blocks b (given-recorded (p .given))
+
+    -- the tables as the steps need them, with n sums
+    pub prepared-tabled : {k : ℕ} → k ≡ n → Prepared n starts columns values x order groups count counts first target amount leaf ends → Tabled k counts first target leaf
+    prepared-tabled e p = record {
+      inside = record { few = p .bounded .inside; leaf-low = p .bounded .leaf-low };
+      target-low = λ i l. omega (arith, p .bounded .target-low i l);
+    }
