@@ -45,8 +45,7 @@ reply n starts columns values x order groups count = inTurn refused (jobChecks (
 -- lists that pass hold an accepted job
 pub begun-given : {n : ℕ} {starts columns : List ℕ} {values x : List ℤ} {order groups : List ℕ} {count : ℕ} (k : ℕ)
     → accepted k ≡ reply n starts columns values x order groups count → Given n starts columns values x order groups count
-begun-given {n} {starts} {columns} {values} {x} {order} {groups} {count} k e =
-    let g = job-given (matrixOf n starts columns values) x order groups count k (sym e) in record { accepted = g .0; order-long = g .1; groups-long = g .2 }
+begun-given {n} {starts} {columns} {values} {x} {order} {groups} {count} k e = job-given (matrixOf n starts columns values) x order groups count k (sym e)
 
 -- tables of zeros
 length-zeros : (k : ℕ) → length (replicate {A = ℕ} k 0) ≡ k

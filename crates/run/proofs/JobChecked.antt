@@ -2,7 +2,7 @@
 use mathlib.Core.Path.{_≡_, sym, _∙_}
 use mathlib.Core.Bool.{Bool, true, false}
 use mathlib.Core.List.{List, [], _∷_}
-use Prim.Native.Nat.{ℕ, _*_, _≤_}
+use Prim.Native.Nat.{ℕ, _*_}
 use lib.IntN.{ℤ}
 use lib.Dec.{leb}
 use lib.ListN.{length}
@@ -14,8 +14,9 @@ use Rattle.base.proofs.Replies.{inTurn-pass, inTurn-fail, checked, checked-acce
 use Rattle.matrix.specs.Matrix.{Matrix, isMatrix, matrixCheck, displacementCheck}
 use Rattle.plan.specs.Groups.{width, planOf}
 use Rattle.plan.specs.Sound.{maxGroups, isSound, isPlan, planCheck}
-use Rattle.run.specs.Job.{jobOf, Accepted}
+use Rattle.run.specs.Job.{jobOf}
 use Rattle.run.specs.Calls.{jobChecks}
+use Rattle.run.specs.UpdateTable.{Given}
 use Rattle.run.proofs.InTurn.{turn-refused}
 
 module _ (m : Matrix) (x : List ℤ) (order groups : List ℕ) (count : ℕ) where
@@ -55,13 +56,14 @@ module _ (m : Matrix) (x : List ℤ) (order groups : List ℕ) (count : ℕ) whe
       job-taken s = moved-pass ∙ rw s
 
   -- lists that pass hold an accepted job
-  pub job-given : (k : ℕ) → reply ≡ accepted k → Accepted (jobOf m x order groups count) × (m .n ≤ length order) × (width * count ≤ length groups)
+  pub job-given : (k : ℕ) → reply ≡ accepted k → Given (m .n) (m .starts) (m .columns) (m .values) x order groups count
   unfolding jobChecks matrixCheck displacementCheck planCheck isPlan jobOf
   job-given k e =
       let all = accepted-all (jobChecks m x order groups count) (accepted 0) k e in
       let plan : isPlan m order groups count ≡ true = all .1 .1 .0 in
-      let bs : List Bool = leb count maxGroups ∷ leb (width * count) (length groups) ∷ isSound m (planOf (m .n) order groups count) ∷ [] in (
-        record { matrix = all .0; displacements = all .1 .0; plan = conj-at (leb (m .n) (length order)) bs plan 2 },
-        leb-true (m .n) (length order) (conj-first (leb (m .n) (length order)) bs plan),
-        leb-true (width * count) (length groups) (conj-at (leb (m .n) (length order)) bs plan 1),
-      )
+      let bs : List Bool = leb count maxGroups ∷ leb (width * count) (length groups) ∷ isSound m (planOf (m .n) order groups count) ∷ [] in
+      record {
+        accepted = record { matrix = all .0; displacements = all .1 .0; plan = conj-at (leb (m .n) (length order)) bs plan 2 };
+        order-long = leb-true (m .n) (length order) (conj-first (leb (m .n) (length order)) bs plan);
+        groups-long = leb-true (width * count) (length groups) (conj-at (leb (m .n) (length order)) bs plan 1);
+      }

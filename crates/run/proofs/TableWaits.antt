@@ -48,16 +48,11 @@ module _ (j : Job) (counts first target : List ℕ) (amount : List ℤ) (leaf en
           let left = ltb-true (count made w) (accesses j w) x in
           rw (table-accesses w l, x, table-waits made blocks waiting w l left, y, in-order j made w .taken p left y)
 
-  -- the counts of the workers below k
+  -- the counts of the workers below k are not past their accesses
   pub table-fine : (made : List ℕ) (k : ℕ) → k ≤ maxWorkers → allBelow (fine counts made) k ≡ countsFine j made k
   unfolding allBelow countsFine
   table-fine made zero l = refl
   table-fine made (suc w) l = rw (table-accesses w l, table-fine made w (omega arith))
-
-  -- n sums: the counts decide whether there is a state
-  pub table-state : (s : State) → length (s .sums) ≡ j .matrix .n → isState j s ≡ allBelow (fine counts (s .made)) maxWorkers
-  unfolding isState
-  table-state s e = rw (eq-eqb (length (s .sums)) (j .matrix .n) e, table-fine (s .made) maxWorkers (omega arith))
 
   -- .. are all made
   pub table-done : (made : List ℕ) (k : ℕ) → k ≤ maxWorkers → allBelow (done counts made) k ≡ allMade j made k
@@ -69,3 +64,8 @@ module _ (j : Job) (counts first target : List ℕ) (amount : List ℤ) (leaf en
   pub table-over : (made : List ℕ) (crew : ℕ) → crew ≡ workers j → workers j ≤ maxWorkers → allBelow (done counts made) crew ≡ over j made
   unfolding over
   table-over made crew e l = rw e (table-done made (workers j) l)
+
+  -- n sums: the counts decide whether there is a state
+  pub table-state : (s : State) → length (s .sums) ≡ j .matrix .n → isState j s ≡ allBelow (fine counts (s .made)) maxWorkers
+  unfolding isState
+  table-state s e = rw (eq-eqb (length (s .sums)) (j .matrix .n) e, table-fine (s .made) maxWorkers (omega arith))
