@@ -1,5 +1,5 @@
 -- What `begin` finds: the checks' reply, and the tables of a job that passes.
-use mathlib.Core.Path.{_≡_, refl, sym, _∙_}
+use mathlib.Core.Path.{_≡_, refl, sym, ap, _∙_}
 use mathlib.Core.Logic.{_≢_}
 use mathlib.Core.Bool.{Bool, true, false}
 use mathlib.Core.List.{List}
@@ -7,14 +7,12 @@ use Prim.Native.Nat.{ℕ, _^_, _<_}
 use native.Mathlib.Omega.{arith}
 use lib.Dec.{ltb}
 use lib.IntN.{ℤ, pos}
-use lib.ListN.{length, getD, replicate, length-replicate, List·getD-eq-default}
+use lib.ListN.{length, getD, replicate, List·getD-eq-default}
 use borrow.Author.Tests.{ltb-true, ltb-false}
 use Rattle.base.specs.Refusals as no
 use Rattle.base.specs.Replies.{Reply, accepted, refused, inTurn}
 use Rattle.base.specs.declared.Answer.the-variants.{Accepted, Refused}
-use Rattle.base.proofs.Lists.{getD-zeros}
 use Rattle.matrix.specs.Checks.{matrixOf}
-use Rattle.matrix.proofs.Matrix.{matrix-facts}
 use Rattle.plan.specs.Sound.{maxWorkers, maxGroups}
 use Rattle.run.specs.Job.{jobOf}
 use Rattle.run.specs.Calls.{jobChecks}
@@ -24,6 +22,7 @@ use Rattle.run.specs.UpdateTable.{Given, Blank}
 use Rattle.run.specs.Begun.{Zeros, Begun}
 use Rattle.run.specs.declared.state.State.{State}
 use Rattle.run.proofs.JobChecked.{job-given}
+use Rattle.run.proofs.AllWorkers.{blank-zeros}
 use Rattle.run.proofs.TableWaits.{table-state}
 use Rattle.run.proofs.Beginning.{begin-refused, begin-unfit, begin-taken, state-size}
 
@@ -48,29 +47,14 @@ pub begun-given : {n : ℕ} {starts columns : List ℕ} {values x : List ℤ} {o
 begun-given {n} {starts} {columns} {values} {x} {order} {groups} {count} k e = job-given (matrixOf n starts columns values) x order groups count k (sym e)
 
 -- tables of zeros
-length-zeros : (k : ℕ) → length (replicate {A = ℕ} k 0) ≡ k
-length-zeros k = length-replicate {A = ℕ} k 0
-
 pub zeros : Zeros (replicate maxWorkers 0) (replicate maxWorkers 0) (replicate maxUpdates 0) (replicate maxUpdates (pos 0)) (replicate maxUpdates 0) (replicate maxGroups 0)
-zeros = record {
-  counts-long = length-zeros maxWorkers;
-  first-long = length-zeros maxWorkers;
-  long = record { target-long = length-zeros maxUpdates; amount-long = length-replicate maxUpdates (pos 0); leaf-long = length-zeros maxUpdates };
-  ends-long = length-zeros maxGroups;
-  targets = getD-zeros maxUpdates;
-  leaves = getD-zeros maxUpdates;
-}
+zeros = record { counts-are = refl; first-are = refl; target-are = refl; amount-are = refl; leaf-are = refl; ends-are = refl }
 
--- .. are blank
+-- .. as they are before they are made
 pub begun-blank : {n : ℕ} {starts columns : List ℕ} {values x : List ℤ} {order groups : List ℕ} {count : ℕ} {counts first target : List ℕ} {amount : List ℤ} {leaf ends : List ℕ}
-    → Given n starts columns values x order groups count → Zeros counts first target amount leaf ends → Blank n target amount leaf ends
-unfolding jobOf
-begun-blank {n} {starts} {columns} {values} g z = record {
-  long = z .long;
-  ends-long = z .ends-long;
-  target-low = λ k. omega (arith, z .targets k, matrix-facts (matrixOf n starts columns values) (g .accepted .matrix) .some);
-  leaf-low = λ k. omega (arith, z .leaves k);
-}
+    → Given n starts columns values x order groups count → Zeros counts first target amount leaf ends → (length counts ≡ maxWorkers) × (length first ≡ maxWorkers) × Blank n target amount leaf ends
+begun-blank g z =
+    (ap (λ (ks : List ℕ). length ks) (z .counts-are), ap (λ (ks : List ℕ). length ks) (z .first-are), rw (z .target-are, z .amount-are, z .leaf-are, z .ends-are) (blank-zeros g))
 
 module _ {n : ℕ} {starts columns : List ℕ} {values x : List ℤ} {order groups : List ℕ} {count : ℕ} {state : State} {size : ℕ}
     {counts first target : List ℕ} {amount : List ℤ} {leaf ends : List ℕ} where

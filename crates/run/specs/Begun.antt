@@ -2,8 +2,8 @@
 use mathlib.Core.Path.{_≡_}
 use mathlib.Core.List.{List}
 use Prim.Native.Nat.{ℕ}
-use lib.IntN.{ℤ}
-use lib.ListN.{length, getD}
+use lib.IntN.{ℤ, pos}
+use lib.ListN.{length, replicate}
 use Rattle.base.specs.Replies.{Reply, accepted, refused, inTurn}
 use Rattle.base.specs.Answers.{replyOf}
 use Rattle.base.specs.declared.Answer.{Answer}
@@ -15,8 +15,8 @@ use Rattle.run.specs.Job.{jobOf}
 use Rattle.run.specs.Machine as machine
 use Rattle.run.specs.Calls.{jobChecks, stateCheck}
 use Rattle.run.specs.Record.{stateOf}
-use Rattle.run.specs.Laid.{Laid, Bounded}
-use Rattle.run.specs.UpdateTable.{Given, Long}
+use Rattle.run.specs.Laid.{maxUpdates, Laid, Bounded}
+use Rattle.run.specs.UpdateTable.{Given}
 use Rattle.run.specs.declared.state.State.{State}
 
 -- 5, 6, 8, 11 in turn
@@ -26,12 +26,12 @@ beginReply m x order groups count s =
 
 -- tables before they are made: zeros
 pub record Zeros (counts first target : List ℕ) (amount : List ℤ) (leaf ends : List ℕ) : Type 0 where
-  pub counts-long : length counts ≡ maxWorkers
-  pub first-long : length first ≡ maxWorkers
-  pub long : Long target amount leaf
-  pub ends-long : length ends ≡ maxGroups
-  pub targets : (k : ℕ) → getD target k 0 ≡ 0
-  pub leaves : (k : ℕ) → getD leaf k 0 ≡ 0
+  pub counts-are : counts ≡ replicate maxWorkers 0
+  pub first-are : first ≡ replicate maxWorkers 0
+  pub target-are : target ≡ replicate maxUpdates 0
+  pub amount-are : amount ≡ replicate maxUpdates (pos 0)
+  pub leaf-are : leaf ≡ replicate maxUpdates 0
+  pub ends-are : ends ≡ replicate maxGroups 0
 
 -- the tables are the job's
 pub record Prepared (n : ℕ) (starts columns : List ℕ) (values displacements : List ℤ) (order groups : List ℕ) (count : ℕ) (counts first target : List ℕ) (amount : List ℤ) (leaf ends : List ℕ) : Type 0 where

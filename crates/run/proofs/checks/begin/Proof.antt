@@ -35,7 +35,8 @@ lay-requires c κs =
     let e = c .before .before .before .before .before .before in
     let s = e .before .before .before .before .before .before .before .before in
     let g = begun-given _ (passed (e .before)) in
-    (g, s .pre .counts-long, s .pre .first-long, begun-blank g (s .pre))
+    let b = begun-blank g (s .pre) in
+    (g, b .0, b .1, b .2)
 
 is-fine-requires : tie.Need-is-fine-requires
 is-fine-requires c κs = halves (c .before .lay .ensures .1)
