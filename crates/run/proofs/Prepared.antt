@@ -1,5 +1,5 @@
 -- A job that passed the checks, and its tables: its records, its workers, whether they are done, and whether they wait.
-use mathlib.Core.Path.{_≡_, refl, ap, _∙_}
+use mathlib.Core.Path.{_≡_, refl, sym, ap, _∙_, subst}
 use mathlib.Core.List.{List}
 use Prim.Native.Nat.{ℕ, zero, suc, _+_, _*_, _≤_}
 use native.Mathlib.Omega.{arith}
@@ -14,9 +14,8 @@ use Rattle.plan.specs.declared.fields.Record.{Record}
 use Rattle.run.specs.Job.{Job, jobOf}
 use Rattle.run.specs.Machine.{workersOf, workers, over}
 use Rattle.run.specs.Record.{allBelow, done}
-use Rattle.run.specs.Laid.{Waits}
+use Rattle.run.specs.Laid.{Bounded, Waits}
 use Rattle.run.specs.Waits.{Recorded, Blocks}
-use Rattle.run.specs.Steps.{Tabled}
 use Rattle.run.specs.UpdateTable.{Given}
 use Rattle.run.specs.Begun.{Prepared}
 use Rattle.run.proofs.Accepted.{facts}
@@ -70,8 +69,5 @@ module _ {n : ℕ} {starts columns : List ℕ} {values x : List ℤ} {order grou
         waits-of j (p .given .accepted) count groups (job-groups m x order groups count) counts first target amount leaf ends (p .laid) made blocks b (given-recorded (p .given))
 
     -- the tables as the steps need them, with n sums
-    pub prepared-tabled : {k : ℕ} → k ≡ n → Prepared n starts columns values x order groups count counts first target amount leaf ends → Tabled k counts first target leaf
-    prepared-tabled e p = record {
-      inside = record { few = p .bounded .inside; leaf-low = p .bounded .leaf-low };
-      target-low = λ i l. omega (arith, p .bounded .target-low i l);
-    }
+    pub prepared-bounded : {k : ℕ} → k ≡ n → Prepared n starts columns values x order groups count counts first target amount leaf ends → Bounded k counts first target amount leaf ends
+    prepared-bounded e p = subst (λ (y : ℕ). Bounded y counts first target amount leaf ends) (sym e) (p .bounded)

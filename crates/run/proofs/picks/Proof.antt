@@ -8,7 +8,7 @@ use Rattle.run.specs.Record.{stateOf}
 use Rattle.run.specs.Begun.{beginReply}
 use Rattle.run.proofs.Begun.{zeros}
 use Rattle.run.proofs.Beginning.{begin-size}
-use Rattle.run.proofs.Prepared.{job-groups, given-recorded, given-record, given-crew, given-few, prepared-tabled}
+use Rattle.run.proofs.Prepared.{job-groups, given-recorded, given-record, given-crew, given-few, prepared-bounded}
 use Rattle.run.proofs.PicksAnswer.{picks-refused, picks-made}
 use Rattle.run.proofs.picks.Statement.{statement}
 use Rattle.run.proofs.picks.Tie as tie
@@ -38,7 +38,7 @@ run-requires c κs =
     let r = c .before .before .before .before .before .before .before in
     let t = r .before in
     let tables = t .before .before .begin .ensures .prepared _ (t .enum-told .given .1) in
-    (given-few (tables .given) (r .record-at .result) (r .record-at .ensures), given-recorded (tables .given), prepared-tabled (begin-size _ _ _ _ _ _ _ (sym (passed t))) tables)
+    (given-few (tables .given) (r .record-at .result) (r .record-at .ensures), given-recorded (tables .given), prepared-bounded (begin-size _ _ _ _ _ _ _ (sym (passed t))) tables)
 
 place-of-requires : tie.Need-place-of-requires
 place-of-requires c κs = search needs
