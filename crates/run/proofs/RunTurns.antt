@@ -182,13 +182,13 @@ module _ (crew count : ℕ) (groups counts first target : List ℕ) (amount : Li
           sym (table-step j counts first target amount leaf ends laid crew e few s blocks (waits-of j ok count groups is counts first target amount leaf ends laid (s .made) blocks (r .blocked) R) w) ∙ sym (h .is)
 
       -- it is refused
-      pub running-halt : number ≢ 0 → EachJob (λ j. record { state = t; taken = k; number = number } ≡ steps j s₀ schedule)
+      pub running-halt : 1 ≤ number → EachJob (λ j. record { state = t; taken = k; number = number } ≡ steps j s₀ schedule)
       unfolding outcomeOf
       running-halt d j ok e is laid = go number d (h .kept) (is-step j ok e is laid)
         where
-          go : (n : ℕ) → n ≢ 0 → (1 ≤ n → t ≡ s) → step j s w ≡ outcomeOf n t → record { state = t; taken = k; number = n } ≡ steps j s₀ schedule
-          go zero d f x = absurd (d refl)
-          go (suc n) d f x = ap (λ (y : State). record { state = y; taken = k; number = suc n }) (f (omega arith)) ∙ stepped-is (steps j s₀ schedule) s k (suc n) (left-halt j s₀ schedule k s (r .left j ok e is laid) l (suc n) x)
+          go : (n : ℕ) → 1 ≤ n → (1 ≤ n → t ≡ s) → step j s w ≡ outcomeOf n t → record { state = t; taken = k; number = n } ≡ steps j s₀ schedule
+          go zero d f x = absurd (omega arith)
+          go (suc n) d f x = ap (λ (y : State). record { state = y; taken = k; number = suc n }) (f d) ∙ stepped-is (steps j s₀ schedule) s k (suc n) (left-halt j s₀ schedule k s (r .left j ok e is laid) l (suc n) x)
 
       module _ (zero′ : number ≡ 0) where
         -- it is taken: its worker has made one access more

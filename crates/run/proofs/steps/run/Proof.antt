@@ -57,7 +57,7 @@ returns c =
     let x = c .before .before .before in
     let t = x .before .before .before .before .before .before in
     let s = entry t in
-    rw (c .ended .ensures) (running-halt _ _ _ _ _ _ _ _ _ _ _ (t .before .loop .inv .2) (s .pre .0) (s .pre .1) (t .loop-test .taken) (x .step .ensures) (c .before .if1 .taken))
+    rw (c .ended .ensures) (running-halt _ _ _ _ _ _ _ _ _ _ _ (t .before .loop .inv .2) (s .pre .0) (s .pre .1) (t .loop-test .taken) (x .step .ensures) (omega (arith, c .before .if1 .taken)))
 
 -- a step that is taken is of a worker of the plan
 worker : (c : tie.Else1 Inv-loop μ-loop) → let t = c .before .before .before .before .before .before .before .before in getD (entry t .args .schedule .now) (t .before .loop .k) 0 < 16
