@@ -7,14 +7,3 @@ pub mod Calls
 pub mod Model
 pub mod EveryRun
 pub mod Consequences
-pub mod Record
-pub mod Sum
-pub mod Laid
-pub mod Waits
-pub mod Steps
-pub mod Stepped
-pub mod Tables
-pub mod Scatter
-pub mod UpdateTable
-pub mod Begun
-pub mod Answers

@@ -1,0 +1,4 @@
+pub mod Laid
+pub mod Waits
+pub mod Tables
+pub mod UpdateTable
