@@ -56,6 +56,29 @@ fn plans_the_chain() {
     assert_eq!(run(&chain_of_length(4 * LONGEST)), "refused 2 0\n");
 }
 
+/// The sample runs: what is read and what is written, in files; the chain's stand beside the program's source.
+#[test]
+fn runs_samples() {
+    let samples = [
+        "refused_1",
+        "refused_2",
+        "refused_3",
+        "refused_4",
+        "refused_7",
+        "lund_a",
+        "roof_45",
+    ];
+    let names = samples.map(|name| format!("netplan/{name}."));
+    for name in names
+        .iter()
+        .map(String::as_str)
+        .chain(["../crates/netplan/"])
+    {
+        let read = |kind: &str| std::fs::read(format!("{name}{kind}")).expect("a sample's file");
+        assert_eq!(run(&read("stdin")).as_bytes(), read("stdout"), "{name}");
+    }
+}
+
 #[test]
 fn refuses_texts() {
     let refused = [
