@@ -1,7 +1,7 @@
 -- The ready set as bits: one worker more by shift and or, and the count of the bits.
 use mathlib.Core.Path.{_≡_, refl, sym, ap, _∙_}
 use mathlib.Core.Bool.{Bool, true, false, cond}
-use mathlib.Core.List.{List, [], _∷_}
+use mathlib.Core.List.{List, _∷_}
 use Prim.Native.Nat.{ℕ, zero, suc, _+_, _*_, _%_, _^_, _<_}
 use native.Mathlib.Nat.{pow-suc, one-mul, zero-mul}
 use native.Mathlib.Numerals.{add-one}

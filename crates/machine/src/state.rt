@@ -2,7 +2,7 @@
 ghost use mathlib.Core.Path.{_≡_};
 ghost use Prim.Native.Nat.{ℕ, _+_, _*_, _^_, _≤_, _<_};
 ghost use lib.IntN.{pos};
-ghost use lib.ListN.{length, getD, replicate};
+ghost use lib.ListN.{replicate};
 ghost use Rattle.run.specs.Updates.{count};
 ghost use Rattle.run.specs.Machine.{fresh};
 ghost use Rattle.machine.specs.Record.{stateOf, stepped, allBelow, fine, done, Halves};

@@ -1,7 +1,7 @@
 -- Which plans are sound, as a test that computes. `adj v` lists the rows adjacent to row v, and there are n rows.
 use mathlib.Core.Bool.{Bool, true, false, not, _&&_, _||_}
 use mathlib.Core.List.{List, [], _∷_}
-use Prim.Native.Nat.{ℕ, zero, suc, _+_, _*_}
+use Prim.Native.Nat.{ℕ, _+_, _*_}
 use lib.Dec.{eqb, leb}
 use lib.ListN.{length, take, drop}
 use Rattle.base.specs.Lists.{filter, any, all, isIn, fromFirst, range}

@@ -2,34 +2,32 @@
 use mathlib.Core.Path.{_≡_, refl}
 use mathlib.Core.Bool.{Bool, true, false, _&&_}
 use mathlib.Core.List.{List, [], _∷_, _++_, map}
-use Prim.Native.Nat.{ℕ, zero, suc, _+_, _*_, _-_}
+use Prim.Native.Nat.{ℕ, zero, suc, _+_, _-_}
 use Prim.Native.String.{String}
-use lib.Dec.{eqb}
 use lib.IntN.{ℤ, pos, negsuc}
 use lib.ListN.{length, take, replicate}
-use lib.Seq.{slice}
-use Rattle.base.specs.Lists.{filter, concat, range, trim, sumBelow, bit}
+use Rattle.base.specs.Lists.{concat, range, sumBelow, bit}
 use Rattle.base.specs.Ascii.{ascii}
 use Rattle.base.specs.Integers.{sumℤ, within, same, fits64}
-use Rattle.base.specs.Replies.{Reply, accepted, refused, inTurn, lent}
-use Rattle.matrix.specs.Matrix.{Matrix, partOf, columnsOf, valuesOf, lookup, entry, neighbours, adjacent, adjacentPairs, ascending, mirrored, isRow, lowerEntries, isMatrix, matrixCheck, displacement, firstPast, areDisplacements, displacementCheck}
-use Rattle.matrix.specs.Product.{forceAt, product, productReply}
+use Rattle.base.specs.Replies.{Reply, accepted, refused, inTurn}
+use Rattle.matrix.specs.Matrix.{Matrix, partOf, columnsOf, valuesOf, lookup, entry, neighbours, adjacent, adjacentPairs, ascending, mirrored, isRow, lowerEntries, isMatrix, matrixCheck, displacement, areDisplacements}
+use Rattle.matrix.specs.Product.{forceAt, product}
 use Rattle.market.specs.Bytes.{classOf, header}
 use Rattle.market.specs.Fields.{digits, isNumber, valueOf, number, spaces, field, value, valueField, fields}
 use Rattle.market.specs.Parse.{Triplet, Parsed, matrixText, rejected, entries, sizeLine, comments, parse}
-use Rattle.market.specs.FullRows.{full, cell, rowOf, rowsOf, startsFrom, rowStarts, columns, values, ofTriplets, readMatrix, readReply}
-use Rattle.market.specs.Text.{decimal, textOf, columnOf, lower, written, writeReply}
-use Rattle.plan.specs.Groups.{Group, Plan, fields as groupFields, ofFields, flat, records, planOf}
-use Rattle.plan.specs.Sound.{eachOnce, depthFirst, children, tiled, apart, rowsOf as groupRows, likeApart, childrenSound, allSound, sound, isSound, isPlan, planCheck, checkReply}
+use Rattle.market.specs.FullRows.{full, cell, rowOf, rowsOf, startsFrom, rowStarts, columns, values, ofTriplets, readMatrix}
+use Rattle.market.specs.Text.{decimal, textOf, columnOf, lower, written}
+use Rattle.plan.specs.Groups.{Plan, fields as groupFields, flat}
+use Rattle.plan.specs.Sound.{eachOnce, depthFirst, children, tiled, apart, rowsOf as groupRows, likeApart, childrenSound, allSound, sound, isSound}
 use Rattle.levels.specs.Levels.{near, region, root, isNext, levelsFrom, levels, ownLevels}
 use Rattle.extents.specs.Extents.{Extent, endsFrom, best, nearest, off, serves, extentOf, extentFrom, extent, cutAt, cut}
 use Rattle.planner.specs.Loads.{weight, load}
 use Rattle.planner.specs.Planner.{nothing, _then_, leaf, pairs, planPairs, splits, split, planGroup, planRows, plan, areParameters, planReply}
-use Rattle.run.specs.Job.{Job, Accepted, rowAt, jobOf}
+use Rattle.run.specs.Job.{Job, rowAt}
 use Rattle.run.specs.Tree.{forest, tree, leaves, holds, ownerIn, unfinished, redOpen, blocked}
 use Rattle.run.specs.Updates.{entryAt, displacementAt, later, withEach, rowUpdates, owner, when, upTo, updates, accesses, finished, noUpdate, next, waits}
-use Rattle.run.specs.Machine.{State, fresh, workersOf, workers, reason, refusal, onward, load as loadSum, total, store, access, move, stepIf, step, oneMore, steps, readyBelow, ready, bits, allMade, over, positionOf, original, countsFine, isState}
-use Rattle.run.specs.Calls.{Call, picks, readySet, forceList, Answer, picked, isReady, forces, refused as refusedCall, placeOf, pickedOf, readyOf, forcesOf, answerOf, afterOf, stateCheck, answer, after, answers, afterAll, jobChecks, answerLent, afterLent, forcesLent}
+use Rattle.run.specs.Machine.{fresh, workersOf, workers, reason, refusal, onward, load as loadSum, total, store, access, move, stepIf, step, oneMore, steps, readyBelow, ready, bits, allMade, over, positionOf, original, countsFine, isState}
+use Rattle.run.specs.Calls.{Call, picks, readySet, forceList, Answer, picked, isReady, forces, refused as refusedCall, placeOf, pickedOf, readyOf, forcesOf, answerOf, afterOf, stateCheck, answer, after, answers, afterAll}
 use Rattle.run.specs.Model.{noCounts, oneNoted, note, modelAnswer, modelAfter, modelAnswers, modelCounts}
 use Rattle.run.specs.EveryRun.{takenOf, takenIn, wholeRun}
 use Rattle.listing.specs.Listing.{firstLine, restOf, last, second, parametersOf, spaced, refusedLine, orderLine, titleLine, groupLines, planListing, planned, judged, listing}

@@ -1,7 +1,7 @@
 -- Position q joins the later positions of each row before it that is adjacent to its row: column by column of that row.
 use mathlib.Core.Path.{_≡_, refl, sym, ap, _∙_, subst}
 use mathlib.Core.Logic.{_⊎_, inl, inr, _≢_}
-use mathlib.Core.Bool.{Bool, true, false, cond, _||_}
+use mathlib.Core.Bool.{Bool, true, false, _||_}
 use mathlib.Core.List.{List, [], _∷_, _++_, append-nil}
 use Prim.Native.Nat.{ℕ, zero, suc, _+_, _-_, _*_, _<_}
 use native.Mathlib.Numerals.{add-one}
@@ -9,14 +9,14 @@ use native.Mathlib.Omega.{arith}
 use lib.Dec.{eqb, ltb}
 use lib.IntN.{ℤ, pos}
 use lib.ListN.{length, getD, set, take, length-append}
-use lib.Seq.{take-suc, take-length, getD-take, length-take-le}
+use lib.Seq.{take-suc, take-length}
 use mir.Val.{boolByte}
 use borrow.Author.Tests.{eq-eqb, ne-eqb, ltb-true, ltb-false}
 use Rattle.base.specs.Lists.{keep, isIn, bit}
 use Rattle.base.proofs.Booleans.{same-or, clash, is-false, or-true, or-false}
 use Rattle.base.proofs.Lists.{isIn-append, in-pos}
-use Rattle.matrix.specs.Matrix.{Matrix, columnsOf, valuesOf, entry, ascending, adjacent, neighbours}
-use Rattle.matrix.proofs.Matrix.{MatrixFacts, matrix-facts, column-low, column-neighbour, neighbour-column, adjacent-both, symmetric}
+use Rattle.matrix.specs.Matrix.{Matrix, columnsOf, valuesOf, entry, ascending, adjacent}
+use Rattle.matrix.proofs.Matrix.{matrix-facts, column-low, column-neighbour, neighbour-column, adjacent-both, symmetric}
 use Rattle.matrix.proofs.Ascending.{ascending-first, ascending-tail, isIn-get, lookup-get}
 use Rattle.matrix.specs.Checks.{shaped}
 use Rattle.matrix.specs.Limits.{maxEntries}
@@ -24,7 +24,7 @@ use Rattle.matrix.proofs.Checks.{matrix-tidy}
 use Rattle.matrix.proofs.Rows.{entry-row, length-columns, length-values}
 use Rattle.plan.proofs.Once.{Once, once, low-at, injective}
 use Rattle.run.specs.Machine.{positionOf}
-use Rattle.tables.specs.Tables.{Positions, Ordered, laterTo, Placed, Later}
+use Rattle.tables.specs.Tables.{Positions, Ordered, laterTo, Placed}
 use Rattle.run.proofs.Positions.{position-at}
 use Rattle.tables.proofs.LaterRows.{later-before, later-next, later-few, later-mono}
 use Rattle.tables.proofs.PlacedRows.{grown, slot-below, placed-next, placed-same}

@@ -1,14 +1,13 @@
 -- The rows that stand after a row, adjacent to it: position by position, and no more than the row has entries.
-use mathlib.Core.Path.{_≡_, refl, sym, ap, _∙_, subst}
+use mathlib.Core.Path.{_≡_, refl, ap, _∙_}
 use mathlib.Core.Bool.{Bool, true, false, _||_}
-use mathlib.Core.List.{List, [], _∷_, _++_, append-nil}
+use mathlib.Core.List.{List, [], _∷_, _++_}
 use Prim.Native.Nat.{ℕ, zero, suc, _+_, _-_, _≤_, _<_}
 use native.Mathlib.Omega.{arith}
 use lib.Dec.{eqb, leb}
 use lib.ListN.{length, getD, length-append}
 use borrow.Author.Tests.{leb-true, leb-false, eqb-true, ne-eqb}
 use Rattle.base.specs.Lists.{filter, keep, isIn, range, sumBelow, bit}
-use Rattle.base.proofs.Booleans.{same-or}
 use Rattle.base.proofs.Lists.{filter-append, range-snoc}
 use Rattle.base.proofs.Sums.{sum-below-le, sum-below-bound, sum-below-add}
 use Rattle.matrix.specs.Matrix.{Matrix, columnsOf, neighbours, adjacent}

@@ -2,7 +2,7 @@
 use mathlib.Core.Path.{_≡_, refl, sym, ap, _∙_, subst}
 use mathlib.Core.Logic.{_⊎_, inl, inr, _≢_}
 use mathlib.Core.Bool.{Bool, true, false, cond}
-use mathlib.Core.List.{List, [], _∷_, _++_}
+use mathlib.Core.List.{List, [], _++_}
 use Prim.Native.Nat.{ℕ, zero, suc, _+_, _-_, _*_, _≤_, _<_}
 use native.Mathlib.Omega.{arith}
 use lib.Dec.{eqb, ltb}
@@ -14,7 +14,7 @@ use Rattle.base.specs.Lists.{keep, bit}
 use Rattle.base.proofs.Booleans.{same-or}
 use Rattle.matrix.specs.Limits.{maxRows, maxEntries}
 use Rattle.matrix.specs.Matrix.{Matrix, entry, isMatrix}
-use Rattle.matrix.proofs.Matrix.{MatrixFacts, matrix-facts}
+use Rattle.matrix.proofs.Matrix.{matrix-facts}
 use Rattle.matrix.proofs.Entries.{few-entries}
 use Rattle.plan.proofs.Once.{Once, once, low-at, injective}
 use Rattle.tables.specs.Tables.{Ordered, Placed}

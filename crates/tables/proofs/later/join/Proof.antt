@@ -1,5 +1,5 @@
 -- `run::later::join` meets its contract: position q has joined the lists of the rows in the first k columns.
-use mathlib.Core.Path.{_≡_, refl, sym, ap, _∙_}
+use mathlib.Core.Path.{_≡_, sym, ap, _∙_}
 use mathlib.Core.Bool.{Bool, true, false}
 use Prim.Native.Nat.{ℕ, _+_, _-_, _≤_, _<_}
 use native.Mathlib.Omega.{arith}
@@ -11,7 +11,7 @@ use mir.Syntax.{w32}
 use mir.Val.{boolByte}
 use mir.Facts.{toZ-ofZ}
 use Rattle.matrix.specs.Checks.{matrixOf}
-use Rattle.matrix.specs.Matrix.{Matrix, columnsOf, valuesOf}
+use Rattle.matrix.specs.Matrix.{columnsOf, valuesOf}
 use Rattle.tables.specs.Tables.{Placed}
 use Rattle.tables.proofs.JoinRows.{joined, Turn, join-turn, joined-none, joined-all}
 use Rattle.tables.proofs.PlacedRows.{placed-same}

@@ -1,7 +1,6 @@
 -- `run::later::positions` meets its contract: the rows before position p have their positions.
 use mathlib.Core.Path.{_≡_, sym, subst, _∙_}
 use Prim.Native.Nat.{ℕ, _-_, _≤_}
-use native.Mathlib.Omega.{arith}
 use lib.ListN.{getD, take}
 use lib.Seq.{getD-take}
 use Rattle.plan.proofs.Once.{once}
