@@ -2,15 +2,16 @@
  *
  * A list is a pair: a pointer to bytes and their number. Numbers in a list are little-endian, low byte first:
  * row starts, columns, order and group fields are 32 bits without sign; values and movements 32 bits in two's
- * complement; forces 64 bits in two's complement. A list's length in numbers is its bytes divided by the number's
- * width, rounded down; a trailing part is neither read nor written. Lists may be longer than what is read.
+ * complement; sums and forces 64 bits in two's complement. A list's length in numbers is its bytes divided by the
+ * number's width, rounded down; a trailing part is neither read nor written. Lists may be longer than what is read,
+ * but for movements, sums and state.
  *
  * Every call returns one word: the refusal's number in the high 32 bits (0: accepted), and in the low 32 bits the
  * refusal's place, or the accepted call's count, 0 where none is named. On a refusal nothing is written.
  *
  * The lists belong to the caller; nothing is kept between calls, and calls may run at the same time on different
  * lists. A list that is written overlaps no other list of the call, and no pointer is null, also of an empty list.
- * A call uses up to 0.6 MiB of stack, mzk_plan up to 1 MiB and mzk_read up to 2.2 MiB. */
+ * A call uses up to 0.6 MiB of stack, mzk_plan up to 1 MiB, mzk_ready up to 1.9 MiB and mzk_read up to 2.2 MiB. */
 #ifndef MAZHOKETH_H
 #define MAZHOKETH_H
 
@@ -67,5 +68,25 @@ uint64_t mzk_check(uint32_t n,
                    const uint8_t *order, size_t order_bytes,
                    const uint8_t *groups, size_t groups_bytes,
                    uint32_t group_count);
+
+/* A run of a matrix of n rows, n movements and a sound plan is kept by the caller: a state of 192 bytes, and n sums in
+ * plan order. The state has 16 counts of 32 bits without sign, the moves that each worker has made, and then the 16
+ * numbers of 64 bits in two's complement that they hold. A run begins with zeros, in state and sums. Calls on one run
+ * are made one at a time, in any order, by any threads. */
+
+/* The ready set of a run: the workers whose next pick would be taken. Returns sixteen bits, bit 0 for worker 0, and
+ * 65,536 times the count of those set.
+ * Refused: 5 no matrix; 6 not n movements (place 0), or one is too large (its index); 8 plan not sound; 11 not 192
+ * bytes of state, not n sums, or a count past its worker's moves. */
+uint64_t mzk_ready(uint32_t n,
+                   const uint8_t *row_starts, size_t row_starts_bytes,
+                   const uint8_t *columns, size_t columns_bytes,
+                   const uint8_t *values, size_t values_bytes,
+                   const uint8_t *movements, size_t movements_bytes,
+                   const uint8_t *order, size_t order_bytes,
+                   const uint8_t *groups, size_t groups_bytes,
+                   uint32_t group_count,
+                   const uint8_t *state, size_t state_bytes,
+                   const uint8_t *sums, size_t sums_bytes);
 
 #endif

@@ -16,7 +16,7 @@ ghost use Rattle.run.specs.Calls.{jobChecks};
 ghost use Rattle.machine.specs.Begun.{Zeros, Begun};
 
 // 5, 6, 8: whether the lists hold a matrix, its displacements and a plan that is sound for it.
-pub(crate) fn check_job(
+pub fn check_job(
     n: u32,
     starts: &[u32],
     columns: &[u32],

@@ -5,3 +5,5 @@ pub mod PlanChecks
 pub mod TextWrites
 pub mod TextReads
 pub mod Plans
+pub mod CutJobs
+pub mod RunCalls

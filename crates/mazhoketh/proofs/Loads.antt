@@ -1,11 +1,11 @@
 -- Numbers loaded into an array.
 use mathlib.Core.Path.{_≡_, sym, ap, _∙_}
-use mathlib.Core.List.{List}
+use mathlib.Core.List.{List, append-nil}
 use Prim.Native.Nat.{ℕ, _/_, _≤_, min}
 use native.Mathlib.Omega.{arith}
 use lib.IntN.{ℤ}
 use lib.ListN.{length, take, drop, length-append, length-drop}
-use lib.Seq.{take-at, length-take-le}
+use lib.Seq.{take-at, take-all, length-take-le, drop-length}
 use Rattle.matrix.specs.Checks.{matrixOf}
 use Rattle.matrix.proofs.Cut.{mostStarts, mostEntries, cut}
 use Rattle.words.specs.LittleEndian.{stored}
@@ -26,6 +26,13 @@ loaded f width bytes size old array count e c h =
       long = rw (h, length-append (take count list) (drop (length (take count list)) old), length-drop, taken) (omega arith);
       is = rw (h, take-at (take count list) (drop (length (take count list)) old) count taken) (ap (λ (k : ℕ). take k list) least ∙ take-min size list);
     }
+
+-- a load from as many bytes as the array has numbers
+pub loaded-whole : {A : Type 0} (f : List ℕ → A) (width : ℕ) (bytes : List ℕ) (old : List A) {array : List A} {count : ℕ} → length bytes / width ≡ length old
+    → count ≡ min (length bytes / width) (length old) → array ≡ stored (take count (decoded f width bytes)) old → array ≡ decoded f width bytes
+loaded-whole f width bytes old {count = count} e c h =
+    let many : length (decoded f width bytes) ≡ length old = length-decoded f width bytes ∙ e in
+    h ∙ rw (take-all count (decoded f width bytes) (omega arith), many, drop-length, append-nil)
 
 module _ {A : Type 0} {size : ℕ} {list array : List A} {count : ℕ} (l : Loaded size list array count) where
   -- the first `count` numbers of the array are there

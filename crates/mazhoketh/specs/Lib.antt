@@ -2,3 +2,4 @@ pub mod Word
 pub mod Bytes
 pub mod Lists
 pub mod Lent
+pub mod Runs

@@ -4,5 +4,7 @@ mod lists;
 pub mod planning;
 pub mod product;
 pub mod read;
+pub mod ready;
+mod state;
 mod word;
 pub mod write;

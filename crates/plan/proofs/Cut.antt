@@ -40,9 +40,10 @@ records-cut (suc k) most ns h =
 -- ---- the test
 
 module _ (m : Matrix) (order groups : List ℕ) (count : ℕ) (few : m .n ≤ maxRows) where
-  sound-cut : width * count ≤ mostFields → isSound m (planOf (m .n) (take maxRows order) (take mostFields groups) count) ≡ isSound m (planOf (m .n) order groups count)
+  -- cut, the lists hold the same plan if its records fit
+  pub plan-kept : width * count ≤ mostFields → planOf (m .n) (take maxRows order) (take mostFields groups) count ≡ planOf (m .n) order groups count
   unfolding planOf
-  sound-cut h = rw (take-take (m .n) maxRows order few, records-cut count mostFields groups h)
+  plan-kept h = rw (take-take (m .n) maxRows order few, records-cut count mostFields groups h)
 
   -- cut, the lists are a plan if and only if they were
   pub cut-plan : isPlan m (take maxRows order) (take mostFields groups) count ≡ isPlan m order groups count
@@ -57,7 +58,7 @@ module _ (m : Matrix) (order groups : List ℕ) (count : ℕ) (few : m .n ≤ ma
           ≡ before && leb count maxGroups && leb (width * count) (length groups) && isSound m (planOf (m .n) order groups count)
       go true e =
           let fits : width * count ≤ mostFields = omega (arith, leb-true count maxGroups e) in
-          rw (leb-min (width * count) mostFields (length groups) fits, sound-cut fits)
+          rw (leb-min (width * count) mostFields (length groups) fits, plan-kept fits)
       go false e = rw (e, and-false before)
 
 -- a matrix whose lists are cut has the same sound plans

@@ -1,0 +1,38 @@
+-- The calls on a run whose state and sums stand in bytes: what they answer, and what they return of it.
+use mathlib.Core.Bool.{cond}
+use mathlib.Core.List.{List}
+use Prim.Native.Nat.{ℕ, zero, suc, _+_, _*_}
+use lib.Dec.{eqb}
+use lib.IntN.{ℤ}
+use lib.ListN.{length, take, drop}
+use Rattle.base.specs.Refusals as no
+use Rattle.base.specs.Replies as replies
+use Rattle.base.specs.Replies.{Reply, inTurn}
+use Rattle.matrix.specs.Matrix.{Matrix}
+use Rattle.run.specs.Machine.{State}
+use Rattle.run.specs.Calls.{Call, Answer, picked, isReady, forces, refused, jobChecks, answerLent}
+use Rattle.words.specs.LittleEndian.{unsigned, signed}
+
+-- how many bytes a state has: sixteen counts of four bytes each, then sixteen held numbers of eight
+abbrev pub stateBytes : ℕ
+stateBytes = 192
+
+abbrev pub countBytes : ℕ
+countBytes = 64
+
+-- the state that bytes stand for, beside sums of eight bytes each
+abbrev pub stateIn : (state sums : List ℕ) → State
+stateIn state sums = record { made = unsigned 4 (take countBytes state); held = signed 8 (drop countBytes state); sums = signed 8 sums }
+
+-- a call's answer: 5, 6, 8 come before 11, which a state of another length is refused with, too
+unfoldable pub answerIn : Matrix → List ℤ → (order groups : List ℕ) (count : ℕ) (state sums : List ℕ) → Call → Answer
+answerIn m x order groups count state sums c =
+    cond (eqb (length state) stateBytes) (answerLent m x order groups count (stateIn state sums) c) (inTurn refused (jobChecks m x order groups count) (refused no.state 0))
+
+-- the reply that a call's word says: picks taken, or the number and place that ended them; sixteen bits, and above them the count of those set; 0 for forces
+unfoldable pub replyTo : Answer → Reply
+replyTo (picked taken zero place) = replies.accepted taken
+replyTo (picked taken (suc k) place) = replies.refused (suc k) place
+replyTo (isReady bits count) = replies.accepted (bits + count * 65536)
+replyTo (forces zs) = replies.accepted 0
+replyTo (refused number place) = replies.refused number place
