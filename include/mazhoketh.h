@@ -11,7 +11,7 @@
  *
  * The lists belong to the caller; nothing is kept between calls, and calls may run at the same time on different
  * lists. A list that is written overlaps no other list of the call, and no pointer is null, also of an empty list.
- * A call uses up to 0.6 MiB of stack, mzk_plan up to 1 MiB, mzk_ready up to 1.9 MiB and mzk_read up to 2.2 MiB. */
+ * A call uses up to 0.6 MiB of stack, mzk_plan up to 1 MiB, those on a run up to 1.9 MiB and mzk_read up to 2.2 MiB. */
 #ifndef MAZHOKETH_H
 #define MAZHOKETH_H
 
@@ -88,5 +88,20 @@ uint64_t mzk_ready(uint32_t n,
                    uint32_t group_count,
                    const uint8_t *state, size_t state_bytes,
                    const uint8_t *sums, size_t sums_bytes);
+
+/* The forces of a finished run, its sums in the order of the rows, n numbers into forces: the full product, if the run
+ * began with zeros.
+ * Refused: 5, 6, 8, 11 as by mzk_ready; 15 a worker has moves left; 9 forces too short (n). */
+uint64_t mzk_forces(uint32_t n,
+                    const uint8_t *row_starts, size_t row_starts_bytes,
+                    const uint8_t *columns, size_t columns_bytes,
+                    const uint8_t *values, size_t values_bytes,
+                    const uint8_t *movements, size_t movements_bytes,
+                    const uint8_t *order, size_t order_bytes,
+                    const uint8_t *groups, size_t groups_bytes,
+                    uint32_t group_count,
+                    const uint8_t *state, size_t state_bytes,
+                    const uint8_t *sums, size_t sums_bytes,
+                    uint8_t *forces, size_t forces_bytes);
 
 #endif

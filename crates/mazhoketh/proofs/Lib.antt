@@ -7,3 +7,4 @@ pub mod TextReads
 pub mod Plans
 pub mod CutJobs
 pub mod RunCalls
+pub mod RunForces

@@ -1,7 +1,7 @@
 -- The calls on a run with lists that are cut, and with a state that is decoded.
 use mathlib.Core.Path.{_≡_, refl, sym, ap, _∙_}
 use mathlib.Core.Logic.{_≢_}
-use mathlib.Core.Bool.{Bool, true, false}
+use mathlib.Core.Bool.{Bool, true, false, cond}
 use mathlib.Core.List.{List, [], _∷_}
 use Prim.Native.Nat.{ℕ, _*_, _≤_}
 use native.Mathlib.Omega.{arith}
@@ -147,3 +147,14 @@ module _ (cs : List Check) where
   pub unstated : {k w : ℕ} → replies.accepted k ≡ inTurn replies.refused cs (replies.accepted 0) → w ≡ word (replies.refused no.state 0) → w ≡ word (replyTo (inTurn refused cs (refused no.state 0)))
   unfolding replyTo
   unstated {k} e f = f ∙ sym (ap (λ (a : Answer). word (replyTo a)) (turn-accepted refused (refused no.state 0) (replies.accepted 0) cs k (sym e) .1))
+
+-- it is refused in any case
+pub always-refused : (cs : List Check) (q p : ℕ) → (number : ℕ) × (place : ℕ) × (inTurn refused cs (refused q p) ≡ refused number place)
+unfolding inTurn
+always-refused [] q p = (q, p, refl)
+always-refused (c ∷ cs) q p = go (c .holds) (always-refused cs q p)
+  where
+    go : (b : Bool) → ((number : ℕ) × (place : ℕ) × (inTurn refused cs (refused q p) ≡ refused number place))
+        → (number : ℕ) × (place : ℕ) × (cond b (inTurn refused cs (refused q p)) (refused (c .number) (c .place)) ≡ refused number place)
+    go true r = r
+    go false r = (c .number, c .place, refl)

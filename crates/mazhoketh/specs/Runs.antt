@@ -1,6 +1,6 @@
 -- The calls on a run whose state and sums stand in bytes: what they answer, and what they return of it.
 use mathlib.Core.Bool.{cond}
-use mathlib.Core.List.{List}
+use mathlib.Core.List.{List, []}
 use Prim.Native.Nat.{ℕ, zero, suc, _+_, _*_}
 use lib.Dec.{eqb}
 use lib.IntN.{ℤ}
@@ -11,7 +11,8 @@ use Rattle.base.specs.Replies.{Reply, inTurn}
 use Rattle.matrix.specs.Matrix.{Matrix}
 use Rattle.run.specs.Machine.{State}
 use Rattle.run.specs.Calls.{Call, Answer, picked, isReady, forces, refused, jobChecks, answerLent}
-use Rattle.words.specs.LittleEndian.{unsigned, signed}
+use Rattle.words.specs.LittleEndian.{unsigned, signed, signedBytes}
+use Rattle.mazhoketh.specs.Word.{Answered}
 
 -- how many bytes a state has: sixteen counts of four bytes each, then sixteen held numbers of eight
 abbrev pub stateBytes : ℕ
@@ -36,3 +37,16 @@ replyTo (picked taken (suc k) place) = replies.refused (suc k) place
 replyTo (isReady bits count) = replies.accepted (bits + count * 65536)
 replyTo (forces zs) = replies.accepted 0
 replyTo (refused number place) = replies.refused number place
+
+-- ---- what is left in the lists that a call fills
+
+-- the bytes of the forces
+unfoldable pub forceBytes : Answer → List ℕ
+forceBytes (forces zs) = signedBytes 8 zs
+forceBytes (picked taken number place) = []
+forceBytes (isReady bits count) = []
+forceBytes (refused number place) = []
+
+-- a force-list call with this answer: the returned word, and the lent list after it
+abbrev pub ForcesAnswered : Answer → (old : List ℕ) (returned : ℕ) (new : List ℕ) → Type 0
+ForcesAnswered a old returned new = Answered (replyTo a) (forceBytes a) old returned new

@@ -1,5 +1,6 @@
 // The C interface: exported functions on numbers and byte lists.
 pub mod check;
+pub mod forces;
 mod lists;
 pub mod planning;
 pub mod product;

@@ -1,0 +1,156 @@
+// mzk_forces: the forces of a finished run.
+use crate::lists::load_columns;
+use crate::lists::load_displacements;
+use crate::lists::load_groups;
+use crate::lists::load_order;
+use crate::lists::load_starts;
+use crate::lists::load_sums;
+use crate::lists::load_values;
+use crate::state::load_state;
+use crate::state::no_state;
+use crate::word::word_of;
+use base::Answer;
+use run::state::State;
+use words::least;
+use words::store::store_i64;
+ghost use Prim.Native.Nat.{_/_, _≤_};
+ghost use lib.ListN.{length};
+ghost use Rattle.matrix.specs.Checks.{matrixOf};
+ghost use Rattle.run.specs.Calls.{forceList, answerLent};
+ghost use Rattle.run.specs.Record.{stateOf};
+ghost use Rattle.words.specs.LittleEndian.{unsigned, signed};
+ghost use Rattle.mazhoketh.specs.Bytes.{matrixIn};
+ghost use Rattle.mazhoketh.specs.Runs.{answerIn, ForcesAnswered};
+
+// Job, state and sums are decoded; the forces are made in `made`, as far as the lent list has room, and then stored.
+fn forces_of(
+    n: u32,
+    starts: &[u32],
+    columns: &[u32],
+    values: &[i32],
+    displacements: &[i32],
+    order: &[u32],
+    groups: &[u32],
+    count: u32,
+    state: State,
+    sums: &[i64],
+    made: &mut [i64],
+    forces: &mut [u8],
+) -> u64
+    requires { ⌜ 4096 ≤ length (now made) ⌝ }
+    ensures { λ r. ⌜ ForcesAnswered (answerLent (matrixOf n (now (starts .entry)) (now (columns .entry)) (now (values .entry))) (now (displacements .entry)) (now (order .entry)) (now (groups .entry)) count
+        (stateOf state (now (sums .entry))) (forceList (length (now (forces .entry)) / 8))) (now (forces .entry)) r (now (forces .exit)) ⌝ }
+{
+    let room = least(forces.len() / 8, made.len());
+    let answer = run::forces(
+        n,
+        starts,
+        columns,
+        values,
+        displacements,
+        order,
+        groups,
+        count,
+        state,
+        sums,
+        &mut made[..room],
+    );
+    let Answer::Accepted(_) = answer else {
+        return word_of(answer);
+    };
+    let rows = n as usize;
+    store_i64(&made[..rows], forces);
+    word_of(answer)
+}
+
+// The job is decoded.
+fn forces_in(
+    n: u32,
+    starts: &[u32],
+    columns: &[u32],
+    values: &[i32],
+    displacements: &[i32],
+    order: &[u32],
+    groups: &[u32],
+    count: u32,
+    state: &[u8],
+    sums: &[u8],
+    forces: &mut [u8],
+) -> u64
+    ensures { λ r. ⌜ ForcesAnswered (answerIn (matrixOf n (now (starts .entry)) (now (columns .entry)) (now (values .entry))) (now (displacements .entry)) (now (order .entry)) (now (groups .entry)) count
+        (now (state .entry)) (now (sums .entry)) (forceList (length (now (forces .entry)) / 8))) (now (forces .entry)) r (now (forces .exit)) ⌝ }
+{
+    if state.len() != 192 {
+        return no_state(
+            n,
+            starts,
+            columns,
+            values,
+            displacements,
+            order,
+            groups,
+            count,
+        );
+    }
+    let mut sum_list = [0i64; 4097];
+    let sums_len = load_sums(sums, &mut sum_list);
+    let mut made = [0i64; 4096];
+    forces_of(
+        n,
+        starts,
+        columns,
+        values,
+        displacements,
+        order,
+        groups,
+        count,
+        load_state(state),
+        &sum_list[..sums_len],
+        &mut made,
+        forces,
+    )
+}
+
+#[no_mangle]
+pub extern "C" fn mzk_forces(
+    n: u32,
+    row_starts: &[u8],
+    columns: &[u8],
+    values: &[u8],
+    movements: &[u8],
+    order: &[u8],
+    groups: &[u8],
+    group_count: u32,
+    state: &[u8],
+    sums: &[u8],
+    forces: &mut [u8],
+) -> u64
+    ensures { λ r. ⌜ ForcesAnswered (answerIn (matrixIn n (now («row_starts» .entry)) (now (columns .entry)) (now (values .entry))) (signed 4 (now (movements .entry))) (unsigned 4 (now (order .entry))) (unsigned 4 (now (groups .entry))) «group_count»
+        (now (state .entry)) (now (sums .entry)) (forceList (length (now (forces .entry)) / 8))) (now (forces .entry)) r (now (forces .exit)) ⌝ }
+{
+    let mut starts = [0u32; 4097];
+    let starts_len = load_starts(row_starts, &mut starts);
+    let mut column_list = [0u32; 65536];
+    let columns_len = load_columns(columns, &mut column_list);
+    let mut value_list = [0i32; 65536];
+    let values_len = load_values(values, &mut value_list);
+    let mut displacements = [0i32; 4097];
+    let displacements_len = load_displacements(movements, &mut displacements);
+    let mut order_list = [0u32; 4096];
+    let order_len = load_order(order, &mut order_list);
+    let mut group_list = [0u32; 3072];
+    let groups_len = load_groups(groups, &mut group_list);
+    forces_in(
+        n,
+        &starts[..starts_len],
+        &column_list[..columns_len],
+        &value_list[..values_len],
+        &displacements[..displacements_len],
+        &order_list[..order_len],
+        &group_list[..groups_len],
+        group_count,
+        state,
+        sums,
+        forces,
+    )
+}
