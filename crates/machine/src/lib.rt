@@ -1,5 +1,5 @@
 // The run of a plan, one load or store a step: picks, ready set and force list.
-mod checks;
+pub mod checks;
 mod ready_set;
 mod scatter;
 pub mod state;

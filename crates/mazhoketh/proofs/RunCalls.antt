@@ -27,7 +27,7 @@ use Rattle.words.specs.LittleEndian.{unsigned, signed}
 use Rattle.run.specs.Job.{Job, jobOf}
 use Rattle.run.specs.Machine.{State, isState}
 use Rattle.run.specs.Calls.{Call, Answer, refused, stateCheck, answer, after, jobChecks, answerLent, afterLent}
-use Rattle.run.proofs.InTurn.{turn-refused, turn-accepted}
+use Rattle.machine.proofs.InTurn.{turn-refused, turn-accepted}
 use Rattle.mazhoketh.specs.Lists.{Loaded}
 use Rattle.mazhoketh.specs.Word.{word}
 use Rattle.mazhoketh.specs.Runs.{stateBytes, countBytes, stateIn, answerIn, replyTo}

@@ -22,7 +22,7 @@ use Rattle.matrix.proofs.Matrix.{matrix-facts}
 use Rattle.run.specs.Job.{Job, jobOf}
 use Rattle.run.specs.Machine.{State, positionOf, over, original}
 use Rattle.run.specs.Calls.{Answer, forces, refused, forceList, forcesOf, answerOf, stateCheck, answer, jobChecks, answerLent, forcesLent}
-use Rattle.run.specs.Answers.{forcesReply}
+use Rattle.machine.specs.Answers.{forcesReply}
 use Rattle.words.specs.LittleEndian.{signedBytesOf, signedBytes, stored}
 use Rattle.mazhoketh.specs.Word.{word}
 use Rattle.mazhoketh.specs.Runs.{replyTo, forceBytes, ForcesAnswered}

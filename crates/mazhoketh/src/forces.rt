@@ -10,14 +10,14 @@ use crate::state::load_state;
 use crate::state::no_state;
 use crate::word::word_of;
 use base::Answer;
-use run::state::State;
+use machine::state::State;
 use words::least;
 use words::store::store_i64;
 ghost use Prim.Native.Nat.{_/_, _≤_};
 ghost use lib.ListN.{length};
 ghost use Rattle.matrix.specs.Checks.{matrixOf};
 ghost use Rattle.run.specs.Calls.{forceList, answerLent};
-ghost use Rattle.run.specs.Record.{stateOf};
+ghost use Rattle.machine.specs.Record.{stateOf};
 ghost use Rattle.words.specs.LittleEndian.{unsigned, signed};
 ghost use Rattle.mazhoketh.specs.Bytes.{matrixIn};
 ghost use Rattle.mazhoketh.specs.Runs.{answerIn, ForcesAnswered};
@@ -42,7 +42,7 @@ fn forces_of(
         (stateOf state (now (sums .entry))) (forceList (length (now (forces .entry)) / 8))) (now (forces .entry)) r (now (forces .exit)) ⌝ }
 {
     let room = least(forces.len() / 8, made.len());
-    let answer = run::forces(
+    let answer = machine::forces(
         n,
         starts,
         columns,

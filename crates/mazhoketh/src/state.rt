@@ -2,8 +2,8 @@
 use crate::word::word_of;
 use base::Answer;
 use base::STATE;
-use run::checks::check_job;
-use run::state::State;
+use machine::checks::check_job;
+use machine::state::State;
 use words::load::load_i64;
 use words::load::load_u32;
 ghost use mathlib.Core.Path.{_≡_};

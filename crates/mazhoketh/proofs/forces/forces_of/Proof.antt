@@ -9,7 +9,7 @@ use Rattle.base.specs.Answers.{replyOf}
 use Rattle.base.specs.declared.Answer as code
 use Rattle.matrix.specs.Checks.{matrixOf}
 use Rattle.run.specs.Calls.{Answer, forceList, answerLent}
-use Rattle.run.specs.Record.{stateOf}
+use Rattle.machine.specs.Record.{stateOf}
 use Rattle.mazhoketh.specs.Word.{word}
 use Rattle.mazhoketh.proofs.Answers.{begins-fits, begins-size}
 use Rattle.mazhoketh.proofs.RunForces.{Given, given, room-lent, forces-refused, forces-same, forces-held, forces-stored}
