@@ -21,7 +21,9 @@ use Rattle.run.specs.Updates.{Update, count, accesses, updates, next, waits}
 use Rattle.run.specs.Machine.{State, workers, reason, refusal, moved, onward, load, store, total, access, move, stepIf, step, Stepped, steps}
 use Rattle.tables.specs.Laid.{Laid, Waits}
 use Rattle.tables.specs.Waits.{Recorded, Blocks, Ahead}
-use Rattle.machine.specs.Steps.{placeAt, reasonAt, laidUpdate, outcomeOf, StepMade}
+use Rattle.machine.specs.declared.steps.Pick.{Pick}
+use Rattle.machine.specs.declared.steps.Pick.the-variants.{Taken, Refused}
+use Rattle.machine.specs.Steps.{stateWith, placeAt, reasonAt, laidUpdate, stepTaken, outcomeOf, StepMade}
 use Rattle.run.proofs.Able.{in-order}
 use Rattle.machine.proofs.TableWaits.{table-accesses, table-waits}
 use Rattle.machine.proofs.TableSteps.{reason-none}
@@ -31,20 +33,11 @@ use Rattle.machine.proofs.ScheduleLoop.{Left, left-start, left-step, le
 -- ---- the step that is taken
 
 module _ (s : State) (w : ℕ) (u : Update) where
-  -- it makes one access more
-  moved-onward : (why : ℕ) (t : State) → moved t ≡ stepIf why s w u → (why ≡ 0) × (t .made ≡ onward (s .made) w)
-  unfolding stepIf move access load store
-  moved-onward zero t e = (refl, go (eqb (count (s .made) w % 2) 0) (fits64 (total s w u)) e)
-    where
-      go : (b f : Bool) → moved t ≡ access b f s w u → t .made ≡ onward (s .made) w
-      go true f e = let q : t ≡ load s w u = cc in ap (λ (r : State). r .made) q
-      go false true e = let q : t ≡ store s w u = cc in ap (λ (r : State). r .made) q
-      go false false e = absurd (let q : _≡_ {A = ℕ} 0 1 = cc in omega arith)
-  moved-onward (suc k) t e = absurd (let q : _≡_ {A = ℕ} 0 1 = cc in omega arith)
-
-  pub step-onward : (why number : ℕ) (t : State) → StepMade why s w u number t → number ≡ 0 → (why ≡ 0) × (t .made ≡ onward (s .made) w)
-  unfolding outcomeOf
-  step-onward why number t h e = moved-onward why t (subst (λ (y : ℕ). outcomeOf y t ≡ stepIf why s w u) e (h .is))
+  -- no reason refuses it
+  moved-none : (why : ℕ) (t : State) → moved t ≡ stepIf why s w u → why ≡ 0
+  unfolding stepIf
+  moved-none zero t e = refl
+  moved-none (suc k) t e = absurd (let q : _≡_ {A = ℕ} 0 1 = cc in omega arith)
 
   -- what is done with an update is decided by its target and amount
   move-same : (v : Update) → u .target ≡ v .target → u .amount ≡ v .amount → move s w u ≡ move s w v
@@ -172,36 +165,43 @@ module _ (crew count : ℕ) (groups counts first target : List ℕ) (amount : Li
     running-none l j ok e is laid = stepped-is (steps j s₀ schedule) s k 0 (left-none j s₀ schedule k s (r .left j ok e is laid) l)
 
     -- the next step
-    module _ (few : crew ≤ maxWorkers) (R : Recorded count groups) (l : k < length schedule) {number : ℕ} {t : State}
-        (h : StepMade (reasonAt crew counts first leaf blocks (s .made) (getD schedule k 0)) s (getD schedule k 0) (laidUpdate first target amount (s .made) (getD schedule k 0)) number t) where
+    module _ (few : crew ≤ maxWorkers) (R : Recorded count groups) (l : k < length schedule) {answer : Pick} {sums : List ℤ}
+        (h : StepMade (reasonAt crew counts first leaf blocks (s .made) (getD schedule k 0)) s (getD schedule k 0) (laidUpdate first target amount (s .made) (getD schedule k 0)) answer sums) where
       abbrev w : ℕ
       w = getD schedule k 0
 
-      is-step : EachJob (λ j. step j s w ≡ outcomeOf number t)
+      is-step : EachJob (λ j. step j s w ≡ outcomeOf answer s w sums)
       is-step j ok e is laid =
           sym (table-step j counts first target amount leaf ends laid crew e few s blocks (waits-of j ok count groups is counts first target amount leaf ends laid (s .made) blocks (r .blocked) R) w) ∙ sym (h .is)
 
       -- it is refused
-      pub running-halt : 1 ≤ number → EachJob (λ j. record { state = t; taken = k; number = number } ≡ steps j s₀ schedule)
+      pub running-halt : {number : ℕ} → answer ≡ Refused number → EachJob (λ j. record { state = stateWith (s .made) (s .held) sums; taken = k; number = number } ≡ steps j s₀ schedule)
       unfolding outcomeOf
-      running-halt d j ok e is laid = go number d (h .kept) (is-step j ok e is laid)
-        where
-          go : (n : ℕ) → 1 ≤ n → (1 ≤ n → t ≡ s) → step j s w ≡ outcomeOf n t → record { state = t; taken = k; number = n } ≡ steps j s₀ schedule
-          go zero d f x = absurd (omega arith)
-          go (suc n) d f x = ap (λ (y : State). record { state = y; taken = k; number = suc n }) (f d) ∙ stepped-is (steps j s₀ schedule) s k (suc n) (left-halt j s₀ schedule k s (r .left j ok e is laid) l (suc n) x)
+      running-halt {number} q j ok e is laid =
+          ap (λ (y : List ℤ). record { state = stateWith (s .made) (s .held) y; taken = k; number = number }) (h .kept number q)
+          ∙ stepped-is (steps j s₀ schedule) s k number (left-halt j s₀ schedule k s (r .left j ok e is laid) l number (is-step j ok e is laid ∙ ap (λ (y : Pick). outcomeOf y s w sums) q))
 
-      module _ (zero′ : number ≡ 0) where
-        -- it is taken: its worker has made one access more
-        pub running-worker : (w < crew) × (t .made ≡ onward (s .made) w)
-        running-worker = let (y, m) = step-onward s w (laidUpdate first target amount (s .made) w) _ number t h zero′ in (reason-none w crew (getD (s .made) w 0) (2 * getD counts w 0) _ y .0, m)
+      module _ {z : ℤ} (q : answer ≡ Taken z) where
+        abbrev t : State
+        t = stepTaken s w z sums
+
+        -- it is taken: its worker is of the plan and has accesses left
+        pub running-worker : (w < crew) × (getD (s .made) w 0 < 2 * getD counts w 0)
+        unfolding outcomeOf
+        running-worker =
+            reason-none w crew (getD (s .made) w 0) (2 * getD counts w 0) _ (moved-none s w (laidUpdate first target amount (s .made) w) _ t (ap (λ (y : Pick). outcomeOf y s w sums) (sym q) ∙ h .is))
+
+        -- .. and has made one access more
+        one-more : t .made ≡ onward (s .made) w
+        unfolding onward
+        one-more = ap (set (s .made) w) (add-one (getD (s .made) w 0))
 
         next-long : length (t .made) ≡ maxWorkers
-        unfolding onward
-        next-long = ap (λ (xs : List ℕ). length xs) (running-worker .1) ∙ length-set (s .made) w (suc (getD (s .made) w 0)) ∙ r .long
+        next-long = length-set (s .made) w (getD (s .made) w 0 + 1) ∙ r .long
 
         next-left : EachJob (λ j. Left j s₀ schedule (k + 1) t)
         unfolding outcomeOf
-        next-left j ok e is laid = subst (λ (y : ℕ). Left j s₀ schedule y t) (sym (add-one k)) (left-step j s₀ schedule k s (r .left j ok e is laid) l t (is-step j ok e is laid ∙ ap (λ (n : ℕ). outcomeOf n t) zero′))
+        next-left j ok e is laid = subst (λ (y : ℕ). Left j s₀ schedule y t) (sym (add-one k)) (left-step j s₀ schedule k s (r .left j ok e is laid) l t (is-step j ok e is laid ∙ ap (λ (y : Pick). outcomeOf y s w sums) q))
 
         -- the blocked groups are found anew
         pub running-renewed : (blocks′ stops′ : List ℕ) → Blocks count groups ends (t .made) blocks′ → Ahead count groups ends (t .made) stops′ → Running (k + 1) t blocks′ stops′
@@ -211,7 +211,7 @@ module _ (crew count : ℕ) (groups counts first target : List ℕ) (amount : Li
         pub running-on : w < length (s .made) → getD (t .made) w 0 < getD stops w 0 → Running (k + 1) t blocks stops
         running-on inside below = record {
           long = next-long;
-          blocked = blocks-kept count groups ends (s .made) (t .made) stops w inside (running-worker .1) below (r .ahead) blocks (r .blocked);
-          ahead = ahead-kept count groups ends (s .made) (t .made) stops w inside (running-worker .1) below (r .ahead);
+          blocked = blocks-kept count groups ends (s .made) (t .made) stops w inside one-more below (r .ahead) blocks (r .blocked);
+          ahead = ahead-kept count groups ends (s .made) (t .made) stops w inside one-more below (r .ahead);
           left = next-left;
         }

@@ -1,5 +1,5 @@
 -- A step by the tables, case by case: refused, a load, a store, or a sum that passes 64 bits.
-use mathlib.Core.Path.{_≡_, refl, sym, ap, subst}
+use mathlib.Core.Path.{_≡_, refl, ap}
 use mathlib.Core.Logic.{_≢_}
 use mathlib.Core.Bool.{Bool, true, false}
 use mathlib.Core.List.{List}
@@ -9,13 +9,15 @@ use native.Mathlib.Omega.{arith}
 use lib.Dec.{leb, ltb}
 use lib.IntN.{ℤ, pos, _+ℤ_}
 use lib.ListN.{getD, set}
+use lib.Seq.{set-getD}
 use borrow.Author.Tests.{ltb-true, leb-false, eq-eqb, ne-eqb}
 use Rattle.base.specs.Integers.{fits64}
 use Rattle.base.specs.Refusals as no
 use Rattle.run.specs.Updates.{Update, count}
-use Rattle.run.specs.Machine.{State, reason, moved, onward, load, total, store, access, move, stepIf}
+use Rattle.run.specs.Machine.{State, reason, moved, halted, onward, load, total, store, access, move, stepIf}
 use Rattle.machine.specs.Sum.{sumIf, sumOf}
 use Rattle.machine.specs.declared.sum.Sum.the-variants.{Fits, Passes}
+use Rattle.machine.specs.declared.steps.Pick.the-variants.{Taken, Refused}
 use Rattle.machine.specs.Steps.{stateWith, outcomeOf, StepMade}
 
 -- what it is that no reason refuses a step
@@ -28,27 +30,30 @@ reason-none w workers made all waiting e = go (ltb w workers) refl (leb all made
     go true x true y c e = absurd (omega arith)
     go true x false y c e = (ltb-true w workers x, leb-false all made y)
 
--- a step that is refused leaves the state
-pub step-refused : (why number : ℕ) (s : State) (w : ℕ) (u : Update) → number ≡ why → number ≢ 0 → StepMade why s w u number s
+-- a step that is refused leaves the sums
+pub step-refused : (why number : ℕ) (s : State) (w : ℕ) (u : Update) → number ≡ why → number ≢ 0 → StepMade why s w u (Refused number) (s .sums)
 unfolding outcomeOf stepIf
 step-refused zero number s w u e d = absurd (d e)
-step-refused (suc k) number s w u e d = subst (λ (y : ℕ). StepMade (suc k) s w u y s) (sym e) (record { is = refl; kept = λ l. refl })
+step-refused (suc k) number s w u e d = record { is = ap halted e; kept = λ k q. refl }
 
 module _ (why : ℕ) (none : why ≡ 0) (made : List ℕ) (held sums : List ℤ) (w : ℕ) (u : Update) where
   abbrev s : State
   s = stateWith made held sums
 
   -- at an even count it loads
-  pub step-loads : count made w % 2 ≡ 0 → StepMade why s w u 0 (stateWith (set made w (count made w + 1)) (set held w (getD sums (u .target) (pos 0))) sums)
+  pub step-loads : count made w % 2 ≡ 0 → StepMade why s w u (Taken (getD sums (u .target) (pos 0))) sums
   unfolding outcomeOf stepIf move access load onward
-  step-loads e = record { is = rw (none, eq-eqb (count made w % 2) 0 e, add-one (count made w)) refl; kept = λ l. absurd (omega arith) }
+  step-loads e = record { is = rw (none, eq-eqb (count made w % 2) 0 e, add-one (count made w)) refl; kept = λ k q. refl }
 
   -- at an odd count the sum is held number plus amount
   module _ (odd : count made w % 2 ≢ 0) where
-    -- .. that is stored if it fits
-    pub step-stores : (z : ℤ) → sumOf (getD held w (pos 0)) (u .amount) ≡ Fits z → StepMade why s w u 0 (stateWith (set made w (count made w + 1)) held (set sums (u .target) z))
+    -- .. that is stored if it fits, and leaves the held number
+    pub step-stores : (z : ℤ) → sumOf (getD held w (pos 0)) (u .amount) ≡ Fits z → StepMade why s w u (Taken (getD held w (pos 0))) (set sums (u .target) z)
     unfolding outcomeOf stepIf move access store onward total
-    step-stores z e = record { is = rw (none, ne-eqb (count made w % 2) 0 odd, add-one (count made w)) (go (fits64 y) refl e); kept = λ l. absurd (omega arith) }
+    step-stores z e = record {
+      is = rw (none, ne-eqb (count made w % 2) 0 odd, add-one (count made w), set-getD held w (pos 0)) (go (fits64 y) refl e);
+      kept = λ k q. absurd (let q : _≡_ {A = ℕ} 0 1 = cc in omega arith);
+    }
       where
         y : ℤ
         y = getD held w (pos 0) +ℤ u .amount
@@ -61,13 +66,13 @@ module _ (why : ℕ) (none : why ≡ 0) (made : List ℕ) (held sums : List ℤ)
         go false f e = absurd (let q : _≡_ {A = ℕ} 0 1 = cc in omega arith)
 
     -- .. and refused if it does not
-    pub step-passes : sumOf (getD held w (pos 0)) (u .amount) ≡ Passes → StepMade why s w u no.overflow s
+    pub step-passes : sumOf (getD held w (pos 0)) (u .amount) ≡ Passes → StepMade why s w u (Refused no.overflow) sums
     unfolding outcomeOf stepIf move access total
-    step-passes e = record { is = rw (none, ne-eqb (count made w % 2) 0 odd) (go (fits64 (getD held w (pos 0) +ℤ u .amount)) refl e); kept = λ l. refl }
+    step-passes e = record { is = rw (none, ne-eqb (count made w % 2) 0 odd) (go (fits64 (getD held w (pos 0) +ℤ u .amount)) refl e); kept = λ k q. refl }
       where
         y : ℤ
         y = getD held w (pos 0) +ℤ u .amount
 
-        go : (b : Bool) → fits64 y ≡ b → sumIf b y ≡ Passes → outcomeOf no.overflow s ≡ access false (fits64 y) s w u
+        go : (b : Bool) → fits64 y ≡ b → sumIf b y ≡ Passes → halted no.overflow ≡ access false (fits64 y) s w u
         go true f e = absurd (let q : _≡_ {A = ℕ} 0 1 = cc in omega arith)
         go false f e = rw f refl

@@ -1,8 +1,8 @@
 -- The record that a run's state is handed in and handed back as, beside the lent list of sums.
 use mathlib.Core.Bool.{Bool, true, _&&_}
 use mathlib.Core.List.{List}
-use Prim.Native.Nat.{ℕ, zero, suc, _+_, _*_, _^_, _<_}
-use lib.ListN.{getD, set}
+use Prim.Native.Nat.{ℕ, zero, suc, _*_, _^_, _<_}
+use lib.ListN.{getD}
 use lib.Dec.{leb}
 use lib.IntN.{ℤ}
 use Rattle.run.specs.Machine as machine
@@ -12,10 +12,6 @@ use Rattle.machine.specs.declared.state.State.{State}
 -- the record and the sums as the machine's state
 abbrev pub stateOf : State → (sums : List ℤ) → machine.State
 stateOf r sums = record { made = r .made; held = r .held; sums = sums }
-
--- the record after worker w's step: one more made, and the number that the worker holds then
-abbrev pub stepped : State → (w : ℕ) → ℤ → State
-stepped r w z = record { made = set (r .made) w (count (r .made) w + 1); held = set (r .held) w z }
 
 -- every number below k passes the test
 unfoldable pub allBelow : (ℕ → Bool) → ℕ → Bool

@@ -4,11 +4,13 @@ use Prim.Native.Nat.{ℕ}
 use lib.IntN.{ℤ}
 use Rattle.run.specs.Machine as machine
 use Rattle.machine.specs.Record.{stateOf}
-use Rattle.machine.specs.declared.steps.Stepped.{Stepped}
+use Rattle.machine.specs.declared.state.State.{State}
+use Rattle.machine.specs.declared.state.Stepped.{Stepped}
 
-abbrev pub endedWith : (made : List ℕ) (held : List ℤ) (taken number : ℕ) → Stepped
-endedWith made held taken number = record { state = record { made = made; held = held }; taken = taken; number = number }
+-- this state, with how many picks led to it and the number that ended them
+abbrev pub endedWith : State → (taken number : ℕ) → Stepped
+endedWith r taken number = record { state = r; taken = taken; number = number }
 
--- .. beside the lent sums
+-- the record that the code makes, beside the lent sums
 abbrev pub steppedOf : Stepped → (sums : List ℤ) → machine.Stepped
 steppedOf r sums = record { state = stateOf (r .state) sums; taken = r .taken; number = r .number }

@@ -1,14 +1,16 @@
 -- A step by the tables that a call makes (Laid.antt), and what the code makes of a step and of a schedule.
 use mathlib.Core.Path.{_≡_}
 use mathlib.Core.List.{List}
-use Prim.Native.Nat.{ℕ, zero, suc, _+_, _*_, _/_, _≤_, _<_}
+use Prim.Native.Nat.{ℕ, _+_, _*_, _/_, _≤_, _<_}
 use lib.Dec.{eqb, leb, ltb}
 use lib.IntN.{ℤ, pos}
-use lib.ListN.{getD}
+use lib.ListN.{getD, set}
 use Rattle.run.specs.Updates.{Update, count}
 use Rattle.run.specs.Machine.{State, reason, Outcome, moved, halted, stepIf}
 use Rattle.plan.specs.Sound.{maxWorkers, maxGroups}
 use Rattle.tables.specs.Laid.{maxUpdates}
+use Rattle.machine.specs.declared.steps.Pick.{Pick}
+use Rattle.machine.specs.declared.steps.Pick.the-variants.{Taken, Refused}
 
 abbrev pub stateWith : (made : List ℕ) (held sums : List ℤ) → State
 stateWith made held sums = record { made = made; held = held; sums = sums }
@@ -39,12 +41,16 @@ pub record StepTables (n : ℕ) (counts first target leaf : List ℕ) : Type 0 w
   pub inside : Inside counts first leaf
   pub target-low : (k : ℕ) → k < maxUpdates → getD target k 0 < n
 
--- the step's number, and the state after it
-unfoldable pub outcomeOf : (number : ℕ) → State → Outcome
-outcomeOf zero t = moved t
-outcomeOf (suc k) t = halted (suc k)
+-- the state after worker w's step: one more made, the number that the worker holds then, and these sums
+abbrev pub stepTaken : State → (w : ℕ) → ℤ → (sums : List ℤ) → State
+stepTaken s w z sums = record { made = set (s .made) w (count (s .made) w + 1); held = set (s .held) w z; sums = sums }
 
--- A step of worker w with update u, refused for this reason or none: its number, and the state t that it leaves, the old one where it is refused
-pub record StepMade (why : ℕ) (s : State) (w : ℕ) (u : Update) (number : ℕ) (t : State) : Type 0 where
-  pub is : outcomeOf number t ≡ stepIf why s w u
-  pub kept : 1 ≤ number → t ≡ s
+-- the step's answer as the machine's
+unfoldable pub outcomeOf : Pick → State → (w : ℕ) (sums : List ℤ) → Outcome
+outcomeOf (Taken z) s w sums = moved (stepTaken s w z sums)
+outcomeOf (Refused k) s w sums = halted k
+
+-- A step of worker w with update u, refused for this reason or none: its answer, and the sums after it, the old ones where it is refused
+pub record StepMade (why : ℕ) (s : State) (w : ℕ) (u : Update) (answer : Pick) (sums : List ℤ) : Type 0 where
+  pub is : outcomeOf answer s w sums ≡ stepIf why s w u
+  pub kept : (k : ℕ) → answer ≡ Refused k → sums ≡ s .sums

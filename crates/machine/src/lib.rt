@@ -14,7 +14,6 @@ use plan::fields::record_at;
 use ready_set::ready_bits;
 use scatter::scatter;
 use state::State;
-use steps::run;
 use tables::waits::blocked_groups;
 ghost use mathlib.Core.Path.{_≡_};
 ghost use lib.ListN.{length};
@@ -93,8 +92,7 @@ pub fn picks(
         };
     }
     let whole = record_at(groups, 0);
-    let stepped = run(
-        state,
+    let stepped = state.take(
         sums,
         schedule,
         whole.workers,

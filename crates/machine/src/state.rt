@@ -1,11 +1,21 @@
 // A run's state: one record, handed in and handed back.
+use crate::steps::Pick;
+use crate::steps::step;
+use tables::waits::blocked_groups;
+use tables::waits::next_ends;
 ghost use mathlib.Core.Path.{_≡_};
-ghost use Prim.Native.Nat.{ℕ, _+_, _*_, _^_, _≤_, _<_};
+ghost use Prim.Native.Nat.{ℕ, _≤_, _<_};
 ghost use lib.IntN.{pos};
-ghost use lib.ListN.{replicate};
+ghost use lib.ListN.{length, replicate};
+ghost use Rattle.plan.specs.Sound.{maxWorkers};
+ghost use Rattle.plan.specs.Groups.{records};
+ghost use Rattle.run.specs.Job.{Job, Accepted};
 ghost use Rattle.run.specs.Updates.{count};
-ghost use Rattle.run.specs.Machine.{fresh};
-ghost use Rattle.machine.specs.Record.{stateOf, stepped, allBelow, fine, done, Halves};
+ghost use Rattle.run.specs.Machine as machine;
+ghost use Rattle.machine.specs.Record.{stateOf, allBelow, fine, done, Halves};
+ghost use Rattle.tables.specs.Laid.{Laid, Bounded};
+ghost use Rattle.tables.specs.Waits.{Recorded};
+ghost use Rattle.machine.specs.Stepped.{endedWith, steppedOf};
 
 // Accesses made, and the number held, of each of 16 workers.
 pub struct State {
@@ -13,10 +23,17 @@ pub struct State {
     pub held: [i64; 16],
 }
 
+// What a schedule comes to: the state, how many picks were taken, and the number that ended it, 0 if all were.
+pub(crate) struct Stepped {
+    pub state: State,
+    pub taken: usize,
+    pub number: u32,
+}
+
 impl State {
     // The state that a run begins with.
     pub fn fresh() -> State
-        ensures { λ r. ⌜ ((n : ℕ) → stateOf r (replicate n (pos 0)) ≡ fresh n) ⌝ }
+        ensures { λ r. ⌜ ((n : ℕ) → stateOf r (replicate n (pos 0)) ≡ machine.fresh n) ⌝ }
     {
         State {
             made: [0u32; 16],
@@ -24,14 +41,68 @@ impl State {
         }
     }
 
-    // Takes one pick: worker w has made one access more, and holds a number.
-    pub fn take(mut self, w: usize, held: i64) -> State
-        requires { ⌜ (w < 16) × (count (self .made) w + 1 < 2 ^ 32) ⌝ }
-        ensures { λ r. ⌜ r ≡ stepped self w held ⌝ }
+    // The state that picks led to, with how many were taken and the number that ended them.
+    fn ended(self, taken: usize, number: u32) -> Stepped
+        ensures { λ r. ⌜ r ≡ endedWith self taken number ⌝ }
     {
-        self.made[w] = self.made[w] + 1;
-        self.held[w] = held;
-        self
+        Stepped {
+            state: self,
+            taken: taken,
+            number: number,
+        }
+    }
+
+    // Takes the picks of a schedule one by one, up to the first that is refused.
+    pub(crate) fn take(
+        mut self,
+        sums: &mut [i64],
+        schedule: &[u8],
+        workers: usize,
+        groups: &[u32],
+        count: usize,
+        counts: &[u32; 16],
+        first: &[u32; 16],
+        target: &[u16; 69632],
+        amount: &[i64; 69632],
+        leaf: &[u16; 69632],
+        ends: &[u32; 512],
+    ) -> Stepped
+        requires { ⌜ (workers ≤ maxWorkers) × Recorded count (now groups) × Bounded (length (now sums)) (now counts) (now first) (now target) (now amount) (now leaf) (now ends) ⌝ }
+        ensures { λ r. ⌜ ((j : Job) → Accepted j → workers ≡ machine.workers j → j .plan .groups ≡ records count (now (groups .entry))
+            → Laid j (now (counts .entry)) (now (first .entry)) (now (target .entry)) (now (amount .entry)) (now (leaf .entry)) (now (ends .entry))
+            → steppedOf r (now (sums .exit)) ≡ machine.steps j (stateOf self (now (sums .entry))) (now (schedule .entry))) ⌝ }
+    {
+        let mut blocks = blocked_groups(groups, count, ends, &self.made);
+        let mut stops = next_ends(groups, count, ends, &self.made);
+        let mut k = 0;
+        while k < schedule.len() {
+            let w = schedule[k] as usize;
+            let answer = step(
+                &self.made,
+                &self.held,
+                sums,
+                w,
+                workers,
+                counts,
+                first,
+                target,
+                amount,
+                leaf,
+                &blocks,
+            );
+            let held = match answer {
+                Pick::Refused(number) => return self.ended(k, number),
+                Pick::Taken(held) => held,
+            };
+            self.made[w] += 1;
+            self.held[w] = held;
+            if stops[w] <= self.made[w] {
+                blocks = blocked_groups(groups, count, ends, &self.made);
+                stops = next_ends(groups, count, ends, &self.made);
+            }
+            k += 1;
+        }
+        self.ended(k, 0)
     }
 
     // How many accesses worker w has made.

@@ -1,18 +1,16 @@
 -- A job whose matrix's lists are cut: the same updates, so the same answers and states.
 use mathlib.Core.Path.{_≡_, refl, sym, ap, _∙_, fun-ext}
-use mathlib.Core.Bool.{Bool, true}
+use mathlib.Core.Bool.{true}
 use mathlib.Core.List.{List, [], _∷_}
 use Prim.Native.Nat.{ℕ, zero, suc, _-_}
 use lib.IntN.{ℤ}
-use Rattle.base.specs.Lists.{filter, isIn, range}
-use Rattle.base.specs.Replies.{inTurn}
 use Rattle.matrix.specs.Matrix.{Matrix, isMatrix, adjacent}
 use Rattle.matrix.proofs.Cut.{cut, cut-entry, cut-neighbours}
 use Rattle.plan.specs.Groups.{Plan}
 use Rattle.run.specs.Job.{Job, rowAt}
-use Rattle.run.specs.Updates.{Update, entryAt, displacementAt, later, withEach, rowUpdates, owner, upTo, updates, accesses, finished, next, waits}
+use Rattle.run.specs.Updates.{entryAt, displacementAt, later, withEach, rowUpdates, owner, upTo, updates, accesses, finished, next, waits}
 use Rattle.run.specs.Machine.{State, workers, refusal, Outcome, moved, halted, step, Stepped, oneMore, steps, readyBelow, ready, allMade, over, original, countsFine, isState}
-use Rattle.run.specs.Calls.{Call, picks, readySet, forceList, pickedOf, readyOf, answerOf, afterOf, stateCheck, answer, after}
+use Rattle.run.specs.Calls.{Call, picks, readySet, forceList, readyOf, answerOf, afterOf, stateCheck, answer, after}
 use Rattle.run.proofs.Schedule.{steps-on, steps-end}
 
 module _ (m : Matrix) (ok : isMatrix m ≡ true) (x : List ℤ) (p : Plan) where

@@ -12,14 +12,14 @@ use lib.Seq.{length-take-le}
 use borrow.Author.Tests.{leb-true}
 use Rattle.base.specs.Refusals as no
 use Rattle.base.specs.Replies as replies
-use Rattle.base.specs.Replies.{Reply, Check, inTurn, lent}
+use Rattle.base.specs.Replies.{Check, inTurn, lent}
 use Rattle.base.proofs.Booleans.{leb-min}
 use Rattle.base.proofs.Fill.{length-made}
 use Rattle.base.proofs.Replies.{inTurn-same, lent-refused}
 use Rattle.matrix.specs.Limits.{maxRows}
 use Rattle.matrix.specs.Matrix.{Matrix, matrixCheck}
 use Rattle.matrix.proofs.Matrix.{matrix-facts}
-use Rattle.run.specs.Job.{Job, jobOf}
+use Rattle.run.specs.Job.{jobOf}
 use Rattle.run.specs.Machine.{State, positionOf, over, original}
 use Rattle.run.specs.Calls.{Answer, forces, refused, forceList, forcesOf, answerOf, stateCheck, answer, jobChecks, answerLent, forcesLent}
 use Rattle.machine.specs.Answers.{forcesReply}

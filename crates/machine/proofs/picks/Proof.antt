@@ -33,8 +33,8 @@ passed c = ap replyOf (sym (c .enum-told .given .1)) ∙ c .before .before .begi
 record-at-requires : tie.Need-record-at-requires
 record-at-requires c κs = given-record (c .before .before .begin .ensures .prepared _ (c .enum-told .given .1) .given)
 
-run-requires : tie.Need-run-requires
-run-requires c κs =
+take-requires : tie.Need-take-requires
+take-requires c κs =
     let r = c .before .before .before .before .before .before .before in
     let t = r .before in
     let tables = t .before .before .begin .ensures .prepared _ (t .enum-told .given .1) in
@@ -53,7 +53,7 @@ returns-2 c =
     let t = r .before in
     let tables = t .before .before .begin .ensures .prepared _ (t .enum-told .given .1) in
     picks-made _ _ _ _ _ _ _ _ (passed t) _ _ _
-    (s .run .ensures _ (tables .given .accepted) (given-crew (tables .given) (r .record-at .result) (r .record-at .ensures)) (job-groups _ _ _ _ _) (tables .laid)) _ (c .place-of .ensures)
+    (s .take .ensures _ (tables .given .accepted) (given-crew (tables .given) (r .record-at .result) (r .record-at .ensures)) (job-groups _ _ _ _ _) (tables .laid)) _ (c .place-of .ensures)
 
 pub picks-spec : {M : Type 1} → statement M
 picks-spec =
@@ -64,7 +64,7 @@ picks-spec =
     returns
     enum-told
     record-at-requires
-    run-requires
+    take-requires
     place-of-requires
     same-length
     returns-2)

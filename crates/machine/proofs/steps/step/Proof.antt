@@ -26,10 +26,10 @@ record Bounds (w at count t rows : ℕ) : Type 0 where
   made : count < 139264
   target : t < rows
 
-bounds : (c : tie.Else1) → let a = c .before .before .before .args in let place = placeAt (a .first .now) (a .made .now) (a .w) in
+bounds : (c : tie.Else1) → let a = c .before .before .args in let place = placeAt (a .first .now) (a .made .now) (a .w) in
     Bounds (a .w) place (getD (a .made .now) (a .w) 0) (getD (a .target .now) place 0) (length (a .sums .now))
 bounds c =
-    let s = c .before .before .before in
+    let s = c .before .before in
     let a = s .args in
     let f = reason-none (a .w) (a .workers) (getD (a .made .now) (a .w) 0) (2 * getD (a .counts .now) (a .w) 0) _ (sym (c .before .refusal .ensures) ∙ none c) in
     let low : a .w < 16 = omega (arith, f .0, s .pre .0) in
@@ -38,7 +38,7 @@ bounds c =
     record { worker = low; place = inside; made = omega (arith, f .1); target = s .pre .1 .target-low _ inside }
 
 refusal-requires : tie.Need-refusal-requires
-refusal-requires c κs = (c .before .pre .0, c .before .pre .1 .inside)
+refusal-requires c κs = (c .pre .0, c .pre .1 .inside)
 
 returns : tie.Need-returns
 returns c = step-refused _ (c .before .refusal .result) _ _ _ (c .before .refusal .ensures) (c .if1 .taken)
@@ -70,58 +70,43 @@ element-copy-out-t c = let b = bounds (c .before .before) in search needs
 cast-t : tie.Need-cast-t
 cast-t c = let b = bounds (c .before .before .before) in search needs
 
-mul-held : tie.Need-mul-held
-mul-held c = let b = bounds (c .before .before .before .before) in search needs
+mul-loaded : tie.Need-mul-loaded
+mul-loaded c = let b = bounds (c .before .before .before .before) in search needs
 
-slice-copy-out-held : tie.Need-slice-copy-out-held
-slice-copy-out-held c = let b = bounds (c .before .before .before .before) in search needs
-
-mul-t33 : tie.Need-mul-t33
-mul-t33 c = let b = bounds (c .before .before .before .before .before) in search needs
-
-element-set-from-held : tie.Need-element-set-from-held
-element-set-from-held c = let b = bounds (c .before .before .before .before .before) in search needs
-
-add-made : tie.Need-add-made
-add-made c = let b = bounds (c .before .before .before .before .before) in search needs
-
-mul-made : tie.Need-mul-made
-mul-made c = let b = bounds (c .before .before .before .before .before) in search needs
-
-element-write-made : tie.Need-element-write-made
-element-write-made c = let b = bounds (c .before .before .before .before .before) in search needs
+slice-copy-out-loaded : tie.Need-slice-copy-out-loaded
+slice-copy-out-loaded c = let b = bounds (c .before .before .before .before) in search needs
 
 returns-2 : tie.Need-returns-2
 returns-2 c =
     let e = c .before .before .before .before .before in
-    let a = e .before .before .before .args in
+    let a = e .before .before .args in
     let u = laidUpdate (a .first .now) (a .target .now) (a .amount .now) (a .made .now) (a .w) in
-    rw (toZ-ofZ {w = w64} {z = getD (a .sums .now) (u .target) (pos 0)} (sfits-of (c .held .given)))
+    rw (toZ-ofZ {w = w64} {z = getD (a .sums .now) (u .target) (pos 0)} (sfits-of (c .loaded .given)))
     (step-loads _ (sym (e .before .refusal .ensures) ∙ none e) (a .made .now) (a .held .now) (a .sums .now) (a .w) u (c .before .if2 .taken))
 
+mul-loaded-2 : tie.Need-mul-loaded-2
+mul-loaded-2 c = let b = bounds (c .before .before .before .before) in search needs
+
+element-copy-out-loaded : tie.Need-element-copy-out-loaded
+element-copy-out-loaded c = let b = bounds (c .before .before .before .before) in search needs
+
 mul-add-checked : tie.Need-mul-add-checked
-mul-add-checked c = let b = bounds (c .before .before .before .before) in search needs
+mul-add-checked c = let b = bounds (c .before .before .before .before .before) in search needs
 
 element-copy-out-add-checked : tie.Need-element-copy-out-add-checked
-element-copy-out-add-checked c = let b = bounds (c .before .before .before .before) in search needs
-
-mul-add-checked-2 : tie.Need-mul-add-checked-2
-mul-add-checked-2 c = let b = bounds (c .before .before .before .before .before) in search needs
-
-element-copy-out-add-checked-2 : tie.Need-element-copy-out-add-checked-2
-element-copy-out-add-checked-2 c = let b = bounds (c .before .before .before .before .before) in search needs
+element-copy-out-add-checked c = let b = bounds (c .before .before .before .before .before) in search needs
 
 add-checked-requires : tie.Need-add-checked-requires
 add-checked-requires c κs = search needs
 
 -- the sum that is made of the held number and the amount
-sum-is : (c : tie.After-add-checked) → let a = c .before .before .before .before .before .before .before .before .before .before .args in
+sum-is : (c : tie.After-add-checked) → let a = c .before .before .before .before .before .before .before .before .before .args in
     c .add-checked .result ≡ sumOf (getD (a .held .now) (a .w) (pos 0)) (getD (a .amount .now) (placeAt (a .first .now) (a .made .now) (a .w)) (pos 0))
 sum-is c =
-    let a = c .before .before .before .before .before .before .before .before .before .before .args in
+    let a = c .before .before .before .before .before .before .before .before .before .args in
     rw (
-      toZ-ofZ {w = w64} {z = getD (a .held .now) (a .w) (pos 0)} (sfits-of (c .before .before .add-checked-arg .given)),
-      toZ-ofZ {w = w64} {z = getD (a .amount .now) (placeAt (a .first .now) (a .made .now) (a .w)) (pos 0)} (sfits-of (c .before .add-checked-arg2 .given)),
+      toZ-ofZ {w = w64} {z = getD (a .held .now) (a .w) (pos 0)} (sfits-of (c .before .before .loaded2 .given)),
+      toZ-ofZ {w = w64} {z = getD (a .amount .now) (placeAt (a .first .now) (a .made .now) (a .w)) (pos 0)} (sfits-of (c .before .add-checked-arg .given)),
     )
     at (c .add-checked .ensures)
 
@@ -135,7 +120,7 @@ returns-3 : tie.Need-returns-3
 returns-3 c =
     let x = c .before .before in
     let e = x .before .before .before .before .before .before .before in
-    let a = e .before .before .before .args in
+    let a = e .before .before .args in
     step-passes _ (sym (e .before .refusal .ensures) ∙ none e) (a .made .now) (a .held .now) (a .sums .now) (a .w) (laidUpdate (a .first .now) (a .target .now) (a .amount .now) (a .made .now) (a .w))
     (x .before .before .before .if2 .left) (sym (sum-is x) ∙ c .enum-told .given .1)
 
@@ -144,15 +129,6 @@ mul-sum c = let b = bounds (c .before .before .before .before .before .before .b
 
 slice-set-from-sum : tie.Need-slice-set-from-sum
 slice-set-from-sum c = let b = bounds (c .before .before .before .before .before .before .before .before .before .before) in search needs
-
-add-made-2 : tie.Need-add-made-2
-add-made-2 c = let b = bounds (c .before .before .before .before .before .before .before .before .before .before) in search needs
-
-mul-made-2 : tie.Need-mul-made-2
-mul-made-2 c = let b = bounds (c .before .before .before .before .before .before .before .before .before .before) in search needs
-
-element-write-made-2 : tie.Need-element-write-made-2
-element-write-made-2 c = let b = bounds (c .before .before .before .before .before .before .before .before .before .before) in search needs
 
 same-length : tie.Need-same-length
 same-length c = search needs
@@ -164,8 +140,8 @@ returns-4 : tie.Need-returns-4
 returns-4 c =
     let x = c .before .before .before in
     let e = x .before .before .before .before .before .before .before in
-    let a = e .before .before .before .args in
-    rw (toZ-ofZ (in-range c))
+    let a = e .before .before .args in
+    rw (toZ-ofZ (in-range c), toZ-ofZ {w = w64} {z = getD (a .held .now) (a .w) (pos 0)} (sfits-of (x .before .before .loaded2 .given)))
     (step-stores _ (sym (e .before .refusal .ensures) ∙ none e) (a .made .now) (a .held .now) (a .sums .now) (a .w) (laidUpdate (a .first .now) (a .target .now) (a .amount .now) (a .made .now) (a .w))
     (x .before .before .before .if2 .left) (c .before .sum .given .0 .0) (sym (sum-is x) ∙ c .before .sum .given .1))
 
@@ -184,26 +160,18 @@ step-spec =
     mul-t
     element-copy-out-t
     cast-t
-    mul-held
-    slice-copy-out-held
-    mul-t33
-    element-set-from-held
-    add-made
-    mul-made
-    element-write-made
+    mul-loaded
+    slice-copy-out-loaded
     returns-2
+    mul-loaded-2
+    element-copy-out-loaded
     mul-add-checked
     element-copy-out-add-checked
-    mul-add-checked-2
-    element-copy-out-add-checked-2
     add-checked-requires
     enum-known-sum
     enum-told
     returns-3
     mul-sum
     slice-set-from-sum
-    add-made-2
-    mul-made-2
-    element-write-made-2
     same-length
     returns-4)

@@ -1,0 +1,195 @@
+-- `run::state::State::take` meets its contract: k picks are taken.
+use mathlib.Core.Path.{_≡_, refl, _∙_}
+use mathlib.Core.Logic.{⊎-elim}
+use Prim.Native.Nat.{ℕ, _-_, _≤_, _<_}
+use native.Mathlib.Omega.{arith}
+use lib.ListN.{length, getD}
+use mir.Syntax.{w64}
+use mir.Val.{SFits}
+use mir.Facts.{toZ-ofZ}
+use borrow.Author.Needs.{needs}
+use Rattle.machine.specs.Record.{stateOf}
+use Rattle.machine.proofs.RunTurns.{Running, running-start, running-none, running-halt, running-worker, running-renewed, running-on}
+use Rattle.machine.proofs.state.State.take.Statement.{statement}
+use Rattle.machine.proofs.state.State.take.Tie as tie
+
+abbrev Inv-loop : tie.InvT-loop
+Inv-loop sums₀ schedule workers groups count counts first target amount leaf ends self₀ blocks₀ stops₀ k₀ sums self blocks stops k =
+    (k ≤ length schedule) × (length sums ≡ length sums₀)
+    × Running workers count groups counts first target amount leaf ends (stateOf self₀ sums₀) schedule k (stateOf self sums) blocks stops
+
+abbrev μ-loop : tie.MeasureT-loop
+μ-loop sums₀ schedule workers groups count counts first target amount leaf ends self₀ blocks₀ stops₀ k₀ sums self blocks stops k =
+    length schedule - k
+
+-- from a turn back to the function's entry
+abbrev entry : tie.In-loop Inv-loop μ-loop → tie.Start Inv-loop μ-loop
+entry t = t .before .before .before .before .before .before .before .before .before .before
+
+-- from a pick that is taken back to its turn
+abbrev turn : tie.After-known-told2 Inv-loop μ-loop → tie.In-loop Inv-loop μ-loop
+turn c = c .before .before .before .before .before .before .before .before .before .before .before
+
+blocked-groups-requires : tie.Need-blocked-groups-requires Inv-loop μ-loop
+blocked-groups-requires c κs = search needs
+
+next-ends-requires : tie.Need-next-ends-requires Inv-loop μ-loop
+next-ends-requires c κs = search needs
+
+loop-holds : tie.Need-loop-holds Inv-loop μ-loop
+loop-holds c = (search needs, refl, running-start _ _ _ _ _ _ _ _ _ _ _ _ _ (search needs) (c .before .before .before .blocked-groups .ensures) (c .next-ends .ensures))
+
+shared-slice-read-w : tie.Need-shared-slice-read-w Inv-loop μ-loop
+shared-slice-read-w c = search needs
+
+cast-w : tie.Need-cast-w Inv-loop μ-loop
+cast-w c = omega (arith, c .shared-slice-known3 .given (c .before .before .loop .k))
+
+step-requires : tie.Need-step-requires Inv-loop μ-loop
+step-requires c κs =
+    let t = c .before .before .before .before .before .before in
+    let l = t .before in
+    let s = entry t in
+    let b = s .pre .2 in
+    (s .pre .0, record { inside = record { few = b .inside; leaf-low = b .leaf-low }; target-low = λ k low. rw (l .loop .inv .1) (b .target-low k low) })
+
+enum-known-answer : tie.Need-enum-known-answer Inv-loop μ-loop
+enum-known-answer c = search needs
+
+ended-requires : tie.Need-ended-requires Inv-loop μ-loop
+ended-requires c κs = search needs
+
+same-length : tie.Need-same-length Inv-loop μ-loop
+same-length c = search needs
+
+returns : tie.Need-returns Inv-loop μ-loop
+returns c =
+    let o = c .before .before in
+    let x = o .before .before .before in
+    let t = x .before .before .before .before .before .before .before in
+    let s = entry t in
+    rw (c .ended .ensures) (running-halt _ _ _ _ _ _ _ _ _ _ _ (t .before .loop .inv .2) (s .pre .0) (s .pre .1) (t .loop-test .taken) (x .step .ensures) (o .answer .given .1))
+
+enum-known-answer-2 : tie.Need-enum-known-answer-2 Inv-loop μ-loop
+enum-known-answer-2 c = search needs
+
+-- a pick that is taken is of a worker of the plan, and its count is inside
+record Bounds (w made : ℕ) : Type 0 where
+  worker : w < 16
+  few : made < 139264
+
+bounds : (c : tie.After-known-told2 Inv-loop μ-loop) → let l = turn c .before in let w = getD (entry (turn c) .args .schedule .now) (l .loop .k) 0 in Bounds w (getD (l .loop .self .made) w 0)
+bounds c =
+    let x = c .before .before .before .before in
+    let t = turn c in
+    let s = entry t in
+    let (worker, left) = running-worker _ _ _ _ _ _ _ _ _ _ _ (t .before .loop .inv .2) (s .pre .0) (s .pre .1) (t .loop-test .taken) (x .step .ensures) (c .before .answer2 .given .1) in
+    let low : getD (s .args .schedule .now) (t .before .loop .k) 0 < 16 = omega (arith, worker, s .pre .0) in
+    record { worker = low; few = omega (arith, left, s .pre .2 .inside _ low) }
+
+in-range : (c : tie.After-known-told2 Inv-loop μ-loop) → SFits w64 (c .before .answer2 .given .0 .0)
+in-range c = search needs
+
+mul-self : tie.Need-mul-self Inv-loop μ-loop
+mul-self c = let b = bounds c in search needs
+
+element-copy-out-self : tie.Need-element-copy-out-self Inv-loop μ-loop
+element-copy-out-self c = let b = bounds c in search needs
+
+add-self : tie.Need-add-self Inv-loop μ-loop
+add-self c = let b = bounds (c .before) in search needs
+
+element-write-self : tie.Need-element-write-self Inv-loop μ-loop
+element-write-self c = let b = bounds (c .before) in search needs
+
+mul-held : tie.Need-mul-held Inv-loop μ-loop
+mul-held c = let b = bounds (c .before) in search needs
+
+element-set-from-held : tie.Need-element-set-from-held Inv-loop μ-loop
+element-set-from-held c = let b = bounds (c .before) in search needs
+
+mul-if1 : tie.Need-mul-if1 Inv-loop μ-loop
+mul-if1 c = let b = bounds (c .before) in search needs
+
+array-read-if1 : tie.Need-array-read-if1 Inv-loop μ-loop
+array-read-if1 c = let b = bounds (c .before) in search needs
+
+mul-if1-2 : tie.Need-mul-if1-2 Inv-loop μ-loop
+mul-if1-2 c = let b = bounds (c .before) in search needs
+
+element-copy-out-if1 : tie.Need-element-copy-out-if1 Inv-loop μ-loop
+element-copy-out-if1 c = let b = bounds (c .before) in search needs
+
+blocked-groups-requires-2 : tie.Need-blocked-groups-requires-2 Inv-loop μ-loop
+blocked-groups-requires-2 c κs = entry (turn (c .before .before .before .before .before)) .pre .1
+
+next-ends-requires-2 : tie.Need-next-ends-requires-2 Inv-loop μ-loop
+next-ends-requires-2 c κs = entry (turn (c .before .before .before .before .before .before .before .before)) .pre .1
+
+add-k : tie.Need-add-k Inv-loop μ-loop
+add-k c = let t = turn (c .before .before .before) in omega (arith, t .loop-test .taken, entry t .good .1 .1 .0 .0)
+
+loop-less : tie.Need-loop-less Inv-loop μ-loop
+loop-less c = search needs
+
+loop-again : tie.Need-loop-again Inv-loop μ-loop
+loop-again c =
+    let o = c .before .before .before in
+    let x = o .before .before .before .before in
+    let t = turn o in
+    let l = t .before in
+    let s = entry t in
+    let b = bounds o in
+    let held = toZ-ofZ (in-range o) in (
+      omega (arith, t .loop-test .taken),
+      x .step .kept .1 .1 .0 ∙ l .loop .inv .1,
+      ⊎-elim
+          (λ r. rw (r .7, r .8, held) (running-renewed _ _ _ _ _ _ _ _ _ _ _ (l .loop .inv .2) (s .pre .0) (s .pre .1) (t .loop-test .taken) (x .step .ensures) (o .before .answer2 .given .1) _ _ (r .3 .ensures) (r .6 .ensures)))
+          (λ r. rw (r .1, r .2, held) (running-on _ _ _ _ _ _ _ _ _ _ _ (l .loop .inv .2) (s .pre .0) (s .pre .1) (t .loop-test .taken) (x .step .ensures) (o .before .answer2 .given .1) (omega (arith, l .loop .inv .2 .long)) (r .0 .left)))
+          (c .if1 .came),
+    )
+
+ended-requires-2 : tie.Need-ended-requires-2 Inv-loop μ-loop
+ended-requires-2 c κs = search needs
+
+same-length-2 : tie.Need-same-length-2 Inv-loop μ-loop
+same-length-2 c = search needs
+
+returns-2 : tie.Need-returns-2 Inv-loop μ-loop
+returns-2 c = rw (c .ended2 .ensures) (running-none _ _ _ _ _ _ _ _ _ _ _ (c .before .before .loop .inv .2) (search needs))
+
+pub take-spec : {M : Type 1} → statement M
+take-spec =
+    tie.close
+    (tie.spec
+    Inv-loop
+    μ-loop
+    blocked-groups-requires
+    next-ends-requires
+    loop-holds
+    shared-slice-read-w
+    cast-w
+    step-requires
+    enum-known-answer
+    ended-requires
+    same-length
+    returns
+    enum-known-answer-2
+    mul-self
+    element-copy-out-self
+    add-self
+    element-write-self
+    mul-held
+    element-set-from-held
+    mul-if1
+    array-read-if1
+    mul-if1-2
+    element-copy-out-if1
+    blocked-groups-requires-2
+    next-ends-requires-2
+    add-k
+    loop-less
+    loop-again
+    ended-requires-2
+    same-length-2
+    returns-2)
