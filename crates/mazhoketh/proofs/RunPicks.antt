@@ -22,7 +22,7 @@ use Rattle.plan.specs.Sound.{maxWorkers}
 use Rattle.run.specs.Job.{Job, jobOf, Accepted}
 use Rattle.run.specs.Machine.{State, steps, isState, countsFine}
 use Rattle.run.specs.Calls.{Answer, picked, isReady, forces, refused, picks, placeOf, pickedOf, answerOf, stateCheck, answer, jobChecks, answerLent, afterLent}
-use Rattle.run.proofs.JobChecked.{job-given}
+use Rattle.machine.proofs.JobChecked.{job-given}
 use Rattle.words.specs.LittleEndian.{number, unsigned, signed, signedBytes, stored}
 use Rattle.words.proofs.Blocks.{length-decoded}
 use Rattle.mazhoketh.specs.Word.{word}

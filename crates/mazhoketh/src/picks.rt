@@ -11,8 +11,8 @@ use crate::state::no_state;
 use crate::state::store_state;
 use crate::word::word_of;
 use base::Answer;
-use run::Ending;
-use run::state::State;
+use machine::Ending;
+use machine::state::State;
 use words::store::store_i64;
 ghost use mathlib.Core.Path.{_≡_};
 ghost use Prim.Native.Nat.{ℕ, _/_, _^_, _≤_, _<_};
@@ -20,8 +20,8 @@ ghost use lib.ListN.{length};
 ghost use Rattle.matrix.specs.Checks.{matrixOf};
 ghost use Rattle.run.specs.Calls.{picked, afterLent};
 ghost use Rattle.run.specs.Calls as calls;
-ghost use Rattle.run.specs.Record.{stateOf};
-ghost use Rattle.run.specs.Answers.{picksAnswer};
+ghost use Rattle.machine.specs.Record.{stateOf};
+ghost use Rattle.machine.specs.Answers.{picksAnswer};
 ghost use Rattle.words.specs.LittleEndian.{unsigned, signed};
 ghost use Rattle.mazhoketh.specs.Bytes.{matrixIn};
 ghost use Rattle.mazhoketh.specs.Runs.{stateBytes, stateIn, answerIn, replyTo, PicksAnswered};
@@ -88,7 +88,7 @@ fn picks_in(
     }
     let mut sum_list = [0i64; 4097];
     let sums_len = load_sums(sums, &mut sum_list);
-    let picked = run::picks(
+    let picked = machine::picks(
         n,
         starts,
         columns,

@@ -4,7 +4,7 @@ use mathlib.Core.Path.{ap, _∙_}
 use mathlib.Core.List.{List}
 use lib.IntN.{ℤ}
 use Rattle.matrix.specs.Checks.{matrixOf}
-use Rattle.run.specs.Record.{stateOf}
+use Rattle.machine.specs.Record.{stateOf}
 use Rattle.words.specs.LittleEndian.{signedNumber}
 use Rattle.words.proofs.Blocks.{length-decoded}
 use Rattle.mazhoketh.proofs.Loads.{loaded-size, relent-is, relent-size, relent-short, relent-few}
