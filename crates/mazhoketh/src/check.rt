@@ -1,44 +1,13 @@
 // mzk_check: whether a plan is sound for a matrix.
-use crate::lists::load_columns;
-use crate::lists::load_groups;
-use crate::lists::load_order;
-use crate::lists::load_starts;
-use crate::lists::load_values;
-use crate::word::word_of;
+use cabinet::check::check_of;
+use cabinet::lists::load_columns;
+use cabinet::lists::load_starts;
+use cabinet::lists::load_values;
 ghost use mathlib.Core.Path.{_≡_};
-ghost use Rattle.matrix.specs.Checks.{matrixOf};
 ghost use Rattle.plan.specs.Sound.{checkReply};
 ghost use Rattle.words.specs.LittleEndian.{unsigned};
-ghost use Rattle.mazhoketh.specs.Bytes.{matrixIn};
-ghost use Rattle.mazhoketh.specs.Word.{word};
-
-// The matrix is decoded.
-fn check_of(
-    n: u32,
-    starts: &[u32],
-    columns: &[u32],
-    values: &[i32],
-    order: &[u8],
-    groups: &[u8],
-    group_count: u32,
-) -> u64
-    ensures { λ r. ⌜ r ≡ word (checkReply (matrixOf n (now (starts .entry)) (now (columns .entry)) (now (values .entry))) (unsigned 4 (now (order .entry))) (unsigned 4 (now (groups .entry))) «group_count») ⌝ }
-{
-    let mut order_list = [0u32; 4096];
-    let order_len = load_order(order, &mut order_list);
-    let mut group_list = [0u32; 3072];
-    let groups_len = load_groups(groups, &mut group_list);
-    let answer = plan::check(
-        n,
-        starts,
-        columns,
-        values,
-        &order_list[..order_len],
-        &group_list[..groups_len],
-        group_count,
-    );
-    word_of(answer)
-}
+ghost use Rattle.cabinet.specs.Bytes.{matrixIn};
+ghost use Rattle.cabinet.specs.Word.{word};
 
 #[no_mangle]
 pub extern "C" fn mzk_check(

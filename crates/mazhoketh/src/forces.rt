@@ -1,115 +1,17 @@
 // mzk_forces: the forces of a finished run.
-use crate::lists::load_columns;
-use crate::lists::load_displacements;
-use crate::lists::load_groups;
-use crate::lists::load_order;
-use crate::lists::load_starts;
-use crate::lists::load_sums;
-use crate::lists::load_values;
-use crate::state::load_state;
-use crate::state::no_state;
-use crate::word::word_of;
-use base::Answer;
-use machine::state::State;
-use words::least;
-use words::store::store_i64;
-ghost use Prim.Native.Nat.{_/_, _≤_};
+use cabinet::forces::forces_in;
+use cabinet::lists::load_columns;
+use cabinet::lists::load_displacements;
+use cabinet::lists::load_groups;
+use cabinet::lists::load_order;
+use cabinet::lists::load_starts;
+use cabinet::lists::load_values;
+ghost use Prim.Native.Nat.{_/_};
 ghost use lib.ListN.{length};
-ghost use Rattle.matrix.specs.Checks.{matrixOf};
-ghost use Rattle.run.specs.Calls.{forceList, answerLent};
-ghost use Rattle.machine.specs.Record.{stateOf};
+ghost use Rattle.run.specs.Calls.{forceList};
 ghost use Rattle.words.specs.LittleEndian.{unsigned, signed};
-ghost use Rattle.mazhoketh.specs.Bytes.{matrixIn};
-ghost use Rattle.mazhoketh.specs.Runs.{answerIn, ForcesAnswered};
-
-// Job, state and sums are decoded; the forces are made in `made`, as far as the lent list has room, and then stored.
-fn forces_of(
-    n: u32,
-    starts: &[u32],
-    columns: &[u32],
-    values: &[i32],
-    displacements: &[i32],
-    order: &[u32],
-    groups: &[u32],
-    count: u32,
-    state: State,
-    sums: &[i64],
-    made: &mut [i64],
-    forces: &mut [u8],
-) -> u64
-    requires { ⌜ 4096 ≤ length (now made) ⌝ }
-    ensures { λ r. ⌜ ForcesAnswered (answerLent (matrixOf n (now (starts .entry)) (now (columns .entry)) (now (values .entry))) (now (displacements .entry)) (now (order .entry)) (now (groups .entry)) count
-        (stateOf state (now (sums .entry))) (forceList (length (now (forces .entry)) / 8))) (now (forces .entry)) r (now (forces .exit)) ⌝ }
-{
-    let room = least(forces.len() / 8, made.len());
-    let answer = machine::forces(
-        n,
-        starts,
-        columns,
-        values,
-        displacements,
-        order,
-        groups,
-        count,
-        state,
-        sums,
-        &mut made[..room],
-    );
-    let Answer::Accepted(_) = answer else {
-        return word_of(answer);
-    };
-    let rows = n as usize;
-    store_i64(&made[..rows], forces);
-    word_of(answer)
-}
-
-// The job is decoded.
-fn forces_in(
-    n: u32,
-    starts: &[u32],
-    columns: &[u32],
-    values: &[i32],
-    displacements: &[i32],
-    order: &[u32],
-    groups: &[u32],
-    count: u32,
-    state: &[u8],
-    sums: &[u8],
-    forces: &mut [u8],
-) -> u64
-    ensures { λ r. ⌜ ForcesAnswered (answerIn (matrixOf n (now (starts .entry)) (now (columns .entry)) (now (values .entry))) (now (displacements .entry)) (now (order .entry)) (now (groups .entry)) count
-        (now (state .entry)) (now (sums .entry)) (forceList (length (now (forces .entry)) / 8))) (now (forces .entry)) r (now (forces .exit)) ⌝ }
-{
-    if state.len() != 192 {
-        return no_state(
-            n,
-            starts,
-            columns,
-            values,
-            displacements,
-            order,
-            groups,
-            count,
-        );
-    }
-    let mut sum_list = [0i64; 4097];
-    let sums_len = load_sums(sums, &mut sum_list);
-    let mut made = [0i64; 4096];
-    forces_of(
-        n,
-        starts,
-        columns,
-        values,
-        displacements,
-        order,
-        groups,
-        count,
-        load_state(state),
-        &sum_list[..sums_len],
-        &mut made,
-        forces,
-    )
-}
+ghost use Rattle.cabinet.specs.Bytes.{matrixIn};
+ghost use Rattle.cabinet.specs.Runs.{answerIn, ForcesAnswered};
 
 #[no_mangle]
 pub extern "C" fn mzk_forces(

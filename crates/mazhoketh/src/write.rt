@@ -1,13 +1,13 @@
 // mzk_write: a matrix as text.
-use crate::lists::load_columns;
-use crate::lists::load_starts;
-use crate::lists::load_values;
-use crate::word::word_of;
+use cabinet::lists::load_columns;
+use cabinet::lists::load_starts;
+use cabinet::lists::load_values;
+use cabinet::word::word_of;
 use writer::write;
 ghost use lib.ListN.{length};
 ghost use Rattle.market.specs.Text.{written, writeReply};
-ghost use Rattle.mazhoketh.specs.Bytes.{matrixIn};
-ghost use Rattle.mazhoketh.specs.Word.{Answered};
+ghost use Rattle.cabinet.specs.Bytes.{matrixIn};
+ghost use Rattle.cabinet.specs.Word.{Answered};
 
 #[no_mangle]
 pub extern "C" fn mzk_write(

@@ -3,9 +3,9 @@ use borrow.Author.Needs.{needs}
 use Prim.Native.Nat.{_/_}
 use lib.ListN.{length}
 use Rattle.run.specs.Calls.{forceList}
-use Rattle.mazhoketh.proofs.Loads.{loaded-size}
-use Rattle.mazhoketh.proofs.RunCalls.{answer-loaded}
-use Rattle.mazhoketh.proofs.RunForces.{forces-same}
+use Rattle.cabinet.proofs.Loads.{loaded-size}
+use Rattle.cabinet.proofs.RunCalls.{answer-loaded}
+use Rattle.cabinet.proofs.RunForces.{forces-same}
 use Rattle.mazhoketh.proofs.forces.mzk_forces.Statement.{statement}
 use Rattle.mazhoketh.proofs.forces.mzk_forces.Tie as tie
 

@@ -1,10 +1,10 @@
 -- `mzk_picks` meets its contract: the lists of the job are decoded as far as a job can reach.
 use borrow.Author.Needs.{needs}
 use Rattle.run.specs.Calls.{picks}
-use Rattle.mazhoketh.specs.Runs.{stateIn}
-use Rattle.mazhoketh.proofs.Loads.{loaded-size}
-use Rattle.mazhoketh.proofs.RunCalls.{answer-loaded, after-loaded}
-use Rattle.mazhoketh.proofs.RunPicks.{picks-same}
+use Rattle.cabinet.specs.Runs.{stateIn}
+use Rattle.cabinet.proofs.Loads.{loaded-size}
+use Rattle.cabinet.proofs.RunCalls.{answer-loaded, after-loaded}
+use Rattle.cabinet.proofs.RunPicks.{picks-same}
 use Rattle.mazhoketh.proofs.picks.mzk_picks.Statement.{statement}
 use Rattle.mazhoketh.proofs.picks.mzk_picks.Tie as tie
 

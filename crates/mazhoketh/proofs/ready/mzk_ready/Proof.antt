@@ -2,10 +2,10 @@
 use borrow.Author.Needs.{needs}
 use mathlib.Core.Path.{ap, _∙_}
 use Rattle.run.specs.Calls.{Answer, readySet}
-use Rattle.mazhoketh.specs.Word.{word}
-use Rattle.mazhoketh.specs.Runs.{replyTo}
-use Rattle.mazhoketh.proofs.Loads.{loaded-size}
-use Rattle.mazhoketh.proofs.RunCalls.{answer-loaded}
+use Rattle.cabinet.specs.Word.{word}
+use Rattle.cabinet.specs.Runs.{replyTo}
+use Rattle.cabinet.proofs.Loads.{loaded-size}
+use Rattle.cabinet.proofs.RunCalls.{answer-loaded}
 use Rattle.mazhoketh.proofs.ready.mzk_ready.Statement.{statement}
 use Rattle.mazhoketh.proofs.ready.mzk_ready.Tie as tie
 

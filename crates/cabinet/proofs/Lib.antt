@@ -1,0 +1,12 @@
+pub mod Loads
+pub mod Answers
+pub mod Products
+pub mod PlanChecks
+pub mod TextReads
+pub mod Plans
+pub mod CutJobs
+pub mod RunCalls
+pub mod RunForces
+pub mod TakenFew
+pub mod RunPicks
+pub mod StateBytes

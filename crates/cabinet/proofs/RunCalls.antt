@@ -1,0 +1,160 @@
+-- The calls on a run with lists that are cut, and with a state that is decoded.
+use mathlib.Core.Path.{_≡_, refl, sym, ap, _∙_}
+use mathlib.Core.Logic.{_≢_}
+use mathlib.Core.Bool.{Bool, true, false, cond}
+use mathlib.Core.List.{List, [], _∷_}
+use Prim.Native.Nat.{ℕ, _*_, _≤_}
+use native.Mathlib.Omega.{arith}
+use lib.Dec.{leb}
+use lib.IntN.{ℤ}
+use lib.ListN.{length, take, drop}
+use lib.Seq.{take-all, length-take-le}
+use borrow.Author.Tests.{eq-eqb, ne-eqb, leb-true, leb-false}
+use Rattle.base.specs.Refusals as no
+use Rattle.base.specs.Replies as replies
+use Rattle.base.specs.Replies.{Check, inTurn}
+use Rattle.base.proofs.Booleans.{conj-at}
+use Rattle.base.proofs.Replies.{inTurn-same}
+use Rattle.matrix.specs.Limits.{maxRows}
+use Rattle.matrix.specs.Matrix.{Matrix, isMatrix, matrixCheck, areDisplacements, displacementCheck}
+use Rattle.matrix.specs.Checks.{matrixOf}
+use Rattle.matrix.proofs.Matrix.{matrix-facts}
+use Rattle.matrix.proofs.Cut.{mostStarts, mostEntries, cut, cut-matrix, cut-displacements, displacements-kept}
+use Rattle.plan.specs.Groups.{Plan, width, planOf}
+use Rattle.plan.specs.Sound.{maxGroups, isSound, isPlan, planCheck}
+use Rattle.plan.proofs.Cut.{mostFields, cut-plan, plan-kept}
+use Rattle.words.specs.LittleEndian.{unsigned, signed}
+use Rattle.run.specs.Job.{Job, jobOf}
+use Rattle.run.specs.Machine.{State, isState}
+use Rattle.run.specs.Calls.{Call, Answer, refused, stateCheck, answer, after, jobChecks, answerLent, afterLent}
+use Rattle.machine.proofs.InTurn.{turn-refused, turn-accepted}
+use Rattle.cabinet.specs.Lists.{Loaded}
+use Rattle.cabinet.specs.Word.{word}
+use Rattle.cabinet.specs.Runs.{stateBytes, countBytes, stateIn, answerIn, replyTo}
+use Rattle.cabinet.proofs.Loads.{loaded-matrix}
+use Rattle.cabinet.proofs.PlanChecks.{plan-of-cut}
+use Rattle.cabinet.proofs.CutJobs.{answer-same, after-same}
+
+-- ---- the lists of the job
+
+-- the records of a plan are no more than 512
+records-fit : (m : Matrix) (order groups : List ℕ) (count : ℕ) → isPlan m order groups count ≡ true → width * count ≤ mostFields
+unfolding isPlan
+records-fit m order groups count h =
+    let bs : List Bool = leb count maxGroups ∷ leb (width * count) (length groups) ∷ isSound m (planOf (m .n) order groups count) ∷ [] in
+    omega (arith, leb-true count maxGroups (conj-at (leb (m .n) (length order)) bs h 0))
+
+-- displacements that pass their check
+displaced : (n : ℕ) (x : List ℤ) → displacementCheck n x .holds ≡ true → areDisplacements n x ≡ true
+unfolding displacementCheck
+displaced n x h = h
+
+-- what a call makes of a job, f, is the same of cut lists, if it is of a matrix whose lists are cut
+module _ {A : Type 0} (refuse : (number place : ℕ) → A) (f : Job → A)
+    (same : (m : Matrix) → isMatrix m ≡ true → (x : List ℤ) (p : Plan) → f (record { matrix = cut m; displacements = x; plan = p }) ≡ f (record { matrix = m; displacements = x; plan = p }))
+    (m : Matrix) (x : List ℤ) (order groups : List ℕ) (count : ℕ) where
+  abbrev made : Matrix → List ℤ → (order groups : List ℕ) → A
+  made m x order groups = inTurn refuse (jobChecks m x order groups count) (f (jobOf m x order groups count))
+
+  job-cut : made (cut m) (take mostStarts x) (take maxRows order) (take mostFields groups) ≡ made m x order groups
+  unfolding jobChecks matrixCheck planCheck jobOf
+  job-cut =
+      rw (cut-matrix m)
+      (inTurn-same refuse (matrixCheck m) _ _ _ _ (λ ok.
+      let few = matrix-facts m ok .few in
+      rw (cut-displacements (m .n) x few)
+      (inTurn-same refuse (displacementCheck (m .n) x) _ _ _ _ (λ are.
+      rw (displacements-kept (m .n) x few (displaced (m .n) x are), plan-of-cut m (take maxRows order) (take mostFields groups) count ok, cut-plan m order groups count few)
+      (inTurn-same refuse (planCheck m order groups count) _ _ _ _ (λ is.
+      rw (plan-kept m order groups count few (records-fit m order groups count is)) (ap (λ (a : A). inTurn refuse [] a) (same m ok x (planOf (m .n) order groups count)))))))))
+
+module _ (m : Matrix) (x : List ℤ) (order groups : List ℕ) (count : ℕ) (c : Call) where
+  -- cut, the lists give the same answer
+  lent-cut : (s : State) → answerLent (cut m) (take mostStarts x) (take maxRows order) (take mostFields groups) count s c ≡ answerLent m x order groups count s c
+  unfolding answerLent
+  lent-cut s = job-cut refused (λ j. answer j s c) (λ m ok x p. answer-same m ok x p s c) m x order groups count
+
+  in-cut : (state sums : List ℕ) → answerIn (cut m) (take mostStarts x) (take maxRows order) (take mostFields groups) count state sums c ≡ answerIn m x order groups count state sums c
+  unfolding answerIn
+  in-cut state sums = rw (lent-cut (stateIn state sums), job-cut refused (λ j. refused no.state 0) (λ m ok x p. refl) m x order groups count)
+
+  -- .. and leave the same state
+  left-cut : (s : State) → afterLent (cut m) (take mostStarts x) (take maxRows order) (take mostFields groups) count s c ≡ afterLent m x order groups count s c
+  unfolding afterLent
+  left-cut s = job-cut (λ number place. s) (λ j. after j s c) (λ m ok x p. after-same m ok x p s c) m x order groups count
+
+-- the lists that a call decodes for the whole ones
+module _ (n : ℕ) {starts columns : List ℕ} {values x : List ℤ} {order groups s c : List ℕ} {v d : List ℤ} {o g : List ℕ} {i j k l p q : ℕ}
+    (ls : Loaded mostStarts starts s i) (lc : Loaded mostEntries columns c j) (lv : Loaded mostEntries values v k)
+    (ld : Loaded mostStarts x d l) (lo : Loaded maxRows order o p) (lg : Loaded mostFields groups g q) (count : ℕ) (call : Call) where
+  pub answer-loaded : (state sums : List ℕ)
+      → answerIn (matrixOf n (take i s) (take j c) (take k v)) (take l d) (take p o) (take q g) count state sums call ≡ answerIn (matrixOf n starts columns values) x order groups count state sums call
+  answer-loaded state sums = rw (loaded-matrix n ls lc lv, ld .is, lo .is, lg .is) (in-cut (matrixOf n starts columns values) x order groups count call state sums)
+
+  pub after-loaded : (t : State)
+      → afterLent (matrixOf n (take i s) (take j c) (take k v)) (take l d) (take p o) (take q g) count t call ≡ afterLent (matrixOf n starts columns values) x order groups count t call
+  after-loaded t = rw (loaded-matrix n ls lc lv, ld .is, lo .is, lg .is) (left-cut (matrixOf n starts columns values) x order groups count call t)
+
+-- ---- the state
+
+-- without n sums there is none
+no-sums : (j : Job) (s : State) (c : Call) → length (s .sums) ≢ j .matrix .n → answer j s c ≡ refused no.state 0
+unfolding answer stateCheck isState inTurn
+no-sums j s c h = rw (ne-eqb (length (s .sums)) (j .matrix .n) h)
+
+module _ (m : Matrix) (x : List ℤ) (order groups : List ℕ) (count : ℕ) (c : Call) where
+  abbrev with : List ℕ → List ℤ → List ℤ → Answer
+  with made held sums = answerLent m x order groups count (record { made = made; held = held; sums = sums }) c
+
+  -- sums that are cut to one more than any matrix has rows stay too many
+  sums-cut : (made : List ℕ) (held sums : List ℤ) → with made held (take mostStarts sums) ≡ with made held sums
+  unfolding answerLent jobChecks matrixCheck jobOf
+  sums-cut made held sums = inTurn-same refused (matrixCheck m) _ _ _ _ (λ ok. go (matrix-facts m ok .few) (leb (length sums) mostStarts) refl)
+    where
+      go : m .n ≤ maxRows → (b : Bool) → leb (length sums) mostStarts ≡ b
+          → inTurn refused (displacementCheck (m .n) x ∷ planCheck m order groups count ∷ []) (answer (jobOf m x order groups count) (record { made = made; held = held; sums = take mostStarts sums }) c)
+          ≡ inTurn refused (displacementCheck (m .n) x ∷ planCheck m order groups count ∷ []) (answer (jobOf m x order groups count) (record { made = made; held = held; sums = sums }) c)
+      go few true e = rw (take-all mostStarts sums (leb-true (length sums) mostStarts e))
+      go few false e =
+          let long = leb-false (length sums) mostStarts e in
+          let size : length (take mostStarts sums) ≡ mostStarts = length-take-le mostStarts sums (omega arith) in
+          rw (
+            no-sums (jobOf m x order groups count) (record { made = made; held = held; sums = take mostStarts sums }) c (λ q. omega arith),
+            no-sums (jobOf m x order groups count) (record { made = made; held = held; sums = sums }) c (λ q. omega arith),
+          )
+
+  module _ (state sums : List ℕ) where
+    -- the state that a call decodes, with sums that are cut
+    pub decoded-state : length state ≡ stateBytes → {made : List ℕ} {held zs : List ℤ} → made ≡ unsigned 4 (take countBytes state) → held ≡ signed 8 (drop countBytes state)
+        → zs ≡ take mostStarts (signed 8 sums) → with made held zs ≡ answerIn m x order groups count state sums c
+    unfolding answerIn
+    decoded-state long em eh ez = rw (em, eh, ez, eq-eqb (length state) stateBytes long) (sums-cut (unsigned 4 (take countBytes state)) (signed 8 (drop countBytes state)) (signed 8 sums))
+
+    -- there is none of another length
+    pub no-state : length state ≢ stateBytes → inTurn refused (jobChecks m x order groups count) (refused no.state 0) ≡ answerIn m x order groups count state sums c
+    unfolding answerIn
+    no-state h = rw (ne-eqb (length state) stateBytes h)
+
+-- ---- the word of a call without a state
+
+module _ (cs : List Check) where
+  -- a check fails
+  pub unstated-refused : {q p w : ℕ} → replies.refused q p ≡ inTurn replies.refused cs (replies.accepted 0) → w ≡ word (replies.refused q p) → w ≡ word (replyTo (inTurn refused cs (refused no.state 0)))
+  unfolding replyTo
+  unstated-refused {q} {p} e f = f ∙ sym (ap (λ (a : Answer). word (replyTo a)) (turn-refused refused (refused no.state 0) (replies.accepted 0) cs q p (λ u. cc) (sym e)))
+
+  -- all hold
+  pub unstated : {k w : ℕ} → replies.accepted k ≡ inTurn replies.refused cs (replies.accepted 0) → w ≡ word (replies.refused no.state 0) → w ≡ word (replyTo (inTurn refused cs (refused no.state 0)))
+  unfolding replyTo
+  unstated {k} e f = f ∙ sym (ap (λ (a : Answer). word (replyTo a)) (turn-accepted refused (refused no.state 0) (replies.accepted 0) cs k (sym e) .1))
+
+-- it is refused in any case
+pub always-refused : (cs : List Check) (q p : ℕ) → (number : ℕ) × (place : ℕ) × (inTurn refused cs (refused q p) ≡ refused number place)
+unfolding inTurn
+always-refused [] q p = (q, p, refl)
+always-refused (c ∷ cs) q p = go (c .holds) (always-refused cs q p)
+  where
+    go : (b : Bool) → ((number : ℕ) × (place : ℕ) × (inTurn refused cs (refused q p) ≡ refused number place))
+        → (number : ℕ) × (place : ℕ) × (cond b (inTurn refused cs (refused q p)) (refused (c .number) (c .place)) ≡ refused number place)
+    go true r = r
+    go false r = (c .number, c .place, refl)

@@ -1,0 +1,70 @@
+-- The calls on a run whose state and sums stand in bytes: what they answer, and what they return of it.
+use mathlib.Core.Path.{_≡_}
+use mathlib.Core.Bool.{cond}
+use mathlib.Core.List.{List, [], _++_}
+use Prim.Native.Nat.{ℕ, zero, suc, _+_, _*_}
+use lib.Dec.{eqb}
+use lib.IntN.{ℤ}
+use lib.ListN.{length, take, drop}
+use Rattle.base.specs.Refusals as no
+use Rattle.base.specs.Replies as replies
+use Rattle.base.specs.Replies.{Reply, inTurn}
+use Rattle.matrix.specs.Matrix.{Matrix}
+use Rattle.run.specs.Machine.{State}
+use Rattle.run.specs.Calls.{Call, Answer, picked, isReady, forces, refused, jobChecks, answerLent}
+use Rattle.words.specs.LittleEndian.{unsigned, signed, unsignedBytes, signedBytes, stored}
+use Rattle.cabinet.specs.Word.{word, Answered}
+
+-- how many bytes a state has: sixteen counts of four bytes each, then sixteen held numbers of eight
+abbrev pub stateBytes : ℕ
+stateBytes = 192
+
+abbrev pub countBytes : ℕ
+countBytes = 64
+
+-- the state that bytes stand for, beside sums of eight bytes each
+abbrev pub stateIn : (state sums : List ℕ) → State
+stateIn state sums = record { made = unsigned 4 (take countBytes state); held = signed 8 (drop countBytes state); sums = signed 8 sums }
+
+-- a call's answer: 5, 6, 8 come before 11, which a state of another length is refused with, too
+unfoldable pub answerIn : Matrix → List ℤ → (order groups : List ℕ) (count : ℕ) (state sums : List ℕ) → Call → Answer
+answerIn m x order groups count state sums c =
+    cond (eqb (length state) stateBytes) (answerLent m x order groups count (stateIn state sums) c) (inTurn refused (jobChecks m x order groups count) (refused no.state 0))
+
+-- the reply that a call's word says: picks taken, or the number and place that ended them; sixteen bits, and above them the count of those set; 0 for forces
+unfoldable pub replyTo : Answer → Reply
+replyTo (picked taken zero place) = replies.accepted taken
+replyTo (picked taken (suc k) place) = replies.refused (suc k) place
+replyTo (isReady bits count) = replies.accepted (bits + count * 65536)
+replyTo (forces zs) = replies.accepted 0
+replyTo (refused number place) = replies.refused number place
+
+-- ---- what is left in the lists that a call fills
+
+-- the bytes of the forces
+unfoldable pub forceBytes : Answer → List ℕ
+forceBytes (forces zs) = signedBytes 8 zs
+forceBytes (picked taken number place) = []
+forceBytes (isReady bits count) = []
+forceBytes (refused number place) = []
+
+-- a force-list call with this answer: the returned word, and the lent list after it
+abbrev pub ForcesAnswered : Answer → (old : List ℕ) (returned : ℕ) (new : List ℕ) → Type 0
+ForcesAnswered a old returned new = Answered (replyTo a) (forceBytes a) old returned new
+
+-- the bytes of a state, without its sums
+abbrev pub bytesIn : State → List ℕ
+bytesIn s = unsignedBytes 4 (s .made) ++ signedBytes 8 (s .held)
+
+-- a lent list after a call of picks with this answer: as the picks taken left it, also if there are none; where 5, 6, 8 or 11 refused the call, as it was
+unfoldable pub leftBy : Answer → (new old : List ℕ) → List ℕ
+leftBy (picked taken number place) new old = stored new old
+leftBy (isReady bits count) new old = old
+leftBy (forces zs) new old = old
+leftBy (refused number place) new old = old
+
+-- a call of picks with this answer that leaves this state: the returned word, and the lent lists after it
+pub record PicksAnswered (a : Answer) (s : State) (state sums : List ℕ) (returned : ℕ) (newState newSums : List ℕ) : Type 0 where
+  pub returns : returned ≡ word (replyTo a)
+  pub state-left : newState ≡ leftBy a (bytesIn s) state
+  pub sums-left : newSums ≡ leftBy a (signedBytes 8 (s .sums)) sums

@@ -1,0 +1,37 @@
+// check: whether a plan is sound for a matrix.
+use crate::lists::load_groups;
+use crate::lists::load_order;
+use crate::word::word_of;
+ghost use mathlib.Core.Path.{_≡_};
+ghost use Rattle.matrix.specs.Checks.{matrixOf};
+ghost use Rattle.plan.specs.Sound.{checkReply};
+ghost use Rattle.words.specs.LittleEndian.{unsigned};
+ghost use Rattle.cabinet.specs.Word.{word};
+
+// The matrix is decoded.
+pub fn check_of(
+    n: u32,
+    starts: &[u32],
+    columns: &[u32],
+    values: &[i32],
+    order: &[u8],
+    groups: &[u8],
+    group_count: u32,
+) -> u64
+    ensures { λ r. ⌜ r ≡ word (checkReply (matrixOf n (now (starts .entry)) (now (columns .entry)) (now (values .entry))) (unsigned 4 (now (order .entry))) (unsigned 4 (now (groups .entry))) «group_count») ⌝ }
+{
+    let mut order_list = [0u32; 4096];
+    let order_len = load_order(order, &mut order_list);
+    let mut group_list = [0u32; 3072];
+    let groups_len = load_groups(groups, &mut group_list);
+    let answer = plan::check(
+        n,
+        starts,
+        columns,
+        values,
+        &order_list[..order_len],
+        &group_list[..groups_len],
+        group_count,
+    );
+    word_of(answer)
+}
