@@ -7,7 +7,8 @@
  * but for movements, sums and state.
  *
  * Every call returns one word: the refusal's number in the high 32 bits (0: accepted), and in the low 32 bits the
- * refusal's place, or the accepted call's count, 0 where none is named. On a refusal nothing is written.
+ * refusal's place, or the accepted call's count, 0 where none is named. On a refusal nothing is written, but by the
+ * picks of a list before the one that is refused.
  *
  * The lists belong to the caller; nothing is kept between calls, and calls may run at the same time on different
  * lists. A list that is written overlaps no other list of the call, and no pointer is null, also of an empty list.
@@ -74,10 +75,27 @@ uint64_t mzk_check(uint32_t n,
  * numbers of 64 bits in two's complement that they hold. A run begins with zeros, in state and sums. Calls on one run
  * are made one at a time, in any order, by any threads. */
 
+/* A list of picks, one byte each, the worker that moves: each makes its worker's next load or store on the sums, in
+ * turn. Returns how many were taken, all of them; state and sums are as they left them.
+ * Refused: 5 no matrix; 6 not n movements (place 0), or one is too large (its index); 8 plan not sound; 11 not 192
+ * bytes of state, not n sums, or a count past its worker's moves. A pick is refused with its index as place, and state
+ * and sums are as the picks before it left them: 10 no worker of the plan; 12 its worker has made all moves; 13 its
+ * worker waits; 14 the sum to store passes 64 bits. */
+uint64_t mzk_picks(uint32_t n,
+                   const uint8_t *row_starts, size_t row_starts_bytes,
+                   const uint8_t *columns, size_t columns_bytes,
+                   const uint8_t *values, size_t values_bytes,
+                   const uint8_t *movements, size_t movements_bytes,
+                   const uint8_t *order, size_t order_bytes,
+                   const uint8_t *groups, size_t groups_bytes,
+                   uint32_t group_count,
+                   uint8_t *state, size_t state_bytes,
+                   uint8_t *sums, size_t sums_bytes,
+                   const uint8_t *picks, size_t picks_bytes);
+
 /* The ready set of a run: the workers whose next pick would be taken. Returns sixteen bits, bit 0 for worker 0, and
  * 65,536 times the count of those set.
- * Refused: 5 no matrix; 6 not n movements (place 0), or one is too large (its index); 8 plan not sound; 11 not 192
- * bytes of state, not n sums, or a count past its worker's moves. */
+ * Refused: 5, 6, 8, 11 as by mzk_picks. */
 uint64_t mzk_ready(uint32_t n,
                    const uint8_t *row_starts, size_t row_starts_bytes,
                    const uint8_t *columns, size_t columns_bytes,
@@ -91,7 +109,7 @@ uint64_t mzk_ready(uint32_t n,
 
 /* The forces of a finished run, its sums in the order of the rows, n numbers into forces: the full product, if the run
  * began with zeros.
- * Refused: 5, 6, 8, 11 as by mzk_ready; 15 a worker has moves left; 9 forces too short (n). */
+ * Refused: 5, 6, 8, 11 as by mzk_picks; 15 a worker has moves left; 9 forces too short (n). */
 uint64_t mzk_forces(uint32_t n,
                     const uint8_t *row_starts, size_t row_starts_bytes,
                     const uint8_t *columns, size_t columns_bytes,

@@ -1,6 +1,7 @@
 -- The calls on a run whose state and sums stand in bytes: what they answer, and what they return of it.
+use mathlib.Core.Path.{_≡_}
 use mathlib.Core.Bool.{cond}
-use mathlib.Core.List.{List, []}
+use mathlib.Core.List.{List, [], _++_}
 use Prim.Native.Nat.{ℕ, zero, suc, _+_, _*_}
 use lib.Dec.{eqb}
 use lib.IntN.{ℤ}
@@ -11,8 +12,8 @@ use Rattle.base.specs.Replies.{Reply, inTurn}
 use Rattle.matrix.specs.Matrix.{Matrix}
 use Rattle.run.specs.Machine.{State}
 use Rattle.run.specs.Calls.{Call, Answer, picked, isReady, forces, refused, jobChecks, answerLent}
-use Rattle.words.specs.LittleEndian.{unsigned, signed, signedBytes}
-use Rattle.mazhoketh.specs.Word.{Answered}
+use Rattle.words.specs.LittleEndian.{unsigned, signed, unsignedBytes, signedBytes, stored}
+use Rattle.mazhoketh.specs.Word.{word, Answered}
 
 -- how many bytes a state has: sixteen counts of four bytes each, then sixteen held numbers of eight
 abbrev pub stateBytes : ℕ
@@ -50,3 +51,20 @@ forceBytes (refused number place) = []
 -- a force-list call with this answer: the returned word, and the lent list after it
 abbrev pub ForcesAnswered : Answer → (old : List ℕ) (returned : ℕ) (new : List ℕ) → Type 0
 ForcesAnswered a old returned new = Answered (replyTo a) (forceBytes a) old returned new
+
+-- the bytes of a state, without its sums
+abbrev pub bytesIn : State → List ℕ
+bytesIn s = unsignedBytes 4 (s .made) ++ signedBytes 8 (s .held)
+
+-- a lent list after a call of picks with this answer: as the picks taken left it, also if there are none; where 5, 6, 8 or 11 refused the call, as it was
+unfoldable pub leftBy : Answer → (new old : List ℕ) → List ℕ
+leftBy (picked taken number place) new old = stored new old
+leftBy (isReady bits count) new old = old
+leftBy (forces zs) new old = old
+leftBy (refused number place) new old = old
+
+-- a call of picks with this answer that leaves this state: the returned word, and the lent lists after it
+pub record PicksAnswered (a : Answer) (s : State) (state sums : List ℕ) (returned : ℕ) (newState newSums : List ℕ) : Type 0 where
+  pub returns : returned ≡ word (replyTo a)
+  pub state-left : newState ≡ leftBy a (bytesIn s) state
+  pub sums-left : newSums ≡ leftBy a (signedBytes 8 (s .sums)) sums

@@ -2,6 +2,7 @@
 pub mod check;
 pub mod forces;
 mod lists;
+pub mod picks;
 pub mod planning;
 pub mod product;
 pub mod read;

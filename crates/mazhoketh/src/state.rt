@@ -6,13 +6,16 @@ use machine::checks::check_job;
 use machine::state::State;
 use words::load::load_i64;
 use words::load::load_u32;
+use words::store::store_i64;
+use words::store::store_u32;
 ghost use mathlib.Core.Path.{_≡_};
+ghost use mathlib.Core.List.{_++_};
 ghost use lib.ListN.{length, take, drop};
 ghost use Rattle.base.specs.Refusals as no;
 ghost use Rattle.base.specs.Replies.{inTurn};
 ghost use Rattle.matrix.specs.Checks.{matrixOf};
 ghost use Rattle.run.specs.Calls.{refused, jobChecks};
-ghost use Rattle.words.specs.LittleEndian.{unsigned, signed};
+ghost use Rattle.words.specs.LittleEndian.{unsigned, signed, unsignedBytes, signedBytes, stored};
 ghost use Rattle.mazhoketh.specs.Runs.{stateBytes, countBytes, replyTo};
 ghost use Rattle.mazhoketh.specs.Word.{word};
 
@@ -28,6 +31,16 @@ pub fn load_state(bytes: &[u8]) -> State
         made: made,
         held: held,
     }
+}
+
+pub fn store_state(state: State, bytes: &mut [u8])
+    requires { ⌜ length (now bytes) ≡ stateBytes ⌝ }
+    ensures { λ _. ⌜ now (bytes .exit) ≡ stored (unsignedBytes 4 (state .made) ++ signedBytes 8 (state .held)) (now (bytes .entry)) ⌝ }
+{
+    let made = state.made;
+    store_u32(&made, &mut bytes[..64]);
+    let held = state.held;
+    store_i64(&held, &mut bytes[64..]);
 }
 
 // The word of a call whose state has not 192 bytes: 5, 6, 8, then 11.
