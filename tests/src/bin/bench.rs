@@ -1,5 +1,6 @@
 //! Benchmarks: the verified library beside the other implementation, in one run, as a Markdown table.
 //!
+//! `cargo run --release --bin bench` prints it.
 //! A line for each net and call: the least time of many rounds of each, their ratio, and how the library's time grows
 //! from the net of half the size.
 
@@ -8,7 +9,7 @@ use std::thread;
 use std::time::{Duration, Instant};
 
 use mazhoketh_tests::guarded::STACK;
-use mazhoketh_tests::lists::{bytes, MatrixLists, PlanLists};
+use mazhoketh_tests::lists::{bytes, MatrixLists, PlanLists, RunLists};
 use mazhoketh_tests::oracle::matrix::Matrix;
 use mazhoketh_tests::oracle::nets::{self, Roof};
 use mazhoketh_tests::oracle::prng::Prng;
@@ -18,8 +19,26 @@ use mazhoketh_tests::{files, library};
 /// A call is timed at least so long, and in so many rounds.
 const TIME: Duration = Duration::from_millis(500);
 const ROUNDS: usize = 5;
+/// The lists that a whole run is cut into.
+const LISTS: usize = 1_000;
 
-/// What calls read: the lists of a net, and of its plan for 16 workers.
+/// A state of a run and its sums, as bytes.
+struct At {
+    state: Vec<u8>,
+    sums: Vec<u8>,
+}
+
+impl At {
+    /// The fresh state of a run.
+    fn fresh(n: u32) -> At {
+        At {
+            state: vec![0; calls::STATE_BYTES],
+            sums: vec![0; 8 * n as usize],
+        }
+    }
+}
+
+/// What calls read: the lists of a net, of its plan for 16 workers and of a run.
 struct Given {
     text: Vec<u8>,
     n: u32,
@@ -30,6 +49,10 @@ struct Given {
     order: Vec<u8>,
     groups: Vec<u8>,
     group_count: u32,
+    /// Picks that take a fresh run to its end, and the states halfway and at the end.
+    schedule: Vec<u8>,
+    halfway: At,
+    finished: At,
 }
 
 impl Given {
@@ -37,7 +60,7 @@ impl Given {
     fn new(matrix: &Matrix) -> Given {
         let plan = planner::plan(matrix.rows(), 16, 60);
         let movements = vec![-999_999; matrix.n as usize];
-        Given {
+        let mut given = Given {
             text: text::write(matrix),
             n: matrix.n,
             row_starts: bytes(&matrix.starts, u32::to_le_bytes),
@@ -47,7 +70,14 @@ impl Given {
             order: bytes(&plan.order, u32::to_le_bytes),
             groups: bytes(&plan.flat(), u32::to_le_bytes),
             group_count: plan.group_count(),
-        }
+            schedule: Vec::new(),
+            halfway: At::fresh(matrix.n),
+            finished: At::fresh(matrix.n),
+        };
+        given.schedule = given.whole_schedule();
+        given.halfway = given.after(given.schedule.len() / 2);
+        given.finished = given.after(given.schedule.len());
+        given
     }
 
     /// The lists of the matrix.
@@ -68,6 +98,44 @@ impl Given {
             group_count: self.group_count,
         }
     }
+
+    /// The lists of the run.
+    fn run(&self) -> RunLists<'_> {
+        RunLists {
+            matrix: self.matrix(),
+            movements: &self.movements,
+            plan: self.plan(),
+        }
+    }
+
+    /// The picks of a whole run: all ready workers in turn, until one of them waits or ends, and so on.
+    fn whole_schedule(&self) -> Vec<u8> {
+        let mut schedule = Vec::new();
+        let mut at = At::fresh(self.n);
+        loop {
+            let set = calls::ready(self.run(), &at.state, &at.sums);
+            let ready: Vec<u8> = (0..16).filter(|worker| set >> worker & 1 == 1).collect();
+            if ready.is_empty() {
+                return schedule;
+            }
+            let picks = ready.repeat(10_000);
+            let taken = calls::picks(self.run(), &mut at.state, &mut at.sums, &picks) as u32;
+            schedule.extend(&picks[..taken as usize]);
+        }
+    }
+
+    /// The state after so many picks of the schedule.
+    fn after(&self, picks: usize) -> At {
+        let mut at = At::fresh(self.n);
+        let picks = &self.schedule[..picks];
+        calls::picks(self.run(), &mut at.state, &mut at.sums, picks);
+        at
+    }
+
+    /// The schedule in many lists.
+    fn lists(&self) -> impl Iterator<Item = &[u8]> {
+        self.schedule.chunks(self.schedule.len().div_ceil(LISTS))
+    }
 }
 
 /// What calls write.
@@ -79,10 +147,11 @@ struct Lent {
     order: Vec<u8>,
     groups: Vec<u8>,
     forces: Vec<u8>,
+    at: At,
 }
 
 impl Lent {
-    /// Lists of the lengths needed.
+    /// Lists of the lengths needed, and a fresh state.
     fn new(given: &Given) -> Lent {
         Lent {
             text: given.text.clone(),
@@ -92,7 +161,15 @@ impl Lent {
             order: given.order.clone(),
             groups: given.groups.clone(),
             forces: vec![0; 8 * given.n as usize],
+            at: At::fresh(given.n),
         }
+    }
+
+    /// The state and sums, fresh again.
+    fn fresh(&mut self) -> &mut At {
+        self.at.state.fill(0);
+        self.at.sums.fill(0);
+        &mut self.at
     }
 }
 
@@ -106,6 +183,9 @@ struct Implementation {
     product: fn(MatrixLists, &[u8], Out) -> u64,
     plan: fn(MatrixLists, u32, u32, Out, Out) -> u64,
     check: fn(MatrixLists, PlanLists) -> u64,
+    picks: fn(RunLists, Out, Out, &[u8]) -> u64,
+    ready: fn(RunLists, &[u8], &[u8]) -> u64,
+    forces: fn(RunLists, &[u8], &[u8], Out) -> u64,
 }
 
 const LIBRARY: Implementation = Implementation {
@@ -114,6 +194,9 @@ const LIBRARY: Implementation = Implementation {
     product: library::product,
     plan: library::plan,
     check: library::check,
+    picks: library::picks,
+    ready: library::ready,
+    forces: library::forces,
 };
 
 const RUST: Implementation = Implementation {
@@ -122,19 +205,35 @@ const RUST: Implementation = Implementation {
     product: calls::product,
     plan: calls::plan,
     check: calls::check,
+    picks: calls::picks,
+    ready: calls::ready,
+    forces: calls::forces,
 };
 
-/// A call that is timed.
+/// What is timed: a call, or all calls of a run.
 type Work = fn(&Implementation, &Given, &mut Lent) -> u64;
 
 /// All that is timed, by name.
 #[rustfmt::skip]
-const WORKS: [(&str, Work); 5] = [
+const WORKS: [(&str, Work); 9] = [
     ("read", |by, given, lent| (by.read)(&given.text, &mut lent.row_starts, &mut lent.columns, &mut lent.values)),
     ("write", |by, given, lent| (by.write)(given.matrix(), &mut lent.text)),
     ("product", |by, given, lent| (by.product)(given.matrix(), &given.movements, &mut lent.forces)),
     ("plan", |by, given, lent| (by.plan)(given.matrix(), 16, 60, &mut lent.order, &mut lent.groups)),
     ("check", |by, given, _| (by.check)(given.matrix(), given.plan())),
+    ("picks, a run in 1 list", |by, given, lent| {
+        let At { state, sums } = lent.fresh();
+        (by.picks)(given.run(), state, sums, &given.schedule)
+    }),
+    ("picks, a run in 1,000 lists", |by, given, lent| {
+        let At { state, sums } = lent.fresh();
+        given.lists().map(|picks| (by.picks)(given.run(), state, sums, picks)).sum()
+    }),
+    ("ready", |by, given, _| (by.ready)(given.run(), &given.halfway.state, &given.halfway.sums)),
+    ("forces", |by, given, lent| {
+        let At { state, sums } = &given.finished;
+        (by.forces)(given.run(), state, sums, &mut lent.forces)
+    }),
 ];
 
 /// The least times of a work, in µs: by the library and by the other implementation, timed in turn.

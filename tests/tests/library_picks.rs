@@ -1,0 +1,25 @@
+//! `mzk_picks` beside the other implementation.
+
+use mazhoketh_tests::cases;
+use mazhoketh_tests::cases::run::{self, WholeRun};
+
+#[test]
+fn random_states() {
+    let seen = cases::each(151, 0..60_000, run::picks);
+    seen.require([0, 5, 6, 8, 10, 11, 12, 13, 14], 1_000);
+}
+
+#[test]
+fn random_runs() {
+    cases::each(152, 0..5_000, |rng, _| {
+        let most = rng.one_of(&[3, 10, 100, 1_000]);
+        WholeRun::random(rng).finish(rng, most, |_, _, _| ());
+    });
+}
+
+#[test]
+fn large_runs() {
+    run::each_large(153, |rng, mut whole| {
+        whole.finish(rng, 20_000, |_, _, _| ())
+    });
+}
