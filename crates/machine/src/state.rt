@@ -106,7 +106,7 @@ impl State {
     }
 
     // How many accesses worker w has made.
-    pub fn moves(self, w: usize) -> u32
+    pub(crate) fn moves(self, w: usize) -> u32
         requires { ⌜ w < 16 ⌝ }
         ensures { λ r. ⌜ r ≡ count (self .made) w ⌝ }
     {
@@ -114,7 +114,7 @@ impl State {
     }
 
     // No worker has made more than its accesses, two for each of its updates.
-    pub fn is_fine(self, updates: [u32; 16]) -> bool
+    pub(crate) fn is_fine(self, updates: [u32; 16]) -> bool
         requires { ⌜ Halves updates ⌝ }
         ensures { λ r. ⌜ r ≡ allBelow (fine updates (self .made)) 16 ⌝ }
     {
@@ -129,7 +129,7 @@ impl State {
     }
 
     // Every worker of the plan has made all its accesses.
-    pub fn is_finished(self, updates: [u32; 16], workers: usize) -> bool
+    pub(crate) fn is_finished(self, updates: [u32; 16], workers: usize) -> bool
         requires { ⌜ (workers ≤ 16) × Halves updates ⌝ }
         ensures { λ r. ⌜ r ≡ allBelow (done updates (self .made)) workers ⌝ }
     {
