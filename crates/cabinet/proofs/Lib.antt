@@ -1,9 +1,4 @@
-pub mod Loads
-pub mod Answers
-pub mod Products
 pub mod PlanChecks
-pub mod TextReads
-pub mod Plans
 pub mod CutJobs
 pub mod RunCalls
 pub mod RunForces

@@ -27,11 +27,11 @@ use Rattle.words.specs.LittleEndian.{unsigned, signed}
 use Rattle.run.specs.Job.{Job, jobOf}
 use Rattle.run.specs.Machine.{State, isState}
 use Rattle.run.specs.Calls.{Call, Answer, refused, stateCheck, answer, after, jobChecks, answerLent, afterLent}
-use Rattle.machine.proofs.InTurn.{turn-refused, turn-accepted}
-use Rattle.cabinet.specs.Lists.{Loaded}
-use Rattle.cabinet.specs.Word.{word}
+use Rattle.calls.proofs.InTurn.{turn-refused, turn-accepted}
+use Rattle.lent.specs.Lists.{Loaded}
+use Rattle.lent.specs.Word.{word}
 use Rattle.cabinet.specs.Runs.{stateBytes, countBytes, stateIn, answerIn, replyTo}
-use Rattle.cabinet.proofs.Loads.{loaded-matrix}
+use Rattle.lent.proofs.Loads.{loaded-matrix}
 use Rattle.cabinet.proofs.PlanChecks.{plan-of-cut}
 use Rattle.cabinet.proofs.CutJobs.{answer-same, after-same}
 

@@ -22,11 +22,11 @@ use Rattle.matrix.proofs.Matrix.{matrix-facts}
 use Rattle.run.specs.Job.{jobOf}
 use Rattle.run.specs.Machine.{State, positionOf, over, original}
 use Rattle.run.specs.Calls.{Answer, forces, refused, forceList, forcesOf, answerOf, stateCheck, answer, jobChecks, answerLent, forcesLent}
-use Rattle.machine.specs.Answers.{forcesReply}
+use Rattle.calls.specs.Answers.{forcesReply}
 use Rattle.words.specs.LittleEndian.{signedBytesOf, signedBytes, stored}
-use Rattle.cabinet.specs.Word.{word}
+use Rattle.lent.specs.Word.{word}
 use Rattle.cabinet.specs.Runs.{replyTo, forceBytes, ForcesAnswered}
-use Rattle.cabinet.proofs.Answers.{Begins, begins, begins-stored}
+use Rattle.lent.proofs.Answers.{Begins, begins, begins-stored}
 use Rattle.cabinet.proofs.RunCalls.{always-refused}
 
 -- the answers of such a call on n rows, with room for so many forces

@@ -22,10 +22,10 @@ use Rattle.plan.specs.Sound.{maxWorkers}
 use Rattle.run.specs.Job.{Job, jobOf, Accepted}
 use Rattle.run.specs.Machine.{State, steps, isState, countsFine}
 use Rattle.run.specs.Calls.{Answer, picked, isReady, forces, refused, picks, placeOf, pickedOf, answerOf, stateCheck, answer, jobChecks, answerLent, afterLent}
-use Rattle.machine.proofs.JobChecked.{job-given}
+use Rattle.calls.proofs.JobChecked.{job-given}
 use Rattle.words.specs.LittleEndian.{number, unsigned, signed, signedBytes, stored}
 use Rattle.words.proofs.Blocks.{length-decoded}
-use Rattle.cabinet.specs.Word.{word}
+use Rattle.lent.specs.Word.{word}
 use Rattle.cabinet.specs.Runs.{stateBytes, countBytes, stateIn, answerIn, replyTo, bytesIn, leftBy, PicksAnswered}
 use Rattle.cabinet.proofs.RunCalls.{decoded-state, always-refused}
 use Rattle.cabinet.proofs.TakenFew.{taken-few}

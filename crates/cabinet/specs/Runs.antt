@@ -13,7 +13,7 @@ use Rattle.matrix.specs.Matrix.{Matrix}
 use Rattle.run.specs.Machine.{State}
 use Rattle.run.specs.Calls.{Call, Answer, picked, isReady, forces, refused, jobChecks, answerLent}
 use Rattle.words.specs.LittleEndian.{unsigned, signed, unsignedBytes, signedBytes, stored}
-use Rattle.cabinet.specs.Word.{word, Answered}
+use Rattle.lent.specs.Word.{word, Answered}
 
 -- how many bytes a state has: sixteen counts of four bytes each, then sixteen held numbers of eight
 abbrev pub stateBytes : ℕ

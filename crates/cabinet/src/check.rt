@@ -1,12 +1,12 @@
 // check: whether a plan is sound for a matrix.
-use crate::lists::load_groups;
-use crate::lists::load_order;
-use crate::word::word_of;
+use lent::lists::load_groups;
+use lent::lists::load_order;
+use lent::word::word_of;
 ghost use mathlib.Core.Path.{_≡_};
 ghost use Rattle.matrix.specs.Checks.{matrixOf};
 ghost use Rattle.plan.specs.Sound.{checkReply};
 ghost use Rattle.words.specs.LittleEndian.{unsigned};
-ghost use Rattle.cabinet.specs.Word.{word};
+ghost use Rattle.lent.specs.Word.{word};
 
 // The matrix is decoded.
 pub fn check_of(

@@ -1,9 +1,9 @@
 // forces: the forces of a finished run.
-use crate::lists::load_sums;
 use crate::state::load_state;
 use crate::state::no_state;
-use crate::word::word_of;
 use base::Answer;
+use lent::lists::load_sums;
+use lent::word::word_of;
 use machine::state::State;
 use words::least;
 use words::store::store_i64;
@@ -34,7 +34,7 @@ fn forces_of(
         (stateOf state (now (sums .entry))) (forceList (length (now (forces .entry)) / 8))) (now (forces .entry)) r (now (forces .exit)) ⌝ }
 {
     let room = least(forces.len() / 8, made.len());
-    let answer = machine::forces(
+    let answer = calls::forces(
         n,
         starts,
         columns,

@@ -1,11 +1,11 @@
 // picks: a list of picks, made one load or store at a time.
-use crate::lists::load_sums;
 use crate::state::load_state;
 use crate::state::no_state;
 use crate::state::store_state;
-use crate::word::word_of;
 use base::Answer;
-use machine::Ending;
+use calls::Ending;
+use lent::lists::load_sums;
+use lent::word::word_of;
 use machine::state::State;
 use words::store::store_i64;
 ghost use mathlib.Core.Path.{_≡_};
@@ -15,9 +15,9 @@ ghost use Rattle.matrix.specs.Checks.{matrixOf};
 ghost use Rattle.run.specs.Calls.{picked, afterLent};
 ghost use Rattle.run.specs.Calls as calls;
 ghost use Rattle.machine.specs.Record.{stateOf};
-ghost use Rattle.machine.specs.Answers.{picksAnswer};
+ghost use Rattle.calls.specs.Answers.{picksAnswer};
 ghost use Rattle.cabinet.specs.Runs.{stateBytes, stateIn, answerIn, replyTo, PicksAnswered};
-ghost use Rattle.cabinet.specs.Word.{word};
+ghost use Rattle.lent.specs.Word.{word};
 
 // The picks taken, or the number and place of the one that ended them.
 fn word_of_end(taken: usize, number: u32, place: usize) -> u64
@@ -80,7 +80,7 @@ pub fn picks_in(
     }
     let mut sum_list = [0i64; 4097];
     let sums_len = load_sums(sums, &mut sum_list);
-    let picked = machine::picks(
+    let picked = calls::picks(
         n,
         starts,
         columns,

@@ -1,17 +1,17 @@
 // ready: the workers whose next pick would be taken.
-use crate::lists::load_sums;
 use crate::state::load_state;
 use crate::state::no_state;
-use crate::word::word_of;
 use base::Answer;
-use machine::ReadySet;
-use machine::ready;
+use calls::ReadySet;
+use calls::ready;
+use lent::lists::load_sums;
+use lent::word::word_of;
 ghost use mathlib.Core.Path.{_≡_};
 ghost use Rattle.matrix.specs.Checks.{matrixOf};
 ghost use Rattle.run.specs.Calls.{readySet};
-ghost use Rattle.machine.specs.Answers.{readyAnswer};
+ghost use Rattle.calls.specs.Answers.{readyAnswer};
 ghost use Rattle.cabinet.specs.Runs.{answerIn, replyTo};
-ghost use Rattle.cabinet.specs.Word.{word};
+ghost use Rattle.lent.specs.Word.{word};
 
 // The bits in the low sixteen, the count of those set above them.
 fn word_of_set(answer: ReadySet) -> u64

@@ -1,8 +1,8 @@
 // A run's state in bytes.
-use crate::word::word_of;
 use base::Answer;
 use base::STATE;
-use machine::checks::check_job;
+use calls::checks::check_job;
+use lent::word::word_of;
 use machine::state::State;
 use words::load::load_i64;
 use words::load::load_u32;
@@ -17,7 +17,7 @@ ghost use Rattle.matrix.specs.Checks.{matrixOf};
 ghost use Rattle.run.specs.Calls.{refused, jobChecks};
 ghost use Rattle.words.specs.LittleEndian.{unsigned, signed, unsignedBytes, signedBytes, stored};
 ghost use Rattle.cabinet.specs.Runs.{stateBytes, countBytes, replyTo};
-ghost use Rattle.cabinet.specs.Word.{word};
+ghost use Rattle.lent.specs.Word.{word};
 
 pub fn load_state(bytes: &[u8]) -> State
     requires { ⌜ length (now bytes) ≡ stateBytes ⌝ }

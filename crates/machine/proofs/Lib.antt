@@ -1,16 +1,6 @@
 pub mod ScheduleLoop
 pub mod AllBelow
-pub mod InTurn
-pub mod JobChecked
-pub mod Scattering
 pub mod TableWaits
-pub mod ReadyBits
 pub mod BlockedLeaves
-pub mod Beginning
-pub mod Begun
-pub mod ForcesReply
 pub mod TableSteps
-pub mod Prepared
-pub mod ReadyAnswer
-pub mod PicksAnswer
 pub mod RunTurns

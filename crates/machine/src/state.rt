@@ -24,7 +24,7 @@ pub struct State {
 }
 
 // What a schedule comes to: the state, how many picks were taken, and the number that ended it, 0 if all were.
-pub(crate) struct Stepped {
+pub struct Stepped {
     pub state: State,
     pub taken: usize,
     pub number: u32,
@@ -53,7 +53,7 @@ impl State {
     }
 
     // Takes the picks of a schedule one by one, up to the first that is refused.
-    pub(crate) fn take(
+    pub fn take(
         mut self,
         sums: &mut [i64],
         schedule: &[u8],
@@ -106,7 +106,7 @@ impl State {
     }
 
     // How many accesses worker w has made.
-    pub(crate) fn moves(self, w: usize) -> u32
+    pub fn moves(self, w: usize) -> u32
         requires { ⌜ w < 16 ⌝ }
         ensures { λ r. ⌜ r ≡ count (self .made) w ⌝ }
     {
@@ -114,7 +114,7 @@ impl State {
     }
 
     // No worker has made more than its accesses, two for each of its updates.
-    pub(crate) fn is_fine(self, updates: [u32; 16]) -> bool
+    pub fn is_fine(self, updates: [u32; 16]) -> bool
         requires { ⌜ Halves updates ⌝ }
         ensures { λ r. ⌜ r ≡ allBelow (fine updates (self .made)) 16 ⌝ }
     {
@@ -129,7 +129,7 @@ impl State {
     }
 
     // Every worker of the plan has made all its accesses.
-    pub(crate) fn is_finished(self, updates: [u32; 16], workers: usize) -> bool
+    pub fn is_finished(self, updates: [u32; 16], workers: usize) -> bool
         requires { ⌜ (workers ≤ 16) × Halves updates ⌝ }
         ensures { λ r. ⌜ r ≡ allBelow (done updates (self .made)) workers ⌝ }
     {

@@ -13,8 +13,8 @@ use Rattle.matrix.specs.Matrix.{Matrix, isMatrix, matrixCheck}
 use Rattle.matrix.proofs.Cut.{cut, cut-matrix, cut-columns, cut-entry}
 use Rattle.market.specs.Parse.{triplet}
 use Rattle.market.specs.Text.{textOf, columnOf, lower, written, writeReply}
-use Rattle.cabinet.specs.Word.{Answered}
-use Rattle.cabinet.proofs.Answers.{answered-same}
+use Rattle.lent.specs.Word.{Answered}
+use Rattle.lent.proofs.Answers.{answered-same}
 
 -- the text of n rows with these columns and entries
 abbrev text : ℕ → (ℕ → List ℕ) → (ℕ → ℕ → ℤ) → List ℕ

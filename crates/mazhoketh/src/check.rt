@@ -1,13 +1,13 @@
 // mzk_check: whether a plan is sound for a matrix.
 use cabinet::check::check_of;
-use cabinet::lists::load_columns;
-use cabinet::lists::load_starts;
-use cabinet::lists::load_values;
+use lent::lists::load_columns;
+use lent::lists::load_starts;
+use lent::lists::load_values;
 ghost use mathlib.Core.Path.{_≡_};
 ghost use Rattle.plan.specs.Sound.{checkReply};
 ghost use Rattle.words.specs.LittleEndian.{unsigned};
-ghost use Rattle.cabinet.specs.Bytes.{matrixIn};
-ghost use Rattle.cabinet.specs.Word.{word};
+ghost use Rattle.lent.specs.Bytes.{matrixIn};
+ghost use Rattle.lent.specs.Word.{word};
 
 #[no_mangle]
 pub extern "C" fn mzk_check(

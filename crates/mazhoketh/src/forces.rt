@@ -1,16 +1,16 @@
 // mzk_forces: the forces of a finished run.
 use cabinet::forces::forces_in;
-use cabinet::lists::load_columns;
-use cabinet::lists::load_displacements;
-use cabinet::lists::load_groups;
-use cabinet::lists::load_order;
-use cabinet::lists::load_starts;
-use cabinet::lists::load_values;
+use lent::lists::load_columns;
+use lent::lists::load_displacements;
+use lent::lists::load_groups;
+use lent::lists::load_order;
+use lent::lists::load_starts;
+use lent::lists::load_values;
 ghost use Prim.Native.Nat.{_/_};
 ghost use lib.ListN.{length};
 ghost use Rattle.run.specs.Calls.{forceList};
 ghost use Rattle.words.specs.LittleEndian.{unsigned, signed};
-ghost use Rattle.cabinet.specs.Bytes.{matrixIn};
+ghost use Rattle.lent.specs.Bytes.{matrixIn};
 ghost use Rattle.cabinet.specs.Runs.{answerIn, ForcesAnswered};
 
 #[no_mangle]

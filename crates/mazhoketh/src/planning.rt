@@ -1,10 +1,10 @@
 // mzk_plan: the plan of a matrix.
-use cabinet::lists::load_columns;
-use cabinet::lists::load_starts;
-use cabinet::lists::load_values;
-use cabinet::planning::plan_in;
-ghost use Rattle.cabinet.specs.Bytes.{matrixIn};
-ghost use Rattle.cabinet.specs.Lent.{PlanAnswered};
+use lent::lists::load_columns;
+use lent::lists::load_starts;
+use lent::lists::load_values;
+use office::planning::plan_in;
+ghost use Rattle.lent.specs.Bytes.{matrixIn};
+ghost use Rattle.office.specs.Lent.{PlanAnswered};
 
 #[no_mangle]
 pub extern "C" fn mzk_plan(

@@ -1,14 +1,14 @@
 // mzk_product: the forces of a matrix and movements.
-use cabinet::lists::load_columns;
-use cabinet::lists::load_starts;
-use cabinet::lists::load_values;
-use cabinet::product::product_of;
+use lent::lists::load_columns;
+use lent::lists::load_starts;
+use lent::lists::load_values;
+use office::product::product_of;
 ghost use Prim.Native.Nat.{_/_};
 ghost use lib.ListN.{length};
 ghost use Rattle.matrix.specs.Product.{product, productReply};
 ghost use Rattle.words.specs.LittleEndian.{signed, signedBytes};
-ghost use Rattle.cabinet.specs.Bytes.{matrixIn};
-ghost use Rattle.cabinet.specs.Word.{Answered};
+ghost use Rattle.lent.specs.Bytes.{matrixIn};
+ghost use Rattle.lent.specs.Word.{Answered};
 
 #[no_mangle]
 pub extern "C" fn mzk_product(

@@ -1,6 +1,6 @@
 // mzk_read: the matrix of a text.
-use cabinet::read::read_in;
-ghost use Rattle.cabinet.specs.Lent.{ReadAnswered};
+use office::read::read_in;
+ghost use Rattle.office.specs.Lent.{ReadAnswered};
 
 #[no_mangle]
 pub extern "C" fn mzk_read(

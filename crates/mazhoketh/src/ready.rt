@@ -1,17 +1,17 @@
 // mzk_ready: the workers whose next pick would be taken.
-use cabinet::lists::load_columns;
-use cabinet::lists::load_displacements;
-use cabinet::lists::load_groups;
-use cabinet::lists::load_order;
-use cabinet::lists::load_starts;
-use cabinet::lists::load_values;
 use cabinet::ready::ready_in;
+use lent::lists::load_columns;
+use lent::lists::load_displacements;
+use lent::lists::load_groups;
+use lent::lists::load_order;
+use lent::lists::load_starts;
+use lent::lists::load_values;
 ghost use mathlib.Core.Path.{_≡_};
 ghost use Rattle.run.specs.Calls.{readySet};
 ghost use Rattle.words.specs.LittleEndian.{unsigned, signed};
-ghost use Rattle.cabinet.specs.Bytes.{matrixIn};
+ghost use Rattle.lent.specs.Bytes.{matrixIn};
 ghost use Rattle.cabinet.specs.Runs.{answerIn, replyTo};
-ghost use Rattle.cabinet.specs.Word.{word};
+ghost use Rattle.lent.specs.Word.{word};
 
 #[no_mangle]
 pub extern "C" fn mzk_ready(

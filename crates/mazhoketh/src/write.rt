@@ -1,13 +1,13 @@
 // mzk_write: a matrix as text.
-use cabinet::lists::load_columns;
-use cabinet::lists::load_starts;
-use cabinet::lists::load_values;
-use cabinet::word::word_of;
+use lent::lists::load_columns;
+use lent::lists::load_starts;
+use lent::lists::load_values;
+use lent::word::word_of;
 use writer::write;
 ghost use lib.ListN.{length};
 ghost use Rattle.market.specs.Text.{written, writeReply};
-ghost use Rattle.cabinet.specs.Bytes.{matrixIn};
-ghost use Rattle.cabinet.specs.Word.{Answered};
+ghost use Rattle.lent.specs.Bytes.{matrixIn};
+ghost use Rattle.lent.specs.Word.{Answered};
 
 #[no_mangle]
 pub extern "C" fn mzk_write(

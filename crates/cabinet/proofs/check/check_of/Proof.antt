@@ -3,8 +3,8 @@ use borrow.Author.Needs.{needs}
 use mathlib.Core.Path.{ap, _∙_}
 use Rattle.matrix.specs.Checks.{matrixOf}
 use Rattle.words.specs.LittleEndian.{unsigned}
-use Rattle.cabinet.specs.Word.{word}
-use Rattle.cabinet.proofs.Loads.{loaded-short, loaded-size}
+use Rattle.lent.specs.Word.{word}
+use Rattle.lent.proofs.Loads.{loaded-short, loaded-size}
 use Rattle.cabinet.proofs.PlanChecks.{decoded-plan}
 use Rattle.cabinet.proofs.check.check_of.Statement.{statement}
 use Rattle.cabinet.proofs.check.check_of.Tie as tie

@@ -4,7 +4,7 @@ use Prim.Native.Nat.{_/_}
 use lib.ListN.{length}
 use Rattle.matrix.specs.Checks.{matrixOf}
 use Rattle.run.specs.Calls.{forceList}
-use Rattle.cabinet.proofs.Loads.{loaded-size}
+use Rattle.lent.proofs.Loads.{loaded-size}
 use Rattle.cabinet.proofs.RunCalls.{decoded-state, no-state}
 use Rattle.cabinet.proofs.RunForces.{forces-same, forces-unstated}
 use Rattle.cabinet.proofs.forces.forces_in.Statement.{statement}

@@ -10,8 +10,8 @@ use Rattle.base.specs.declared.Answer as code
 use Rattle.matrix.specs.Checks.{matrixOf}
 use Rattle.run.specs.Calls.{Answer, forceList, answerLent}
 use Rattle.machine.specs.Record.{stateOf}
-use Rattle.cabinet.specs.Word.{word}
-use Rattle.cabinet.proofs.Answers.{begins-fits, begins-size}
+use Rattle.lent.specs.Word.{word}
+use Rattle.lent.proofs.Answers.{begins-fits, begins-size}
 use Rattle.cabinet.proofs.RunForces.{Given, given, room-lent, forces-refused, forces-same, forces-held, forces-stored}
 use Rattle.cabinet.proofs.forces.forces_of.Statement.{statement}
 use Rattle.cabinet.proofs.forces.forces_of.Tie as tie

@@ -7,7 +7,7 @@ use Rattle.matrix.specs.Checks.{matrixOf}
 use Rattle.machine.specs.Record.{stateOf}
 use Rattle.words.specs.LittleEndian.{signedNumber}
 use Rattle.words.proofs.Blocks.{length-decoded}
-use Rattle.cabinet.proofs.Loads.{loaded-size, relent-is, relent-size, relent-short, relent-few}
+use Rattle.lent.proofs.Loads.{loaded-size, relent-is, relent-size, relent-short, relent-few}
 use Rattle.cabinet.proofs.RunCalls.{no-state}
 use Rattle.cabinet.proofs.RunPicks.{picks-unstated, picks-decoded, picks-low}
 use Rattle.cabinet.proofs.picks.picks_in.Statement.{statement}

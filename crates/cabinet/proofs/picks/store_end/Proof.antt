@@ -1,7 +1,7 @@
 -- `store_end` meets its contract, case by case.
 use borrow.Author.Needs.{needs}
 use mathlib.Core.Path.{ap}
-use Rattle.machine.specs.Answers.{picksAnswer}
+use Rattle.calls.specs.Answers.{picksAnswer}
 use Rattle.cabinet.proofs.RunPicks.{picks-stored, picks-refused}
 use Rattle.cabinet.proofs.picks.store_end.Statement.{statement}
 use Rattle.cabinet.proofs.picks.store_end.Tie as tie

@@ -1,7 +1,7 @@
 -- `word_of_end` meets its contract, case by case.
 use borrow.Author.Needs.{needs}
 use mathlib.Core.Path.{sym, ap, _∙_}
-use Rattle.cabinet.specs.Word.{word}
+use Rattle.lent.specs.Word.{word}
 use Rattle.cabinet.specs.Runs.{replyTo}
 use Rattle.cabinet.proofs.RunPicks.{ended}
 use Rattle.cabinet.proofs.picks.word_of_end.Statement.{statement}

@@ -3,9 +3,9 @@ use borrow.Author.Needs.{needs}
 use mathlib.Core.Path.{ap, _∙_}
 use Rattle.matrix.specs.Checks.{matrixOf}
 use Rattle.run.specs.Calls.{Answer, readySet}
-use Rattle.cabinet.specs.Word.{word}
+use Rattle.lent.specs.Word.{word}
 use Rattle.cabinet.specs.Runs.{replyTo}
-use Rattle.cabinet.proofs.Loads.{loaded-size}
+use Rattle.lent.proofs.Loads.{loaded-size}
 use Rattle.cabinet.proofs.RunCalls.{decoded-state, no-state}
 use Rattle.cabinet.proofs.ready.ready_in.Statement.{statement}
 use Rattle.cabinet.proofs.ready.ready_in.Tie as tie

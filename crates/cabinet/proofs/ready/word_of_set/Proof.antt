@@ -1,6 +1,6 @@
 -- `word_of_set` meets its contract, case by case.
 use borrow.Author.Needs.{needs}
-use Rattle.cabinet.specs.Word.{word}
+use Rattle.lent.specs.Word.{word}
 use Rattle.cabinet.specs.Runs.{replyTo}
 use Rattle.cabinet.proofs.ready.word_of_set.Statement.{statement}
 use Rattle.cabinet.proofs.ready.word_of_set.Tie as tie

@@ -6,7 +6,7 @@ use native.Mathlib.Omega.{arith}
 use lib.ListN.{length, take, drop, length-drop}
 use lib.Seq.{take-all, length-take-le}
 use Rattle.words.specs.LittleEndian.{number, signed, signedNumber}
-use Rattle.cabinet.proofs.Loads.{loaded-whole}
+use Rattle.lent.proofs.Loads.{loaded-whole}
 use Rattle.cabinet.proofs.state.load_state.Statement.{statement}
 use Rattle.cabinet.proofs.state.load_state.Tie as tie
 

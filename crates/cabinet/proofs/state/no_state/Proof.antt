@@ -3,7 +3,7 @@ use borrow.Author.Needs.{needs}
 use mathlib.Core.Path.{sym, ap, _∙_}
 use Rattle.base.specs.Answers.{replyOf}
 use Rattle.base.specs.declared.Answer.{Answer}
-use Rattle.cabinet.specs.Word.{word}
+use Rattle.lent.specs.Word.{word}
 use Rattle.cabinet.proofs.RunCalls.{unstated-refused, unstated}
 use Rattle.cabinet.proofs.state.no_state.Statement.{statement}
 use Rattle.cabinet.proofs.state.no_state.Tie as tie

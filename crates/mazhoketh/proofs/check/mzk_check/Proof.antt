@@ -2,10 +2,10 @@
 use borrow.Author.Needs.{needs}
 use mathlib.Core.Path.{ap, _∙_}
 use Rattle.words.specs.LittleEndian.{unsigned}
-use Rattle.cabinet.specs.Bytes.{matrixIn}
-use Rattle.cabinet.specs.Word.{word}
+use Rattle.lent.specs.Bytes.{matrixIn}
+use Rattle.lent.specs.Word.{word}
 use Rattle.cabinet.proofs.PlanChecks.{decoded-matrix}
-use Rattle.cabinet.proofs.Loads.{loaded-short, loaded-size, loaded-matrix}
+use Rattle.lent.proofs.Loads.{loaded-short, loaded-size, loaded-matrix}
 use Rattle.mazhoketh.proofs.check.mzk_check.Statement.{statement}
 use Rattle.mazhoketh.proofs.check.mzk_check.Tie as tie
 

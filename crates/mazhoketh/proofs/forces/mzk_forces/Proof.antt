@@ -3,7 +3,7 @@ use borrow.Author.Needs.{needs}
 use Prim.Native.Nat.{_/_}
 use lib.ListN.{length}
 use Rattle.run.specs.Calls.{forceList}
-use Rattle.cabinet.proofs.Loads.{loaded-size}
+use Rattle.lent.proofs.Loads.{loaded-size}
 use Rattle.cabinet.proofs.RunCalls.{answer-loaded}
 use Rattle.cabinet.proofs.RunForces.{forces-same}
 use Rattle.mazhoketh.proofs.forces.mzk_forces.Statement.{statement}

@@ -2,7 +2,7 @@
 use borrow.Author.Needs.{needs}
 use Rattle.run.specs.Calls.{picks}
 use Rattle.cabinet.specs.Runs.{stateIn}
-use Rattle.cabinet.proofs.Loads.{loaded-size}
+use Rattle.lent.proofs.Loads.{loaded-size}
 use Rattle.cabinet.proofs.RunCalls.{answer-loaded, after-loaded}
 use Rattle.cabinet.proofs.RunPicks.{picks-same}
 use Rattle.mazhoketh.proofs.picks.mzk_picks.Statement.{statement}

@@ -1,8 +1,8 @@
 -- `mzk_plan` meets its contract: the lists of the matrix are decoded as far as a matrix can reach.
 use borrow.Author.Needs.{needs}
-use Rattle.cabinet.specs.Bytes.{matrixIn}
-use Rattle.cabinet.proofs.Loads.{loaded-size, loaded-matrix}
-use Rattle.cabinet.proofs.Plans.{decoded-matrix}
+use Rattle.lent.specs.Bytes.{matrixIn}
+use Rattle.lent.proofs.Loads.{loaded-size, loaded-matrix}
+use Rattle.office.proofs.Plans.{decoded-matrix}
 use Rattle.mazhoketh.proofs.planning.mzk_plan.Statement.{statement}
 use Rattle.mazhoketh.proofs.planning.mzk_plan.Tie as tie
 

@@ -1,9 +1,9 @@
 -- `mzk_product` meets its contract: the lists of the matrix are decoded as far as a matrix can reach.
 use borrow.Author.Needs.{needs}
 use Rattle.words.specs.LittleEndian.{signed}
-use Rattle.cabinet.proofs.Loads.{loaded-short, loaded-size, loaded-matrix}
-use Rattle.cabinet.specs.Bytes.{matrixIn}
-use Rattle.cabinet.proofs.Products.{decoded-matrix}
+use Rattle.lent.proofs.Loads.{loaded-short, loaded-size, loaded-matrix}
+use Rattle.lent.specs.Bytes.{matrixIn}
+use Rattle.office.proofs.Products.{decoded-matrix}
 use Rattle.mazhoketh.proofs.product.mzk_product.Statement.{statement}
 use Rattle.mazhoketh.proofs.product.mzk_product.Tie as tie
 

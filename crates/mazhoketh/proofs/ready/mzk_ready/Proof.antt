@@ -2,9 +2,9 @@
 use borrow.Author.Needs.{needs}
 use mathlib.Core.Path.{ap, _∙_}
 use Rattle.run.specs.Calls.{Answer, readySet}
-use Rattle.cabinet.specs.Word.{word}
+use Rattle.lent.specs.Word.{word}
 use Rattle.cabinet.specs.Runs.{replyTo}
-use Rattle.cabinet.proofs.Loads.{loaded-size}
+use Rattle.lent.proofs.Loads.{loaded-size}
 use Rattle.cabinet.proofs.RunCalls.{answer-loaded}
 use Rattle.mazhoketh.proofs.ready.mzk_ready.Statement.{statement}
 use Rattle.mazhoketh.proofs.ready.mzk_ready.Tie as tie

@@ -1,9 +1,9 @@
 -- `mzk_write` meets its contract: the lists of the matrix are decoded as far as a matrix can reach.
 use borrow.Author.Needs.{needs}
 use mathlib.Core.Path.{ap, _∙_}
-use Rattle.cabinet.specs.Bytes.{matrixIn}
-use Rattle.cabinet.specs.Word.{word}
-use Rattle.cabinet.proofs.Loads.{loaded-size, loaded-matrix}
+use Rattle.lent.specs.Bytes.{matrixIn}
+use Rattle.lent.specs.Word.{word}
+use Rattle.lent.proofs.Loads.{loaded-size, loaded-matrix}
 use Rattle.mazhoketh.proofs.TextWrites.{decoded-matrix}
 use Rattle.mazhoketh.proofs.write.mzk_write.Statement.{statement}
 use Rattle.mazhoketh.proofs.write.mzk_write.Tie as tie

@@ -1,0 +1,3 @@
+pub mod Scatter
+pub mod Begun
+pub mod Answers

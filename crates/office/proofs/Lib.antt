@@ -1,0 +1,3 @@
+pub mod Products
+pub mod TextReads
+pub mod Plans

@@ -1,0 +1,47 @@
+// plan: the plan of a matrix.
+use base::Answer;
+use lent::word::word_of;
+use words::least;
+use words::store::store_u32;
+ghost use Prim.Native.Nat.{_≤_};
+ghost use lib.ListN.{length};
+ghost use Rattle.matrix.specs.Checks.{matrixOf};
+ghost use Rattle.office.specs.Lent.{PlanAnswered};
+
+// The matrix is decoded. The plan is made in order and groups, as far as the lent lists have room; then it is stored.
+pub fn plan_in(
+    n: u32,
+    starts: &[u32],
+    columns: &[u32],
+    values: &[i32],
+    workers: u32,
+    p: u32,
+    order: &mut [u32],
+    groups: &mut [u32],
+    order_bytes: &mut [u8],
+    group_bytes: &mut [u8],
+) -> u64
+    requires { ⌜ (4096 ≤ length (now order)) × (3072 ≤ length (now groups)) ⌝ }
+    ensures { λ r. ⌜ PlanAnswered (matrixOf n (now (starts .entry)) (now (columns .entry)) (now (values .entry))) workers p (now («order_bytes» .entry)) (now («group_bytes» .entry)) r (now («order_bytes» .exit)) (now («group_bytes» .exit)) ⌝ }
+{
+    let order_room = least(order_bytes.len() / 4, order.len());
+    let groups_room = least(group_bytes.len() / 4, groups.len());
+    let answer = planner::plan(
+        n,
+        starts,
+        columns,
+        values,
+        workers,
+        p,
+        &mut order[..order_room],
+        &mut groups[..groups_room],
+    );
+    let Answer::Accepted(count) = answer else {
+        return word_of(answer);
+    };
+    let rows = n as usize;
+    let fields = 6 * (count as usize);
+    store_u32(&order[..rows], order_bytes);
+    store_u32(&groups[..fields], group_bytes);
+    word_of(answer)
+}

@@ -1,0 +1,60 @@
+// product: the forces of a matrix and movements.
+use base::Answer;
+use lent::lists::load_displacements;
+use lent::word::word_of;
+use words::least;
+use words::store::store_i64;
+ghost use Prim.Native.Nat.{_/_, _≤_};
+ghost use lib.ListN.{length};
+ghost use Rattle.matrix.specs.Checks.{matrixOf};
+ghost use Rattle.matrix.specs.Product.{product, productReply};
+ghost use Rattle.words.specs.LittleEndian.{signed, signedBytes};
+ghost use Rattle.lent.specs.Word.{Answered};
+
+// The matrix and the displacements are decoded; the product is made in sums.
+fn product_in(
+    n: u32,
+    starts: &[u32],
+    columns: &[u32],
+    values: &[i32],
+    displacements: &[i32],
+    sums: &mut [i64],
+    forces: &mut [u8],
+) -> u64
+    requires { ⌜ 4096 ≤ length (now sums) ⌝ }
+    ensures { λ r. ⌜ Answered (productReply (matrixOf n (now (starts .entry)) (now (columns .entry)) (now (values .entry))) (now (displacements .entry)) (length (now (forces .entry)) / 8)) (signedBytes 8 (product (matrixOf n (now (starts .entry)) (now (columns .entry)) (now (values .entry))) (now (displacements .entry)))) (now (forces .entry)) r (now (forces .exit)) ⌝ }
+{
+    let room = least(forces.len() / 8, sums.len());
+    let answer = matrix::product(n, starts, columns, values, displacements, &mut sums[..room]);
+    let Answer::Accepted(_) = answer else {
+        return word_of(answer);
+    };
+    let rows = n as usize;
+    store_i64(&sums[..rows], forces);
+    word_of(answer)
+}
+
+// The matrix is decoded.
+pub fn product_of(
+    n: u32,
+    starts: &[u32],
+    columns: &[u32],
+    values: &[i32],
+    movements: &[u8],
+    forces: &mut [u8],
+) -> u64
+    ensures { λ r. ⌜ Answered (productReply (matrixOf n (now (starts .entry)) (now (columns .entry)) (now (values .entry))) (signed 4 (now (movements .entry))) (length (now (forces .entry)) / 8)) (signedBytes 8 (product (matrixOf n (now (starts .entry)) (now (columns .entry)) (now (values .entry))) (signed 4 (now (movements .entry))))) (now (forces .entry)) r (now (forces .exit)) ⌝ }
+{
+    let mut displacements = [0i32; 4097];
+    let count = load_displacements(movements, &mut displacements);
+    let mut sums = [0i64; 4096];
+    product_in(
+        n,
+        starts,
+        columns,
+        values,
+        &displacements[..count],
+        &mut sums,
+        forces,
+    )
+}

@@ -1,0 +1,50 @@
+// read: the matrix of a text.
+use base::Answer;
+use lent::word::word_of;
+use reader::read;
+use words::least;
+use words::store::store_i32;
+use words::store::store_u32;
+ghost use mathlib.Core.Path.{_≡_};
+ghost use Prim.Native.Nat.{_≤_};
+ghost use lib.ListN.{length};
+ghost use Rattle.office.specs.Lent.{ReadAnswered};
+
+fn wide(v: u32) -> usize
+    ensures { λ r. ⌜ r ≡ v ⌝ }
+{
+    v as usize
+}
+
+// The matrix is made in starts, columns and values, as far as the lent lists have room; then it is stored.
+pub fn read_in(
+    text: &[u8],
+    starts: &mut [u32],
+    columns: &mut [u32],
+    values: &mut [i32],
+    start_bytes: &mut [u8],
+    column_bytes: &mut [u8],
+    value_bytes: &mut [u8],
+) -> u64
+    requires { ⌜ (4097 ≤ length (now starts)) × (65536 ≤ length (now columns)) × (65536 ≤ length (now values)) ⌝ }
+    ensures { λ r. ⌜ ReadAnswered (now (text .entry)) (now («start_bytes» .entry)) (now («column_bytes» .entry)) (now («value_bytes» .entry)) r (now («start_bytes» .exit)) (now («column_bytes» .exit)) (now («value_bytes» .exit)) ⌝ }
+{
+    let starts_room = least(start_bytes.len() / 4, starts.len());
+    let columns_room = least(column_bytes.len() / 4, columns.len());
+    let values_room = least(value_bytes.len() / 4, values.len());
+    let answer = read(
+        text,
+        &mut starts[..starts_room],
+        &mut columns[..columns_room],
+        &mut values[..values_room],
+    );
+    let Answer::Accepted(n) = answer else {
+        return word_of(answer);
+    };
+    let rows = n as usize;
+    let entries = wide(starts[rows]);
+    store_u32(&starts[..rows + 1], start_bytes);
+    store_u32(&columns[..entries], column_bytes);
+    store_i32(&values[..entries], value_bytes);
+    word_of(answer)
+}
