@@ -10,6 +10,10 @@
  * refusal's place, or the accepted call's count, 0 where none is named. On a refusal nothing is written, but by the
  * picks of a list before the one that is refused.
  *
+ * A matrix has 1 to 4,096 rows and at most 32,768 entries on and below the diagonal; it is symmetric, and held in full
+ * rows, each by ascending column. Values are in N/mm, at most 1,000,000,000 either side of 0; movements in µm, at most
+ * 1,000,000 either side of 0; forces in mN.
+ *
  * The lists belong to the caller; nothing is kept between calls, and calls may run at the same time on different
  * lists. A list that is written overlaps no other list of the call, and no pointer is null, also of an empty list.
  * A call uses up to 0.6 MiB of stack, mzk_plan up to 1 MiB, those on a run up to 1.9 MiB and mzk_read up to 2.2 MiB. */
@@ -22,9 +26,9 @@
 /* The matrix of a text, in full rows, into row_starts, columns and values; returns its number of rows. It has one row
  * start more than rows, and the last one is the number of its columns and of its values; at most 4,097, 65,536 and
  * 65,536 numbers are written.
- * Refused: 1 line 1 differs (place 1); 2 text too long (0), or a line breaks the form (its line); 3 the size line is
- * outside the limits (its line); 4 an entry is (its line); 9 row_starts, columns or values too short (the numbers
- * needed by the first such). */
+ * Refused: 1 line 1 differs (place 1); 2 text too long (0), or a line breaks the form, is missing or is one too many
+ * (its line); 3 the size line is outside the limits (its line); 4 an entry is, or stands above the diagonal, or is given
+ * twice (its line); 9 row_starts, columns or values too short (the numbers needed by the first such). */
 uint64_t mzk_read(const uint8_t *text, size_t text_bytes,
                   uint8_t *row_starts, size_t row_starts_bytes,
                   uint8_t *columns, size_t columns_bytes,
@@ -48,7 +52,9 @@ uint64_t mzk_product(uint32_t n,
                      uint8_t *forces, size_t forces_bytes);
 
 /* The plan of a matrix for workers, 1 to 16, and p, 50 to 99: n rows into order, and for each group a record of six
- * numbers into groups (start, length, first worker, workers, colour, parent); returns the number of groups.
+ * numbers into groups (start, length, first worker, workers, colour, parent); returns the number of groups. Start and
+ * length are positions in the order, the colour is 0 for the whole, 1 for red and 2 for blue, the parent is the number
+ * of its record, and the whole's is 0.
  * At most 4,096 and 6 x 481 numbers are written.
  * Refused: 5 no matrix; 7 workers or p outside the limits; 9 order too short (n), or groups (the records needed). */
 uint64_t mzk_plan(uint32_t n,

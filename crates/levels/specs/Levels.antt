@@ -5,7 +5,7 @@ use Prim.Native.Nat.{ℕ, zero, suc, _-_, _*_}
 use lib.ListN.{take}
 use Rattle.base.specs.Lists.{filter, any, isIn, range, trim}
 
--- the distance that a colouring keeps: rows of one colour are more than two joins apart
+-- the distance that a colouring keeps: rows of two like-coloured children of one parent are more than two joins apart
 abbrev pub reach : ℕ
 reach = 2
 
@@ -23,7 +23,7 @@ unfoldable pub root : (adj : ℕ → List ℕ) (T rest : List ℕ) → List ℕ
 root adj T rest = take 1 (filter (isIn T) rest)
 
 -- Which of the rows not yet reached, rest, are on the next level: those adjacent to the last level.
--- At first, and after an empty level, the next component's root alone: so "each later one two above the highest level in use, the levels of joined outsiders counted"
+-- At first, and after an empty level, the root of the next component (document 01's island) alone: so "each later one two above the highest level in use, the levels of joined outsiders counted"
 unfoldable pub isNext : (adj : ℕ → List ℕ) (T last rest : List ℕ) → ℕ → Bool
 isNext adj T [] rest v = isIn (root adj T rest) v
 isNext adj T (x ∷ xs) rest v = any (isIn (x ∷ xs)) (adj v)
