@@ -1,3 +1,4 @@
-pub mod Limits
-pub mod Turns
 pub mod Triplets
+pub mod Turns
+pub mod Rising
+pub mod Marking

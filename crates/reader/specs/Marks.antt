@@ -1,10 +1,12 @@
 -- One bit for each place of the lower triangle, in words of 64 bits.
+use mathlib.Core.Path.{_≡_}
 use mathlib.Core.Bool.{Bool}
 use mathlib.Core.List.{List}
-use Prim.Native.Nat.{ℕ, zero, suc, _+_, _/_, _%_, _^_}
+use Prim.Native.Nat.{ℕ, zero, suc, _+_, _/_, _%_, _^_, _≤_}
 use lib.Dec.{eqb}
 use lib.Bits.{bitOr}
-use lib.ListN.{getD, set}
+use lib.ListN.{length, getD, set}
+use Rattle.market.specs.Parse.{Triplet, isAmong}
 
 abbrev pub hasBit : ℕ → ℕ → Bool
 hasBit x k = eqb (x / 2 ^ k % 2) 1
@@ -25,3 +27,8 @@ triangle (suc r) = triangle r + suc r
 -- the bit of row r and column c
 abbrev pub bitOf : ℕ → ℕ → ℕ
 bitOf r c = triangle r + c
+
+-- the marks say which places the entries name
+pub record Marks (ms : List ℕ) (es : List Triplet) : Type 0 where
+  pub long : length ms ≡ 131104
+  pub each : (r c : ℕ) → c ≤ r → isMarked ms (bitOf r c) ≡ isAmong es r c

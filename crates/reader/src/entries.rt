@@ -1,18 +1,18 @@
-// The entry lines of a text, into three arrays.
+// The entry lines of a text, into three arrays. No place may be given twice.
 
-use crate::lines::Fields;
-use crate::lines::read_line;
+use crate::entry::Entry;
+use crate::entry::read_entry;
 use crate::marks::bit_of;
 use crate::marks::mark;
+use crate::marks::mark_all;
 ghost use mathlib.Core.Path.{_≡_};
 ghost use mathlib.Core.List.{[]};
-ghost use Prim.Native.Nat.{_≤_};
+ghost use Prim.Native.Nat.{ℕ};
 ghost use lib.ListN.{drop};
-ghost use Rattle.base.specs.Integers.{within};
-ghost use Rattle.matrix.specs.Limits.{maxRows, maxValue};
-ghost use Rattle.market.specs.Parse.{isEntry, entries};
+ghost use Rattle.market.specs.Parse.{entries};
 ghost use Rattle.reader.specs.Classes.{Classes};
 ghost use Rattle.reader.specs.Arrays.{parsed, Arrays, Within};
+ghost use Rattle.reader.specs.Entries.{Held, remaining, Ended};
 
 // A text's rows and count of entries, or its refusal with number and line.
 pub(crate) enum Scanned {
@@ -20,34 +20,107 @@ pub(crate) enum Scanned {
     Rejected(u32, u32),
 }
 
-// Whether a value is within its limits.
-fn in_limits(v: i64) -> bool
-    ensures { λ r. ⌜ r ≡ within maxValue v ⌝ }
-{
-    if v < -1000000000 {
-        return false;
-    }
-    if 1000000000 < v {
-        return false;
-    }
-    true
+// How many entries are in the arrays, and where the next line stands.
+pub(crate) struct Reached {
+    pub count: usize,
+    pub pos: usize,
 }
 
-// Whether row, column and value may stand in a matrix of n rows.
-fn is_entry(n: usize, row: u64, column: u64, v: i64) -> bool
-    requires { ⌜ n ≤ maxRows ⌝ }
-    ensures { λ r. ⌜ r ≡ isEntry n row column v ⌝ }
+// The entry lines from a position on whose places rise, by column, then by row: no place is given twice. The first line that is no entry, or does not rise, ends them.
+fn read_sorted(
+    classes: &[u8; 256],
+    s: &[u8],
+    at: usize,
+    n: usize,
+    m: usize,
+    rows: &mut [u32; 32768],
+    columns: &mut [u32; 32768],
+    values: &mut [i32; 32768],
+) -> Reached
+    requires { ⌜ Classes (now classes) × Held n m (now rows) (now columns) (now values) 0 ⌝ }
+    ensures { λ r. ⌜ Held n m (now (rows .exit)) (now (columns .exit)) (now (values .exit)) (r .count) × ((k : ℕ) → remaining (now (s .entry)) n m k (now (rows .exit)) (now (columns .exit)) (now (values .exit)) (r .pos) (r .count) ≡ entries n m k [] (drop at (now (s .entry)))) ⌝ }
 {
-    if column < 1 {
-        return false;
+    let mut low: u32 = 0;
+    let mut p = at;
+    let mut i: usize = 0;
+    while i < m {
+        let found = read_entry(classes, s, p, n);
+        let Entry::At {
+            row,
+            column,
+            value,
+            next,
+        } = found
+        else {
+            return Reached { count: i, pos: p };
+        };
+        let key = column * 4096 + row;
+        if key < low {
+            return Reached { count: i, pos: p };
+        }
+        rows[i] = row;
+        columns[i] = column;
+        values[i] = value;
+        low = key + 1;
+        p = next;
+        i += 1;
     }
-    if row < column {
-        return false;
+    Reached { count: i, pos: p }
+}
+
+// What all m lines make, if nothing follows them.
+fn ended(s: &[u8], pos: usize, n: usize, m: usize, line: u32) -> Scanned
+    requires { ⌜ Within n m line ⌝ }
+    ensures { λ r. ⌜ Ended (now (s .entry)) pos n m line r ⌝ }
+{
+    if pos < s.len() {
+        return Scanned::Rejected(base::FORM, line + (m as u32));
     }
-    if (n as u64) < row {
-        return false;
+    Scanned::Matrix(n, m)
+}
+
+// The lines from the one that was reached on, in any order: each place is marked.
+fn read_marked(
+    classes: &[u8; 256],
+    s: &[u8],
+    from: Reached,
+    n: usize,
+    m: usize,
+    line: u32,
+    rows: &mut [u32; 32768],
+    columns: &mut [u32; 32768],
+    values: &mut [i32; 32768],
+) -> Scanned
+    requires { ⌜ Classes (now classes) × Within n m line × Held n m (now rows) (now columns) (now values) (from .count) ⌝ }
+    ensures { λ r. ⌜ (remaining (now (s .entry)) n m line (now (rows .entry)) (now (columns .entry)) (now (values .entry)) (from .pos) (from .count) ≡ parsed r (now (rows .exit)) (now (columns .exit)) (now (values .exit))) × Arrays (now (rows .exit)) (now (columns .exit)) (now (values .exit)) ⌝ }
+{
+    let mut marks = [0u64; 131104];
+    let mut p = from.pos;
+    let mut i = from.count;
+    mark_all(rows, columns, i, &mut marks);
+    while i < m {
+        let here = line + (i as u32);
+        let found = read_entry(classes, s, p, n);
+        match found {
+            Entry::Refused(q) => return Scanned::Rejected(q, here),
+            Entry::At {
+                row,
+                column,
+                value,
+                next,
+            } => {
+                if mark(&mut marks, bit_of(row, column)) {
+                    return Scanned::Rejected(base::ENTRY, here);
+                }
+                rows[i] = row;
+                columns[i] = column;
+                values[i] = value;
+                p = next;
+            }
+        }
+        i += 1;
     }
-    in_limits(v)
+    ended(s, p, n, m, line)
 }
 
 // The m entry lines from a position on, the first of which has the given number; nothing may follow them.
@@ -65,37 +138,9 @@ pub(crate) fn read_entries(
     requires { ⌜ Classes (now classes) × Within n m line × Arrays (now rows) (now columns) (now values) ⌝ }
     ensures { λ r. ⌜ (entries n m line [] (drop at (now (s .entry))) ≡ parsed r (now (rows .exit)) (now (columns .exit)) (now (values .exit))) × Arrays (now (rows .exit)) (now (columns .exit)) (now (values .exit)) ⌝ }
 {
-    let mut marks = [0u64; 131104];
-    let mut p = at;
-    let mut i: usize = 0;
-    while i < m {
-        let here = line + (i as u32);
-        let found = read_line(classes, s, p);
-        let Fields::Line {
-            row,
-            column,
-            value,
-            next,
-        } = found
-        else {
-            return Scanned::Rejected(base::FORM, here);
-        };
-        if !is_entry(n, row, column, value) {
-            return Scanned::Rejected(base::ENTRY, here);
-        }
-        let r = (row - 1) as usize;
-        let c = (column - 1) as usize;
-        if mark(&mut marks, bit_of(r, c)) {
-            return Scanned::Rejected(base::ENTRY, here);
-        }
-        rows[i] = r as u32;
-        columns[i] = c as u32;
-        values[i] = value as i32;
-        p = next;
-        i += 1;
+    let reached = read_sorted(classes, s, at, n, m, rows, columns, values);
+    if reached.count < m {
+        return read_marked(classes, s, reached, n, m, line, rows, columns, values);
     }
-    if p < s.len() {
-        return Scanned::Rejected(base::FORM, line + (m as u32));
-    }
-    Scanned::Matrix(n, m)
+    ended(s, reached.pos, n, m, line)
 }

@@ -2,6 +2,7 @@
 mod buckets;
 mod classes;
 mod entries;
+mod entry;
 mod lines;
 mod marks;
 pub mod numbers;

@@ -1,16 +1,20 @@
 // One bit for each place of the lower triangle: which places an earlier line has named.
 
 ghost use mathlib.Core.Path.{_≡_};
+ghost use mathlib.Core.List.{List, []};
 ghost use Prim.Native.Nat.{_≤_, _<_};
+ghost use lib.IntN.{ℤ};
 ghost use lib.ListN.{length};
-ghost use Rattle.reader.specs.Marks.{isMarked, marked, bitOf};
+ghost use Rattle.reader.specs.Arrays.{tripletsOf};
+ghost use Rattle.reader.specs.Entries.{Lower};
+ghost use Rattle.reader.specs.Marks.{isMarked, marked, bitOf, Marks};
 
 // The bit of row r and column c.
-pub(crate) fn bit_of(r: usize, c: usize) -> usize
+pub(crate) fn bit_of(r: u32, c: u32) -> usize
     requires { ⌜ (c ≤ r) × (r < 4096) ⌝ }
     ensures { λ q. ⌜ (q ≡ bitOf r c) × (q < 8390656) ⌝ }
 {
-    r * (r + 1) / 2 + c
+    (r * (r + 1) / 2 + c) as usize
 }
 
 // Sets bit q, and says whether it was set.
@@ -23,4 +27,21 @@ pub(crate) fn mark(marks: &mut [u64; 131104], q: usize) -> bool
     let x = marks[w];
     marks[w] = x | (1u64 << k);
     (x >> k) % 2 == 1
+}
+
+// Sets the bits of the first entries of two arrays.
+pub(crate) fn mark_all(
+    rows: &[u32; 32768],
+    columns: &[u32; 32768],
+    count: usize,
+    marks: &mut [u64; 131104],
+)
+    requires { ⌜ (count ≤ 32768) × (length (now rows) ≡ 32768) × (length (now columns) ≡ 32768) × Lower (now rows) (now columns) count × Marks (now marks) [] ⌝ }
+    ensures { λ _. ⌜ ((vs : List ℤ) → Marks (now (marks .exit)) (tripletsOf count (now (rows .entry)) (now (columns .entry)) vs)) ⌝ }
+{
+    let mut k: usize = 0;
+    while k < count {
+        mark(marks, bit_of(rows[k], columns[k]));
+        k += 1;
+    }
 }

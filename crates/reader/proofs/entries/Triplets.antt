@@ -28,6 +28,15 @@ unfolding tripletsOf
 triplets-more i r c v rs cs vs h j l =
     rw (add-one i, triplets-same i i r c v rs cs vs (omega arith), getD-set-same rs i r 0 h, getD-set-same cs i c 0 j, getD-set-same vs i v (pos 0) l)
 
+pub triplets-none : (rs cs : List ℕ) (vs : List ℤ) → tripletsOf 0 rs cs vs ≡ []
+unfolding tripletsOf
+triplets-none rs cs vs = refl
+
+-- the next entry of the arrays
+pub triplets-next : (k : ℕ) (rs cs : List ℕ) (vs : List ℤ) → tripletsOf (k + 1) rs cs vs ≡ tripletsOf k rs cs vs ++ triplet (getD rs k 0) (getD cs k 0) (getD vs k (pos 0)) ∷ []
+unfolding tripletsOf
+triplets-next k rs cs vs = rw (add-one k)
+
 length-triplets : (m : ℕ) (rs cs : List ℕ) (vs : List ℤ) → length (tripletsOf m rs cs vs) ≡ m
 unfolding tripletsOf
 length-triplets zero rs cs vs = refl

@@ -1,94 +1,80 @@
--- One turn of the loop over entry lines, on plain values.
-use mathlib.Core.Path.{_≡_, sym, ap, _∙_}
-use mathlib.Core.Bool.{true, false, _&&_, not, cond}
-use mathlib.Core.List.{List, [], _∷_, _++_}
-use Prim.Native.Nat.{ℕ, suc, _+_, _-_, _/_, _≤_, _<_}
+-- One turn of a loop over entry lines, on plain values.
+use mathlib.Core.Path.{_≡_, refl, sym, ap, _∙_}
+use mathlib.Core.Bool.{Bool, true, false}
+use mathlib.Core.List.{List, _∷_, _++_, []}
+use Prim.Native.Nat.{ℕ, suc, _+_, _-_, _≤_, _<_}
 use native.Mathlib.Omega.{arith}
+use lib.Dec.{eqb}
 use lib.IntN.{ℤ}
-use lib.ListN.{length, set, drop, drop-of-length-le, length-set, replicate, length-replicate}
+use lib.ListN.{length, getD, set, drop, drop-of-length-le, length-set}
+use lib.Seq.{getD-set-same, getD-set-other}
+use borrow.Author.Tests.{eqb-true, eqb-false}
 use Rattle.base.specs.Refusals as no
-use Rattle.reader.specs.declared.lines.Fields.the-variants as fld
-use Rattle.market.specs.Fields.{fields}
-use Rattle.market.specs.Parse.{triplet, matrixText, rejected, isEntry, isAmong, onLine, entries}
-use Rattle.reader.specs.Positions.{fieldsAt}
-use Rattle.reader.specs.Marks.{marked, bitOf}
-use Rattle.reader.specs.Arrays.{tripletsOf, Arrays, Within}
-use Rattle.reader.proofs.Left.{left-cons, left-later}
-use Rattle.reader.proofs.lines.Lines.{line-at, line-no}
-use Rattle.reader.proofs.marks.Triangle.{Marks, marks-more, marks-none}
-use Rattle.market.proofs.Inside.{inside}
+use Rattle.matrix.specs.Limits.{maxRows}
+use Rattle.reader.specs.declared.entry.Entry.the-variants as line
+use Rattle.market.specs.Parse.{Triplet, triplet, matrixText, rejected, isAmong, entries}
+use Rattle.reader.specs.Arrays.{tripletsOf}
+use Rattle.reader.specs.Entries.{EntryAt, Held, remaining}
+use Rattle.reader.proofs.Left.{left-cons}
 use Rattle.reader.proofs.entries.Triplets.{triplets-more}
 
--- the state of the loop: i of the m entries are read, and the lines from p on decide
-pub record Going (s : List ℕ) (at n m k : ℕ) (ms rs cs : List ℕ) (vs : List ℤ) (p i : ℕ) : Type 0 where
-  pub count : i ≤ m
-  pub same : entries n (m - i) (k + i) (tripletsOf i rs cs vs) (drop p s) ≡ entries n m k [] (drop at s)
-  pub marks : Marks ms (tripletsOf i rs cs vs)
-  pub long-marks : length ms ≡ 131104
-  pub limits : Within n m k
-  pub arrays : Arrays rs cs vs
+-- what holds of the first i places and of the next
+pub places-more : (P : ℕ → ℕ → Type 0) (rs cs : List ℕ) {i r c : ℕ} → ((j : ℕ) → j < i → P (getD rs j 0) (getD cs j 0)) → P r c → i < length rs → i < length cs → (j : ℕ) → j < i + 1 → P (getD (set rs i r) j 0) (getD (set cs i c) j 0)
+places-more P rs cs {i} {r} {c} g o a b j h = go (eqb j i) refl
+  where
+    go : (t : Bool) → eqb j i ≡ t → P (getD (set rs i r) j 0) (getD (set cs i c) j 0)
+    go true e = rw (eqb-true j i e, getD-set-same rs i r 0 a, getD-set-same cs i c 0 b) o
+    go false e =
+        let f = eqb-false j i e in
+        rw (getD-set-other rs i j r 0 f, getD-set-other cs i j c 0 f) (g j (omega (arith, f)))
 
-pub going-start : (s : List ℕ) (at n m k w : ℕ) (rs cs : List ℕ) (vs : List ℤ) → w ≡ 131104 → Within n m k → Arrays rs cs vs → Going s at n m k (replicate w 0) rs cs vs at 0
-unfolding tripletsOf
-going-start s at n m k w rs cs vs e limits arrays =
-    let a : m - 0 ≡ m = omega arith in
-    let b : k + 0 ≡ k = omega arith in
-    record { count = omega arith; same = rw (a, b); marks = marks-none w; long-marks = length-replicate w 0 ∙ e; limits = limits; arrays = arrays }
-
-module _ {s : List ℕ} {at n m k : ℕ} {ms rs cs : List ℕ} {vs : List ℤ} {p i : ℕ} (g : Going s at n m k ms rs cs vs p i) where
-  pub too-many : m ≤ i → p < length s → entries n m k [] (drop at s) ≡ rejected no.form (k + m)
+-- nothing may follow the last line
+module _ (s : List ℕ) (p n k : ℕ) (es : List Triplet) where
+  pub too-many : p < length s → entries n 0 k es (drop p s) ≡ rejected no.form k
   unfolding entries
-  too-many h l =
-      let e : m - i ≡ 0 = omega arith in
-      let f : k + i ≡ k + m = omega (arith, g .count) in
-      sym (rw (e, f, left-cons s p l) at (g .same))
+  too-many h = rw (left-cons s p h)
 
-  pub all-read : m ≤ i → length s ≤ p → entries n m k [] (drop at s) ≡ matrixText n (tripletsOf m rs cs vs)
+  pub no-more : length s ≤ p → entries n 0 k es (drop p s) ≡ matrixText n es
   unfolding entries
-  all-read h l =
+  no-more h = rw (drop-of-length-le s h)
+
+module _ {n m : ℕ} {rs cs : List ℕ} {vs : List ℤ} {i : ℕ} (g : Held n m rs cs vs i) (s : List ℕ) (p : ℕ) where
+  -- all lines are read
+  pub all-read : m ≤ i → (k : ℕ) → remaining s n m k rs cs vs p i ≡ entries n 0 (k + m) (tripletsOf m rs cs vs) (drop p s)
+  all-read h k =
       let e : m - i ≡ 0 = omega arith in
       let f : i ≡ m = omega (arith, g .count) in
-      sym (rw (e, drop-of-length-le s l) at (g .same)) ∙ ap (λ (j : ℕ). matrixText n (tripletsOf j rs cs vs)) f
+      rw e (ap (λ (j : ℕ). entries n 0 (k + j) (tripletsOf j rs cs vs) (drop p s)) f)
 
   module _ (more : i < m) where
-    turn : entries n m k [] (drop at s) ≡ onLine (fields (drop p s)) (rejected no.form (k + i)) (λ r c v a.
-        cond (isEntry n r c v && not (isAmong (tripletsOf i rs cs vs) (r - 1) (c - 1)))
-        (entries n (m - (i + 1)) (suc (k + i)) (tripletsOf i rs cs vs ++ triplet (r - 1) (c - 1) v ∷ []) (drop a (drop p s)))
-        (rejected no.entry (k + i)))
-    unfolding entries
-    turn = let e : m - i ≡ suc (m - (i + 1)) = omega arith in sym (rw e at (g .same))
+    turn : m - i ≡ suc (m - (i + 1))
+    turn = omega arith
 
-    pub broken-line : fld.Broken ≡ fieldsAt p (fields (drop p s)) → entries n m k [] (drop at s) ≡ rejected no.form (k + i)
-    broken-line b = turn ∙ rw (line-no p (fields (drop p s)) b)
+    pub refused-line : {q : ℕ} → EntryAt s p n (line.Refused q) → (k : ℕ) → remaining s n m k rs cs vs p i ≡ rejected q (k + i)
+    refused-line l k = rw turn (l (m - (i + 1)) (k + i) (tripletsOf i rs cs vs))
 
-    module _ {r c z : ℕ} {v : ℤ} (l : fld.Line r c v z ≡ fieldsAt p (fields (drop p s))) where
-      pub bad-line : isEntry n r c v ≡ false → entries n m k [] (drop at s) ≡ rejected no.entry (k + i)
-      bad-line f = turn ∙ rw (line-at p r c z v (fields (drop p s)) l .0, f)
+    -- a line with a place and a value
+    module _ {r c : ℕ} (v : ℤ) (z : ℕ) (l : EntryAt s p n (line.At r c v z)) where
+      pub again-line : isAmong (tripletsOf i rs cs vs) r c ≡ true → (k : ℕ) → remaining s n m k rs cs vs p i ≡ rejected no.entry (k + i)
+      again-line t k = rw turn (l .2 (m - (i + 1)) (k + i) (tripletsOf i rs cs vs) ∙ rw t)
 
-      module _ (f : isEntry n r c v ≡ true) where
-        pub again-line : isAmong (tripletsOf i rs cs vs) (r - 1) (c - 1) ≡ true → entries n m k [] (drop at s) ≡ rejected no.entry (k + i)
-        again-line t = turn ∙ rw (line-at p r c z v (fields (drop p s)) l .0, f, t)
+      -- the value is w in the array
+      module _ {w : ℤ} (e : w ≡ v) where
+        pub one-more : tripletsOf (i + 1) (set rs i r) (set cs i c) (set vs i w) ≡ tripletsOf i rs cs vs ++ triplet r c v ∷ []
+        one-more = let a = g .arrays in rw e (triplets-more i r c v rs cs vs (omega (arith, g .total, a .rows)) (omega (arith, g .total, a .columns)) (omega (arith, g .total, a .values)))
 
-        good-line : isAmong (tripletsOf i rs cs vs) (r - 1) (c - 1) ≡ false → entries n (m - (i + 1)) (k + (i + 1)) (tripletsOf i rs cs vs ++ triplet (r - 1) (c - 1) v ∷ []) (drop z s) ≡ entries n m k [] (drop at s)
-        good-line t =
-            let a = line-at p r c z v (fields (drop p s)) l in
-            let e : k + (i + 1) ≡ suc (k + i) = omega arith in
-            rw e (sym (turn ∙ rw (a .0, f, t, left-later s p z (a .1))))
+        pub taken-line : isAmong (tripletsOf i rs cs vs) r c ≡ false → (k : ℕ) → remaining s n m k (set rs i r) (set cs i c) (set vs i w) z (i + 1) ≡ remaining s n m k rs cs vs p i
+        taken-line t k =
+            let f : k + (i + 1) ≡ suc (k + i) = omega arith in
+            rw (one-more, f, turn) (sym (l .2 (m - (i + 1)) (k + i) (tripletsOf i rs cs vs) ∙ rw t))
 
-        -- an entry is taken: its bit q is set, and its value stands in the array as w
-        pub going-more : isAmong (tripletsOf i rs cs vs) (r - 1) (c - 1) ≡ false → {q : ℕ} → q ≡ bitOf (r - 1) (c - 1) → q < 8390656 → {ms' : List ℕ} → ms' ≡ marked ms q → {w : ℤ} → w ≡ v
-            → Going s at n m k ms' (set rs i (r - 1)) (set cs i (c - 1)) (set vs i w) z (i + 1)
-        unfolding marked
-        going-more t {q} eq small em ew =
+        pub held-more : Held n m (set rs i r) (set cs i c) (set vs i w) (i + 1)
+        held-more =
             let a = g .arrays in
-            let b = g .limits in
-            let one-more = triplets-more i (r - 1) (c - 1) v rs cs vs (omega (arith, b .count, a .rows)) (omega (arith, b .count, a .columns)) (omega (arith, b .count, a .values)) in
-            let entry = inside n r c v f in
-            rw (em, ew) record {
+            record {
+              rows = g .rows;
+              total = g .total;
               count = omega arith;
-              same = rw one-more (good-line t);
-              marks = rw (one-more, eq) (marks-more ms (tripletsOf i rs cs vs) (triplet (r - 1) (c - 1) v) (g .marks) (omega (arith, entry .below)) (rw (g .long-marks, ← eq) (omega arith)));
-              long-marks = length-set ms (q / 64) _ ∙ g .long-marks;
-              limits = b;
-              arrays = record { rows = length-set rs i (r - 1) ∙ a .rows; columns = length-set cs i (c - 1) ∙ a .columns; values = length-set vs i v ∙ a .values };
+              arrays = record { rows = length-set rs i r ∙ a .rows; columns = length-set cs i c ∙ a .columns; values = length-set vs i w ∙ a .values };
+              lower = places-more (λ x y. (y ≤ x) × (x < maxRows)) rs cs (g .lower) (l .0, omega (arith, l .1, g .rows)) (omega (arith, g .total, a .rows)) (omega (arith, g .total, a .columns));
             }

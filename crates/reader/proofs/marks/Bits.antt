@@ -8,7 +8,7 @@ use native.Mathlib.Omega.{arith}
 use lib.Dec.{eqb, ltb, lit<}
 use lib.Bits.{bitOr, or-shr, or-mod}
 use lib.Pow.{pow-pos, pow-lt, pow-add, shl-exact}
-use lib.ListN.{length, getD, set}
+use lib.ListN.{length, getD, set, length-set}
 use lib.Seq.{getD-set-same, getD-set-other}
 use borrow.Author.Tests.{eqb-true, eqb-false, ltb-true, ltb-false, eq-eqb, ne-eqb}
 use Rattle.reader.specs.Marks.{hasBit, isMarked, marked}
@@ -45,6 +45,10 @@ bit-or x k j =
     let s : eqb (bitOr (x / 2 ^ j % 2) (2 ^ k / 2 ^ j % 2)) 1 ≡ eqb (2 ^ k / 2 ^ j % 2) 1 || hasBit x j = or-bits (x / 2 ^ j % 2) (2 ^ k / 2 ^ j % 2) (omega arith) (omega arith) in
     let t : eqb (2 ^ k / 2 ^ j % 2) 1 ≡ eqb j k = rw (pow-bit k j) (cond-one (eqb j k)) in
     rw o (s ∙ ap (λ (b : Bool). b || hasBit x j) t)
+
+pub length-marked : (ms : List ℕ) (q : ℕ) → length (marked ms q) ≡ length ms
+unfolding marked
+length-marked ms q = length-set ms (q / 64) (bitOr (getD ms (q / 64) 0) (2 ^ (q % 64)))
 
 -- after q is marked, p is marked if it is q or was
 pub marked-is : (ms : List ℕ) (q p : ℕ) → q / 64 < length ms → isMarked (marked ms q) p ≡ eqb p q || isMarked ms p

@@ -8,13 +8,13 @@ use native.Mathlib.Nat.{div-eq-of-lt, eq-or-lt-of-le, mul-le-mul}
 use native.Mathlib.Omega.{arith}
 use lib.Dec.{eqb, ltb}
 use lib.Pow.{pow-pos}
-use lib.ListN.{length, replicate}
+use lib.ListN.{replicate, length-replicate}
 use borrow.Author.Tests.{eqb-true, eqb-false, ltb-true, ltb-false, eq-eqb, ne-eqb}
 use Rattle.base.proofs.Booleans.{eqb-sym}
 use Rattle.base.proofs.Lists.{getD-zeros}
 use Rattle.market.specs.Parse.{Triplet, isAt, isAmong}
-use Rattle.reader.specs.Marks.{isMarked, marked, triangle, bitOf}
-use Rattle.reader.proofs.marks.Bits.{marked-is}
+use Rattle.reader.specs.Marks.{isMarked, marked, triangle, bitOf, Marks}
+use Rattle.reader.proofs.marks.Bits.{length-marked, marked-is}
 
 -- an earlier row's bits come first
 triangle-mono : (r s : ℕ) → r < s → triangle r + suc r ≤ triangle s
@@ -35,11 +35,7 @@ bit-of-is r c s d h k = go (eqb r s) refl (ltb r s) refl
     go false e true f = ne-eqb (bitOf r c) (bitOf s d) (λ (n : bitOf r c ≡ bitOf s d). omega (arith, triangle-mono r s (ltb-true r s f)))
     go false e false f = ne-eqb (bitOf r c) (bitOf s d) (λ (n : bitOf r c ≡ bitOf s d). let l : s < r = omega (arith, ltb-false r s f, eqb-false r s e) in omega (arith, triangle-mono s r l))
 
--- the marks say which places an entry names
-abbrev pub Marks : List ℕ → List Triplet → Type 0
-Marks ms es = (r c : ℕ) → c ≤ r → isMarked ms (bitOf r c) ≡ isAmong es r c
-
-among-snoc : (es : List Triplet) (e : Triplet) (r c : ℕ) → isAmong (es ++ e ∷ []) r c ≡ isAt r c e || isAmong es r c
+pub among-snoc : (es : List Triplet) (e : Triplet) (r c : ℕ) → isAmong (es ++ e ∷ []) r c ≡ isAt r c e || isAmong es r c
 among-snoc [] e r c = refl
 among-snoc (d ∷ es) e r c = rw (among-snoc es e r c) (go (isAt r c d) (isAt r c e) (isAmong es r c))
   where
@@ -49,15 +45,20 @@ among-snoc (d ∷ es) e r c = rw (among-snoc es e r c) (go (isAt r c d) (isAt r 
     go false y z = refl
 
 -- one entry more, and its bit
-pub marks-more : (ms : List ℕ) (es : List Triplet) (e : Triplet) → Marks ms es → e .column ≤ e .row → bitOf (e .row) (e .column) / 64 < length ms → Marks (marked ms (bitOf (e .row) (e .column))) (es ++ e ∷ [])
-marks-more ms es e m h l r c k =
-    marked-is ms (bitOf (e .row) (e .column)) (bitOf r c) l
-    ∙ rw (bit-of-is r c (e .row) (e .column) k h, m r c k, among-snoc es e r c, eqb-sym r (e .row), eqb-sym c (e .column))
+pub marks-more : {ms ms' : List ℕ} {es : List Triplet} {q : ℕ} → Marks ms es → (e : Triplet) → e .column ≤ e .row → q ≡ bitOf (e .row) (e .column) → q < 8390656 → ms' ≡ marked ms q → Marks ms' (es ++ e ∷ [])
+marks-more {ms} {es = es} {q} g e h eq small em =
+    rw em record {
+      long = length-marked ms q ∙ g .long;
+      each = λ r c k. marked-is ms q (bitOf r c) (omega (arith, g .long)) ∙ rw (eq, bit-of-is r c (e .row) (e .column) k h, g .each r c k, among-snoc es e r c, eqb-sym r (e .row), eqb-sym c (e .column));
+    }
 
 -- no mark, no entry
-pub marks-none : (n : ℕ) → Marks (replicate n 0) []
+pub marks-none : (w : ℕ) → w ≡ 131104 → Marks (replicate w 0) []
 unfolding isMarked
-marks-none n r c h = rw (getD-zeros n (bitOf r c / 64), div-eq-of-lt {n = 0} {m = 2 ^ (bitOf r c % 64)} (pow-pos (bitOf r c % 64)))
+marks-none w e = record {
+  long = length-replicate w 0 ∙ e;
+  each = λ r c h. rw (getD-zeros w (bitOf r c / 64), div-eq-of-lt {n = 0} {m = 2 ^ (bitOf r c % 64)} (pow-pos (bitOf r c % 64)));
+}
 
 twice : (r : ℕ) → triangle r * 2 ≡ r * (r + 1)
 unfolding triangle

@@ -14,8 +14,11 @@ mul-result c = omega (arith, square (c .args .r) (c .pre .1))
 add-result-2 : tie.Need-add-result-2
 add-result-2 c = omega (arith, square (c .args .r) (c .pre .1))
 
+cast-result : tie.Need-cast-result
+cast-result c = omega (arith, square (c .args .r) (c .pre .1))
+
 returns : tie.Need-returns
 returns c = (omega (arith, triangle-is (c .args .r)), omega (arith, square (c .args .r) (c .pre .1)))
 
 pub bit-of-spec : {M : Type 1} → statement M
-bit-of-spec = tie.close (tie.spec add-result mul-result add-result-2 returns)
+bit-of-spec = tie.close (tie.spec add-result mul-result add-result-2 cast-result returns)

@@ -2,8 +2,8 @@
 use borrow.Author.Needs.{needs}
 use mir.Facts.{toZ-ofZ}
 use borrow.Author.Tests.{le-leb, lt-leb}
-use Rattle.reader.proofs.entries.is_entry.Statement.{statement}
-use Rattle.reader.proofs.entries.is_entry.Tie as tie
+use Rattle.reader.proofs.entry.is_entry.Statement.{statement}
+use Rattle.reader.proofs.entry.is_entry.Tie as tie
 
 returns : tie.Need-returns
 returns c = simp (lt-leb _ _ (c .if1 .taken))

@@ -1,8 +1,8 @@
 -- `in_limits` meets its contract.
 use mir.Facts.{toZ-ofZ}
-use Rattle.reader.proofs.entries.Limits.{too-low, too-high, limited}
-use Rattle.reader.proofs.entries.in_limits.Statement.{statement}
-use Rattle.reader.proofs.entries.in_limits.Tie as tie
+use Rattle.reader.proofs.entry.Limits.{too-low, too-high, limited}
+use Rattle.reader.proofs.entry.in_limits.Statement.{statement}
+use Rattle.reader.proofs.entry.in_limits.Tie as tie
 
 returns : tie.Need-returns
 returns c = too-low (c .before .args .v) (simp (toZ-ofZ (c .before .fits .v)) at (c .if1 .taken))
