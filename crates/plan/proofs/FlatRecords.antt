@@ -1,11 +1,11 @@
--- The records of a flat list, one by one.
+-- The records of a flat list, one by one, and of a list that records were flattened to.
 use mathlib.Core.Path.{_≡_, refl, ap, _∙_}
-use mathlib.Core.List.{List, [], _∷_}
+use mathlib.Core.List.{List, [], _∷_, _++_}
 use Prim.Native.Nat.{ℕ, zero, suc, _+_, _*_, _≤_, _<_}
 use native.Mathlib.Omega.{arith}
 use lib.ListN.{length, getD, drop, drop-of-length-le}
-use lib.Seq.{drop-drop, getD-drop}
-use Rattle.plan.specs.Groups.{width, ofFields, records}
+use lib.Seq.{drop-drop, getD-drop, take-at}
+use Rattle.plan.specs.Groups.{Group, Plan, width, fields, ofFields, flat, records, planOf}
 use Rattle.plan.specs.Checks.{recordAt}
 
 pub length-records : (count : ℕ) (ns : List ℕ) → length (records count ns) ≡ count
@@ -39,3 +39,22 @@ record-fields ns i a b c d e f pa pb pc pd pe pf =
 
     field : (k : ℕ) → getD (drop (width * i) ns) k 0 ≡ getD ns (width * i + k) 0
     field k = getD-drop (width * i) ns k 0
+
+-- ---- records that were flattened
+
+-- how many numbers they have
+pub length-flat : (gs : List Group) → length (flat gs) ≡ width * length gs
+unfolding flat fields
+length-flat [] = refl
+length-flat (g ∷ gs) = omega (arith, length-flat gs)
+
+-- they are read back, whatever stands after them
+records-flat : (gs : List Group) (rest : List ℕ) → records (length gs) (flat gs ++ rest) ≡ gs
+unfolding records flat fields ofFields
+records-flat [] rest = refl
+records-flat (g ∷ gs) rest = ap (λ (hs : List Group). g ∷ hs) (records-flat gs rest)
+
+-- .. and so is a plan
+pub plan-flat : (p : Plan) (n : ℕ) (rows numbers : List ℕ) → length (p .order) ≡ n → planOf n (p .order ++ rows) (flat (p .groups) ++ numbers) (length (p .groups)) ≡ p
+unfolding planOf
+plan-flat p n rows numbers e = rw (take-at (p .order) rows n e, records-flat (p .groups) numbers)

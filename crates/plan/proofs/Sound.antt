@@ -7,8 +7,10 @@ use lib.ListN.{length, getD}
 use lib.Dec.{eqb, leb}
 use borrow.Author.Tests.{eqb-true, leb-true}
 use Rattle.base.proofs.Booleans.{and-left, and-right, conj-first, conj-at}
+use Rattle.base.proofs.Integers.{never}
 use Rattle.plan.specs.Groups.{Group, whole}
 use Rattle.plan.specs.Sound.{maxWorkers, maxGroups, eachOnce, depthFirst, children, childrenSound, allSound, sound}
+use Rattle.plan.proofs.Once.{once}
 use Rattle.plan.proofs.Records.{Down, before-one, down, Sounds, sounds}
 
 -- the whole g, and the records gs after it
@@ -56,3 +58,9 @@ sound-facts adj n order g gs h = record {
 
     below : Down 1 gs
     below = down (0 ∷ []) 1 gs before-one (at 8)
+
+-- a sound plan's order has all rows
+pub sound-long : (adj : ℕ → List ℕ) (n : ℕ) (order : List ℕ) (gs : List Group) → sound adj n order gs ≡ true → length order ≡ n
+unfolding sound
+sound-long adj n order [] h = never h
+sound-long adj n order (g ∷ gs) h = once n order (sound-facts adj n order g gs h .once) .long
