@@ -1,12 +1,12 @@
 -- An accepted job has the facts that a run asks of it.
 use mathlib.Core.Path.{_≡_, refl}
-use Prim.Native.Nat.{ℕ, _<_}
+use Prim.Native.Nat.{ℕ, _<_, _^_}
 use native.Mathlib.Omega.{arith}
 use Rattle.base.specs.Lists.{sumBelow}
 use Rattle.matrix.specs.Matrix.{entry, displacement}
 use Rattle.matrix.specs.Product.{forceAt}
 use Rattle.matrix.proofs.Matrix.{matrix-facts, graph, small-entry, small-displacement}
-use Rattle.plan.specs.Sound.{isSound}
+use Rattle.plan.specs.Sound.{maxWorkers, isSound}
 use Rattle.plan.proofs.Once.{Once, once}
 use Rattle.run.specs.Job.{Job, Accepted, rowAt}
 use Rattle.run.specs.Updates.{updates, owner, accesses}
@@ -57,9 +57,13 @@ module _ (j : Job) (ok : Accepted j) where
   pub accesses-of : sumBelow (accesses j) (workers j) ≡ wholeRun j
   accesses-of = all-accesses j (ok .matrix) order-of (workers j) owners
 
+  -- the accesses of each of a state's sixteen workers fit 32 bits
+  pub accesses-small : (w : ℕ) → w < maxWorkers → accesses j w < 2 ^ 32
+  accesses-small = small j maxWorkers (matrix-facts (j .matrix) (ok .matrix) .few) (all-accesses j (ok .matrix) order-of maxWorkers (λ p l. omega (arith, owners p l, facts .few)))
+
   -- its updates are in document 01's order, and its counts fit 32 bits
   pub plain : Plain j
   plain = record {
     leaf-order = λ w. leaf-order j w tree-of;
-    small = small j (workers j) (matrix-facts (j .matrix) (ok .matrix) .few) accesses-of;
+    small = λ w l. accesses-small w (omega (arith, facts .few));
   }

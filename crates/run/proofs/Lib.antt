@@ -35,3 +35,5 @@ pub mod Small
 pub mod Accepted
 pub mod EveryRun
 pub mod Consequences
+pub mod LentRuns
+pub mod Fits

@@ -7,3 +7,4 @@ pub mod Calls
 pub mod Model
 pub mod EveryRun
 pub mod Consequences
+pub mod LentRuns
