@@ -5,3 +5,5 @@ pub mod RunForces
 pub mod TakenFew
 pub mod RunPicks
 pub mod StateBytes
+pub mod StateBack
+pub mod ByteRuns

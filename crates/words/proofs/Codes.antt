@@ -13,7 +13,7 @@ use borrow.Author.Tests.{lt-ltb, le-ltb}
 use Rattle.base.proofs.Each.{Each}
 use Rattle.words.specs.LittleEndian.{number, bytesOf, toSigned, ofSigned, signedNumber, signedBytesOf, unsigned, signed, unsignedBytes, signedBytes, stored}
 use Rattle.words.proofs.Digits.{AreBytes, length-bytesOf, length-signedBytesOf, number-bytesOf, bytesOf-number}
-use Rattle.words.proofs.RoundTrip.{Code, decoded-stored, stored-decoded}
+use Rattle.words.proofs.RoundTrip.{Code, decoded-stored, decoded-encoded, stored-decoded}
 
 -- ---- unsigned
 
@@ -86,6 +86,14 @@ module _ (width : ℕ) (some : 0 < width) where
   -- .. of signed numbers
   pub signed-stored : (zs : List ℤ) (old : List ℕ) → Each (HoldsSigned width) zs → length zs ≤ length old / width → signed width (stored (signedBytes width zs) old) ≡ stored zs (signed width old)
   signed-stored zs old = decoded-stored (signedBytesOf width) (signedNumber width) width (HoldsSigned width) (signed-code width some) zs old
+
+  -- numbers are read back from their bytes
+  pub unsigned-back : (vs : List ℕ) → Each (Holds width) vs → unsigned width (unsignedBytes width vs) ≡ vs
+  unsigned-back = decoded-encoded (bytesOf width) number width (Holds width) (unsigned-code width some)
+
+  -- .. signed numbers
+  pub signed-back : (zs : List ℤ) → Each (HoldsSigned width) zs → signed width (signedBytes width zs) ≡ zs
+  signed-back = decoded-encoded (signedBytesOf width) (signedNumber width) width (HoldsSigned width) (signed-code width some)
 
   -- bytes that their own numbers are stored over are as they were
   pub stored-unsigned : (bytes : List ℕ) → AreBytes bytes → stored (unsignedBytes width (unsigned width bytes)) bytes ≡ bytes

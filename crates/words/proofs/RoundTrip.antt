@@ -1,8 +1,8 @@
 -- Loading what was stored gives the numbers back, and storing what was loaded the bytes; for any width and any code of one number.
 use mathlib.Core.Path.{_≡_, refl, ap, _∙_}
-use mathlib.Core.List.{List, [], _∷_, _++_, map, map-append, append-assoc}
+use mathlib.Core.List.{List, [], _∷_, _++_, map, map-append, append-assoc, append-nil}
 use Prim.Native.Nat.{ℕ, zero, suc, _+_, _*_, _-_, _/_, _≤_, _<_}
-use native.Mathlib.Nat.{add-comm, zero-add, suc-add, zero-mul, suc-mul, div-mul-le-self, le-div-iff-mul-le}
+use native.Mathlib.Nat.{add-comm, add-zero, zero-add, suc-add, zero-mul, suc-mul, mul-div-cancel, div-mul-le-self, le-div-iff-mul-le}
 use native.Mathlib.Omega.{arith}
 use lib.ListN.{length, take, drop, length-append, length-drop, take-append-drop}
 use lib.Seq.{take-add, take-at, drop-at, drop-drop, length-take-le}
@@ -73,6 +73,14 @@ module _ {A : Type 0} (f : A → List ℕ) (g : List ℕ → A) (width : ℕ) (P
       let count : length old / width ≡ length xs + more = omega arith in
       rw (long, size, count, blocks-encoded xs more (drop (length xs * width) old), map-append, read-back xs h, ← drop-blocks width (length xs) more old)
       (ap (λ (l : List A). xs ++ l) (map-drop g (length xs) (blocks width (length xs + more) old)))
+
+  -- the numbers of numbers' bytes
+  pub decoded-encoded : (xs : List A) → Each P xs → decoded g width (encoded f xs) ≡ xs
+  unfolding blocks
+  decoded-encoded xs h =
+      let count : length (encoded f xs) / width ≡ length xs + 0 = rw (length-encoded f width (code .size) xs, add-zero) (mul-div-cancel (length xs) (code .some)) in
+      let split : blocks width (length xs + 0) (encoded f xs) ≡ map f xs = rw (append-nil (encoded f xs), append-nil (map f xs)) at (blocks-encoded xs 0 []) in
+      rw (count, split, read-back xs h)
 
   encoded-blocks : (count : ℕ) (bytes : List ℕ) → count * width ≤ length bytes → AreBytes bytes → concat (map f (map g (blocks width count bytes))) ≡ take (count * width) bytes
   unfolding blocks
