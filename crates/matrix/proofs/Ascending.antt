@@ -1,18 +1,16 @@
 -- Ascending columns: the place of a column among them, and the value beside it.
 use mathlib.Core.Path.{_≡_, refl, sym, ap, _∙_, subst}
 use mathlib.Core.Logic.{_⊎_, inl, inr, _≢_}
-use mathlib.Core.Bool.{Bool, true, false, _&&_, _||_, true≢false}
+use mathlib.Core.Bool.{Bool, true, false, _||_, true≢false}
 use mathlib.Core.List.{List, [], _∷_}
 use Prim.Native.Nat.{ℕ, zero, suc, _+_, _≤_, _<_}
-use native.Mathlib.Numerals.{add-one}
 use native.Mathlib.Omega.{arith}
-use lib.Dec.{eqb, ltb, leb, leb·zero}
+use lib.Dec.{eqb, ltb}
 use lib.IntN.{ℤ, pos}
-use lib.ListN.{length, getD, take, drop}
-use lib.Seq.{drop-cons, drop-length}
-use borrow.Author.Tests.{ltb-true, ltb-false, lt-ltb, le-ltb, lt-leb, le-leb, eqb-true, eq-eqb, ne-eqb}
-use Rattle.base.specs.Lists.{filter, keep, isIn, all, bit}
-use Rattle.base.proofs.Booleans.{and-false, and-cross, and-left, and-right, or-true, or-cases, same-or}
+use lib.ListN.{length, getD, take}
+use borrow.Author.Tests.{ltb-true, ltb-false, lt-ltb, le-ltb, eqb-true, eq-eqb, ne-eqb}
+use Rattle.base.specs.Lists.{filter, keep, isIn, bit}
+use Rattle.base.proofs.Booleans.{and-left, and-right, or-true, or-cases, same-or}
 use Rattle.matrix.specs.Matrix.{ascending, lookup}
 use Rattle.matrix.specs.Checks.{placeIn}
 
@@ -29,6 +27,20 @@ ascending-first c (d ∷ cs) h zero l = ltb-true c d (and-left (ltb c d) (ascend
 ascending-first c (d ∷ cs) h (suc k) l =
     let first = ltb-true c d (and-left (ltb c d) (ascending (d ∷ cs)) h) in
     omega (arith, ascending-first d cs (and-right (ltb c d) (ascending (d ∷ cs)) h) k (omega arith))
+
+-- every column is below each later one
+pub ascending-less : (cs : List ℕ) (k l : ℕ) → ascending cs ≡ true → k < l → l < length cs → getD cs k 0 < getD cs l 0
+ascending-less [] k l h a b = absurd (omega arith)
+ascending-less (c ∷ cs) k zero h a b = absurd (omega arith)
+ascending-less (c ∷ cs) zero (suc l) h a b = ascending-first c cs h l (omega arith)
+ascending-less (c ∷ cs) (suc k) (suc l) h a b = ascending-less cs k l (ascending-tail c cs h) (omega arith) (omega arith)
+
+-- columns ascend if each is below the next
+pub ascending-made : (cs : List ℕ) → ((k : ℕ) → suc k < length cs → getD cs k 0 < getD cs (suc k) 0) → ascending cs ≡ true
+unfolding ascending
+ascending-made [] h = refl
+ascending-made (c ∷ []) h = refl
+ascending-made (c ∷ d ∷ cs) h = rw (lt-ltb c d (h 0 (omega arith))) (ascending-made (d ∷ cs) (λ k l. h (suc k) (omega arith)))
 
 -- ---- the place of a column
 
@@ -96,12 +108,6 @@ place-missing cs j p h e ne = go (isIn cs j) refl
         absurd (ne (omega arith) (ap (λ (q : ℕ). getD cs q 0) e ∙ i .1))
     go false m = refl
 
--- no column is below 0
-pub place-zero : (cs : List ℕ) → placeIn cs 0 ≡ 0
-unfolding placeIn
-place-zero [] = refl
-place-zero (c ∷ cs) = rw (le-ltb c 0 (omega arith)) (place-zero cs)
-
 -- the columns below i + 1 are those below i, and i
 pub place-more : (cs : List ℕ) (i : ℕ) → ascending cs ≡ true → placeIn cs (i + 1) ≡ placeIn cs i + bit (isIn cs i)
 unfolding placeIn
@@ -134,6 +140,22 @@ isIn-get [] k l = absurd (omega arith)
 isIn-get (c ∷ cs) zero l = rw (eq-eqb c c refl)
 isIn-get (c ∷ cs) (suc k) l = rw (isIn-get cs k (omega arith)) (or-true (eqb (getD cs k 0) c))
 
+no-length : (xs : List ℕ) → length xs ≡ 0 → xs ≡ []
+no-length [] h = refl
+no-length (x ∷ xs) h = absurd (omega arith)
+
+-- the columns before the place of j are those below it
+pub take-place : (cs : List ℕ) (j : ℕ) → ascending cs ≡ true → take (placeIn cs j) cs ≡ filter (λ x. ltb x j) cs
+unfolding placeIn
+take-place [] j h = refl
+take-place (c ∷ cs) j h = go (ltb c j) refl (take-place cs j (ascending-tail c cs h))
+  where
+    go : (b : Bool) → ltb c j ≡ b → take (placeIn cs j) cs ≡ filter (λ x. ltb x j) cs → take (length (keep b c (filter (λ x. ltb x j) cs))) (c ∷ cs) ≡ keep b c (filter (λ x. ltb x j) cs)
+    go true e ih = ap (λ (ds : List ℕ). c ∷ ds) ih
+    go false e ih =
+        let none : filter (λ x. ltb x j) cs ≡ [] = no-length _ (place-none c cs j h (ltb-false c j e)) in
+        rw none
+
 -- ---- the value beside a column
 
 -- the value beside the column at place k
@@ -145,42 +167,3 @@ lookup-get (c ∷ cs) (v ∷ vs) zero h l = rw (eq-eqb c c refl)
 lookup-get (c ∷ cs) (v ∷ vs) (suc k) h l =
     let first = ascending-first c cs h k (omega arith) in
     rw (ne-eqb (getD cs k 0) c (λ q. omega arith)) (lookup-get cs vs k (ascending-tail c cs h) (omega arith))
-
--- ---- the test that columns ascend and are below n
-
--- the columns ascend from a least one, and are below n
-unfoldable pub ascendsFrom : (least n : ℕ) → List ℕ → Bool
-ascendsFrom least n [] = true
-ascendsFrom least n (c ∷ cs) = leb least c && ltb c n && ascendsFrom (suc c) n cs
-
-ascends-after : (n c : ℕ) (cs : List ℕ) → ascendsFrom (suc c) n cs ≡ ascending (c ∷ cs) && all (λ j. ltb j n) cs
-unfolding ascendsFrom ascending
-ascends-after n c [] = refl
-ascends-after n c (d ∷ cs) =
-    rw (ascends-after n d cs) (and-cross (ltb c d) (ltb d n) (ascending (d ∷ cs)) (all (λ j. ltb j n) cs))
-
-pub ascends-all : (n : ℕ) (cs : List ℕ) → ascendsFrom 0 n cs ≡ ascending cs && all (λ j. ltb j n) cs
-unfolding ascendsFrom ascending
-ascends-all n [] = refl
-ascends-all n (c ∷ cs) =
-    rw (ascends-after n c cs, leb·zero c) (and-cross true (ltb c n) (ascending (c ∷ cs)) (all (λ j. ltb j n) cs))
-
-module _ (n : ℕ) (cs : List ℕ) (k : ℕ) (l : k < length cs) where
-  ascends-at : (least : ℕ) → ascendsFrom least n (drop k cs) ≡ leb least (getD cs k 0) && ltb (getD cs k 0) n && ascendsFrom (suc (getD cs k 0)) n (drop (suc k) cs)
-  unfolding ascendsFrom
-  ascends-at least = rw (drop-cons cs k 0 l)
-
-  -- the column at place k is below the least, or not below n
-  pub ascends-low : (least : ℕ) → getD cs k 0 < least → ascendsFrom least n (drop k cs) ≡ false
-  ascends-low least h = ascends-at least ∙ rw (lt-leb least (getD cs k 0) h)
-
-  pub ascends-high : (least : ℕ) → n ≤ getD cs k 0 → ascendsFrom least n (drop k cs) ≡ false
-  ascends-high least h = ascends-at least ∙ rw (le-ltb (getD cs k 0) n h, and-false (leb least (getD cs k 0)))
-
-  -- it is neither
-  pub ascends-next : (least : ℕ) → least ≤ getD cs k 0 → getD cs k 0 < n → ascendsFrom least n (drop k cs) ≡ ascendsFrom (getD cs k 0 + 1) n (drop (k + 1) cs)
-  ascends-next least a b = ascends-at least ∙ rw (le-leb least (getD cs k 0) a, lt-ltb (getD cs k 0) n b, add-one (getD cs k 0), add-one k)
-
-pub ascends-end : (least n : ℕ) (cs : List ℕ) → ascendsFrom least n (drop (length cs) cs) ≡ true
-unfolding ascendsFrom
-ascends-end least n cs = rw (drop-length cs)

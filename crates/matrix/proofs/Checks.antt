@@ -1,4 +1,4 @@
--- The check of a matrix as the conjunction of its passes.
+-- The check of a matrix as the conjunction of its parts, and the first of its passes.
 use mathlib.Core.Path.{_≡_, refl, sym, ap, _∙_}
 use mathlib.Core.Bool.{Bool, true, false, _&&_, and-comm}
 use mathlib.Core.List.{List, [], _∷_}
@@ -8,16 +8,28 @@ use lib.ListN.{length, getD}
 use borrow.Author.Tests.{leb-true, le-leb, eqb-true, eq-eqb}
 use Rattle.base.specs.Lists.{all, range}
 use Rattle.base.specs.Integers.{within}
-use Rattle.base.proofs.Booleans.{and-false, and-left, and-right, conj, conj-first, conj-at, conj-fails}
+use Rattle.base.proofs.Booleans.{and-left, and-right, conj, conj-first, conj-at, conj-fails}
 use Rattle.base.proofs.Left.{all-and, all-same}
 use Rattle.matrix.specs.Limits.{maxRows, maxEntries, maxValue}
 use Rattle.matrix.specs.Matrix.{Matrix, columnsOf, valuesOf, ascending, isRow, lowerEntries, isMatrix}
-use Rattle.matrix.specs.Checks.{rises, shaped, isOrdered, orderedRow, ordered, Tidy, mirroredRow, symmetric}
+use Rattle.matrix.specs.Checks.{rises, shaped, isOrdered, mirroredRow, symmetric}
 
 abbrev sizeTests : Matrix → List Bool
 sizeTests m =
     leb (m .n) maxRows ∷ leb (suc (m .n)) (length (m .starts)) ∷ eqb (getD (m .starts) 0 0) 0
     ∷ leb (getD (m .starts) (m .n) 0) (length (m .columns)) ∷ leb (getD (m .starts) (m .n) 0) (length (m .values)) ∷ []
+
+-- every row's columns and values are in order
+abbrev pub orderedRow : Matrix → ℕ → Bool
+orderedRow m i = isOrdered (m .n) (columnsOf m i) (valuesOf m i)
+
+unfoldable pub ordered : Matrix → Bool
+ordered m = all (orderedRow m) (range 0 (m .n))
+
+-- the lists are shaped and their rows in order
+pub record Tidy (m : Matrix) : Type 0 where
+  pub shape : shaped m ≡ true
+  pub order : ordered m ≡ true
 
 -- ---- the whole check
 
@@ -35,7 +47,7 @@ rows-parts m is =
     ∙ all-and (λ i. rises (m .starts) i && orderedRow m i) (mirroredRow m) is
     ∙ ap (λ (b : Bool). b && all (mirroredRow m) is) (all-and (rises (m .starts)) (orderedRow m) is)
 
--- a matrix is one if each pass says so
+-- lists are a matrix if they are shaped, their rows in order and few, and their entries mirrored
 pub matrix-parts : (m : Matrix) → isMatrix m ≡ shaped m && (ordered m && leb (lowerEntries m) maxEntries) && symmetric m
 unfolding isMatrix shaped ordered symmetric
 matrix-parts m =
@@ -48,25 +60,15 @@ matrix-parts m =
     go true true false t l = refl
     go true true true t l = and-comm t l
 
--- pass by pass
 pub matrix-unshaped : (m : Matrix) → shaped m ≡ false → isMatrix m ≡ false
 matrix-unshaped m h = matrix-parts m ∙ rw h
-
-pub matrix-unordered : (m : Matrix) → ordered m && leb (lowerEntries m) maxEntries ≡ false → isMatrix m ≡ false
-matrix-unordered m h = matrix-parts m ∙ rw (h, and-false (shaped m))
-
-pub matrix-symmetric : (m : Matrix) → shaped m ≡ true → ordered m && leb (lowerEntries m) maxEntries ≡ true → isMatrix m ≡ symmetric m
-matrix-symmetric m h k = matrix-parts m ∙ rw (h, k)
-
-pub ordered-few : (m : Matrix) → ordered m && leb (lowerEntries m) maxEntries ≡ true → ordered m ≡ true
-ordered-few m h = and-left (ordered m) (leb (lowerEntries m) maxEntries) h
 
 -- a matrix passes
 pub matrix-tidy : (m : Matrix) → isMatrix m ≡ true → Tidy m
 matrix-tidy m h =
-    let few = ordered m && leb (lowerEntries m) maxEntries in
-    let both : shaped m && few ≡ true = and-left (shaped m && few) (symmetric m) (sym (matrix-parts m) ∙ h) in
-    record { shape = and-left (shaped m) few both; order = ordered-few m (and-right (shaped m) few both) }
+    let lower = leb (lowerEntries m) maxEntries in
+    let both : shaped m && (ordered m && lower) ≡ true = and-left (shaped m && (ordered m && lower)) (symmetric m) (sym (matrix-parts m) ∙ h) in
+    record { shape = and-left (shaped m) (ordered m && lower) both; order = and-left (ordered m) lower (and-right (shaped m) (ordered m && lower) both) }
 
 -- ---- the first pass
 

@@ -16,9 +16,9 @@ use Rattle.base.proofs.Booleans.{and-left, both-ways}
 use Rattle.base.proofs.Lists.{all-range, of-all, range-in}
 use Rattle.matrix.specs.Limits.{maxRows, maxEntries, maxDisplacement}
 use Rattle.matrix.specs.Matrix.{Matrix, partOf, columnsOf, valuesOf, lookup, entry, neighbours, mirrored, lowerEntries, isMatrix, displacement, areDisplacements, displacementCheck}
-use Rattle.matrix.specs.Checks.{matrixOf, rises, shaped, isOrdered, ordered, symmetric}
+use Rattle.matrix.specs.Checks.{matrixOf, rises, shaped, isOrdered, symmetric}
 use Rattle.matrix.specs.Product.{forceAt, product}
-use Rattle.matrix.proofs.Checks.{Shape, shape, shape-rises, matrix-parts, matrix-tidy}
+use Rattle.matrix.proofs.Checks.{ordered, Shape, shape, shape-rises, matrix-parts, matrix-tidy}
 use Rattle.matrix.proofs.Rows.{row-in}
 use Rattle.matrix.proofs.Entries.{few-entries}
 

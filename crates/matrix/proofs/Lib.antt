@@ -1,6 +1,7 @@
 pub mod Matrix
 pub mod Ascending
 pub mod Within
+pub mod Found
 pub mod Checks
 pub mod Rows
 pub mod Symmetry
@@ -10,4 +11,6 @@ pub mod Forces
 pub mod Replied
 pub mod Entries
 pub mod Cut
+pub mod Regular
 pub mod Cursors
+pub mod RowsMet

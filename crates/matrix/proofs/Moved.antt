@@ -1,12 +1,12 @@
 -- Displacements: what their check replies.
-use mathlib.Core.Path.{_≡_, sym, _∙_}
+use mathlib.Core.Path.{_≡_}
 use mathlib.Core.Logic.{_≢_}
 use mathlib.Core.Bool.{true, false}
 use mathlib.Core.List.{List}
-use Prim.Native.Nat.{ℕ, _≤_, _<_}
+use Prim.Native.Nat.{ℕ}
 use lib.IntN.{ℤ}
 use lib.ListN.{length}
-use borrow.Author.Tests.{eq-eqb, ne-eqb, le-leb, lt-leb}
+use borrow.Author.Tests.{eq-eqb, ne-eqb}
 use Rattle.base.specs.Lists.{all}
 use Rattle.base.specs.Integers.{within}
 use Rattle.base.specs.Refusals as no
@@ -14,7 +14,6 @@ use Rattle.base.specs.Replies.{accepted, refused, inTurn}
 use Rattle.base.proofs.Replies.{checked}
 use Rattle.matrix.specs.Limits.{maxDisplacement}
 use Rattle.matrix.specs.Matrix.{firstPast, areDisplacements, displacementCheck}
-use Rattle.matrix.proofs.Within.{all-within}
 
 module _ (n : ℕ) (x : List ℤ) where
   -- they are not n
@@ -23,15 +22,11 @@ module _ (n : ℕ) (x : List ℤ) where
   displacements-other d = rw (ne-eqb (length x) n d)
 
   -- they are n, and one passes its limit
-  pub displacements-past : length x ≡ n → firstPast maxDisplacement x < length x → checked (displacementCheck n x) ≡ refused no.displacement (firstPast maxDisplacement x)
+  pub displacements-past : length x ≡ n → all (within maxDisplacement) x ≡ false → checked (displacementCheck n x) ≡ refused no.displacement (firstPast maxDisplacement x)
   unfolding inTurn displacementCheck areDisplacements
-  displacements-past e l =
-      let a : all (within maxDisplacement) x ≡ false = sym (all-within maxDisplacement x) ∙ lt-leb (length x) (firstPast maxDisplacement x) l in
-      rw (eq-eqb (length x) n e, a)
+  displacements-past e a = rw (eq-eqb (length x) n e, a)
 
   -- they are n, and none does
-  pub displacements-fine : length x ≡ n → length x ≤ firstPast maxDisplacement x → checked (displacementCheck n x) ≡ accepted 0
+  pub displacements-fine : length x ≡ n → all (within maxDisplacement) x ≡ true → checked (displacementCheck n x) ≡ accepted 0
   unfolding inTurn displacementCheck areDisplacements
-  displacements-fine e l =
-      let a : all (within maxDisplacement) x ≡ true = sym (all-within maxDisplacement x) ∙ le-leb (length x) (firstPast maxDisplacement x) l in
-      rw (eq-eqb (length x) n e, a)
+  displacements-fine e a = rw (eq-eqb (length x) n e, a)

@@ -1,23 +1,18 @@
--- The rows of lent lists: where each lies, and what a pass over them has found.
-use mathlib.Core.Path.{_≡_, refl, sym, ap, _∙_, fun-ext}
-use mathlib.Core.Bool.{Bool, true, false, _&&_}
-use mathlib.Core.List.{List}
+-- The rows of lent lists: where each lies, and that together they are the lists.
+use mathlib.Core.Path.{_≡_, refl, sym, ap, _∙_}
+use mathlib.Core.Bool.{Bool, true, _&&_, and-true, and-assoc}
+use mathlib.Core.List.{List, [], _∷_, _++_}
 use Prim.Native.Nat.{ℕ, zero, suc, _+_, _-_, _≤_, _<_}
 use native.Mathlib.Numerals.{add-one}
 use native.Mathlib.Omega.{arith}
-use lib.Dec.{ltb, leb, leb·suc-suc}
 use lib.IntN.{ℤ, pos}
-use lib.ListN.{length, getD}
-use lib.Seq.{slice, length-slice}
+use lib.ListN.{length, getD, take, drop, take-append-drop}
+use lib.Seq.{slice, length-slice, take-take}
 use borrow.Author.Tests.{lt-ltb, le-ltb, leb-true}
-use Rattle.base.specs.Lists.{all, filter, range, sumBelow}
-use Rattle.base.specs.Integers.{within}
-use Rattle.base.proofs.Booleans.{and-left}
-use Rattle.base.proofs.Lists.{all-range, length-filter-le}
-use Rattle.base.proofs.Left.{all-left, all-left-pass, all-left-fail, all-left-none}
-use Rattle.matrix.specs.Limits.{maxEntries, maxValue}
-use Rattle.matrix.specs.Matrix.{Matrix, partOf, columnsOf, valuesOf, lookup, entry, ascending, lowerEntries}
-use Rattle.matrix.specs.Checks.{RowIn, rises, shaped, isOrdered, orderedRow, ordered, placeIn}
+use Rattle.base.specs.Lists.{all, range}
+use Rattle.base.proofs.Lists.{all-range, range-snoc}
+use Rattle.matrix.specs.Matrix.{Matrix, partOf, columnsOf, valuesOf, lookup, entry}
+use Rattle.matrix.specs.Checks.{RowIn, rises, shaped}
 use Rattle.matrix.proofs.Checks.{shape}
 
 -- ---- where a row lies
@@ -80,53 +75,23 @@ module _ (m : Matrix) (h : shaped m ≡ true) (i : ℕ) (l : i < m .n) where
   pub length-values : length (valuesOf m i) ≡ getD (m .starts) (i + 1) 0 - getD (m .starts) i 0
   length-values = rw (values-part m i l) (length-slice (getD (m .starts) i 0) (getD (m .starts) (i + 1) 0) (m .values) (values-in .ends))
 
--- ---- the pass over rows that are in order
+-- ---- the values of all rows
 
-pub ordered-ascends : (n : ℕ) (cs : List ℕ) (vs : List ℤ) → isOrdered n cs vs ≡ true → ascending cs ≡ true
-unfolding isOrdered
-ordered-ascends n cs vs h = and-left (ascending cs) (all (λ j. ltb j n) cs) (and-left (ascending cs && all (λ j. ltb j n) cs) (all (within maxValue) vs) h)
+all-append : {A : Type 0} (p : A → Bool) (xs ys : List A) → all p (xs ++ ys) ≡ all p xs && all p ys
+all-append p [] ys = refl
+all-append p (x ∷ xs) ys = rw (all-append p xs ys) (sym (and-assoc (p x) (all p xs) (all p ys)))
 
--- how many entries of row i stand on and below the diagonal
-abbrev lowerOf : Matrix → ℕ → ℕ
-lowerOf m i = length (filter (λ j. leb j i) (columnsOf m i))
-
--- rows below i are in order, and have so many entries on and below the diagonal
-pub record Passed (m : Matrix) (lower i : ℕ) : Type 0 where
-  pub here : i ≤ m .n
-  pub counted : lower ≡ sumBelow (lowerOf m) i
-  pub bounded : lower ≤ getD (m .starts) i 0
-  pub left : all (orderedRow m) (range i (m .n - i)) ≡ ordered m
-
-module _ (m : Matrix) where
-  pub passed-none : Passed m 0 0
-  unfolding sumBelow ordered
-  passed-none = record { here = omega arith; counted = refl; bounded = omega arith; left = all-left (orderedRow m) (m .n) }
-
-  -- row i is next; cs and vs are its columns and values
-  module _ (lower i : ℕ) (d : Passed m lower i) (l : i < m .n) {cs : List ℕ} {vs : List ℤ} (e : cs ≡ columnsOf m i) (f : vs ≡ valuesOf m i) where
-    tested : isOrdered (m .n) cs vs ≡ orderedRow m i
-    tested = rw (e, f)
-
-    pub passed-fails : isOrdered (m .n) cs vs ≡ false → ordered m ≡ false
-    passed-fails g = sym (d .left) ∙ all-left-fail (orderedRow m) (m .n) i l (sym tested ∙ g)
-
-    pub passed-next : shaped m ≡ true → isOrdered (m .n) cs vs ≡ true → (p : ℕ) → p ≡ placeIn cs (i + 1) → Passed m (lower + p) (i + 1)
-    unfolding sumBelow placeIn
-    passed-next h g p q =
-        let same = fun-ext {f = λ j. ltb j (i + 1)} {g = λ j. leb j i} (λ j. rw (add-one i) (leb·suc-suc j i)) in
-        let r : p ≡ lowerOf m i = q ∙ ap (λ (t : ℕ → Bool). length (filter t cs)) same ∙ ap (λ (xs : List ℕ). length (filter (λ j. leb j i) xs)) e in
-        let inside = columns-in m h i l in
-        let few = length-filter-le (λ j. leb j i) (columnsOf m i) in
-        record {
-          here = omega arith;
-          counted = rw (add-one i) (omega (arith, d .counted));
-          bounded = omega (arith, length-columns m h i l);
-          left = sym (all-left-pass (orderedRow m) (m .n) i l (sym tested ∙ g)) ∙ d .left;
-        }
-
-  pub passed-all : (lower i : ℕ) → Passed m lower i → m .n ≤ i → leb lower maxEntries ≡ ordered m && leb (lowerEntries m) maxEntries
-  unfolding lowerEntries
-  passed-all lower i d l =
-      let e : i ≡ m .n = omega arith in
-      let all : ordered m ≡ true = sym (rw e at (d .left)) ∙ all-left-none (orderedRow m) (m .n) in
-      rw all (ap (λ (k : ℕ). leb k maxEntries) (rw e at (d .counted)))
+-- the rows lie one after the other: all values up to the last row's end are theirs
+pub values-tiled : (m : Matrix) → shaped m ≡ true → (p : ℤ → Bool) (i : ℕ) → i ≤ m .n → all p (take (getD (m .starts) i 0) (m .values)) ≡ all (λ k. all p (valuesOf m k)) (range 0 i)
+values-tiled m h p zero l = rw (shape m h .starts-first)
+values-tiled m h p (suc i) l =
+    let from = getD (m .starts) i 0 in
+    let to = getD (m .starts) (suc i) 0 in
+    let q : ℕ → Bool = λ k. all p (valuesOf m k) in
+    let rises : from ≤ to = rw (← add-one i) (values-in m h i l .rises) in
+    let row : valuesOf m i ≡ slice from to (m .values) = rw (← add-one i) (values-part m i l) in
+    let e : 0 + i ≡ i = omega arith in
+    ap (all p) (sym (take-append-drop from (take to (m .values)))) ∙ all-append p (take from (take to (m .values))) (slice from to (m .values))
+    ∙ ap (λ (b : Bool). b && all p (slice from to (m .values))) (ap (all p) (take-take from to (m .values) rises) ∙ values-tiled m h p i (omega arith))
+    ∙ ap (λ (b : Bool). all q (range 0 i) && b) (ap (all p) (sym row) ∙ sym (and-true (q i)))
+    ∙ sym (all-append q (range 0 i) (i ∷ [])) ∙ ap (all q) (sym (rw e at (range-snoc 0 i)))

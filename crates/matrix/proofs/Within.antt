@@ -1,16 +1,15 @@
 -- Whole numbers within a limit: the test of one, and the first of a list that passes it.
 use mathlib.Core.Path.{_≡_, refl, sym, ap, _∙_}
-use mathlib.Core.Bool.{Bool, true, false, _&&_, cond}
+use mathlib.Core.Bool.{Bool, true, false, _&&_, cond, and-true}
 use mathlib.Core.List.{List, [], _∷_}
-use Prim.Native.Nat.{ℕ, suc, _+_, _<_}
+use Prim.Native.Nat.{ℕ, zero, suc, _+_, _≤_, _<_}
 use native.Mathlib.Omega.{arith}
-use lib.Dec.{leb, leb·suc-zero, leb·suc-suc}
-use lib.IntN.{ℤ, pos, negsuc, _-ℤ_}
+use lib.Dec.{leb, leb·zero, leb·suc-zero, leb·suc-suc}
+use lib.IntN.{ℤ, pos, negsuc, negℤ, _-ℤ_, +ℤ-idl}
 use lib.Signed.{leZ, ltZ}
 use lib.ListN.{length, getD, drop}
 use lib.Seq.{drop-cons, drop-length}
 use borrow.Author.Tests.{ltb-true}
-use Rattle.base.specs.Lists.{all}
 use Rattle.base.specs.Integers.{within}
 use Rattle.base.proofs.Integers.{never}
 use Rattle.matrix.specs.Matrix.{firstPast}
@@ -26,6 +25,17 @@ pub within-positive : (z : ℤ) (limit : ℕ) → ltZ z (pos 0) ≡ false → le
 unfolding within
 within-positive (pos n) limit h = refl
 within-positive (negsuc n) limit h = never (sym h)
+
+-- both sides at once
+pub within-both : (z : ℤ) (limit : ℕ) → leZ (pos 0 -ℤ pos limit) z && leZ z (pos limit) ≡ within limit z
+unfolding within
+within-both z limit = ap (λ (least : ℤ). leZ least z && leZ z (pos limit)) (+ℤ-idl (negℤ (pos limit))) ∙ go z limit
+  where
+    go : (z : ℤ) (limit : ℕ) → leZ (negℤ (pos limit)) z && leZ z (pos limit) ≡ within limit z
+    go (pos n) zero = rw (leb·zero n)
+    go (pos n) (suc k) = refl
+    go (negsuc n) zero = sym (leb·suc-zero n)
+    go (negsuc n) (suc k) = and-true (leb n k) ∙ sym (leb·suc-suc n k)
 
 -- ---- the first of a list
 
@@ -44,13 +54,12 @@ pub past-end : (limit : ℕ) (zs : List ℤ) → firstPast limit (drop (length z
 unfolding firstPast
 past-end limit zs = rw (drop-length zs)
 
--- every number is within the limit if the first that is not stands past the end
-pub all-within : (limit : ℕ) (zs : List ℤ) → leb (length zs) (firstPast limit zs) ≡ all (within limit) zs
+-- it is no place past the list
+pub past-low : (limit : ℕ) (zs : List ℤ) → firstPast limit zs ≤ length zs
 unfolding firstPast
-all-within limit [] = refl
-all-within limit (z ∷ zs) = go (within limit z) (all-within limit zs)
+past-low limit [] = omega arith
+past-low limit (z ∷ zs) = go (within limit z) (past-low limit zs)
   where
-    go : (b : Bool) → leb (length zs) (firstPast limit zs) ≡ all (within limit) zs
-        → leb (suc (length zs)) (cond b (suc (firstPast limit zs)) 0) ≡ b && all (within limit) zs
-    go true ih = leb·suc-suc (length zs) (firstPast limit zs) ∙ ih
-    go false ih = leb·suc-zero (length zs)
+    go : (b : Bool) → firstPast limit zs ≤ length zs → cond b (suc (firstPast limit zs)) 0 ≤ suc (length zs)
+    go true ih = omega arith
+    go false ih = omega arith

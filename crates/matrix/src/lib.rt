@@ -1,6 +1,7 @@
 // A symmetric matrix of whole numbers in full rows, its check, and its product with displacements.
 // Row i of n has its columns and values from starts[i] up to starts[i + 1].
 use crate::limits::MAX_DISPLACEMENT;
+use crate::limits::all_within;
 use crate::limits::first_past;
 use base::Answer;
 use base::DISPLACEMENT;
@@ -29,10 +30,10 @@ pub fn is_matrix(n: u32, starts: &[u32], columns: &[u32], values: &[i32]) -> boo
     if !passes::is_shaped(rows, starts, columns, values) {
         return false;
     }
-    if !passes::is_ordered(rows, starts, columns, values) {
+    if !passes::is_small(rows, starts, values) {
         return false;
     }
-    passes::is_symmetric(rows, starts, columns, values)
+    passes::is_regular(rows, starts, columns, values)
 }
 
 // Entry (i, j) of a matrix, 0 if there is none.
@@ -58,8 +59,8 @@ pub fn check_displacements(n: u32, displacements: &[i32]) -> Answer
     if displacements.len() != n as usize {
         return Answer::Refused(DISPLACEMENT, 0);
     }
-    let place = first_past(displacements, MAX_DISPLACEMENT);
-    if place < displacements.len() {
+    if !all_within(displacements, MAX_DISPLACEMENT) {
+        let place = first_past(displacements, MAX_DISPLACEMENT);
         return Answer::Refused(DISPLACEMENT, place as u32);
     }
     Answer::Accepted(0)

@@ -1,17 +1,15 @@
 // One row of a matrix: its columns and the values beside them.
-use crate::limits::MAX_VALUE;
-use crate::limits::first_past;
 ghost use mathlib.Core.Path.{_≡_};
-ghost use mathlib.Core.Bool.{true, false, _&&_};
+ghost use mathlib.Core.Bool.{true, _&&_};
 ghost use Prim.Native.Nat.{_+_, _≤_};
 ghost use lib.IntN.{pos, _*ℤ_};
 ghost use lib.ListN.{length, getD};
 ghost use lib.Seq.{slice};
 ghost use lib.Dec.{eqb, ltb};
-ghost use Rattle.base.specs.Lists.{all};
+ghost use Rattle.base.specs.Lists.{bit};
 ghost use Rattle.base.specs.Integers.{same, sumℤ};
 ghost use Rattle.matrix.specs.Matrix.{lookup, ascending, displacement};
-ghost use Rattle.matrix.specs.Checks.{RowIn, placeIn, isOrdered, RowOk};
+ghost use Rattle.matrix.specs.Checks.{RowIn, placeIn, RowOk};
 
 // Row i's columns.
 pub fn columns_of<'a>(starts: &[u32], columns: &'a [u32], i: usize) -> &'a [u32]
@@ -66,8 +64,33 @@ pub fn entry(columns: &[u32], values: &[i32], j: u32) -> i64
     values[p] as i64
 }
 
+// Place p is before the end, and holds a column below j.
+pub(crate) fn is_below(columns: &[u32], p: usize, end: usize, j: usize) -> bool
+    requires { ⌜ end ≤ length (now columns) ⌝ }
+    ensures { λ r. ⌜ r ≡ ltb p end && ltb (getD (now (columns .entry)) p 0) j ⌝ }
+{
+    if end <= p {
+        return false;
+    }
+    (columns[p] as usize) < j
+}
+
+// The place after p if it is before the end and holds column j; else p.
+pub(crate) fn past(columns: &[u32], p: usize, end: usize, j: usize) -> usize
+    requires { ⌜ end ≤ length (now columns) ⌝ }
+    ensures { λ r. ⌜ r ≡ p + bit (ltb p end && eqb (getD (now (columns .entry)) p 0) j) ⌝ }
+{
+    if end <= p {
+        return p;
+    }
+    if columns[p] as usize != j {
+        return p;
+    }
+    p + 1
+}
+
 // Place p is before the end, and holds column j and the value v.
-pub fn is_at(columns: &[u32], values: &[i32], p: usize, end: usize, j: u32, v: i32) -> bool
+pub(crate) fn is_at(columns: &[u32], values: &[i32], p: usize, end: usize, j: u32, v: i32) -> bool
     requires { ⌜ (end ≤ length (now columns)) × (end ≤ length (now values)) ⌝ }
     ensures { λ r. ⌜ r ≡ ltb p end && eqb (getD (now (columns .entry)) p 0) j && same (getD (now (values .entry)) p (pos 0)) v ⌝ }
 {
@@ -81,36 +104,6 @@ pub fn is_at(columns: &[u32], values: &[i32], p: usize, end: usize, j: u32, v: i
         return false;
     }
     true
-}
-
-// The columns ascend and are below n.
-fn ascends_below(columns: &[u32], n: usize) -> bool
-    ensures { λ r. ⌜ r ≡ ascending (now (columns .entry)) && all (λ j. ltb j n) (now (columns .entry)) ⌝ }
-{
-    let mut least: usize = 0;
-    let mut k = 0;
-    while k < columns.len() {
-        let j = columns[k] as usize;
-        if j < least {
-            return false;
-        }
-        if n <= j {
-            return false;
-        }
-        least = j + 1;
-        k += 1;
-    }
-    true
-}
-
-// The columns ascend and are below n, the values are within their limit.
-pub fn is_ordered(n: usize, columns: &[u32], values: &[i32]) -> bool
-    ensures { λ r. ⌜ r ≡ isOrdered n (now (columns .entry)) (now (values .entry)) ⌝ }
-{
-    if !ascends_below(columns, n) {
-        return false;
-    }
-    values.len() <= first_past(values, MAX_VALUE)
 }
 
 // The values times the displacements of their columns, summed.

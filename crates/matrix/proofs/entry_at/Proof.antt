@@ -5,8 +5,8 @@ use mir.Val.{SFits}
 use mir.Facts.{toZ-ofZ}
 use denote.Ref.{now}
 use Rattle.matrix.specs.Matrix.{Matrix, columnsOf, valuesOf}
-use Rattle.matrix.specs.Checks.{matrixOf, Tidy}
-use Rattle.matrix.proofs.Checks.{matrix-tidy}
+use Rattle.matrix.specs.Checks.{matrixOf}
+use Rattle.matrix.proofs.Checks.{Tidy, matrix-tidy}
 use Rattle.matrix.proofs.Rows.{columns-part, values-part, columns-in, values-in, entry-row, entry-past}
 use Rattle.matrix.proofs.Symmetry.{row-ascends, row-lengths}
 use Rattle.matrix.proofs.entry_at.Statement.{statement}

@@ -10,9 +10,9 @@ use mir.Facts.{toZ-ofZ}
 use denote.Ref.{now}
 use Rattle.base.proofs.Fill.{filled, length-filled, filled-next}
 use Rattle.matrix.specs.Matrix.{Matrix, columnsOf, valuesOf}
-use Rattle.matrix.specs.Checks.{matrixOf, Tidy}
+use Rattle.matrix.specs.Checks.{matrixOf}
 use Rattle.matrix.specs.Product.{forceAt, product}
-use Rattle.matrix.proofs.Checks.{matrix-tidy}
+use Rattle.matrix.proofs.Checks.{Tidy, matrix-tidy}
 use Rattle.matrix.proofs.Rows.{columns-part, values-part, columns-in, values-in}
 use Rattle.matrix.proofs.Forces.{row-ok, force-row}
 use Rattle.matrix.proofs.fill.Statement.{statement}

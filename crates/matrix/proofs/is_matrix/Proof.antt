@@ -1,10 +1,17 @@
 -- `is_matrix`: pass by pass.
-use mathlib.Core.Path.{sym, _∙_}
+use mathlib.Core.Path.{_≡_, sym, _∙_}
+use mathlib.Core.Bool.{true}
 use borrow.Author.Needs.{needs}
 use Rattle.base.proofs.Booleans.{fails, holds}
-use Rattle.matrix.proofs.Checks.{matrix-unshaped, matrix-unordered, matrix-symmetric, ordered-few}
+use Rattle.matrix.specs.Matrix.{Matrix}
+use Rattle.matrix.specs.Checks.{matrixOf, shaped}
+use Rattle.matrix.proofs.Checks.{shape, matrix-unshaped}
+use Rattle.matrix.proofs.Regular.{matrix-large, matrix-regular}
 use Rattle.matrix.proofs.is_matrix.Statement.{statement}
 use Rattle.matrix.proofs.is_matrix.Tie as tie
+
+abbrev given : tie.Start → Matrix
+given c = let a = c .args in matrixOf (a .n) (a .starts .now) (a .columns .now) (a .values .now)
 
 is-shaped-requires : tie.Need-is-shaped-requires
 is-shaped-requires c κs = search needs
@@ -12,26 +19,27 @@ is-shaped-requires c κs = search needs
 returns : tie.Need-returns
 returns c = sym (matrix-unshaped _ (fails (c .before .is-shaped .ensures) (c .if1 .taken)))
 
-is-ordered-requires : tie.Need-is-ordered-requires
-is-ordered-requires c κs = holds (c .before .is-shaped .ensures) (c .if1 .left)
+shape-is : (c : tie.Else1) → shaped (given (c .before .before .before .before)) ≡ true
+shape-is c = holds (c .before .is-shaped .ensures) (c .if1 .left)
+
+is-small-requires : tie.Need-is-small-requires
+is-small-requires c κs =
+    let s = shape (given (c .before .before .before .before)) (shape-is c) in
+    (s .starts-long, s .values-long)
 
 returns-2 : tie.Need-returns-2
-returns-2 c = sym (matrix-unordered _ (fails (c .before .is-ordered .ensures) (c .if2 .taken)))
+returns-2 c =
+    let e = c .before .before in
+    sym (matrix-large (given (e .before .before .before .before)) (shape-is e) (fails (c .before .is-small .ensures) (c .if2 .taken)))
 
-is-symmetric-requires : tie.Need-is-symmetric-requires
-is-symmetric-requires c κs =
-    let s = c .before .before in
-    record {
-      shape = holds (s .before .is-shaped .ensures) (s .if1 .left);
-      order = ordered-few _ (holds (c .before .is-ordered .ensures) (c .if2 .left));
-    }
+is-regular-requires : tie.Need-is-regular-requires
+is-regular-requires c κs = shape-is (c .before .before)
 
 returns-3 : tie.Need-returns-3
 returns-3 c =
-    let o = c .before in
-    let s = o .before .before in
-    c .is-symmetric .ensures
-    ∙ sym (matrix-symmetric _ (holds (s .before .is-shaped .ensures) (s .if1 .left)) (holds (o .before .is-ordered .ensures) (o .if2 .left)))
+    let t = c .before .before in
+    let e = t .before in
+    c .is-regular .ensures ∙ sym (matrix-regular (given (e .before .before .before .before)) (shape-is e) (holds (t .is-small .ensures) (c .before .if2 .left)))
 
 pub is-matrix-spec : {M : Type 1} → statement M
 is-matrix-spec =
@@ -39,7 +47,7 @@ is-matrix-spec =
     (tie.spec
     is-shaped-requires
     returns
-    is-ordered-requires
+    is-small-requires
     returns-2
-    is-symmetric-requires
+    is-regular-requires
     returns-3)
