@@ -1,32 +1,23 @@
 -- The updates of every worker in the tables, worker by worker, and what the tables then are.
 use mathlib.Core.Path.{_≡_, refl, sym, ap, _∙_, subst}
 use mathlib.Core.Logic.{_⊎_, inl, inr, _≢_}
-use mathlib.Core.List.{List, [], _++_, append-nil}
-use Prim.Native.Nat.{ℕ, zero, suc, _+_, _-_, _*_, _≤_, _<_}
+use mathlib.Core.List.{List, _++_, append-nil}
+use Prim.Native.Nat.{ℕ, zero, suc, _+_, _-_, _≤_, _<_}
 use native.Mathlib.Omega.{arith}
 use native.Mathlib.Numerals.{add-one}
-use lib.IntN.{ℤ, pos}
-use lib.ListN.{length, getD, set, take, replicate, length-append, length-set, List·getD-append}
+use lib.ListN.{length, getD, set, replicate, length-append, length-set, List·getD-append}
 use lib.Seq.{getD-set-same, getD-set-other, getD-append-add}
 use Rattle.base.proofs.Booleans.{same-or}
 use Rattle.base.proofs.Lists.{getD-zeros}
-use Rattle.matrix.specs.Limits.{maxRows, maxEntries}
-use Rattle.matrix.specs.Checks.{matrixOf}
-use Rattle.matrix.proofs.Matrix.{matrix-facts}
-use Rattle.plan.specs.Groups.{planOf}
+use Rattle.matrix.specs.Limits.{maxRows}
 use Rattle.plan.specs.Sound.{maxWorkers, maxGroups}
-use Rattle.plan.proofs.FlatRecords.{length-records}
-use Rattle.run.specs.Job.{Job, jobOf}
+use Rattle.run.specs.Job.{Job}
 use Rattle.run.specs.Updates.{Update, upTo, updates, noUpdate}
 use Rattle.tables.specs.Laid.{groupAt, maxUpdates, updateAt, Laid, Bounded}
-use Rattle.tables.specs.Tables.{Lent, laterTo, Later}
-use Rattle.tables.specs.UpdateTable.{Given, Rows, LeafOf, Listed, Walked, Counted, Blank, before}
-use Rattle.run.proofs.Accepted.{tree-of}
-use Rattle.tables.proofs.LaterRows.{later-before}
-use Rattle.tables.proofs.PlacedRows.{placed-none}
-use Rattle.tables.proofs.ListedUpdates.{listed-same}
-use Rattle.tables.proofs.UpdateRoom.{room}
-use Rattle.tables.proofs.WorkerTable.{group-is, first-low, ended-next}
+use Rattle.tables.specs.UpdateTable.{Sized, Earlier, Listed, Marked, Walked, Counted, Blank, before}
+use Rattle.tables.proofs.ListedRows.{listed-same}
+use Rattle.tables.proofs.UpdateRoom.{owners, room}
+use Rattle.tables.proofs.WorkerTable.{leaf-inside, group-is, first-low, earlier-all, filled-inside}
 
 -- ---- where a worker's updates stand
 
@@ -42,165 +33,152 @@ before-at j w (suc m) k l =
     let e : suc w + suc m ≡ suc (suc w + m) = omega arith in
     rw e (List·getD-append (before j (suc w + m)) (updates j (suc w + m)) noUpdate (length (before j w) + k) (omega (arith, length-append (before j w) (updates j w), before-up j (suc w) m)) ∙ before-at j w m k l)
 
-module _ {n : ℕ} {starts columns : List ℕ} {values x : List ℤ} {order groups : List ℕ} {count : ℕ} (g : Given n starts columns values x order groups count) where
-  abbrev j : Job
-  j = jobOf (matrixOf n starts columns values) x order groups count
+-- ---- worker by worker
 
-  -- ---- the rows
+-- tables of zeros
+pub blank-zeros : (n : ℕ) → 1 ≤ n → Blank n (replicate maxUpdates 0) (replicate maxRows 0) (replicate maxRows 0) (replicate maxGroups 0)
+blank-zeros n some = record {
+  row-long = refl;
+  begins-long = refl;
+  leaves-long = refl;
+  ends-long = refl;
+  row-low = λ k. omega (arith, getD-zeros maxUpdates k);
+  leaf-low = λ q. omega (arith, getD-zeros maxRows q);
+}
 
-  pub lent-of : Lent n starts columns values order
-  unfolding jobOf planOf
-  lent-of = record { ordered = record { matrix = g .accepted .matrix; once = tree-of j (g .accepted) .once }; long = g .order-long }
+-- nothing is before the first worker's first
+none-earlier : {v k : ℕ} → Earlier v k 0 0 → ⊥
+none-earlier (inl c) = omega (arith, c)
+none-earlier (inr c) = omega (arith, c .1)
 
-  pub few-rows : n ≤ maxRows
-  unfolding jobOf
-  few-rows = matrix-facts (j .matrix) (g .accepted .matrix) .few
-
-  -- no row has an adjacent row before position 0
-  pub later-none : {degrees at : List ℕ} {beside : List ℤ} → length degrees ≡ maxRows → ((i : ℕ) → getD degrees i 0 ≡ 0) → length at ≡ 2 * maxEntries → length beside ≡ 2 * maxEntries
-      → Later (matrixOf n starts columns values) (take n order) 0 degrees at beside
-  later-none = placed-none (matrixOf n starts columns values) (take n order) (lent-of .ordered) (λ p. laterTo (matrixOf n starts columns values) (take n order) p 0)
-      (λ p. later-before (matrixOf n starts columns values) (take n order) p 0 (omega arith))
-
-  pub rows-of : {degrees at : List ℕ} {beside : List ℤ} → Later (matrixOf n starts columns values) (take n order) n degrees at beside → Rows n starts columns values x order degrees at beside
-  unfolding jobOf
-  rows-of t = record { lent = lent-of; displaced = g .accepted .displacements; later = t }
-
-  -- ---- worker by worker
-
-  -- tables of zeros
-  pub blank-zeros : Blank n (replicate maxUpdates 0) (replicate maxUpdates (pos 0)) (replicate maxUpdates 0) (replicate maxGroups 0)
-  unfolding jobOf
-  blank-zeros = record {
-    long = record { target-long = refl; amount-long = refl; leaf-long = refl };
-    ends-long = refl;
-    target-low = λ k. omega (arith, getD-zeros maxUpdates k, matrix-facts (j .matrix) (g .accepted .matrix) .some);
-    leaf-low = λ k. omega (arith, getD-zeros maxUpdates k);
-  }
-
+module _ (j : Job) where
   -- nothing is listed
-  pub walked-none : {target : List ℕ} {amount : List ℤ} {leaf ends : List ℕ} → Blank n target amount leaf ends → Walked j 0 0 0 0 target amount leaf ends
-  unfolding before upTo jobOf
+  pub walked-none : {row begins leaves ends : List ℕ} → Blank (j .matrix .n) row begins leaves ends → Walked j 0 0 0 0 0 row begins leaves ends
+  unfolding before upTo
   walked-none b = record {
     filled = record {
-      listed = record {
-        long = b .long;
-        targets = λ k l. absurd (omega arith);
-        amounts = λ k l. absurd (omega arith);
-        leaves = λ k l. absurd (omega arith);
-        target-low = b .target-low;
-        leaf-low = b .leaf-low;
-      };
+      first = refl;
       next = refl;
+      listed = record { long = b .row-long; rows = λ k l. absurd (omega arith); low = b .row-low };
+      marked = record {
+        begins-long = b .begins-long;
+        leaves-long = b .leaves-long;
+        begun = λ q l c. absurd (none-earlier c);
+        leaf = λ q l c. absurd (none-earlier c);
+        low = b .leaf-low;
+      };
     };
-    ended = record { long = b .ends-long; is = λ k h c. absurd (none k c) };
+    ended = record { long = b .ends-long; is = λ k h c. absurd (none-earlier c) };
   }
-    where
-      none : (k : ℕ) → (groupAt j k .first < 0) ⊎ ((groupAt j k .first ≡ 0) × (k < 0)) → ⊥
-      none k (inl c) = omega (arith, c)
-      none k (inr c) = omega (arith, c .1)
 
   pub counted-none : {counts first : List ℕ} → length counts ≡ maxWorkers → length first ≡ maxWorkers → Counted j 0 counts first
   counted-none a b = record { counts-long = a; first-long = b; counted = λ v l. absurd (omega arith); firsts = λ v l. absurd (omega arith) }
 
-  -- all records of worker w have been walked
-  module _ {w e : ℕ} {target : List ℕ} {amount : List ℤ} {leaf ends : List ℕ} (t : Walked j w n count e target amount leaf ends) where
-    pub walked-next : Walked j (w + 1) 0 0 e target amount leaf ends
-    unfolding before updates upTo jobOf
-    walked-next = record {
-      filled = rw (add-one w) (record { listed = listed-same j same (t .filled .listed); next = t .filled .next ∙ ap length same });
-      ended = ended-next g (t .ended);
-    }
-      where
-        same : before j w ++ upTo j w n ≡ (before j w ++ upTo j w n) ++ []
-        same = sym (append-nil (before j w ++ upTo j w n))
+  -- worker w's stand from place f on and before e
+  pub record Own (w f e : ℕ) : Type 0 where
+    pub here : f ≡ length (before j w)
+    pub many : e ≡ f + length (updates j w)
+    pub inside : e ≤ maxUpdates
 
-    -- how many updates it has, from place p on
-    pub record Own (p : ℕ) : Type 0 where
-      pub here : p ≡ length (before j w)
-      pub many : e ≡ p + length (updates j w)
-      pub inside : e ≤ maxUpdates
-
-    pub own : {p : ℕ} → w < maxWorkers → p ≡ length (before j w ++ upTo j w 0) → Own p
-    unfolding upTo updates jobOf
-    own l h = record {
-      here = omega (arith, h, length-append (before j w) []);
-      many = omega (arith, h, length-append (before j w) [], t .filled .next, length-append (before j w) (upTo j w n));
-      inside = omega (arith, t .filled .next, room j (g .accepted) w n l (omega arith));
-    }
-
-  pub counted-next : {w p e : ℕ} {counts first : List ℕ} → w < maxWorkers → p ≡ length (before j w) → e ≡ p + length (updates j w) → Counted j w counts first
-      → Counted j (w + 1) (set counts w (e - p)) (set first w p)
-  counted-next {w} {p} {e} {counts} {first} l here many t = record {
-    counts-long = length-set counts w (e - p) ∙ t .counts-long;
-    first-long = length-set first w p ∙ t .first-long;
-    counted = λ v h. go counts (e - p) (t .counts-long) (λ y. length (updates j y)) (omega (arith, many)) (t .counted) v h (same-or v w);
-    firsts = λ v h. go first p (t .first-long) (λ y. length (before j y)) here (t .firsts) v h (same-or v w);
+  pub counted-next : {w f e : ℕ} {counts first : List ℕ} → w < maxWorkers → Own w f e → Counted j w counts first → Counted j (w + 1) (set counts w (e - f)) (set first w f)
+  counted-next {w} {f} {e} {counts} {first} l o t = record {
+    counts-long = length-set counts w (e - f) ∙ t .counts-long;
+    first-long = length-set first w f ∙ t .first-long;
+    counted = λ v h. go counts (e - f) (t .counts-long) (λ y. length (updates j y)) (omega (arith, o .many)) (t .counted) v h (same-or v w);
+    firsts = λ v h. go first f (t .first-long) (λ y. length (before j y)) (o .here) (t .firsts) v h (same-or v w);
   }
     where
       go : (xs : List ℕ) (a : ℕ) → length xs ≡ maxWorkers → (f : ℕ → ℕ) → a ≡ f w → ((v : ℕ) → v < w → getD xs v 0 ≡ f v) → (v : ℕ) → v < w + 1 → (v ≡ w) ⊎ (v ≢ w) → getD (set xs w a) v 0 ≡ f v
       go xs a long f is had v h (inl q) = ap (λ (y : ℕ). getD (set xs w a) y 0) q ∙ getD-set-same xs w a 0 (omega arith) ∙ is ∙ ap f (sym q)
       go xs a long f is had v h (inr d) = getD-set-other xs w v a 0 d ∙ had v (omega arith)
 
+module _ {j : Job} {order groups : List ℕ} {count : ℕ} {sizes : List ℕ} (g : Sized j order groups count sizes) where
+  abbrev n : ℕ
+  n = j .matrix .n
+
+  -- all records of worker w have been walked
+  module _ {w f e : ℕ} {row begins leaves ends : List ℕ} (t : Walked j w f n count e row begins leaves ends) where
+    pub own : w < maxWorkers → Own j w f e
+    unfolding updates
+    own l = record { here = t .filled .first; many = t .filled .next; inside = filled-inside g l (omega arith) (t .filled) }
+
+    pub walked-next : Walked j (w + 1) e 0 0 e row begins leaves ends
+    unfolding before updates upTo
+    walked-next = record {
+      filled = record {
+        first = rw (add-one w) last;
+        next = omega arith;
+        listed = rw (add-one w) (listed-same j (sym (append-nil (before j w ++ upTo j w n))) (t .filled .listed));
+        marked = record {
+          begins-long = m .begins-long;
+          leaves-long = m .leaves-long;
+          begun = λ q l c. m .begun q l (earlier-all l c);
+          leaf = λ q l c. m .leaf q l (earlier-all l c);
+          low = m .low;
+        };
+      };
+      ended = record { long = t .ended .long; is = λ k h c. t .ended .is k h (earlier-all (leaf-inside g k h) c) };
+    }
+      where
+        m : Marked j w n begins leaves
+        m = t .filled .marked
+
+        last : e ≡ length (before j w ++ upTo j w n)
+        last = omega (arith, t .filled .first, t .filled .next, length-append (before j w) (upTo j w n))
+
   -- ---- all workers
 
-  module _ {e : ℕ} {counts first target : List ℕ} {amount : List ℤ} {leaf ends : List ℕ} (t : Walked j maxWorkers 0 0 e target amount leaf ends) (c : Counted j maxWorkers counts first) where
-    listed : Listed j (before j maxWorkers) target amount leaf
+  module _ {e : ℕ} {counts first row begins leaves ends : List ℕ} (t : Walked j maxWorkers e 0 0 e row begins leaves ends) (c : Counted j maxWorkers counts first) where
+    listed : Listed j (before j maxWorkers) row
     unfolding upTo
     listed = listed-same j (append-nil (before j maxWorkers)) (t .filled .listed)
 
+    marked : Marked j maxWorkers 0 begins leaves
+    marked = t .filled .marked
+
     -- update k of worker w
-    module _ (w k : ℕ) (l : w < maxWorkers) (h : k < length (updates j w)) where
-      place : getD first w 0 + k ≡ length (before j w) + k
-      place = ap (λ (y : ℕ). y + k) (c .firsts w l)
+    row-is : (w k : ℕ) → w < maxWorkers → k < length (updates j w) → getD row (getD first w 0 + k) 0 ≡ updateAt j w k .row
+    unfolding before
+    row-is w k l h = rw (ap (λ (y : ℕ). y + k) (c .firsts w l)) (listed .rows (length (before j w) + k) inside ∙ ap (λ (u : Update). u .row) is)
+      where
+        last : suc w + (maxWorkers - suc w) ≡ maxWorkers
+        last = omega arith
 
-      last : suc w + (maxWorkers - suc w) ≡ maxWorkers
-      last = omega arith
+        inside : length (before j w) + k < length (before j maxWorkers)
+        inside = omega (arith, length-append (before j w) (updates j w), rw last at (before-up j (suc w) (maxWorkers - suc w)))
 
-      inside : length (before j w) + k < length (before j maxWorkers)
-      unfolding before
-      inside = omega (arith, length-append (before j w) (updates j w), rw last at (before-up j (suc w) (maxWorkers - suc w)))
+        is : getD (before j maxWorkers) (length (before j w) + k) noUpdate ≡ updateAt j w k
+        is = rw last at (before-at j w (maxWorkers - suc w) k h)
 
-      is : getD (before j maxWorkers) (length (before j w) + k) noUpdate ≡ updateAt j w k
-      is = rw last at (before-at j w (maxWorkers - suc w) k h)
-
-      at-leaf : LeafOf j (getD leaf (getD first w 0 + k) 0) (updateAt j w k .row)
-      at-leaf = rw (place, ← is) (listed .leaves (length (before j w) + k) inside)
-
-    laid : Laid j counts first target amount leaf ends
-    unfolding jobOf planOf
+    laid : Laid j counts first row begins leaves ends
     laid = record {
       counted = λ w l. c .counted w l;
-      targets = λ w k l h. rw (place w k l h) (listed .targets (length (before j w) + k) (inside w k l h) ∙ ap (λ (u : Update). u .target) (is w k l h));
-      amounts = λ w k l h. rw (place w k l h) (listed .amounts (length (before j w) + k) (inside w k l h) ∙ ap (λ (u : Update). u .amount) (is w k l h));
-      leaves = λ w k l h. at-leaf w k l h .leaf;
-      rows = λ w k l h. at-leaf w k l h .held;
-      ended = λ i h. t .ended .is i h (inl (low i (omega (arith, h .inside, length-records count groups))));
+      rows = row-is;
+      begun = λ p l. marked .begun p l (inl (owners j (g .accepted) p l));
+      leaf = λ p l. marked .leaf p l (inl (owners j (g .accepted) p l));
+      ended = λ i h. t .ended .is i h (inl (low i (leaf-inside g i h)));
     }
       where
         low : (i : ℕ) → i < count → groupAt j i .first < maxWorkers
         low i l = rw (group-is g i l) (first-low g i l)
 
-    bounded : Bounded n counts first target amount leaf ends
-    unfolding jobOf updates
+    bounded : Bounded n counts first row begins leaves ends
+    unfolding updates
     bounded = record {
       counts-long = c .counts-long;
       first-long = c .first-long;
-      target-long = listed .long .target-long;
-      amount-long = listed .long .amount-long;
-      leaf-long = listed .long .leaf-long;
+      row-long = listed .long;
+      begins-long = marked .begins-long;
+      leaves-long = marked .leaves-long;
       ends-long = t .ended .long;
-      inside = within;
-      target-low = λ k l. listed .target-low k;
-      leaf-low = λ k l. listed .leaf-low k;
+      inside = λ w l. omega (arith, c .firsts w l, c .counted w l, length-append (before j w) (upTo j w n), room j (g .accepted) w n l (omega arith));
+      row-low = listed .low;
+      leaf-low = marked .low;
     }
-      where
-        within : (w : ℕ) → w < maxWorkers → getD first w 0 + getD counts w 0 ≤ maxUpdates
-        within w l = omega (arith, c .firsts w l, c .counted w l, length-append (before j w) (upTo j w n), room j (g .accepted) w n l (omega arith))
 
-  pub all-laid : {w e : ℕ} {counts first target : List ℕ} {amount : List ℤ} {leaf ends : List ℕ} → w ≡ maxWorkers → Walked j w 0 0 e target amount leaf ends → Counted j w counts first
-      → Laid j counts first target amount leaf ends × Bounded n counts first target amount leaf ends
-  all-laid {e} {counts} {first} {target} {amount} {leaf} {ends} q t c =
-      let t′ = subst (λ (y : ℕ). Walked j y 0 0 e target amount leaf ends) q t in
+  pub all-laid : {w e : ℕ} {counts first row begins leaves ends : List ℕ} → w ≡ maxWorkers → Walked j w e 0 0 e row begins leaves ends → Counted j w counts first
+      → Laid j counts first row begins leaves ends × Bounded n counts first row begins leaves ends
+  all-laid {e} {counts} {first} {row} {begins} {leaves} {ends} q t c =
+      let t′ = subst (λ (y : ℕ). Walked j y e 0 0 e row begins leaves ends) q t in
       let c′ = subst (λ (y : ℕ). Counted j y counts first) q c in
       (laid t′ c′, bounded t′ c′)

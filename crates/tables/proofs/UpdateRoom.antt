@@ -2,7 +2,7 @@
 use mathlib.Core.Path.{_≡_, refl}
 use mathlib.Core.Bool.{Bool, true, false}
 use mathlib.Core.List.{_++_}
-use Prim.Native.Nat.{ℕ, zero, suc, _+_, _*_, _≤_, _<_}
+use Prim.Native.Nat.{ℕ, zero, suc, _*_, _≤_, _<_}
 use native.Mathlib.Nat.{le-trans}
 use native.Mathlib.Omega.{arith}
 use lib.Dec.{leb}
@@ -22,7 +22,7 @@ use Rattle.tables.specs.UpdateTable.{before}
 use Rattle.run.proofs.Work.{cum-mono}
 use Rattle.run.proofs.Owners.{owned}
 use Rattle.run.proofs.Counting.{all-accesses}
-use Rattle.tables.proofs.LaterRows.{different}
+use Rattle.tables.proofs.Different.{different}
 use Rattle.run.proofs.Accepted.{tree-of, order-of, facts}
 
 -- each pair of adjacent rows has its entry below the diagonal
@@ -45,7 +45,7 @@ module _ (j : Job) (ok : Accepted j) where
   before-length zero = refl
   before-length (suc w) = omega (arith, before-length w, length-append (before j w) (updates j w))
 
-  owners : (p : ℕ) → p < j .matrix .n → owner j p < maxWorkers
+  pub owners : (p : ℕ) → p < j .matrix .n → owner j p < maxWorkers
   owners p l = omega (arith, owned j (tree-of j ok) p l, facts j ok .few)
 
   -- all updates

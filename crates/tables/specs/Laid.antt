@@ -5,14 +5,13 @@ use mathlib.Core.List.{List, [], _∷_}
 use Prim.Native.Nat.{ℕ, _+_, _*_, _≤_, _<_}
 use lib.Dec.{eqb}
 use lib.ListN.{length, getD, drop}
-use lib.IntN.{ℤ, pos}
 use Rattle.base.specs.Lists.{bit}
 use Rattle.matrix.specs.Limits.{maxRows, maxEntries}
 use Rattle.plan.specs.Groups.{Group, ofFields}
 use Rattle.plan.specs.Sound.{maxWorkers, maxGroups}
 use Rattle.run.specs.Job.{Job}
 use Rattle.run.specs.Tree.{tree, holds, blocked}
-use Rattle.run.specs.Updates.{Update, upTo, updates, finished, noUpdate}
+use Rattle.run.specs.Updates.{Update, owner, upTo, updates, finished, noUpdate}
 
 -- ---- leaves
 
@@ -30,6 +29,15 @@ pub record Leaf (j : Job) (i : ℕ) : Type 0 where
   pub inside : i < length (j .plan .groups)
   pub childless : hasChild i (drop 1 (j .plan .groups)) ≡ false
 
+-- record i is the leaf that holds position q
+pub record LeafOf (j : Job) (i q : ℕ) : Type 0 where
+  pub leaf : Leaf j i
+  pub held : holds (groupAt j i) q ≡ true
+
+-- the access of its worker that ends the leaf at i
+abbrev pub endOf : Job → ℕ → ℕ
+endOf j i = 2 * length (upTo j (groupAt j i .first) (groupAt j i .start + groupAt j i .length))
+
 -- ---- updates
 
 -- one for each row, and two for each pair of adjacent rows
@@ -40,26 +48,26 @@ maxUpdates = maxRows + 2 * maxEntries
 abbrev pub updateAt : Job → (w k : ℕ) → Update
 updateAt j w k = getD (updates j w) k noUpdate
 
--- Worker w has counts[w] updates. Number k stands at first[w] + k: its sum's position, its amount, and the record number of its row's leaf. A leaf i ends at access ends[i] of its worker.
-pub record Laid (j : Job) (counts first target : List ℕ) (amount : List ℤ) (leaf ends : List ℕ) : Type 0 where
+-- Worker w has counts[w] updates. Number k is made by the row at position row[first[w] + k]. The updates of the row at p begin at number begins[p] of its worker's, and leaves[p] is the record number of its leaf.
+-- A leaf i ends at access ends[i] of its worker.
+pub record Laid (j : Job) (counts first row begins leaves ends : List ℕ) : Type 0 where
   pub counted : (w : ℕ) → w < maxWorkers → getD counts w 0 ≡ length (updates j w)
-  pub targets : (w k : ℕ) → w < maxWorkers → k < length (updates j w) → getD target (getD first w 0 + k) 0 ≡ updateAt j w k .target
-  pub amounts : (w k : ℕ) → w < maxWorkers → k < length (updates j w) → getD amount (getD first w 0 + k) (pos 0) ≡ updateAt j w k .amount
-  pub leaves : (w k : ℕ) → w < maxWorkers → k < length (updates j w) → Leaf j (getD leaf (getD first w 0 + k) 0)
-  pub rows : (w k : ℕ) → w < maxWorkers → k < length (updates j w) → holds (groupAt j (getD leaf (getD first w 0 + k) 0)) (updateAt j w k .row) ≡ true
-  pub ended : (i : ℕ) → Leaf j i → getD ends i 0 ≡ 2 * length (upTo j (groupAt j i .first) (groupAt j i .start + groupAt j i .length))
+  pub rows : (w k : ℕ) → w < maxWorkers → k < length (updates j w) → getD row (getD first w 0 + k) 0 ≡ updateAt j w k .row
+  pub begun : (p : ℕ) → p < j .matrix .n → getD begins p 0 ≡ length (upTo j (owner j p) p)
+  pub leaf : (p : ℕ) → p < j .matrix .n → LeafOf j (getD leaves p 0) p
+  pub ended : (i : ℕ) → Leaf j i → getD ends i 0 ≡ endOf j i
 
--- what the code needs of the tables of n rows, whatever the job: every worker's updates stand inside, every target is a row's sum, every leaf a record
-pub record Bounded (n : ℕ) (counts first target : List ℕ) (amount : List ℤ) (leaf ends : List ℕ) : Type 0 where
+-- what the code needs of those tables for n rows, whatever the job: every worker's updates stand inside, every row is one of the n, every leaf a record
+pub record Bounded (n : ℕ) (counts first row begins leaves ends : List ℕ) : Type 0 where
   pub counts-long : length counts ≡ maxWorkers
   pub first-long : length first ≡ maxWorkers
-  pub target-long : length target ≡ maxUpdates
-  pub amount-long : length amount ≡ maxUpdates
-  pub leaf-long : length leaf ≡ maxUpdates
+  pub row-long : length row ≡ maxUpdates
+  pub begins-long : length begins ≡ maxRows
+  pub leaves-long : length leaves ≡ maxRows
   pub ends-long : length ends ≡ maxGroups
   pub inside : (w : ℕ) → w < maxWorkers → getD first w 0 + getD counts w 0 ≤ maxUpdates
-  pub target-low : (k : ℕ) → k < maxUpdates → getD target k 0 < n
-  pub leaf-low : (k : ℕ) → k < maxUpdates → getD leaf k 0 < maxGroups
+  pub row-low : (k : ℕ) → getD row k 0 < n
+  pub leaf-low : (p : ℕ) → getD leaves p 0 < maxGroups
 
 -- ---- waits
 

@@ -1,4 +1,3 @@
 pub mod Laid
 pub mod Waits
-pub mod Tables
 pub mod UpdateTable

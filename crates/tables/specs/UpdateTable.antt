@@ -1,21 +1,19 @@
 -- What the tables of updates hold while they are made: the updates of each worker after those of the workers before it, leaf by leaf.
 use mathlib.Core.Path.{_≡_}
 use mathlib.Core.Logic.{_⊎_}
-use mathlib.Core.Bool.{true, cond}
+use mathlib.Core.Bool.{cond}
 use mathlib.Core.List.{List, [], _++_}
 use Prim.Native.Nat.{ℕ, zero, suc, _+_, _*_, _≤_, _<_}
-use lib.ListN.{length, getD, set, take}
-use lib.IntN.{ℤ, pos}
-use Rattle.matrix.specs.Matrix.{Matrix, areDisplacements}
+use lib.ListN.{length, getD}
+use lib.IntN.{ℤ}
+use Rattle.matrix.specs.Limits.{maxRows}
 use Rattle.matrix.specs.Checks.{matrixOf}
-use Rattle.plan.specs.Groups.{Group, width}
+use Rattle.plan.specs.Groups.{width, planOf}
 use Rattle.plan.specs.Sound.{maxWorkers, maxGroups}
 use Rattle.plan.specs.Checks.{recordAt, belowWhole}
 use Rattle.run.specs.Job.{Job, jobOf, Accepted}
-use Rattle.run.specs.Tree.{holds}
-use Rattle.run.specs.Updates.{Update, rowUpdates, upTo, updates, noUpdate}
-use Rattle.tables.specs.Laid.{hasChild, groupAt, Leaf, maxUpdates}
-use Rattle.tables.specs.Tables.{Lent, Later}
+use Rattle.run.specs.Updates.{Update, later, owner, upTo, updates, noUpdate}
+use Rattle.tables.specs.Laid.{hasChild, groupAt, Leaf, LeafOf, endOf, maxUpdates}
 
 -- ---- what they are made of
 
@@ -25,15 +23,13 @@ pub record Given (n : ℕ) (starts columns : List ℕ) (values displacements : L
   pub order-long : n ≤ length order
   pub groups-long : width * count ≤ length groups
 
--- a matrix and an order in lent lists, displacements, and the adjacent rows after each row
-pub record Rows (n : ℕ) (starts columns : List ℕ) (values displacements : List ℤ) (order degrees at : List ℕ) (beside : List ℤ) : Type 0 where
-  pub lent : Lent n starts columns values order
-  pub displaced : areDisplacements n displacements ≡ true
-  pub later : Later (matrixOf n starts columns values) (take n order) n degrees at beside
-
--- a job with these groups
-abbrev pub jobWith : Matrix → List ℤ → (order : List ℕ) → List Group → Job
-jobWith m x order groups = record { matrix = m; displacements = x; plan = record { order = order; groups = groups } }
+-- lists that hold the plan of an accepted job, and for each row how many entries it has in the upper triangle: its diagonal one, and those of the later adjacent rows
+pub record Sized (j : Job) (order groups : List ℕ) (count : ℕ) (sizes : List ℕ) : Type 0 where
+  pub accepted : Accepted j
+  pub plan : j .plan ≡ planOf (j .matrix .n) order groups count
+  pub order-long : j .matrix .n ≤ length order
+  pub groups-long : width * count ≤ length groups
+  pub sized : (p : ℕ) → p < j .matrix .n → getD sizes (getD order p 0) 0 ≡ suc (length (later j p))
 
 -- the position that the leaves before record i reach
 unfoldable pub reached : (count : ℕ) (groups : List ℕ) → ℕ → ℕ
@@ -42,68 +38,60 @@ reached count groups (suc i) = cond (hasChild i (belowWhole count groups)) (reac
 
 -- ---- what they hold
 
--- record i is the leaf that holds position q
-pub record LeafOf (j : Job) (i q : ℕ) : Type 0 where
-  pub leaf : Leaf j i
-  pub held : holds (groupAt j i) q ≡ true
+-- places from a on and before b now have p, the others what they had
+pub record Put (p a b : ℕ) (row row′ : List ℕ) : Type 0 where
+  pub long : length row′ ≡ length row
+  pub before : (k : ℕ) → k < a → getD row′ k 0 ≡ getD row k 0
+  pub here : (k : ℕ) → a ≤ k → k < b → getD row′ k 0 ≡ p
+  pub after : (k : ℕ) → b ≤ k → getD row′ k 0 ≡ getD row k 0
 
--- room for every update of a job
-pub record Long (target : List ℕ) (amount : List ℤ) (leaf : List ℕ) : Type 0 where
-  pub target-long : length target ≡ maxUpdates
-  pub amount-long : length amount ≡ maxUpdates
-  pub leaf-long : length leaf ≡ maxUpdates
+-- the rows of the updates us from place 0 on
+pub record Listed (j : Job) (us : List Update) (row : List ℕ) : Type 0 where
+  pub long : length row ≡ maxUpdates
+  pub rows : (k : ℕ) → k < length us → getD row k 0 ≡ getD us k noUpdate .row
+  pub low : (k : ℕ) → getD row k 0 < j .matrix .n
 
--- one update at place e: its target, its amount, its row's leaf
-pub record Written (e t : ℕ) (z : ℤ) (i : ℕ) (target : List ℕ) (amount : List ℤ) (leaf target′ : List ℕ) (amount′ : List ℤ) (leaf′ : List ℕ) : Type 0 where
-  pub target-is : target′ ≡ set target e t
-  pub amount-is : amount′ ≡ set amount e z
-  pub leaf-is : leaf′ ≡ set leaf e i
+-- number k of worker v comes before number i of worker w
+abbrev pub Earlier : (v k w i : ℕ) → Type 0
+Earlier v k w i = (v < w) ⊎ ((v ≡ w) × (k < i))
 
--- the updates us from place 0 on, each beside the leaf of its row
-pub record Listed (j : Job) (us : List Update) (target : List ℕ) (amount : List ℤ) (leaf : List ℕ) : Type 0 where
-  pub long : Long target amount leaf
-  pub targets : (k : ℕ) → k < length us → getD target k 0 ≡ getD us k noUpdate .target
-  pub amounts : (k : ℕ) → k < length us → getD amount k (pos 0) ≡ getD us k noUpdate .amount
-  pub leaves : (k : ℕ) → k < length us → LeafOf j (getD leaf k 0) (getD us k noUpdate .row)
-  pub target-low : (k : ℕ) → getD target k 0 < j .matrix .n
-  pub leaf-low : (k : ℕ) → getD leaf k 0 < maxGroups
+-- where the updates of a row begin, and its leaf: for the rows of the workers before w, and for w's before position p
+pub record Marked (j : Job) (w p : ℕ) (begins leaves : List ℕ) : Type 0 where
+  pub begins-long : length begins ≡ maxRows
+  pub leaves-long : length leaves ≡ maxRows
+  pub begun : (q : ℕ) → q < j .matrix .n → Earlier (owner j q) q w p → getD begins q 0 ≡ length (upTo j (owner j q) q)
+  pub leaf : (q : ℕ) → q < j .matrix .n → Earlier (owner j q) q w p → LeafOf j (getD leaves q 0) q
+  pub low : (q : ℕ) → getD leaves q 0 < maxGroups
 
--- whatever the groups and the updates us before this place, those of the row at p now follow them up to place r, if record i is its leaf
-pub record RowPut (m : Matrix) (x : List ℤ) (order : List ℕ) (p i place : ℕ) (target : List ℕ) (amount : List ℤ) (leaf : List ℕ)
-    (r : ℕ) (target′ : List ℕ) (amount′ : List ℤ) (leaf′ : List ℕ) : Type 0 where
-  pub follow : (groups : List Group) (us : List Update) → place ≡ length us → LeafOf (jobWith m x order groups) i p → Listed (jobWith m x order groups) us target amount leaf
-      → Listed (jobWith m x order groups) (us ++ rowUpdates (jobWith m x order groups) p) target′ amount′ leaf′
-  pub place-after : (groups : List Group) → r ≡ place + length (rowUpdates (jobWith m x order groups) p)
-
--- tables to write them into: room for all, and nothing that is no row's sum or no record
-pub record Blank (n : ℕ) (target : List ℕ) (amount : List ℤ) (leaf ends : List ℕ) : Type 0 where
-  pub long : Long target amount leaf
+-- tables to write them into: room for all, and nothing that is no row or no record
+pub record Blank (n : ℕ) (row begins leaves ends : List ℕ) : Type 0 where
+  pub row-long : length row ≡ maxUpdates
+  pub begins-long : length begins ≡ maxRows
+  pub leaves-long : length leaves ≡ maxRows
   pub ends-long : length ends ≡ maxGroups
-  pub target-low : (k : ℕ) → getD target k 0 < n
-  pub leaf-low : (k : ℕ) → getD leaf k 0 < maxGroups
+  pub row-low : (k : ℕ) → getD row k 0 < n
+  pub leaf-low : (q : ℕ) → getD leaves q 0 < maxGroups
 
 -- the updates of the workers before w
 unfoldable pub before : Job → ℕ → List Update
 before j zero = []
 before j (suc w) = before j w ++ updates j w
 
--- those, and worker w's before position p: the next one's place is e
-pub record Filled (j : Job) (w p e : ℕ) (target : List ℕ) (amount : List ℤ) (leaf : List ℕ) : Type 0 where
-  pub listed : Listed j (before j w ++ upTo j w p) target amount leaf
-  pub next : e ≡ length (before j w ++ upTo j w p)
-
--- the access of its worker that ends the leaf at i
-abbrev pub endOf : Job → ℕ → ℕ
-endOf j i = 2 * length (upTo j (groupAt j i .first) (groupAt j i .start + groupAt j i .length))
+-- those, and worker w's before position p: w's first one's place is f, the next one's e
+pub record Filled (j : Job) (w f p e : ℕ) (row begins leaves : List ℕ) : Type 0 where
+  pub first : f ≡ length (before j w)
+  pub next : e ≡ f + length (upTo j w p)
+  pub listed : Listed j (before j w ++ upTo j w p) row
+  pub marked : Marked j w p begins leaves
 
 -- the ends of the leaves of the workers before w, and of w's before record i
 pub record Ended (j : Job) (w i : ℕ) (ends : List ℕ) : Type 0 where
   pub long : length ends ≡ maxGroups
-  pub is : (k : ℕ) → Leaf j k → (groupAt j k .first < w) ⊎ ((groupAt j k .first ≡ w) × (k < i)) → getD ends k 0 ≡ endOf j k
+  pub is : (k : ℕ) → Leaf j k → Earlier (groupAt j k .first) k w i → getD ends k 0 ≡ endOf j k
 
 -- both: the rows before position p, the records before i
-pub record Walked (j : Job) (w p i e : ℕ) (target : List ℕ) (amount : List ℤ) (leaf ends : List ℕ) : Type 0 where
-  pub filled : Filled j w p e target amount leaf
+pub record Walked (j : Job) (w f p i e : ℕ) (row begins leaves ends : List ℕ) : Type 0 where
+  pub filled : Filled j w f p e row begins leaves
   pub ended : Ended j w i ends
 
 -- how many updates each worker before w has, and where the first stands

@@ -1,5 +1,4 @@
 // The tables that the steps of a run look things up in: every worker's updates, and which leaves are blocked.
-mod later;
 mod leaf;
-pub mod updates;
+pub mod rows;
 pub mod waits;
