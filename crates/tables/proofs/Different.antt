@@ -25,18 +25,21 @@ one-below v (suc n) = go (eqb n v) refl (one-below v n)
     go true e ih = omega (arith, eqb-true n v e, none-below v n (omega (arith, eqb-true n v e)))
     go false e ih = omega arith
 
+bit-or : (a b : Bool) → bit (a || b) ≤ bit a + bit b
+bit-or true b = omega arith
+bit-or false b = omega arith
+
+-- the numbers that are v or pass a test are at most one more than those that do
+pub one-more : (v : ℕ) (f : ℕ → Bool) (n : ℕ) → sumBelow (λ u. bit (eqb u v || f u)) n ≤ 1 + sumBelow (λ u. bit (f u)) n
+one-more v f n =
+    omega (
+      arith,
+      one-below v n,
+      sum-below-add (λ u. bit (eqb u v)) (λ u. bit (f u)) n,
+      sum-below-le (λ u. bit (eqb u v || f u)) (λ u. bit (eqb u v) + bit (f u)) n (λ u l. bit-or (eqb u v) (f u)),
+    )
+
 -- the different numbers of a list are no more than its length
 pub different : (n : ℕ) (xs : List ℕ) → sumBelow (λ v. bit (isIn xs v)) n ≤ length xs
 different n [] = omega (arith, sum-below-bound (λ v. 0) n 0 (λ v l. omega arith))
-different n (x ∷ xs) =
-    omega (
-      arith,
-      different n xs,
-      one-below x n,
-      sum-below-add (λ v. bit (eqb v x)) (λ v. bit (isIn xs v)) n,
-      sum-below-le (λ v. bit (eqb v x || isIn xs v)) (λ v. bit (eqb v x) + bit (isIn xs v)) n (λ v l. either (eqb v x) (isIn xs v)),
-    )
-  where
-    either : (a b : Bool) → bit (a || b) ≤ bit a + bit b
-    either true b = omega arith
-    either false b = omega arith
+different n (x ∷ xs) = omega (arith, different n xs, one-more x (isIn xs) n)

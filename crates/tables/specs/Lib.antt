@@ -1,3 +1,4 @@
 pub mod Laid
 pub mod Waits
+pub mod Upper
 pub mod UpdateTable

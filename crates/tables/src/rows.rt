@@ -1,16 +1,22 @@
 // The row of every worker's updates in one table: each worker's after those of the workers before it, leaf by leaf, row by row.
 use crate::leaf::is_leaf;
+use crate::upper::positions;
+use crate::upper::upper;
 use plan::fields::record_at;
 use plan::fields::wide_at;
 ghost use mathlib.Core.Path.{_≡_};
-ghost use Prim.Native.Nat.{_+_, _*_, _≤_, _<_};
-ghost use lib.ListN.{length};
+ghost use mathlib.Core.List.{List};
+ghost use Prim.Native.Nat.{ℕ, _+_, _*_, _≤_, _<_};
+ghost use lib.IntN.{ℤ};
+ghost use lib.ListN.{length, replicate, take};
 ghost use Rattle.matrix.specs.Limits.{maxRows};
 ghost use Rattle.plan.specs.Sound.{maxWorkers};
 ghost use Rattle.plan.specs.Checks.{recordAt};
-ghost use Rattle.run.specs.Job.{Job};
+ghost use Rattle.matrix.specs.Checks.{matrixOf};
+ghost use Rattle.run.specs.Job.{Job, jobOf};
 ghost use Rattle.tables.specs.Laid.{maxUpdates, Laid, Bounded};
-ghost use Rattle.tables.specs.UpdateTable.{Sized, Put, Blank, Filled, Walked, reached};
+ghost use Rattle.tables.specs.Upper.{Upper};
+ghost use Rattle.tables.specs.UpdateTable.{Given, Sized, Put, Blank, Filled, Walked, reached};
 
 // Position p at the places of its row's updates, from a place on: one for the diagonal, two for each other entry of the row in the upper triangle. The place after them.
 fn put_row(p: usize, size: usize, place: usize, row: &mut [u16; 69632]) -> usize
@@ -105,7 +111,7 @@ fn put_worker(
 }
 
 // The updates of all workers: how many each has, where its first one stands, and where leaves end.
-pub fn put_workers(
+fn put_workers(
     order: &[u32],
     groups: &[u32],
     count: usize,
@@ -144,4 +150,58 @@ pub fn put_workers(
         place = next;
         w += 1;
     }
+}
+
+// The tables of an accepted job, whatever its displacements: the upper triangle, the row of every worker's updates, and where its leaves end.
+pub fn lay(
+    n: usize,
+    starts: &[u32],
+    columns: &[u32],
+    values: &[i32],
+    order: &[u32],
+    groups: &[u32],
+    count: usize,
+    counts: &mut [u32; 16],
+    first: &mut [u32; 16],
+    row: &mut [u16; 69632],
+    begins: &mut [u32; 4096],
+    leaves: &mut [u16; 4096],
+    ends: &mut [u32; 512],
+    at: &mut [u16; 69632],
+    beside: &mut [i32; 69632],
+)
+    requires { ⌜ ((x : List ℤ) × Given n (now starts) (now columns) (now values) x (now order) (now groups) count) × (length (now counts) ≡ maxWorkers) × (length (now first) ≡ maxWorkers)
+        × Blank n (now row) (now begins) (now leaves) (now ends) × (now at ≡ replicate maxUpdates 0) × (length (now beside) ≡ maxUpdates) ⌝ }
+    ensures { λ _. ⌜ ((x : List ℤ) → Given n (now (starts .entry)) (now (columns .entry)) (now (values .entry)) x (now (order .entry)) (now (groups .entry)) count
+        → Laid (jobOf (matrixOf n (now (starts .entry)) (now (columns .entry)) (now (values .entry))) x (now (order .entry)) (now (groups .entry)) count)
+        (now (counts .exit)) (now (first .exit)) (now (row .exit)) (now (begins .exit)) (now (leaves .exit)) (now (ends .exit)))
+        × Bounded n (now (counts .exit)) (now (first .exit)) (now (row .exit)) (now (begins .exit)) (now (leaves .exit)) (now (ends .exit))
+        × ((sizes : List ℕ) × Upper (matrixOf n (now (starts .entry)) (now (columns .entry)) (now (values .entry))) (take n (now (order .entry))) n sizes (now (at .exit)) (now (beside .exit))) ⌝ }
+{
+    let mut position = [0u32; 4096];
+    let mut sizes = [0u32; 4096];
+    positions(order, n, &mut position);
+    upper(
+        n,
+        starts,
+        columns,
+        values,
+        order,
+        &position,
+        &mut sizes,
+        at,
+        beside,
+    );
+    put_workers(
+        order,
+        groups,
+        count,
+        &sizes,
+        counts,
+        first,
+        row,
+        begins,
+        leaves,
+        ends,
+    );
 }
