@@ -6,7 +6,6 @@ use Prim.Native.Nat.{ℕ, zero, suc, _+_, _-_, _*_, _≤_, _<_}
 use native.Mathlib.Omega.{arith}
 use native.Mathlib.Numerals.{add-one}
 use lib.Dec.{eqb, leb}
-use lib.IntN.{ℤ}
 use lib.ListN.{length, getD, drop, length-drop}
 use lib.Seq.{getD-drop}
 use Rattle.base.specs.Lists.{bit, isEmpty}
@@ -86,7 +85,7 @@ module _ (j : Job) (ok : Accepted j) (count : ℕ) (groups : List ℕ) (is : j .
         ∙ sym (has-child i (drop (i + 1) (records count groups))) ∙ ap (λ (k : ℕ). hasChild i (drop k (records count groups))) (add-one i) ∙ h;
   }
 
-  module _ (counts first target : List ℕ) (amount : List ℤ) (leaf ends : List ℕ) (laid : Laid j counts first target amount leaf ends) (made : List ℕ) where
+  module _ {counts first row begins leaves ends : List ℕ} (laid : Laid j counts first row begins leaves ends) (made : List ℕ) where
     -- its leaves are finished when the counts reach the ends in the table
     pub ended-of : Ended count groups ends made (finished j made)
     unfolding finished

@@ -1,89 +1,60 @@
 -- One turn of the loop over a schedule: the step is the machine's, and who is blocked is as before until a count reaches its stop.
 use mathlib.Core.Path.{_≡_, refl, sym, ap, _∙_, subst}
 use mathlib.Core.Logic.{_⊎_, inl, inr, _≢_}
-use mathlib.Core.Bool.{Bool, true, false}
 use mathlib.Core.List.{List}
-use Prim.Native.Nat.{ℕ, zero, suc, _+_, _*_, _/_, _%_, _≤_, _<_}
+use Prim.Native.Nat.{ℕ, zero, suc, _+_, _*_, _/_, _≤_, _<_}
 use native.Mathlib.Numerals.{add-one}
 use native.Mathlib.Omega.{arith}
-use lib.Dec.{eqb, leb, ltb}
-use lib.IntN.{ℤ, pos, _+ℤ_}
+use lib.Dec.{leb}
+use lib.IntN.{ℤ}
 use lib.ListN.{length, getD, set, length-set}
 use lib.Seq.{getD-set-same, getD-set-other}
-use borrow.Author.Tests.{le-leb, lt-leb, ltb-true, ltb-false, leb-true, leb-false}
-use Rattle.base.specs.Integers.{fits64}
+use borrow.Author.Tests.{le-leb, lt-leb}
 use Rattle.base.proofs.Booleans.{same-or}
 use Rattle.plan.specs.Sound.{maxWorkers}
 use Rattle.plan.specs.Groups.{records}
 use Rattle.plan.specs.Checks.{recordAt}
 use Rattle.run.specs.Job.{Job, Accepted}
-use Rattle.run.specs.Updates.{Update, count, accesses, updates, next, waits}
-use Rattle.run.specs.Machine.{State, workers, reason, refusal, moved, onward, load, store, total, access, move, stepIf, step, Stepped, steps}
+use Rattle.run.specs.Updates.{Update, count, accesses, next}
+use Rattle.run.specs.Machine.{State, workers, refusal, moved, onward, stepIf, step, Stepped, steps}
 use Rattle.tables.specs.Laid.{Laid, Waits}
 use Rattle.tables.specs.Waits.{Recorded, Blocks, Ahead}
 use Rattle.machine.specs.declared.steps.Pick.{Pick}
 use Rattle.machine.specs.declared.steps.Pick.the-variants.{Taken, Refused}
-use Rattle.machine.specs.Steps.{stateWith, placeAt, reasonAt, laidUpdate, stepTaken, outcomeOf, StepMade}
-use Rattle.run.proofs.Able.{in-order}
-use Rattle.machine.proofs.TableWaits.{table-accesses, table-waits}
+use Rattle.machine.specs.Updates.{updateIn, Triangle}
+use Rattle.machine.specs.Steps.{stateWith, rowNext, numberNext, reasonAt, stepTaken, outcomeOf, StepMade}
+use Rattle.run.proofs.Able.{able}
+use Rattle.machine.proofs.TableWaits.{table-reason}
+use Rattle.machine.proofs.TableUpdates.{table-update}
 use Rattle.machine.proofs.TableSteps.{reason-none}
-use Rattle.machine.proofs.BlockedLeaves.{eqb-bit, waits-of}
+use Rattle.machine.proofs.BlockedLeaves.{waits-of}
 use Rattle.machine.proofs.ScheduleLoop.{Left, left-start, left-step, left-halt, left-none}
 
 -- ---- the step that is taken
 
-module _ (s : State) (w : ℕ) (u : Update) where
-  -- no reason refuses it
-  moved-none : (why : ℕ) (t : State) → moved t ≡ stepIf why s w u → why ≡ 0
-  unfolding stepIf
-  moved-none zero t e = refl
-  moved-none (suc k) t e = absurd (let q : _≡_ {A = ℕ} 0 1 = cc in omega arith)
-
-  -- what is done with an update is decided by its target and amount
-  move-same : (v : Update) → u .target ≡ v .target → u .amount ≡ v .amount → move s w u ≡ move s w v
-  unfolding move access load store total
-  move-same v a b = ap (λ (z : ℤ). access even (fits64 (getD (s .held) w (pos 0) +ℤ z)) s w u) b ∙ go even (fits64 (total s w v))
-    where
-      even : Bool
-      even = eqb (count (s .made) w % 2) 0
-
-      go : (e f : Bool) → access e f s w u ≡ access e f s w v
-      go true f = ap (λ (t : ℕ). moved (record { made = onward (s .made) w; held = set (s .held) w (getD (s .sums) t (pos 0)); sums = s .sums })) a
-      go false true =
-          ap (λ (t : ℕ). moved (record { made = onward (s .made) w; held = s .held; sums = set (s .sums) t (getD (s .held) w (pos 0) +ℤ u .amount) })) a
-          ∙ ap (λ (z : ℤ). moved (record { made = onward (s .made) w; held = s .held; sums = set (s .sums) (v .target) (getD (s .held) w (pos 0) +ℤ z) })) b
-      go false false = refl
+-- no reason refuses it
+moved-none : (s : State) (w : ℕ) (u : Update) (why : ℕ) (t : State) → moved t ≡ stepIf why s w u → why ≡ 0
+unfolding stepIf
+moved-none s w u zero t e = refl
+moved-none s w u (suc k) t e = absurd (let q : _≡_ {A = ℕ} 0 1 = cc in omega arith)
 
 -- ---- it is the machine's
 
-module _ (j : Job) (counts first target : List ℕ) (amount : List ℤ) (leaf ends : List ℕ) (laid : Laid j counts first target amount leaf ends) where
-  pub table-step : (crew : ℕ) → crew ≡ workers j → crew ≤ maxWorkers → (s : State) (blocks : List ℕ) → Waits j (s .made) blocks → (w : ℕ)
-      → stepIf (reasonAt crew counts first leaf blocks (s .made) w) s w (laidUpdate first target amount (s .made) w) ≡ step j s w
-  unfolding step stepIf reason next accesses
-  table-step crew e few s blocks waiting w = go (ltb w (workers j)) refl
+module _ (j : Job) {counts first row begins leaves ends : List ℕ} (laid : Laid j counts first row begins leaves ends)
+    {starts : List ℕ} {x : List ℤ} {order at : List ℕ} {beside : List ℤ} (t : Triangle j starts x order at beside) where
+  table-step : (crew : ℕ) → crew ≡ workers j → crew ≤ maxWorkers → (s : State) (blocks : List ℕ) → Waits j (s .made) blocks → (w : ℕ)
+      → stepIf (reasonAt crew counts first row leaves blocks (s .made) w) s w (updateIn starts x order at beside (rowNext first row (s .made) w) (numberNext first row begins (s .made) w)) ≡ step j s w
+  unfolding step stepIf next accesses
+  table-step crew e few s blocks waiting w = rw (table-reason j laid (s .made) blocks waiting crew e few w) (go (refusal j (s .made) w) refl)
     where
       u : Update
-      u = laidUpdate first target amount (s .made) w
+      u = updateIn starts x order at beside (rowNext first row (s .made) w) (numberNext first row begins (s .made) w)
 
-      m : ℕ
-      m = count (s .made) w
-
-      in-plan : w < workers j → (b : Bool) → leb (accesses j w) m ≡ b → (c : Bool) → waits j (s .made) w ≡ c
-          → stepIf (reason true (leb (2 * getD counts w 0) m) (eqb (getD blocks (getD leaf (placeAt first (s .made) w) 0) 0) 1)) s w u ≡ stepIf (refusal j (s .made) w) s w (next j (s .made) w)
-      in-plan l true y c z = rw (table-accesses j counts first target amount leaf ends laid w (omega arith), y, in-order j (s .made) w .done l (leb-true (accesses j w) m y)) refl
-      in-plan l false y c z =
-          let left = leb-false (accesses j w) m y in
-          let k : m / 2 < length (updates j w) = omega arith in
-          rw (table-accesses j counts first target amount leaf ends laid w (omega arith), y, table-waits j counts first target amount leaf ends laid (s .made) blocks waiting w (omega arith) left, eqb-bit (waits j (s .made) w), z) (go′ c z)
-        where
-          go′ : (c : Bool) → waits j (s .made) w ≡ c → stepIf (reason true false c) s w u ≡ stepIf (refusal j (s .made) w) s w (next j (s .made) w)
-          go′ true z = rw (in-order j (s .made) w .waiting l (leb-false (accesses j w) m y) z) refl
-          go′ false z = rw (in-order j (s .made) w .taken l (leb-false (accesses j w) m y) z)
-              (move-same s w u (next j (s .made) w) (laid .targets w (m / 2) (omega arith) (omega (arith, leb-false (accesses j w) m y))) (laid .amounts w (m / 2) (omega arith) (omega (arith, leb-false (accesses j w) m y))))
-
-      go : (a : Bool) → ltb w (workers j) ≡ a → stepIf (reasonAt crew counts first leaf blocks (s .made) w) s w u ≡ stepIf (refusal j (s .made) w) s w (next j (s .made) w)
-      go false x = rw (e, x, in-order j (s .made) w .stranger (ltb-false w (workers j) x)) refl
-      go true x = rw (e, x) (in-plan (ltb-true w (workers j) x) (leb (accesses j w) m) refl (waits j (s .made) w) refl)
+      go : (why : ℕ) → refusal j (s .made) w ≡ why → stepIf why s w u ≡ stepIf why s w (next j (s .made) w)
+      go (suc k) y = refl
+      go zero y =
+          let a = able j (s .made) w y in
+          ap (λ (v : Update). stepIf 0 s w v) (table-update j laid w (count (s .made) w / 2) (omega (arith, a .inPlan)) (omega (arith, a .left)) t)
 
 -- ---- who is blocked stays so
 
@@ -143,75 +114,99 @@ stepped-is x s k number h =
     the-stepped : State → ℕ → ℕ → Stepped
     the-stepped s k number = record { state = s; taken = k; number = number }
 
-module _ (crew count : ℕ) (groups counts first target : List ℕ) (amount : List ℤ) (leaf ends : List ℕ) (s₀ : State) (schedule : List ℕ) where
-  -- of every job that the tables stand for
-  abbrev EachJob : (Job → Type 0) → Type 0
-  EachJob P = (j : Job) → Accepted j → crew ≡ workers j → j .plan .groups ≡ records count groups → Laid j counts first target amount leaf ends → P j
+-- the tables that the steps are taken by, and the lists that they are made of
+pub record Tables : Type 0 where
+  pub crew : ℕ
+  pub count : ℕ
+  pub groups : List ℕ
+  pub counts : List ℕ
+  pub first : List ℕ
+  pub row : List ℕ
+  pub begins : List ℕ
+  pub leaves : List ℕ
+  pub ends : List ℕ
+  pub starts : List ℕ
+  pub displacements : List ℤ
+  pub order : List ℕ
+  pub at : List ℕ
+  pub beside : List ℤ
 
-  -- k steps are taken and led to s; these groups are blocked now, and until a count reaches its stop
-  pub record Running (k : ℕ) (s : State) (blocks stops : List ℕ) : Type 0 where
+module _ (T : Tables) where
+  -- of every job that they stand for
+  abbrev EachJob : (Job → Type 0) → Type 0
+  EachJob P =
+      (j : Job) → Accepted j → T .crew ≡ workers j → j .plan .groups ≡ records (T .count) (T .groups)
+      → Laid j (T .counts) (T .first) (T .row) (T .begins) (T .leaves) (T .ends) → Triangle j (T .starts) (T .displacements) (T .order) (T .at) (T .beside) → P j
+
+  -- the update of worker w's next access
+  abbrev updateOf : (made : List ℕ) → ℕ → Update
+  updateOf made w = updateIn (T .starts) (T .displacements) (T .order) (T .at) (T .beside) (rowNext (T .first) (T .row) made w) (numberNext (T .first) (T .row) (T .begins) made w)
+
+  -- k steps of the schedule are taken and led from s₀ to s; these groups are blocked now, and until a count reaches its stop
+  pub record Running (s₀ : State) (schedule : List ℕ) (k : ℕ) (s : State) (blocks stops : List ℕ) : Type 0 where
     pub long : length (s .made) ≡ maxWorkers
-    pub blocked : Blocks count groups ends (s .made) blocks
-    pub ahead : Ahead count groups ends (s .made) stops
+    pub blocked : Blocks (T .count) (T .groups) (T .ends) (s .made) blocks
+    pub ahead : Ahead (T .count) (T .groups) (T .ends) (s .made) stops
     pub left : EachJob (λ j. Left j s₀ schedule k s)
 
+module _ {T : Tables} {s₀ : State} {schedule : List ℕ} where
   -- at first
-  pub running-start : (blocks stops : List ℕ) → length (s₀ .made) ≡ maxWorkers → Blocks count groups ends (s₀ .made) blocks → Ahead count groups ends (s₀ .made) stops → Running 0 s₀ blocks stops
-  running-start blocks stops e b a = record { long = e; blocked = b; ahead = a; left = λ j ok e is laid. left-start j s₀ schedule }
+  pub running-start : {blocks stops : List ℕ} → length (s₀ .made) ≡ maxWorkers → Blocks (T .count) (T .groups) (T .ends) (s₀ .made) blocks → Ahead (T .count) (T .groups) (T .ends) (s₀ .made) stops → Running T s₀ schedule 0 s₀ blocks stops
+  running-start e b a = record { long = e; blocked = b; ahead = a; left = λ j ok e is laid t. left-start j s₀ schedule }
 
-  module _ {k : ℕ} {s : State} {blocks stops : List ℕ} (r : Running k s blocks stops) where
+  module _ {k : ℕ} {s : State} {blocks stops : List ℕ} (r : Running T s₀ schedule k s blocks stops) where
     -- all steps are taken
-    pub running-none : k ≡ length schedule → EachJob (λ j. record { state = s; taken = k; number = 0 } ≡ steps j s₀ schedule)
-    running-none l j ok e is laid = stepped-is (steps j s₀ schedule) s k 0 (left-none j s₀ schedule k s (r .left j ok e is laid) l)
+    pub running-none : k ≡ length schedule → EachJob T (λ j. record { state = s; taken = k; number = 0 } ≡ steps j s₀ schedule)
+    running-none l j ok e is laid t = stepped-is (steps j s₀ schedule) s k 0 (left-none j s₀ schedule k s (r .left j ok e is laid t) l)
 
     -- the next step
-    module _ (few : crew ≤ maxWorkers) (R : Recorded count groups) (l : k < length schedule) {answer : Pick} {sums : List ℤ}
-        (h : StepMade (reasonAt crew counts first leaf blocks (s .made) (getD schedule k 0)) s (getD schedule k 0) (laidUpdate first target amount (s .made) (getD schedule k 0)) answer sums) where
+    module _ (few : T .crew ≤ maxWorkers) (R : Recorded (T .count) (T .groups)) (l : k < length schedule) {answer : Pick} {sums : List ℤ}
+        (h : StepMade (reasonAt (T .crew) (T .counts) (T .first) (T .row) (T .leaves) blocks (s .made) (getD schedule k 0)) s (getD schedule k 0) (updateOf T (s .made) (getD schedule k 0)) answer sums) where
       abbrev w : ℕ
       w = getD schedule k 0
 
-      is-step : EachJob (λ j. step j s w ≡ outcomeOf answer s w sums)
-      is-step j ok e is laid =
-          sym (table-step j counts first target amount leaf ends laid crew e few s blocks (waits-of j ok count groups is counts first target amount leaf ends laid (s .made) blocks (r .blocked) R) w) ∙ sym (h .is)
+      is-step : EachJob T (λ j. step j s w ≡ outcomeOf answer s w sums)
+      is-step j ok e is laid t =
+          sym (table-step j laid t (T .crew) e few s blocks (waits-of j ok (T .count) (T .groups) is laid (s .made) blocks (r .blocked) R) w) ∙ sym (h .is)
 
       -- it is refused
-      pub running-halt : {number : ℕ} → answer ≡ Refused number → EachJob (λ j. record { state = stateWith (s .made) (s .held) sums; taken = k; number = number } ≡ steps j s₀ schedule)
+      pub running-halt : {number : ℕ} → answer ≡ Refused number → EachJob T (λ j. record { state = stateWith (s .made) (s .held) sums; taken = k; number = number } ≡ steps j s₀ schedule)
       unfolding outcomeOf
-      running-halt {number} q j ok e is laid =
+      running-halt {number} q j ok e is laid t =
           ap (λ (y : List ℤ). record { state = stateWith (s .made) (s .held) y; taken = k; number = number }) (h .kept number q)
-          ∙ stepped-is (steps j s₀ schedule) s k number (left-halt j s₀ schedule k s (r .left j ok e is laid) l number (is-step j ok e is laid ∙ ap (λ (y : Pick). outcomeOf y s w sums) q))
+          ∙ stepped-is (steps j s₀ schedule) s k number (left-halt j s₀ schedule k s (r .left j ok e is laid t) l number (is-step j ok e is laid t ∙ ap (λ (y : Pick). outcomeOf y s w sums) q))
 
       module _ {z : ℤ} (q : answer ≡ Taken z) where
-        abbrev t : State
-        t = stepTaken s w z sums
+        abbrev new : State
+        new = stepTaken s w z sums
 
         -- it is taken: its worker is of the plan and has accesses left
-        pub running-worker : (w < crew) × (getD (s .made) w 0 < 2 * getD counts w 0)
+        pub running-worker : (w < T .crew) × (getD (s .made) w 0 < 2 * getD (T .counts) w 0)
         unfolding outcomeOf
         running-worker =
-            reason-none w crew (getD (s .made) w 0) (2 * getD counts w 0) _ (moved-none s w (laidUpdate first target amount (s .made) w) _ t (ap (λ (y : Pick). outcomeOf y s w sums) (sym q) ∙ h .is))
+            reason-none w (T .crew) (getD (s .made) w 0) (2 * getD (T .counts) w 0) _ (moved-none s w (updateOf T (s .made) w) _ new (ap (λ (y : Pick). outcomeOf y s w sums) (sym q) ∙ h .is))
 
         -- .. and has made one access more
-        one-more : t .made ≡ onward (s .made) w
+        one-more : new .made ≡ onward (s .made) w
         unfolding onward
         one-more = ap (set (s .made) w) (add-one (getD (s .made) w 0))
 
-        next-long : length (t .made) ≡ maxWorkers
+        next-long : length (new .made) ≡ maxWorkers
         next-long = length-set (s .made) w (getD (s .made) w 0 + 1) ∙ r .long
 
-        next-left : EachJob (λ j. Left j s₀ schedule (k + 1) t)
+        next-left : EachJob T (λ j. Left j s₀ schedule (k + 1) new)
         unfolding outcomeOf
-        next-left j ok e is laid = subst (λ (y : ℕ). Left j s₀ schedule y t) (sym (add-one k)) (left-step j s₀ schedule k s (r .left j ok e is laid) l t (is-step j ok e is laid ∙ ap (λ (y : Pick). outcomeOf y s w sums) q))
+        next-left j ok e is laid t = subst (λ (y : ℕ). Left j s₀ schedule y new) (sym (add-one k)) (left-step j s₀ schedule k s (r .left j ok e is laid t) l new (is-step j ok e is laid t ∙ ap (λ (y : Pick). outcomeOf y s w sums) q))
 
         -- the blocked groups are found anew
-        pub running-renewed : (blocks′ stops′ : List ℕ) → Blocks count groups ends (t .made) blocks′ → Ahead count groups ends (t .made) stops′ → Running (k + 1) t blocks′ stops′
-        running-renewed blocks′ stops′ b a = record { long = next-long; blocked = b; ahead = a; left = next-left }
+        pub running-renewed : {blocks′ stops′ : List ℕ} → Blocks (T .count) (T .groups) (T .ends) (new .made) blocks′ → Ahead (T .count) (T .groups) (T .ends) (new .made) stops′ → Running T s₀ schedule (k + 1) new blocks′ stops′
+        running-renewed b a = record { long = next-long; blocked = b; ahead = a; left = next-left }
 
         -- .. or are as they were
-        pub running-on : w < length (s .made) → getD (t .made) w 0 < getD stops w 0 → Running (k + 1) t blocks stops
+        pub running-on : w < length (s .made) → getD (new .made) w 0 < getD stops w 0 → Running T s₀ schedule (k + 1) new blocks stops
         running-on inside below = record {
           long = next-long;
-          blocked = blocks-kept count groups ends (s .made) (t .made) stops w inside one-more below (r .ahead) blocks (r .blocked);
-          ahead = ahead-kept count groups ends (s .made) (t .made) stops w inside one-more below (r .ahead);
+          blocked = blocks-kept (T .count) (T .groups) (T .ends) (s .made) (new .made) stops w inside one-more below (r .ahead) blocks (r .blocked);
+          ahead = ahead-kept (T .count) (T .groups) (T .ends) (s .made) (new .made) stops w inside one-more below (r .ahead);
           left = next-left;
         }

@@ -1,52 +1,52 @@
 -- What the tables say of a worker's next access: whether there is one, whether it waits, and whether a state is fine or finished.
 use mathlib.Core.Path.{_≡_, refl, ap}
-use mathlib.Core.Bool.{Bool, true, false, _&&_}
+use mathlib.Core.Bool.{Bool, true, false}
 use mathlib.Core.List.{List}
-use Prim.Native.Nat.{ℕ, zero, suc, _+_, _*_, _/_, _≤_, _<_}
+use Prim.Native.Nat.{ℕ, zero, suc, _*_, _/_, _≤_, _<_}
 use native.Mathlib.Omega.{arith}
 use lib.ListN.{length, getD}
-use lib.Dec.{eqb, ltb}
-use borrow.Author.Tests.{eq-eqb, ltb-true, ltb-false}
-use lib.IntN.{ℤ}
+use lib.Dec.{eqb, leb, ltb}
+use borrow.Author.Tests.{eq-eqb, leb-false, ltb-true}
 use Rattle.base.specs.Lists.{bit}
 use Rattle.plan.specs.Sound.{maxWorkers}
 use Rattle.run.specs.Job.{Job}
-use Rattle.run.specs.Updates.{count, updates, accesses, next, waits}
-use Rattle.run.specs.Machine.{State, workers, refusal, allMade, over, countsFine, isState}
+use Rattle.run.specs.Updates.{count, accesses, next, waits}
+use Rattle.run.specs.Machine.{State, workers, reason, refusal, allMade, over, countsFine, isState}
 use Rattle.machine.specs.Record.{allBelow, fine, done}
 use Rattle.tables.specs.Laid.{Laid, Waits}
-use Rattle.run.proofs.Able.{in-order}
+use Rattle.machine.specs.Steps.{rowNext, reasonAt}
 use Rattle.run.proofs.Next.{next-at, next-row}
+use Rattle.machine.proofs.BlockedLeaves.{eqb-bit}
 
-module _ (j : Job) (counts first target : List ℕ) (amount : List ℤ) (leaf ends : List ℕ) (laid : Laid j counts first target amount leaf ends) where
+module _ (j : Job) {counts first row begins leaves ends : List ℕ} (laid : Laid j counts first row begins leaves ends) where
   -- a worker has two accesses for each update
-  pub table-accesses : (w : ℕ) → w < maxWorkers → 2 * getD counts w 0 ≡ accesses j w
+  table-accesses : (w : ℕ) → w < maxWorkers → 2 * getD counts w 0 ≡ accesses j w
   unfolding accesses
   table-accesses w l = ap (λ (k : ℕ). 2 * k) (laid .counted w l)
 
   -- the entry of the leaf of a worker's next access says whether the worker waits
-  pub table-waits : (made blocks : List ℕ) → Waits j made blocks → (w : ℕ) → w < maxWorkers → count made w < accesses j w
-      → getD blocks (getD leaf (getD first w 0 + count made w / 2) 0) 0 ≡ bit (waits j made w)
+  table-waits : (made blocks : List ℕ) → Waits j made blocks → (w : ℕ) → w < maxWorkers → count made w < accesses j w
+      → getD blocks (getD leaves (rowNext first row made w) 0) 0 ≡ bit (waits j made w)
   unfolding waits next accesses
-  table-waits made blocks waits w l left =
-      let k : count made w / 2 < length (updates j w) = omega arith in
+  table-waits made blocks waiting w l left =
       let low : next j made w .row < j .matrix .n = rw (next-row j made w left) (next-at j made w left .below) in
-      waits .is (getD leaf (getD first w 0 + count made w / 2) 0) (next j made w .row) (laid .leaves w (count made w / 2) l k) low (laid .rows w (count made w / 2) l k)
+      let h = laid .leaf (next j made w .row) low in
+      rw (laid .rows w (count made w / 2) l (omega arith)) (waiting .is (getD leaves (next j made w .row) 0) (next j made w .row) (h .leaf) low (h .held))
 
-  -- a worker of the plan is ready: it has an access left, and its leaf's entry is 0
-  pub table-ready : (made blocks : List ℕ) → Waits j made blocks → (w : ℕ) → w < maxWorkers → w < workers j
-      → ltb (count made w) (2 * getD counts w 0) && eqb (getD blocks (getD leaf (getD first w 0 + count made w / 2) 0) 0) 0 ≡ eqb (refusal j made w) 0
-  table-ready made blocks waiting w l p = go (ltb (count made w) (accesses j w)) refl (waits j made w) refl
+  -- why a worker's step is refused
+  pub table-reason : (made blocks : List ℕ) → Waits j made blocks → (crew : ℕ) → crew ≡ workers j → crew ≤ maxWorkers → (w : ℕ)
+      → reasonAt crew counts first row leaves blocks made w ≡ refusal j made w
+  unfolding refusal reason
+  table-reason made blocks waiting crew e few w = rw e (go (ltb w (workers j)) refl (leb (accesses j w) (count made w)) refl)
     where
-      go : (a : Bool) → ltb (count made w) (accesses j w) ≡ a → (b : Bool) → waits j made w ≡ b
-          → ltb (count made w) (2 * getD counts w 0) && eqb (getD blocks (getD leaf (getD first w 0 + count made w / 2) 0) 0) 0 ≡ eqb (refusal j made w) 0
-      go false x b y = rw (table-accesses w l, x, in-order j made w .done p (ltb-false (count made w) (accesses j w) x))
-      go true x true y =
-          let left = ltb-true (count made w) (accesses j w) x in
-          rw (table-accesses w l, x, table-waits made blocks waiting w l left, y, in-order j made w .waiting p left y)
-      go true x false y =
-          let left = ltb-true (count made w) (accesses j w) x in
-          rw (table-accesses w l, x, table-waits made blocks waiting w l left, y, in-order j made w .taken p left y)
+      go : (a : Bool) → ltb w (workers j) ≡ a → (b : Bool) → leb (accesses j w) (count made w) ≡ b → reasonAt (workers j) counts first row leaves blocks made w ≡ refusal j made w
+      go false x b y = rw x
+      go true x b y = rw (x, table-accesses w (omega (arith, ltb-true w (workers j) x)), y) (last b y)
+        where
+          last : (b : Bool) → leb (accesses j w) (count made w) ≡ b → reason true b (eqb (getD blocks (getD leaves (rowNext first row made w) 0) 0) 1) ≡ reason true b (waits j made w)
+          last true y = refl
+          last false y =
+              rw (table-waits made blocks waiting w (omega (arith, ltb-true w (workers j) x)) (leb-false (accesses j w) (count made w) y), eqb-bit (waits j made w))
 
   -- the counts of the workers below k are not past their accesses
   pub table-fine : (made : List ℕ) (k : ℕ) → k ≤ maxWorkers → allBelow (fine counts made) k ≡ countsFine j made k

@@ -1,4 +1,5 @@
 pub mod Record
 pub mod Sum
+pub mod Updates
 pub mod Steps
 pub mod Stepped

@@ -1,14 +1,16 @@
 -- A step by the tables that a call makes (Laid.antt), and what the code makes of a step and of a schedule.
 use mathlib.Core.Path.{_≡_}
 use mathlib.Core.List.{List}
-use Prim.Native.Nat.{ℕ, _+_, _*_, _/_, _≤_, _<_}
+use Prim.Native.Nat.{ℕ, _+_, _*_, _-_, _/_, _≤_, _<_}
 use lib.Dec.{eqb, leb, ltb}
-use lib.IntN.{ℤ, pos}
-use lib.ListN.{getD, set}
+use lib.IntN.{ℤ}
+use lib.ListN.{length, getD, set}
+use Rattle.matrix.specs.Limits.{maxRows}
 use Rattle.run.specs.Updates.{Update, count}
 use Rattle.run.specs.Machine.{State, reason, Outcome, moved, halted, stepIf}
 use Rattle.plan.specs.Sound.{maxWorkers, maxGroups}
 use Rattle.tables.specs.Laid.{maxUpdates}
+use Rattle.machine.specs.Updates.{Readable}
 use Rattle.machine.specs.declared.steps.Pick.{Pick}
 use Rattle.machine.specs.declared.steps.Pick.the-variants.{Taken, Refused}
 
@@ -17,29 +19,36 @@ stateWith made held sums = record { made = made; held = held; sums = sums }
 
 -- ---- a step by the tables
 
--- where the update of worker w's next access stands in the tables
-abbrev pub placeAt : (first made : List ℕ) → ℕ → ℕ
-placeAt first made w = getD first w 0 + count made w / 2
+-- the position of the row that makes the update of worker w's next access
+abbrev pub rowNext : (first row made : List ℕ) → ℕ → ℕ
+rowNext first row made w = getD row (getD first w 0 + count made w / 2) 0
+
+-- the number of that update among the row's
+abbrev pub numberNext : (first row begins made : List ℕ) → ℕ → ℕ
+numberNext first row begins made w = count made w / 2 - getD begins (rowNext first row made w) 0
 
 -- why a step is refused, 10 before 12 before 13; 0: it is taken
-abbrev pub reasonAt : (workers : ℕ) (counts first leaf blocks made : List ℕ) → ℕ → ℕ
-reasonAt workers counts first leaf blocks made w = reason (ltb w workers) (leb (2 * getD counts w 0) (count made w)) (eqb (getD blocks (getD leaf (placeAt first made w) 0) 0) 1)
+abbrev pub reasonAt : (workers : ℕ) (counts first row leaves blocks made : List ℕ) → ℕ → ℕ
+reasonAt workers counts first row leaves blocks made w =
+    reason (ltb w workers) (leb (2 * getD counts w 0) (count made w)) (eqb (getD blocks (getD leaves (rowNext first row made w) 0) 0) 1)
 
--- the update, but for its row
-abbrev pub laidUpdate : (first target : List ℕ) (amount : List ℤ) (made : List ℕ) → ℕ → Update
-laidUpdate first target amount made w = record { row = 0; target = getD target (placeAt first made w) 0; amount = getD amount (placeAt first made w) (pos 0) }
+-- ---- what the code needs for a step
 
--- ---- what the code makes of a step
-
--- every worker's updates stand inside the tables, and every leaf is a record
-pub record Inside (counts first leaf : List ℕ) : Type 0 where
+-- every worker's updates stand inside the table, every row has a leaf, and every leaf is a record
+pub record Inside (counts first row leaves : List ℕ) : Type 0 where
   pub few : (w : ℕ) → w < maxWorkers → getD first w 0 + getD counts w 0 ≤ maxUpdates
-  pub leaf-low : (k : ℕ) → k < maxUpdates → getD leaf k 0 < maxGroups
+  pub row-low : (k : ℕ) → getD row k 0 < maxRows
+  pub leaf-low : (p : ℕ) → getD leaves p 0 < maxGroups
 
--- .. and every target is one of n sums
-pub record StepTables (n : ℕ) (counts first target leaf : List ℕ) : Type 0 where
-  pub inside : Inside counts first leaf
-  pub target-low : (k : ℕ) → k < maxUpdates → getD target k 0 < n
+-- .. and every update can be read, and is of one of n sums
+pub record StepTables (n : ℕ) (counts first row begins leaves starts : List ℕ) (x : List ℤ) (order at : List ℕ) : Type 0 where
+  pub inside : Inside counts first row leaves
+  pub sums-long : length x ≤ n
+  pub begun : (w k : ℕ) → w < maxWorkers → k < getD counts w 0 → getD begins (getD row (getD first w 0 + k) 0) 0 ≤ k
+  pub readable : (w k : ℕ) → w < maxWorkers → k < getD counts w 0
+      → Readable starts x order at (getD row (getD first w 0 + k) 0) (k - getD begins (getD row (getD first w 0 + k) 0) 0)
+
+-- ---- what it makes of one
 
 -- the state after worker w's step: one more made, the number that the worker holds then, and these sums
 abbrev pub stepTaken : State → (w : ℕ) → ℤ → (sums : List ℤ) → State

@@ -13,8 +13,10 @@ ghost use Rattle.run.specs.Job.{Job, Accepted};
 ghost use Rattle.run.specs.Updates.{count};
 ghost use Rattle.run.specs.Machine as machine;
 ghost use Rattle.machine.specs.Record.{stateOf, allBelow, fine, done, Halves};
-ghost use Rattle.tables.specs.Laid.{Laid, Bounded};
+ghost use Rattle.tables.specs.Laid.{Laid};
 ghost use Rattle.tables.specs.Waits.{Recorded};
+ghost use Rattle.machine.specs.Updates.{Triangle};
+ghost use Rattle.machine.specs.Steps.{StepTables};
 ghost use Rattle.machine.specs.Stepped.{endedWith, steppedOf};
 
 // Accesses made, and the number held, of each of 16 workers.
@@ -62,14 +64,21 @@ impl State {
         count: usize,
         counts: &[u32; 16],
         first: &[u32; 16],
-        target: &[u16; 69632],
-        amount: &[i64; 69632],
-        leaf: &[u16; 69632],
+        row: &[u16; 69632],
+        begins: &[u32; 4096],
+        leaves: &[u16; 4096],
         ends: &[u32; 512],
+        starts: &[u32],
+        displacements: &[i32],
+        order: &[u32],
+        at: &[u16; 69632],
+        beside: &[i32; 69632],
     ) -> Stepped
-        requires { ⌜ (workers ≤ maxWorkers) × Recorded count (now groups) × Bounded (length (now sums)) (now counts) (now first) (now target) (now amount) (now leaf) (now ends) ⌝ }
+        requires { ⌜ (workers ≤ maxWorkers) × Recorded count (now groups)
+            × StepTables (length (now sums)) (now counts) (now first) (now row) (now begins) (now leaves) (now starts) (now displacements) (now order) (now at) ⌝ }
         ensures { λ r. ⌜ ((j : Job) → Accepted j → workers ≡ machine.workers j → j .plan .groups ≡ records count (now (groups .entry))
-            → Laid j (now (counts .entry)) (now (first .entry)) (now (target .entry)) (now (amount .entry)) (now (leaf .entry)) (now (ends .entry))
+            → Laid j (now (counts .entry)) (now (first .entry)) (now (row .entry)) (now (begins .entry)) (now (leaves .entry)) (now (ends .entry))
+            → Triangle j (now (starts .entry)) (now (displacements .entry)) (now (order .entry)) (now (at .entry)) (now (beside .entry))
             → steppedOf r (now (sums .exit)) ≡ machine.steps j (stateOf self (now (sums .entry))) (now (schedule .entry))) ⌝ }
     {
         let mut blocks = blocked_groups(groups, count, ends, &self.made);
@@ -85,10 +94,15 @@ impl State {
                 workers,
                 counts,
                 first,
-                target,
-                amount,
-                leaf,
+                row,
+                begins,
+                leaves,
                 &blocks,
+                starts,
+                displacements,
+                order,
+                at,
+                beside,
             );
             let held = match answer {
                 Pick::Refused(number) => return self.ended(k, number),

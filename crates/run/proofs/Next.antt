@@ -26,7 +26,7 @@ module _ (j : Job) where
   -- ---- update number k of worker w, wherever it is
 
   module _ {w k : ℕ} (a : At j w (j .matrix .n) k) where
-    at-row : getD (updates j w) k noUpdate .row ≡ a .row
+    pub at-row : getD (updates j w) k noUpdate .row ≡ a .row
     unfolding updates
     at-row = ap (λ (u : Update). u .row) (a .is) ∙ row-row j (a .row) (k - cum j w (a .row)) (a .inside)
 

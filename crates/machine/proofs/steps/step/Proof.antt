@@ -1,17 +1,11 @@
 -- `steps::step` meets its contract.
 use mathlib.Core.Path.{_≡_, sym, _∙_}
-use Prim.Native.Nat.{ℕ, _*_, _<_}
+use Prim.Native.Nat.{ℕ, _*_, _/_, _≤_, _<_}
 use native.Mathlib.Omega.{arith}
-use lib.IntN.{pos}
-use lib.ListN.{length, getD}
-use mir.Syntax.{w64}
-use mir.Val.{SFits}
-use mir.Facts.{toZ-ofZ}
-use borrow.Author.Needs.{needs, sfits-of}
-use Rattle.tables.specs.Laid.{maxUpdates}
-use Rattle.machine.specs.Sum.{sumOf}
-use Rattle.machine.specs.Steps.{placeAt, laidUpdate}
-use Rattle.machine.proofs.TableSteps.{reason-none, step-refused, step-loads, step-stores, step-passes}
+use lib.ListN.{getD}
+use borrow.Author.Needs.{needs}
+use Rattle.matrix.specs.Limits.{maxRows}
+use Rattle.machine.proofs.TableSteps.{reason-none, step-refused}
 use Rattle.machine.proofs.steps.step.Statement.{statement}
 use Rattle.machine.proofs.steps.step.Tie as tie
 
@@ -19,131 +13,72 @@ use Rattle.machine.proofs.steps.step.Tie as tie
 none : (c : tie.Else1) → c .before .refusal .result ≡ 0
 none c = search needs
 
--- so its numbers are inside
-record Bounds (w at count t rows : ℕ) : Type 0 where
+-- so the worker is one of sixteen, and has an update left
+record Left (w made count : ℕ) : Type 0 where
   worker : w < 16
-  place : at < 69632
-  made : count < 139264
-  target : t < rows
+  next : made / 2 < count
+  few : count ≤ 69632
 
-bounds : (c : tie.Else1) → let a = c .before .before .args in let place = placeAt (a .first .now) (a .made .now) (a .w) in
-    Bounds (a .w) place (getD (a .made .now) (a .w) 0) (getD (a .target .now) place 0) (length (a .sums .now))
-bounds c =
-    let s = c .before .before in
+left : (c : tie.Else1) → let a = c .before .before .before .before .args in Left (a .w) (getD (a .made .now) (a .w) 0) (getD (a .counts .now) (a .w) 0)
+left c =
+    let s = c .before .before .before .before in
     let a = s .args in
     let f = reason-none (a .w) (a .workers) (getD (a .made .now) (a .w) 0) (2 * getD (a .counts .now) (a .w) 0) _ (sym (c .before .refusal .ensures) ∙ none c) in
     let low : a .w < 16 = omega (arith, f .0, s .pre .0) in
-    let few = s .pre .1 .inside .few (a .w) low in
-    let inside : placeAt (a .first .now) (a .made .now) (a .w) < maxUpdates = omega (arith, f .1) in
-    record { worker = low; place = inside; made = omega (arith, f .1); target = s .pre .1 .target-low _ inside }
+    record { worker = low; next = omega (arith, f .1); few = omega (arith, s .pre .1 .inside .few (a .w) low) }
 
 refusal-requires : tie.Need-refusal-requires
-refusal-requires c κs = (c .pre .0, c .pre .1 .inside)
+refusal-requires c κs = (c .before .before .pre .0, c .before .before .pre .1 .inside)
 
 returns : tie.Need-returns
 returns c = step-refused _ (c .before .refusal .result) _ _ _ (c .before .refusal .ensures) (c .if1 .taken)
 
-mul-count : tie.Need-mul-count
-mul-count c = let b = bounds c in search needs
+next-row-requires : tie.Need-next-row-requires
+next-row-requires c κs = let l = left c in (l .worker, omega (arith, l .next, c .before .before .before .before .pre .1 .inside .few _ (l .worker)))
 
-element-copy-out-count : tie.Need-element-copy-out-count
-element-copy-out-count c = let b = bounds c in search needs
+mul-k : tie.Need-mul-k
+mul-k c = let l = left (c .before) in search needs
 
-mul-at : tie.Need-mul-at
-mul-at c = let b = bounds (c .before) in search needs
+element-copy-out-k : tie.Need-element-copy-out-k
+element-copy-out-k c = let l = left (c .before) in search needs
 
-element-copy-out-at : tie.Need-element-copy-out-at
-element-copy-out-at c = let b = bounds (c .before) in search needs
+-- its row is one of the tables'
+low : (c : tie.After-next-row) → c .next-row .result < maxRows
+low c = rw (c .next-row .ensures) (c .before .before .before .before .before .pre .1 .inside .row-low _)
 
-add-at : tie.Need-add-at
-add-at c = let b = bounds (c .before .before) in search needs
+-- the update is not before the row's first one
+begun : (c : tie.After-next-row) → let a = c .before .before .before .before .before .args in getD (a .begins .now) (c .next-row .result) 0 ≤ getD (a .made .now) (a .w) 0 / 2
+begun c =
+    let s = c .before .before .before .before .before in
+    let l = left (c .before) in
+    rw (c .next-row .ensures) (s .pre .1 .begun (s .args .w) _ (l .worker) (l .next))
 
-cast-at : tie.Need-cast-at
-cast-at c = let b = bounds (c .before .before) in search needs
+mul-k-2 : tie.Need-mul-k-2
+mul-k-2 c = let h = low (c .before) in search needs
 
-mul-t : tie.Need-mul-t
-mul-t c = let b = bounds (c .before .before) in search needs
+element-copy-out-k-2 : tie.Need-element-copy-out-k-2
+element-copy-out-k-2 c = let h = low (c .before) in search needs
 
-element-copy-out-t : tie.Need-element-copy-out-t
-element-copy-out-t c = let b = bounds (c .before .before) in search needs
+sub-k : tie.Need-sub-k
+sub-k c = let h = begun (c .before .before) in search needs
 
-cast-t : tie.Need-cast-t
-cast-t c = let b = bounds (c .before .before .before) in search needs
+cast-k : tie.Need-cast-k
+cast-k c = let l = left (c .before .before .before) in search needs
 
-mul-loaded : tie.Need-mul-loaded
-mul-loaded c = let b = bounds (c .before .before .before .before) in search needs
-
-slice-copy-out-loaded : tie.Need-slice-copy-out-loaded
-slice-copy-out-loaded c = let b = bounds (c .before .before .before .before) in search needs
-
-returns-2 : tie.Need-returns-2
-returns-2 c =
-    let e = c .before .before .before .before .before in
-    let a = e .before .before .args in
-    let u = laidUpdate (a .first .now) (a .target .now) (a .amount .now) (a .made .now) (a .w) in
-    rw (toZ-ofZ {w = w64} {z = getD (a .sums .now) (u .target) (pos 0)} (sfits-of (c .loaded .given)))
-    (step-loads _ (sym (e .before .refusal .ensures) ∙ none e) (a .made .now) (a .held .now) (a .sums .now) (a .w) u (c .before .if2 .taken))
-
-mul-loaded-2 : tie.Need-mul-loaded-2
-mul-loaded-2 c = let b = bounds (c .before .before .before .before) in search needs
-
-element-copy-out-loaded : tie.Need-element-copy-out-loaded
-element-copy-out-loaded c = let b = bounds (c .before .before .before .before) in search needs
-
-mul-add-checked : tie.Need-mul-add-checked
-mul-add-checked c = let b = bounds (c .before .before .before .before .before) in search needs
-
-element-copy-out-add-checked : tie.Need-element-copy-out-add-checked
-element-copy-out-add-checked c = let b = bounds (c .before .before .before .before .before) in search needs
-
-add-checked-requires : tie.Need-add-checked-requires
-add-checked-requires c κs = search needs
-
--- the sum that is made of the held number and the amount
-sum-is : (c : tie.After-add-checked) → let a = c .before .before .before .before .before .before .before .before .before .args in
-    c .add-checked .result ≡ sumOf (getD (a .held .now) (a .w) (pos 0)) (getD (a .amount .now) (placeAt (a .first .now) (a .made .now) (a .w)) (pos 0))
-sum-is c =
-    let a = c .before .before .before .before .before .before .before .before .before .args in
-    rw (
-      toZ-ofZ {w = w64} {z = getD (a .held .now) (a .w) (pos 0)} (sfits-of (c .before .before .loaded2 .given)),
-      toZ-ofZ {w = w64} {z = getD (a .amount .now) (placeAt (a .first .now) (a .made .now) (a .w)) (pos 0)} (sfits-of (c .before .add-checked-arg .given)),
-    )
-    at (c .add-checked .ensures)
-
-enum-known-sum : tie.Need-enum-known-sum
-enum-known-sum c = search needs
-
-enum-told : tie.Need-enum-told
-enum-told c = search needs
-
-returns-3 : tie.Need-returns-3
-returns-3 c =
-    let x = c .before .before in
-    let e = x .before .before .before .before .before .before .before in
-    let a = e .before .before .args in
-    step-passes _ (sym (e .before .refusal .ensures) ∙ none e) (a .made .now) (a .held .now) (a .sums .now) (a .w) (laidUpdate (a .first .now) (a .target .now) (a .amount .now) (a .made .now) (a .w))
-    (x .before .before .before .if2 .left) (sym (sum-is x) ∙ c .enum-told .given .1)
-
-mul-sum : tie.Need-mul-sum
-mul-sum c = let b = bounds (c .before .before .before .before .before .before .before .before .before .before) in search needs
-
-slice-set-from-sum : tie.Need-slice-set-from-sum
-slice-set-from-sum c = let b = bounds (c .before .before .before .before .before .before .before .before .before .before) in search needs
+access-requires : tie.Need-access-requires
+access-requires c κs =
+    let r = c .before .before .before in
+    let s = r .before .before .before .before .before in
+    let l = left (r .before) in
+    (l .worker, s .pre .1 .sums-long, rw (r .next-row .ensures) (s .pre .1 .readable (s .args .w) _ (l .worker) (l .next)))
 
 same-length : tie.Need-same-length
 same-length c = search needs
 
-in-range : (c : tie.After-known-told) → SFits w64 (c .before .sum .given .0 .0)
-in-range c = search needs
-
-returns-4 : tie.Need-returns-4
-returns-4 c =
-    let x = c .before .before .before in
-    let e = x .before .before .before .before .before .before .before in
-    let a = e .before .before .args in
-    rw (toZ-ofZ (in-range c), toZ-ofZ {w = w64} {z = getD (a .held .now) (a .w) (pos 0)} (sfits-of (x .before .before .loaded2 .given)))
-    (step-stores _ (sym (e .before .refusal .ensures) ∙ none e) (a .made .now) (a .held .now) (a .sums .now) (a .w) (laidUpdate (a .first .now) (a .target .now) (a .amount .now) (a .made .now) (a .w))
-    (x .before .before .before .if2 .left) (c .before .sum .given .0 .0) (sym (sum-is x) ∙ c .before .sum .given .1))
+returns-2 : tie.Need-returns-2
+returns-2 c =
+    let r = c .before .before .before .before .before in
+    rw (← r .before .before .refusal .ensures, none (r .before), ← r .next-row .ensures) (c .before .access .ensures)
 
 pub step-spec : {M : Type 1} → statement M
 step-spec =
@@ -151,27 +86,13 @@ step-spec =
     (tie.spec
     refusal-requires
     returns
-    mul-count
-    element-copy-out-count
-    mul-at
-    element-copy-out-at
-    add-at
-    cast-at
-    mul-t
-    element-copy-out-t
-    cast-t
-    mul-loaded
-    slice-copy-out-loaded
-    returns-2
-    mul-loaded-2
-    element-copy-out-loaded
-    mul-add-checked
-    element-copy-out-add-checked
-    add-checked-requires
-    enum-known-sum
-    enum-told
-    returns-3
-    mul-sum
-    slice-set-from-sum
+    next-row-requires
+    mul-k
+    element-copy-out-k
+    mul-k-2
+    element-copy-out-k-2
+    sub-k
+    cast-k
+    access-requires
     same-length
-    returns-4)
+    returns-2)

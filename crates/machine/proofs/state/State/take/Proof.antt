@@ -14,17 +14,32 @@ use Rattle.machine.proofs.state.State.take.Statement.{statement}
 use Rattle.machine.proofs.state.State.take.Tie as tie
 
 abbrev Inv-loop : tie.InvT-loop
-Inv-loop sums₀ schedule workers groups count counts first target amount leaf ends self₀ blocks₀ stops₀ k₀ sums self blocks stops k =
+Inv-loop sums₀ schedule workers groups count counts first row begins leaves ends starts displacements order at beside self₀ blocks₀ stops₀ k₀ sums self blocks stops k =
     (k ≤ length schedule) × (length sums ≡ length sums₀)
-    × Running workers count groups counts first target amount leaf ends (stateOf self₀ sums₀) schedule k (stateOf self sums) blocks stops
+    × Running (record {
+      crew = workers;
+      count = count;
+      groups = groups;
+      counts = counts;
+      first = first;
+      row = row;
+      begins = begins;
+      leaves = leaves;
+      ends = ends;
+      starts = starts;
+      displacements = displacements;
+      order = order;
+      at = at;
+      beside = beside;
+    }) (stateOf self₀ sums₀) schedule k (stateOf self sums) blocks stops
 
 abbrev μ-loop : tie.MeasureT-loop
-μ-loop sums₀ schedule workers groups count counts first target amount leaf ends self₀ blocks₀ stops₀ k₀ sums self blocks stops k =
+μ-loop sums₀ schedule workers groups count counts first row begins leaves ends starts displacements order at beside self₀ blocks₀ stops₀ k₀ sums self blocks stops k =
     length schedule - k
 
 -- from a turn back to the function's entry
 abbrev entry : tie.In-loop Inv-loop μ-loop → tie.Start Inv-loop μ-loop
-entry t = t .before .before .before .before .before .before .before .before .before .before
+entry t = t .before .before .before .before .before .before .before .before .before .before .before .before
 
 -- from a pick that is taken back to its turn
 abbrev turn : tie.After-known-told2 Inv-loop μ-loop → tie.In-loop Inv-loop μ-loop
@@ -37,21 +52,18 @@ next-ends-requires : tie.Need-next-ends-requires Inv-loop μ-loop
 next-ends-requires c κs = search needs
 
 loop-holds : tie.Need-loop-holds Inv-loop μ-loop
-loop-holds c = (search needs, refl, running-start _ _ _ _ _ _ _ _ _ _ _ _ _ (search needs) (c .before .before .before .blocked-groups .ensures) (c .next-ends .ensures))
+loop-holds c = (search needs, refl, running-start (search needs) (c .before .before .before .blocked-groups .ensures) (c .next-ends .ensures))
 
 shared-slice-read-w : tie.Need-shared-slice-read-w Inv-loop μ-loop
 shared-slice-read-w c = search needs
 
 cast-w : tie.Need-cast-w Inv-loop μ-loop
-cast-w c = omega (arith, c .shared-slice-known3 .given (c .before .before .loop .k))
+cast-w c = omega (arith, c .shared-slice-known5 .given (c .before .before .loop .k))
 
 step-requires : tie.Need-step-requires Inv-loop μ-loop
 step-requires c κs =
     let t = c .before .before .before .before .before .before in
-    let l = t .before in
-    let s = entry t in
-    let b = s .pre .2 in
-    (s .pre .0, record { inside = record { few = b .inside; leaf-low = b .leaf-low }; target-low = λ k low. rw (l .loop .inv .1) (b .target-low k low) })
+    (entry t .pre .0, rw (t .before .loop .inv .1) (entry t .pre .2))
 
 enum-known-answer : tie.Need-enum-known-answer Inv-loop μ-loop
 enum-known-answer c = search needs
@@ -68,7 +80,7 @@ returns c =
     let x = o .before .before .before in
     let t = x .before .before .before .before .before .before .before in
     let s = entry t in
-    rw (c .ended .ensures) (running-halt _ _ _ _ _ _ _ _ _ _ _ (t .before .loop .inv .2) (s .pre .0) (s .pre .1) (t .loop-test .taken) (x .step .ensures) (o .answer .given .1))
+    rw (c .ended .ensures) (running-halt (t .before .loop .inv .2) (s .pre .0) (s .pre .1) (t .loop-test .taken) (x .step .ensures) (o .answer .given .1))
 
 enum-known-answer-2 : tie.Need-enum-known-answer-2 Inv-loop μ-loop
 enum-known-answer-2 c = search needs
@@ -83,9 +95,9 @@ bounds c =
     let x = c .before .before .before .before in
     let t = turn c in
     let s = entry t in
-    let (worker, left) = running-worker _ _ _ _ _ _ _ _ _ _ _ (t .before .loop .inv .2) (s .pre .0) (s .pre .1) (t .loop-test .taken) (x .step .ensures) (c .before .answer2 .given .1) in
+    let (worker, left) = running-worker (t .before .loop .inv .2) (s .pre .0) (s .pre .1) (t .loop-test .taken) (x .step .ensures) (c .before .answer2 .given .1) in
     let low : getD (s .args .schedule .now) (t .before .loop .k) 0 < 16 = omega (arith, worker, s .pre .0) in
-    record { worker = low; few = omega (arith, left, s .pre .2 .inside _ low) }
+    record { worker = low; few = omega (arith, left, s .pre .2 .inside .few _ low) }
 
 in-range : (c : tie.After-known-told2 Inv-loop μ-loop) → SFits w64 (c .before .answer2 .given .0 .0)
 in-range c = search needs
@@ -144,8 +156,8 @@ loop-again c =
       omega (arith, t .loop-test .taken),
       x .step .kept .1 .1 .0 ∙ l .loop .inv .1,
       ⊎-elim
-          (λ r. rw (r .7, r .8, held) (running-renewed _ _ _ _ _ _ _ _ _ _ _ (l .loop .inv .2) (s .pre .0) (s .pre .1) (t .loop-test .taken) (x .step .ensures) (o .before .answer2 .given .1) _ _ (r .3 .ensures) (r .6 .ensures)))
-          (λ r. rw (r .1, r .2, held) (running-on _ _ _ _ _ _ _ _ _ _ _ (l .loop .inv .2) (s .pre .0) (s .pre .1) (t .loop-test .taken) (x .step .ensures) (o .before .answer2 .given .1) (omega (arith, l .loop .inv .2 .long)) (r .0 .left)))
+          (λ r. rw (r .7, r .8, held) (running-renewed (l .loop .inv .2) (s .pre .0) (s .pre .1) (t .loop-test .taken) (x .step .ensures) (o .before .answer2 .given .1) (r .3 .ensures) (r .6 .ensures)))
+          (λ r. rw (r .1, r .2, held) (running-on (l .loop .inv .2) (s .pre .0) (s .pre .1) (t .loop-test .taken) (x .step .ensures) (o .before .answer2 .given .1) (omega (arith, l .loop .inv .2 .long)) (r .0 .left)))
           (c .if1 .came),
     )
 
@@ -156,7 +168,7 @@ same-length-2 : tie.Need-same-length-2 Inv-loop μ-loop
 same-length-2 c = search needs
 
 returns-2 : tie.Need-returns-2 Inv-loop μ-loop
-returns-2 c = rw (c .ended2 .ensures) (running-none _ _ _ _ _ _ _ _ _ _ _ (c .before .before .loop .inv .2) (search needs))
+returns-2 c = rw (c .ended2 .ensures) (running-none (c .before .before .loop .inv .2) (search needs))
 
 pub take-spec : {M : Type 1} → statement M
 take-spec =
