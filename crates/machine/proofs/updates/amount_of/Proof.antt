@@ -31,7 +31,7 @@ by-turns-requires c κs = search needs
 other : (c : tie.After-by-turns) → c .by-turns .result < length (c .before .before .before .before .before .before .args .displacements .now)
 other c =
     let s = c .before .before .before .before .before .before in
-    rw (c .by-turns .ensures, c .before .wide .ensures) (by-low (s .args .k) (s .args .p) _ (s .pre .row-low) (s .pre .at-low _))
+    rw (c .by-turns .ensures, c .before .wide .ensures) (search (by-low, s .pre .row-low, s .pre .at-low))
 
 mul-product : tie.Need-mul-product
 mul-product c = search needs
