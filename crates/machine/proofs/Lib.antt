@@ -4,5 +4,6 @@ pub mod AllBelow
 pub mod TableWaits
 pub mod BlockedLeaves
 pub mod TableUpdates
+pub mod GivenTables
 pub mod TableSteps
 pub mod RunTurns

@@ -4,13 +4,12 @@ use crate::steps::step;
 use tables::waits::blocked_groups;
 use tables::waits::next_ends;
 ghost use mathlib.Core.Path.{_≡_};
-ghost use Prim.Native.Nat.{ℕ, _≤_, _<_};
+ghost use Prim.Native.Nat.{ℕ, _≤_};
 ghost use lib.IntN.{pos};
 ghost use lib.ListN.{length, replicate};
 ghost use Rattle.plan.specs.Sound.{maxWorkers};
 ghost use Rattle.plan.specs.Groups.{records};
 ghost use Rattle.run.specs.Job.{Job, Accepted};
-ghost use Rattle.run.specs.Updates.{count};
 ghost use Rattle.run.specs.Machine as machine;
 ghost use Rattle.machine.specs.Record.{stateOf, allBelow, fine, done, Halves};
 ghost use Rattle.tables.specs.Laid.{Laid};
@@ -117,14 +116,6 @@ impl State {
             k += 1;
         }
         self.ended(k, 0)
-    }
-
-    // How many accesses worker w has made.
-    pub fn moves(self, w: usize) -> u32
-        requires { ⌜ w < 16 ⌝ }
-        ensures { λ r. ⌜ r ≡ count (self .made) w ⌝ }
-    {
-        self.made[w]
     }
 
     // No worker has made more than its accesses, two for each of its updates.
