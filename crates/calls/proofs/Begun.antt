@@ -7,27 +7,31 @@ use Prim.Native.Nat.{ℕ, _^_, _<_}
 use native.Mathlib.Omega.{arith}
 use lib.Dec.{ltb}
 use lib.IntN.{ℤ, pos}
-use lib.ListN.{length, getD, replicate, List·getD-eq-default}
+use lib.ListN.{length, getD, replicate, take, List·getD-eq-default}
 use borrow.Author.Tests.{ltb-true, ltb-false}
 use Rattle.base.specs.Refusals as no
 use Rattle.base.specs.Replies.{Reply, accepted, refused, inTurn}
 use Rattle.base.specs.declared.Answer.the-variants.{Accepted, Refused}
+use Rattle.matrix.specs.Limits.{maxRows}
 use Rattle.matrix.specs.Checks.{matrixOf}
+use Rattle.matrix.proofs.Matrix.{matrix-facts}
 use Rattle.plan.specs.Sound.{maxWorkers, maxGroups}
 use Rattle.run.specs.Job.{jobOf}
 use Rattle.run.specs.Calls.{jobChecks}
 use Rattle.machine.specs.Record.{stateOf, allBelow, fine, Halves}
 use Rattle.tables.specs.Laid.{maxUpdates, Laid, Bounded}
+use Rattle.tables.specs.Upper.{Upper}
 use Rattle.tables.specs.UpdateTable.{Given, Blank}
 use Rattle.calls.specs.Begun.{Zeros, Begun}
 use Rattle.machine.specs.declared.state.State.{State}
 use Rattle.calls.proofs.JobChecked.{job-given}
 use Rattle.tables.proofs.AllWorkers.{blank-zeros}
 use Rattle.machine.proofs.TableWaits.{table-state}
+use Rattle.machine.proofs.GivenTables.{triangle-of}
 use Rattle.calls.proofs.Beginning.{begin-refused, begin-unfit, begin-taken, state-size}
 
 -- twice a worker's number of updates fits 32 bits
-pub halves : {n : ℕ} {counts first target : List ℕ} {amount : List ℤ} {leaf ends : List ℕ} → Bounded n counts first target amount leaf ends → Halves counts
+pub halves : {n : ℕ} {counts first row begins leaves ends : List ℕ} → Bounded n counts first row begins leaves ends → Halves counts
 halves {counts} b w = go (ltb w maxWorkers) refl
   where
     go : (t : Bool) → ltb w maxWorkers ≡ t → getD counts w 0 < 2 ^ 31
@@ -47,43 +51,50 @@ pub begun-given : {n : ℕ} {starts columns : List ℕ} {values x : List ℤ} {o
 begun-given {n} {starts} {columns} {values} {x} {order} {groups} {count} k e = job-given (matrixOf n starts columns values) x order groups count k (sym e)
 
 -- tables of zeros
-pub zeros : Zeros (replicate maxWorkers 0) (replicate maxWorkers 0) (replicate maxUpdates 0) (replicate maxUpdates (pos 0)) (replicate maxUpdates 0) (replicate maxGroups 0)
-zeros = record { counts-are = refl; first-are = refl; target-are = refl; amount-are = refl; leaf-are = refl; ends-are = refl }
+pub zeros : Zeros (replicate maxWorkers 0) (replicate maxWorkers 0) (replicate maxUpdates 0) (replicate maxRows 0) (replicate maxRows 0) (replicate maxGroups 0) (replicate maxUpdates 0) (replicate maxUpdates (pos 0))
+zeros = record { counts-are = refl; first-are = refl; row-are = refl; begins-are = refl; leaves-are = refl; ends-are = refl; at-are = refl; beside-are = refl }
 
 -- .. as they are before they are made
-pub begun-blank : {n : ℕ} {starts columns : List ℕ} {values x : List ℤ} {order groups : List ℕ} {count : ℕ} {counts first target : List ℕ} {amount : List ℤ} {leaf ends : List ℕ}
-    → Given n starts columns values x order groups count → Zeros counts first target amount leaf ends → (length counts ≡ maxWorkers) × (length first ≡ maxWorkers) × Blank n target amount leaf ends
-begun-blank g z =
-    (ap (λ (ks : List ℕ). length ks) (z .counts-are), ap (λ (ks : List ℕ). length ks) (z .first-are), rw (z .target-are, z .amount-are, z .leaf-are, z .ends-are) (blank-zeros g))
+pub begun-blank : {n : ℕ} {starts columns : List ℕ} {values x : List ℤ} {order groups : List ℕ} {count : ℕ} {counts first row begins leaves ends at : List ℕ} {beside : List ℤ}
+    → Given n starts columns values x order groups count → Zeros counts first row begins leaves ends at beside
+    → (length counts ≡ maxWorkers) × (length first ≡ maxWorkers) × Blank n row begins leaves ends × (length beside ≡ maxUpdates)
+unfolding jobOf
+begun-blank {n} g z = (
+  ap (λ (ks : List ℕ). length ks) (z .counts-are),
+  ap (λ (ks : List ℕ). length ks) (z .first-are),
+  rw (z .row-are, z .begins-are, z .leaves-are, z .ends-are) (blank-zeros n (matrix-facts _ (g .accepted .matrix) .some)),
+  ap (λ (zs : List ℤ). length zs) (z .beside-are),
+)
 
 module _ {n : ℕ} {starts columns : List ℕ} {values x : List ℤ} {order groups : List ℕ} {count : ℕ} {state : State} {size : ℕ}
-    {counts first target : List ℕ} {amount : List ℤ} {leaf ends : List ℕ} where
+    {counts first row begins leaves ends at : List ℕ} {beside : List ℤ} where
   -- the lists are refused
-  pub begun-refused : (q p : ℕ) → refused q p ≡ reply n starts columns values x order groups count → Begun n starts columns values x order groups count state size counts first target amount leaf ends (Refused q p)
+  pub begun-refused : (q p : ℕ) → refused q p ≡ reply n starts columns values x order groups count → Begun n starts columns values x order groups count state size counts first row begins leaves ends at beside (Refused q p)
   begun-refused q p e = record { replied = λ sums l. sym (begin-refused (matrixOf n starts columns values) x order groups count (stateOf state sums) q p (sym e)); prepared = λ k f. absurd (no-accepted f) }
 
   module _ (k : ℕ) (e : accepted k ≡ reply n starts columns values x order groups count) where
     -- another number of sums
-    pub begun-size : size ≢ n → Begun n starts columns values x order groups count state size counts first target amount leaf ends (Refused no.state 0)
+    pub begun-size : size ≢ n → Begun n starts columns values x order groups count state size counts first row begins leaves ends at beside (Refused no.state 0)
     unfolding jobOf
     begun-size d = record {
       replied = λ sums l. sym (begin-unfit (matrixOf n starts columns values) x order groups count (stateOf state sums) k (sym e) (state-size (jobOf (matrixOf n starts columns values) x order groups count) (stateOf state sums) (λ (f : length sums ≡ n). d (sym l ∙ f))));
       prepared = λ k f. absurd (no-accepted f);
     }
 
-    module _ (same : size ≡ n) (laid : Laid (jobOf (matrixOf n starts columns values) x order groups count) counts first target amount leaf ends) where
+    module _ (same : size ≡ n) (laid : Laid (jobOf (matrixOf n starts columns values) x order groups count) counts first row begins leaves ends) where
       -- a count past its accesses
-      pub begun-unfit : allBelow (fine counts (state .made)) maxWorkers ≡ false → Begun n starts columns values x order groups count state size counts first target amount leaf ends (Refused no.state 0)
+      pub begun-unfit : allBelow (fine counts (state .made)) maxWorkers ≡ false → Begun n starts columns values x order groups count state size counts first row begins leaves ends at beside (Refused no.state 0)
       unfolding jobOf
       begun-unfit f = record {
-        replied = λ sums l. sym (begin-unfit (matrixOf n starts columns values) x order groups count (stateOf state sums) k (sym e) (table-state (jobOf (matrixOf n starts columns values) x order groups count) counts first target amount leaf ends laid (stateOf state sums) (l ∙ same) ∙ f));
+        replied = λ sums l. sym (begin-unfit (matrixOf n starts columns values) x order groups count (stateOf state sums) k (sym e) (table-state (jobOf (matrixOf n starts columns values) x order groups count) laid (stateOf state sums) (l ∙ same) ∙ f));
         prepared = λ k f. absurd (no-accepted f);
       }
 
       -- all is as it should be
-      pub begun : allBelow (fine counts (state .made)) maxWorkers ≡ true → Bounded n counts first target amount leaf ends → Begun n starts columns values x order groups count state size counts first target amount leaf ends (Accepted 0)
+      pub begun : allBelow (fine counts (state .made)) maxWorkers ≡ true → Bounded n counts first row begins leaves ends → {sizes : List ℕ} → Upper (matrixOf n starts columns values) (take n order) n sizes at beside
+          → Begun n starts columns values x order groups count state size counts first row begins leaves ends at beside (Accepted 0)
       unfolding jobOf
-      begun t b = record {
-        replied = λ sums l. sym (begin-taken (matrixOf n starts columns values) x order groups count (stateOf state sums) k (sym e) (table-state (jobOf (matrixOf n starts columns values) x order groups count) counts first target amount leaf ends laid (stateOf state sums) (l ∙ same) ∙ t));
-        prepared = λ i f. record { given = begun-given k e; laid = laid; bounded = b };
+      begun t b u = record {
+        replied = λ sums l. sym (begin-taken (matrixOf n starts columns values) x order groups count (stateOf state sums) k (sym e) (table-state (jobOf (matrixOf n starts columns values) x order groups count) laid (stateOf state sums) (l ∙ same) ∙ t));
+        prepared = λ i f. record { given = begun-given k e; laid = laid; bounded = b; triangle = triangle-of groups count u };
       }

@@ -14,13 +14,15 @@ use Rattle.plan.specs.declared.fields.Record.{Record}
 use Rattle.run.specs.Job.{Job, jobOf}
 use Rattle.run.specs.Machine.{workersOf, workers, over}
 use Rattle.machine.specs.Record.{allBelow, done}
-use Rattle.tables.specs.Laid.{Bounded, Waits}
+use Rattle.machine.specs.Steps.{StepTables}
+use Rattle.tables.specs.Laid.{Waits}
 use Rattle.tables.specs.Waits.{Recorded, Blocks}
 use Rattle.tables.specs.UpdateTable.{Given}
 use Rattle.calls.specs.Begun.{Prepared}
 use Rattle.run.proofs.Accepted.{facts}
 use Rattle.machine.proofs.BlockedLeaves.{recorded-of, waits-of}
 use Rattle.machine.proofs.TableWaits.{table-over}
+use Rattle.machine.proofs.GivenTables.{step-tables}
 
 -- the groups of a job in lent lists
 pub job-groups : (m : Matrix) (x : List ℤ) (order groups : List ℕ) (count : ℕ) → jobOf m x order groups count .plan .groups ≡ records count groups
@@ -52,22 +54,26 @@ module _ {n : ℕ} {starts columns : List ℕ} {values x : List ℤ} {order grou
   pub given-few : Given n starts columns values x order groups count → (r : Record) → Reads r (recordAt groups 0) → r .workers ≤ maxWorkers
   given-few g r h = omega (arith, given-crew g r h, facts (jobOf (matrixOf n starts columns values) x order groups count) (g .accepted) .few)
 
-  module _ {counts first target : List ℕ} {amount : List ℤ} {leaf ends : List ℕ} where
+  module _ {counts first row begins leaves ends at : List ℕ} {beside : List ℤ} where
     -- whether they all made all their accesses
-    pub prepared-over : Prepared n starts columns values x order groups count counts first target amount leaf ends
+    pub prepared-over : Prepared n starts columns values x order groups count counts first row begins leaves ends at beside
         → (made : List ℕ) (r : Record) → Reads r (recordAt groups 0) → allBelow (done counts made) (r .workers) ≡ over (jobOf (matrixOf n starts columns values) x order groups count) made
     prepared-over t made r h =
         let j : Job = jobOf (matrixOf n starts columns values) x order groups count in
-        table-over j counts first target amount leaf ends (t .laid) made (r .workers) (given-crew (t .given) r h) (facts j (t .given .accepted) .few)
+        table-over j (t .laid) made (r .workers) (given-crew (t .given) r h) (facts j (t .given .accepted) .few)
 
     -- the blocked groups are the waits
-    pub prepared-waits : {made blocks : List ℕ} → Prepared n starts columns values x order groups count counts first target amount leaf ends → Blocks count groups ends made blocks
+    pub prepared-waits : {made blocks : List ℕ} → Prepared n starts columns values x order groups count counts first row begins leaves ends at beside → Blocks count groups ends made blocks
         → Waits (jobOf (matrixOf n starts columns values) x order groups count) made blocks
     prepared-waits {made} {blocks} p b =
         let m : Matrix = matrixOf n starts columns values in
         let j : Job = jobOf m x order groups count in
-        waits-of j (p .given .accepted) count groups (job-groups m x order groups count) counts first target amount leaf ends (p .laid) made blocks b (given-recorded (p .given))
+        waits-of j (p .given .accepted) count groups (job-groups m x order groups count) (p .laid) made blocks b (given-recorded (p .given))
 
     -- the tables as the steps need them, with n sums
-    pub prepared-bounded : {k : ℕ} → k ≡ n → Prepared n starts columns values x order groups count counts first target amount leaf ends → Bounded k counts first target amount leaf ends
-    prepared-bounded e p = subst (λ (y : ℕ). Bounded y counts first target amount leaf ends) (sym e) (p .bounded)
+    pub prepared-tables : {k : ℕ} → k ≡ n → Prepared n starts columns values x order groups count counts first row begins leaves ends at beside
+        → StepTables k counts first row begins leaves starts x order at
+    unfolding jobOf
+    prepared-tables e p =
+        let j : Job = jobOf (matrixOf n starts columns values) x order groups count in
+        subst (λ (y : ℕ). StepTables y counts first row begins leaves starts x order at) (sym e) (step-tables j (p .given .accepted) (p .triangle) (p .given .order-long) (p .laid) (p .bounded))

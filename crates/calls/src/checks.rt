@@ -7,7 +7,7 @@ use machine::state::State;
 use matrix::check_displacements;
 use matrix::is_matrix;
 use plan::is_plan;
-use tables::updates::lay;
+use tables::rows::lay;
 ghost use mathlib.Core.Path.{_≡_};
 ghost use Rattle.base.specs.Replies.{accepted, refused, inTurn};
 ghost use Rattle.base.specs.Answers.{replyOf};
@@ -55,14 +55,16 @@ pub(crate) fn begin(
     size: usize,
     counts: &mut [u32; 16],
     first: &mut [u32; 16],
-    target: &mut [u16; 69632],
-    amount: &mut [i64; 69632],
-    leaf: &mut [u16; 69632],
+    row: &mut [u16; 69632],
+    begins: &mut [u32; 4096],
+    leaves: &mut [u16; 4096],
     ends: &mut [u32; 512],
+    at: &mut [u16; 69632],
+    beside: &mut [i32; 69632],
 ) -> Answer
-    requires { ⌜ Zeros (now counts) (now first) (now target) (now amount) (now leaf) (now ends) ⌝ }
+    requires { ⌜ Zeros (now counts) (now first) (now row) (now begins) (now leaves) (now ends) (now at) (now beside) ⌝ }
     ensures { λ r. ⌜ Begun n (now (starts .entry)) (now (columns .entry)) (now (values .entry)) (now (displacements .entry)) (now (order .entry)) (now (groups .entry)) count state size
-        (now (counts .exit)) (now (first .exit)) (now (target .exit)) (now (amount .exit)) (now (leaf .exit)) (now (ends .exit)) r ⌝ }
+        (now (counts .exit)) (now (first .exit)) (now (row .exit)) (now (begins .exit)) (now (leaves .exit)) (now (ends .exit)) (now (at .exit)) (now (beside .exit)) r ⌝ }
 {
     let checked = check_job(
         n,
@@ -85,16 +87,17 @@ pub(crate) fn begin(
         starts,
         columns,
         values,
-        displacements,
         order,
         groups,
         count as usize,
         counts,
         first,
-        target,
-        amount,
-        leaf,
+        row,
+        begins,
+        leaves,
         ends,
+        at,
+        beside,
     );
     if !state.is_fine(*counts) {
         return Answer::Refused(STATE, 0);

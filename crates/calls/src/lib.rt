@@ -60,10 +60,12 @@ pub fn picks(
 {
     let mut counts = [0u32; 16];
     let mut first = [0u32; 16];
-    let mut target = [0u16; 69632];
-    let mut amount = [0i64; 69632];
-    let mut leaf = [0u16; 69632];
+    let mut row = [0u16; 69632];
+    let mut begins = [0u32; 4096];
+    let mut leaves = [0u16; 4096];
     let mut ends = [0u32; 512];
+    let mut at = [0u16; 69632];
+    let mut beside = [0i32; 69632];
     let begun = begin(
         n,
         starts,
@@ -77,10 +79,12 @@ pub fn picks(
         sums.len(),
         &mut counts,
         &mut first,
-        &mut target,
-        &mut amount,
-        &mut leaf,
+        &mut row,
+        &mut begins,
+        &mut leaves,
         &mut ends,
+        &mut at,
+        &mut beside,
     );
     if let Answer::Refused(number, place) = begun {
         return Picked {
@@ -97,10 +101,15 @@ pub fn picks(
         count as usize,
         &counts,
         &first,
-        &target,
-        &amount,
-        &leaf,
+        &row,
+        &begins,
+        &leaves,
         &ends,
+        starts,
+        displacements,
+        order,
+        &at,
+        &beside,
     );
     let after = stepped.state;
     let taken = stepped.taken;
@@ -135,10 +144,12 @@ pub fn ready(
 {
     let mut counts = [0u32; 16];
     let mut first = [0u32; 16];
-    let mut target = [0u16; 69632];
-    let mut amount = [0i64; 69632];
-    let mut leaf = [0u16; 69632];
+    let mut row = [0u16; 69632];
+    let mut begins = [0u32; 4096];
+    let mut leaves = [0u16; 4096];
     let mut ends = [0u32; 512];
+    let mut at = [0u16; 69632];
+    let mut beside = [0i32; 69632];
     let begun = begin(
         n,
         starts,
@@ -152,10 +163,12 @@ pub fn ready(
         sums.len(),
         &mut counts,
         &mut first,
-        &mut target,
-        &mut amount,
-        &mut leaf,
+        &mut row,
+        &mut begins,
+        &mut leaves,
         &mut ends,
+        &mut at,
+        &mut beside,
     );
     if let Answer::Refused(number, place) = begun {
         return ReadySet::Refused(number, place);
@@ -163,7 +176,15 @@ pub fn ready(
     let made = state.made;
     let blocks = blocked_groups(groups, count as usize, &ends, &made);
     let whole = record_at(groups, 0);
-    let bits = ready_bits(state, whole.workers, counts, first, &leaf, &blocks);
+    let bits = ready_bits(
+        &made,
+        whole.workers,
+        &counts,
+        &first,
+        &row,
+        &leaves,
+        &blocks,
+    );
     ReadySet::Workers(bits, u32::count_ones(bits as u32))
 }
 
@@ -188,10 +209,12 @@ pub fn forces(
 {
     let mut counts = [0u32; 16];
     let mut first = [0u32; 16];
-    let mut target = [0u16; 69632];
-    let mut amount = [0i64; 69632];
-    let mut leaf = [0u16; 69632];
+    let mut row = [0u16; 69632];
+    let mut begins = [0u32; 4096];
+    let mut leaves = [0u16; 4096];
     let mut ends = [0u32; 512];
+    let mut at = [0u16; 69632];
+    let mut beside = [0i32; 69632];
     let begun = begin(
         n,
         starts,
@@ -205,10 +228,12 @@ pub fn forces(
         sums.len(),
         &mut counts,
         &mut first,
-        &mut target,
-        &mut amount,
-        &mut leaf,
+        &mut row,
+        &mut begins,
+        &mut leaves,
         &mut ends,
+        &mut at,
+        &mut beside,
     );
     if let Answer::Refused(number, place) = begun {
         return Answer::Refused(number, place);

@@ -32,11 +32,11 @@ returns-2 c = begun-size _ (passed (c .before)) (c .if1 .taken)
 
 lay-requires : tie.Need-lay-requires
 lay-requires c κs =
-    let e = c .before .before .before .before .before .before in
+    let e = c .before .before .before .before .before .before .before .before in
     let s = e .before .before .before .before .before .before .before .before in
     let g = begun-given _ (passed (e .before)) in
     let b = begun-blank g (s .pre) in
-    (g, b .0, b .1, b .2)
+    ((_, g), b .0, b .1, b .2, s .pre .at-are, b .3)
 
 is-fine-requires : tie.Need-is-fine-requires
 is-fine-requires c κs = halves (c .before .lay .ensures .1)
@@ -44,14 +44,14 @@ is-fine-requires c κs = halves (c .before .lay .ensures .1)
 returns-3 : tie.Need-returns-3
 returns-3 c =
     let l = c .before .before .before in
-    let e = l .before .before .before .before .before .before .before in
-    begun-unfit _ (passed (e .before)) (e .if1 .left) (l .lay .ensures .0) (fails (c .before .is-fine .ensures) (c .if2 .taken))
+    let e = l .before .before .before .before .before .before .before .before .before in
+    begun-unfit _ (passed (e .before)) (e .if1 .left) (l .lay .ensures .0 _ (begun-given _ (passed (e .before)))) (fails (c .before .is-fine .ensures) (c .if2 .taken))
 
 returns-4 : tie.Need-returns-4
 returns-4 c =
     let l = c .before .before .before in
-    let e = l .before .before .before .before .before .before .before in
-    begun _ (passed (e .before)) (e .if1 .left) (l .lay .ensures .0) (holds (c .before .is-fine .ensures) (c .if2 .left)) (l .lay .ensures .1)
+    let e = l .before .before .before .before .before .before .before .before .before in
+    begun _ (passed (e .before)) (e .if1 .left) (l .lay .ensures .0 _ (begun-given _ (passed (e .before)))) (holds (c .before .is-fine .ensures) (c .if2 .left)) (l .lay .ensures .1) (l .lay .ensures .2 .1)
 
 pub begin-spec : {M : Type 1} → statement M
 begin-spec =
