@@ -1,8 +1,8 @@
--- One turn of the loop over a schedule: the step is the machine's, and who is blocked is as before until a count reaches its stop.
+-- One pick, and one turn of the loop over a schedule: the step is the machine's, and who is blocked is as before until a count reaches its stop.
 use mathlib.Core.Path.{_≡_, refl, sym, ap, _∙_, subst}
 use mathlib.Core.Logic.{_⊎_, inl, inr, _≢_}
 use mathlib.Core.List.{List}
-use Prim.Native.Nat.{ℕ, zero, suc, _+_, _*_, _/_, _≤_, _<_}
+use Prim.Native.Nat.{ℕ, zero, suc, _+_, _/_, _≤_, _<_}
 use native.Mathlib.Numerals.{add-one}
 use native.Mathlib.Omega.{arith}
 use lib.Dec.{leb}
@@ -16,45 +16,54 @@ use Rattle.plan.specs.Groups.{records}
 use Rattle.plan.specs.Checks.{recordAt}
 use Rattle.run.specs.Job.{Job, Accepted}
 use Rattle.run.specs.Updates.{Update, count, accesses, next}
-use Rattle.run.specs.Machine.{State, workers, refusal, moved, onward, stepIf, step, Stepped, steps}
+use Rattle.run.specs.Machine.{State, workers, refusal, onward, stepIf, step, Stepped, steps}
 use Rattle.tables.specs.Laid.{Laid, Waits}
 use Rattle.tables.specs.Waits.{Recorded, Blocks, Ahead}
 use Rattle.machine.specs.declared.steps.Pick.{Pick}
 use Rattle.machine.specs.declared.steps.Pick.the-variants.{Taken, Refused}
 use Rattle.machine.specs.Updates.{updateIn, Triangle}
 use Rattle.machine.specs.Steps.{stateWith, rowNext, numberNext, reasonAt, stepTaken, outcomeOf, StepMade}
+use Rattle.machine.specs.Stepped.{comesTo}
 use Rattle.run.proofs.Able.{able}
 use Rattle.machine.proofs.TableWaits.{table-reason}
 use Rattle.machine.proofs.TableUpdates.{table-update}
-use Rattle.machine.proofs.TableSteps.{reason-none}
 use Rattle.machine.proofs.BlockedLeaves.{waits-of}
 use Rattle.machine.proofs.ScheduleLoop.{Left, left-start, left-step, left-halt, left-none}
 
--- ---- the step that is taken
-
--- no reason refuses it
-moved-none : (s : State) (w : ℕ) (u : Update) (why : ℕ) (t : State) → moved t ≡ stepIf why s w u → why ≡ 0
-unfolding stepIf
-moved-none s w u zero t e = refl
-moved-none s w u (suc k) t e = absurd (let q : _≡_ {A = ℕ} 0 1 = cc in omega arith)
-
--- ---- it is the machine's
+-- ---- a step is the machine's
 
 module _ (j : Job) {counts first row begins leaves ends : List ℕ} (laid : Laid j counts first row begins leaves ends)
     {starts : List ℕ} {x : List ℤ} {order at : List ℕ} {beside : List ℤ} (t : Triangle j starts x order at beside) where
+  -- the update of worker w's next access
+  abbrev nextUpdate : (made : List ℕ) → ℕ → Update
+  nextUpdate made w = updateIn starts x order at beside (rowNext first row made w) (numberNext first row begins made w)
+
   table-step : (crew : ℕ) → crew ≡ workers j → crew ≤ maxWorkers → (s : State) (blocks : List ℕ) → Waits j (s .made) blocks → (w : ℕ)
-      → stepIf (reasonAt crew counts first row leaves blocks (s .made) w) s w (updateIn starts x order at beside (rowNext first row (s .made) w) (numberNext first row begins (s .made) w)) ≡ step j s w
+      → stepIf (reasonAt crew counts first row leaves blocks (s .made) w) s w (nextUpdate (s .made) w) ≡ step j s w
   unfolding step stepIf next accesses
   table-step crew e few s blocks waiting w = rw (table-reason j laid (s .made) blocks waiting crew e few w) (go (refusal j (s .made) w) refl)
     where
-      u : Update
-      u = updateIn starts x order at beside (rowNext first row (s .made) w) (numberNext first row begins (s .made) w)
-
-      go : (why : ℕ) → refusal j (s .made) w ≡ why → stepIf why s w u ≡ stepIf why s w (next j (s .made) w)
+      go : (why : ℕ) → refusal j (s .made) w ≡ why → stepIf why s w (nextUpdate (s .made) w) ≡ stepIf why s w (next j (s .made) w)
       go (suc k) y = refl
       go zero y =
           let a = able j (s .made) w y in
           ap (λ (v : Update). stepIf 0 s w v) (table-update j laid w (count (s .made) w / 2) (omega (arith, a .inPlan)) (omega (arith, a .left)) t)
+
+  module _ {crew : ℕ} (e : crew ≡ workers j) (few : crew ≤ maxWorkers) {s : State} {blocks : List ℕ} (waiting : Waits j (s .made) blocks) {w : ℕ} {answer : Pick} {sums : List ℤ}
+      (h : StepMade (reasonAt crew counts first row leaves blocks (s .made) w) s w (nextUpdate (s .made) w) answer sums) where
+    -- what the code answers is the machine's outcome
+    step-answer : {given : Pick} → answer ≡ given → step j s w ≡ outcomeOf given s w sums
+    step-answer q = sym (table-step crew e few s blocks waiting w) ∙ sym (h .is) ∙ ap (λ (y : Pick). outcomeOf y s w sums) q
+
+    -- one pick: it is refused
+    pub pick-refused : {number : ℕ} → answer ≡ Refused number → (stateWith (s .made) (s .held) sums, number) ≡ comesTo s (step j s w)
+    unfolding outcomeOf
+    pick-refused {number} q = rw (step-answer q, h .kept number q) refl
+
+    -- .. or taken
+    pub pick-taken : {z : ℤ} → answer ≡ Taken z → (stepTaken s w z sums, 0) ≡ comesTo s (step j s w)
+    unfolding outcomeOf
+    pick-taken q = rw (step-answer q) refl
 
 -- ---- who is blocked stays so
 
@@ -165,28 +174,21 @@ module _ {T : Tables} {s₀ : State} {schedule : List ℕ} where
       abbrev w : ℕ
       w = getD schedule k 0
 
-      is-step : EachJob T (λ j. step j s w ≡ outcomeOf answer s w sums)
-      is-step j ok e is laid t =
-          sym (table-step j laid t (T .crew) e few s blocks (waits-of j ok (T .count) (T .groups) is laid (s .made) blocks (r .blocked) R) w) ∙ sym (h .is)
+      is-step : {given : Pick} → answer ≡ given → EachJob T (λ j. step j s w ≡ outcomeOf given s w sums)
+      is-step q j ok e is laid t = step-answer j laid t e few (waits-of j ok (T .count) (T .groups) is laid (s .made) blocks (r .blocked) R) h q
 
       -- it is refused
       pub running-halt : {number : ℕ} → answer ≡ Refused number → EachJob T (λ j. record { state = stateWith (s .made) (s .held) sums; taken = k; number = number } ≡ steps j s₀ schedule)
       unfolding outcomeOf
       running-halt {number} q j ok e is laid t =
           ap (λ (y : List ℤ). record { state = stateWith (s .made) (s .held) y; taken = k; number = number }) (h .kept number q)
-          ∙ stepped-is (steps j s₀ schedule) s k number (left-halt j s₀ schedule k s (r .left j ok e is laid t) l number (is-step j ok e is laid t ∙ ap (λ (y : Pick). outcomeOf y s w sums) q))
+          ∙ stepped-is (steps j s₀ schedule) s k number (left-halt j s₀ schedule k s (r .left j ok e is laid t) l number (is-step q j ok e is laid t))
 
       module _ {z : ℤ} (q : answer ≡ Taken z) where
         abbrev new : State
         new = stepTaken s w z sums
 
-        -- it is taken: its worker is of the plan and has accesses left
-        pub running-worker : (w < T .crew) × (getD (s .made) w 0 < 2 * getD (T .counts) w 0)
-        unfolding outcomeOf
-        running-worker =
-            reason-none w (T .crew) (getD (s .made) w 0) (2 * getD (T .counts) w 0) _ (moved-none s w (updateOf T (s .made) w) _ new (ap (λ (y : Pick). outcomeOf y s w sums) (sym q) ∙ h .is))
-
-        -- .. and has made one access more
+        -- its worker has made one access more
         one-more : new .made ≡ onward (s .made) w
         unfolding onward
         one-more = ap (set (s .made) w) (add-one (getD (s .made) w 0))
@@ -196,7 +198,7 @@ module _ {T : Tables} {s₀ : State} {schedule : List ℕ} where
 
         next-left : EachJob T (λ j. Left j s₀ schedule (k + 1) new)
         unfolding outcomeOf
-        next-left j ok e is laid t = subst (λ (y : ℕ). Left j s₀ schedule y new) (sym (add-one k)) (left-step j s₀ schedule k s (r .left j ok e is laid t) l new (is-step j ok e is laid t ∙ ap (λ (y : Pick). outcomeOf y s w sums) q))
+        next-left j ok e is laid t = subst (λ (y : ℕ). Left j s₀ schedule y new) (sym (add-one k)) (left-step j s₀ schedule k s (r .left j ok e is laid t) l new (is-step q j ok e is laid t))
 
         -- the blocked groups are found anew
         pub running-renewed : {blocks′ stops′ : List ℕ} → Blocks (T .count) (T .groups) (T .ends) (new .made) blocks′ → Ahead (T .count) (T .groups) (T .ends) (new .made) stops′ → Running T s₀ schedule (k + 1) new blocks′ stops′

@@ -1,9 +1,9 @@
 -- A step by the tables, case by case: refused, a load, a store, or a sum that passes 64 bits.
-use mathlib.Core.Path.{_≡_, refl, ap}
+use mathlib.Core.Path.{_≡_, refl, sym, ap, _∙_}
 use mathlib.Core.Logic.{_≢_}
 use mathlib.Core.Bool.{Bool, true, false}
 use mathlib.Core.List.{List}
-use Prim.Native.Nat.{ℕ, zero, suc, _+_, _%_, _<_}
+use Prim.Native.Nat.{ℕ, zero, suc, _*_, _%_, _≤_, _<_}
 use native.Mathlib.Numerals.{add-one}
 use native.Mathlib.Omega.{arith}
 use lib.Dec.{leb, ltb}
@@ -13,12 +13,14 @@ use lib.Seq.{set-getD}
 use borrow.Author.Tests.{ltb-true, leb-false, eq-eqb, ne-eqb}
 use Rattle.base.specs.Integers.{fits64}
 use Rattle.base.specs.Refusals as no
+use Rattle.plan.specs.Sound.{maxWorkers}
 use Rattle.run.specs.Updates.{Update, count}
 use Rattle.run.specs.Machine.{State, reason, moved, halted, onward, load, total, store, access, move, stepIf}
 use Rattle.machine.specs.Sum.{sumIf, sumOf}
 use Rattle.machine.specs.declared.sum.Sum.the-variants.{Fits, Passes}
+use Rattle.machine.specs.declared.steps.Pick.{Pick}
 use Rattle.machine.specs.declared.steps.Pick.the-variants.{Taken, Refused}
-use Rattle.machine.specs.Steps.{stateWith, outcomeOf, StepMade}
+use Rattle.machine.specs.Steps.{stateWith, reasonAt, Inside, stepTaken, outcomeOf, StepMade}
 
 -- what it is that no reason refuses a step
 pub reason-none : (w workers made all : ℕ) (waiting : Bool) → reason (ltb w workers) (leb all made) waiting ≡ 0 → (w < workers) × (made < all)
@@ -29,6 +31,26 @@ reason-none w workers made all waiting e = go (ltb w workers) refl (leb all made
     go false x b y c e = absurd (omega arith)
     go true x true y c e = absurd (omega arith)
     go true x false y c e = (ltb-true w workers x, leb-false all made y)
+
+-- none refuses a step that moved
+moved-none : (s : State) (w : ℕ) (u : Update) (why : ℕ) (t : State) → moved t ≡ stepIf why s w u → why ≡ 0
+unfolding stepIf
+moved-none s w u zero t e = refl
+moved-none s w u (suc k) t e = absurd (let q : _≡_ {A = ℕ} 0 1 = cc in omega arith)
+
+-- a step that is taken is of one of sixteen workers, and its count is inside
+pub record Bounds (w made : ℕ) : Type 0 where
+  pub worker : w < 16
+  pub few : made < 139264
+
+pub step-bounds : {crew : ℕ} {counts first row leaves : List ℕ} → crew ≤ maxWorkers → Inside counts first row leaves → (blocks : List ℕ) {s : State} {w : ℕ} {u : Update} {answer : Pick} {sums : List ℤ}
+    → StepMade (reasonAt crew counts first row leaves blocks (s .made) w) s w u answer sums → {z : ℤ} → answer ≡ Taken z → Bounds w (getD (s .made) w 0)
+unfolding outcomeOf
+step-bounds {crew} {counts} few inside blocks {s} {w} {u} {answer} {sums} h {z} q =
+    let none = moved-none s w u _ (stepTaken s w z sums) (ap (λ (y : Pick). outcomeOf y s w sums) (sym q) ∙ h .is) in
+    let (mine, left) = reason-none w crew (getD (s .made) w 0) (2 * getD counts w 0) _ none in
+    let low : w < 16 = omega (arith, mine, few) in
+    record { worker = low; few = omega (arith, left, inside .few w low) }
 
 -- a step that is refused leaves the sums
 pub step-refused : (why number : ℕ) (s : State) (w : ℕ) (u : Update) → number ≡ why → number ≢ 0 → StepMade why s w u (Refused number) (s .sums)

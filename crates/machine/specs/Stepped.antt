@@ -1,4 +1,4 @@
--- What the code answers to a schedule, as the machine's.
+-- What the code answers to a schedule and to a pick, as the machine's.
 use mathlib.Core.List.{List}
 use Prim.Native.Nat.{ℕ}
 use lib.IntN.{ℤ}
@@ -14,3 +14,8 @@ endedWith r taken number = record { state = r; taken = taken; number = number }
 -- the record that the code makes, beside the lent sums
 abbrev pub steppedOf : Stepped → (sums : List ℤ) → machine.Stepped
 steppedOf r sums = record { state = stateOf (r .state) sums; taken = r .taken; number = r .number }
+
+-- what a pick in state s comes to: the state that it moved to, and 0; or s as it is, and the number that halted it
+abbrev pub comesTo : (s : machine.State) → machine.Outcome → machine.State × ℕ
+comesTo s (machine.moved t) = (t, 0)
+comesTo s (machine.halted k) = (s, k)

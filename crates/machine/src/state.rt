@@ -4,19 +4,21 @@ use crate::steps::step;
 use tables::waits::blocked_groups;
 use tables::waits::next_ends;
 ghost use mathlib.Core.Path.{_≡_};
-ghost use Prim.Native.Nat.{ℕ, _≤_};
+ghost use mathlib.Core.List.{List};
+ghost use Prim.Native.Nat.{ℕ, _≤_, _<_};
 ghost use lib.IntN.{pos};
 ghost use lib.ListN.{length, replicate};
 ghost use Rattle.plan.specs.Sound.{maxWorkers};
 ghost use Rattle.plan.specs.Groups.{records};
 ghost use Rattle.run.specs.Job.{Job, Accepted};
+ghost use Rattle.run.specs.Updates.{count};
 ghost use Rattle.run.specs.Machine as machine;
 ghost use Rattle.machine.specs.Record.{stateOf, allBelow, fine, done, Halves};
-ghost use Rattle.tables.specs.Laid.{Laid};
+ghost use Rattle.tables.specs.Laid.{Laid, Waits};
 ghost use Rattle.tables.specs.Waits.{Recorded};
 ghost use Rattle.machine.specs.Updates.{Triangle};
 ghost use Rattle.machine.specs.Steps.{StepTables};
-ghost use Rattle.machine.specs.Stepped.{endedWith, steppedOf};
+ghost use Rattle.machine.specs.Stepped.{endedWith, steppedOf, comesTo};
 
 // Accesses made, and the number held, of each of 16 workers.
 pub struct State {
@@ -28,6 +30,12 @@ pub struct State {
 pub struct Stepped {
     pub state: State,
     pub taken: usize,
+    pub number: u32,
+}
+
+// What a pick comes to: the state after it, and the number that refuses it, 0 if it was taken.
+pub struct Outcome {
+    pub state: State,
     pub number: u32,
 }
 
@@ -50,6 +58,67 @@ impl State {
             state: self,
             taken: taken,
             number: number,
+        }
+    }
+
+    // Takes one pick of worker w: its next load or store.
+    pub fn pick(
+        mut self,
+        sums: &mut [i64],
+        w: usize,
+        workers: usize,
+        counts: &[u32; 16],
+        first: &[u32; 16],
+        row: &[u16; 69632],
+        begins: &[u32; 4096],
+        leaves: &[u16; 4096],
+        blocks: &[u8; 512],
+        starts: &[u32],
+        displacements: &[i32],
+        order: &[u32],
+        at: &[u16; 69632],
+        beside: &[i32; 69632],
+    ) -> Outcome
+        requires { ⌜ (workers ≤ maxWorkers)
+            × StepTables (length (now sums)) (now counts) (now first) (now row) (now begins) (now leaves) (now starts) (now displacements) (now order) (now at) ⌝ }
+        ensures { λ r. ⌜ ((j : Job) (ends : List ℕ) → workers ≡ machine.workers j
+            → Laid j (now (counts .entry)) (now (first .entry)) (now (row .entry)) (now (begins .entry)) (now (leaves .entry)) ends
+            → Triangle j (now (starts .entry)) (now (displacements .entry)) (now (order .entry)) (now (at .entry)) (now (beside .entry))
+            → Waits j (self .made) (now (blocks .entry))
+            → (stateOf (r .state) (now (sums .exit)), r .number) ≡ comesTo (stateOf self (now (sums .entry))) (machine.step j (stateOf self (now (sums .entry))) w)) ⌝ }
+    {
+        let answer = step(
+            &self.made,
+            &self.held,
+            sums,
+            w,
+            workers,
+            counts,
+            first,
+            row,
+            begins,
+            leaves,
+            blocks,
+            starts,
+            displacements,
+            order,
+            at,
+            beside,
+        );
+        let held = match answer {
+            Pick::Refused(number) => {
+                return Outcome {
+                    state: self,
+                    number: number,
+                };
+            }
+            Pick::Taken(held) => held,
+        };
+        self.made[w] += 1;
+        self.held[w] = held;
+        Outcome {
+            state: self,
+            number: 0,
         }
     }
 
@@ -116,6 +185,14 @@ impl State {
             k += 1;
         }
         self.ended(k, 0)
+    }
+
+    // How many accesses worker w has made.
+    pub fn moves(self, w: usize) -> u32
+        requires { ⌜ w < 16 ⌝ }
+        ensures { λ r. ⌜ r ≡ count (self .made) w ⌝ }
+    {
+        self.made[w]
     }
 
     // No worker has made more than its accesses, two for each of its updates.

@@ -1,7 +1,7 @@
 -- `run::state::State::take` meets its contract: k picks are taken.
 use mathlib.Core.Path.{_≡_, refl, _∙_}
 use mathlib.Core.Logic.{⊎-elim}
-use Prim.Native.Nat.{ℕ, _-_, _≤_, _<_}
+use Prim.Native.Nat.{_-_, _≤_}
 use native.Mathlib.Omega.{arith}
 use lib.ListN.{length, getD}
 use mir.Syntax.{w64}
@@ -9,7 +9,8 @@ use mir.Val.{SFits}
 use mir.Facts.{toZ-ofZ}
 use borrow.Author.Needs.{needs}
 use Rattle.machine.specs.Record.{stateOf}
-use Rattle.machine.proofs.RunTurns.{Running, running-start, running-none, running-halt, running-worker, running-renewed, running-on}
+use Rattle.machine.proofs.TableSteps.{Bounds, step-bounds}
+use Rattle.machine.proofs.RunTurns.{Running, running-start, running-none, running-halt, running-renewed, running-on}
 use Rattle.machine.proofs.state.State.take.Statement.{statement}
 use Rattle.machine.proofs.state.State.take.Tie as tie
 
@@ -85,19 +86,12 @@ returns c =
 enum-known-answer-2 : tie.Need-enum-known-answer-2 Inv-loop μ-loop
 enum-known-answer-2 c = search needs
 
--- a pick that is taken is of a worker of the plan, and its count is inside
-record Bounds (w made : ℕ) : Type 0 where
-  worker : w < 16
-  few : made < 139264
-
+-- a pick that is taken is of one of sixteen workers, and its count is inside
 bounds : (c : tie.After-known-told2 Inv-loop μ-loop) → let l = turn c .before in let w = getD (entry (turn c) .args .schedule .now) (l .loop .k) 0 in Bounds w (getD (l .loop .self .made) w 0)
 bounds c =
-    let x = c .before .before .before .before in
     let t = turn c in
     let s = entry t in
-    let (worker, left) = running-worker (t .before .loop .inv .2) (s .pre .0) (s .pre .1) (t .loop-test .taken) (x .step .ensures) (c .before .answer2 .given .1) in
-    let low : getD (s .args .schedule .now) (t .before .loop .k) 0 < 16 = omega (arith, worker, s .pre .0) in
-    record { worker = low; few = omega (arith, left, s .pre .2 .inside .few _ low) }
+    step-bounds (s .pre .0) (s .pre .2 .inside) (t .before .loop .blocks) (c .before .before .before .before .step .ensures) (c .before .answer2 .given .1)
 
 in-range : (c : tie.After-known-told2 Inv-loop μ-loop) → SFits w64 (c .before .answer2 .given .0 .0)
 in-range c = search needs
