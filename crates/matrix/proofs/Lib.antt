@@ -14,3 +14,4 @@ pub mod Cut
 pub mod Regular
 pub mod Cursors
 pub mod RowsMet
+pub mod SmallForces

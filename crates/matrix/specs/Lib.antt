@@ -2,3 +2,4 @@ pub mod Limits
 pub mod Matrix
 pub mod Checks
 pub mod Product
+pub mod SmallForces
