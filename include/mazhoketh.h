@@ -16,7 +16,7 @@
  *
  * The lists belong to the caller; nothing is kept between calls, and calls may run at the same time on different
  * lists. A list that is written overlaps no other list of the call, and no pointer is null, also of an empty list.
- * A call uses up to 0.6 MiB of stack, mzk_plan up to 1 MiB, those on a run up to 1.9 MiB and mzk_read up to 2.2 MiB. */
+ * A call uses up to 0.6 MiB of stack, mzk_plan up to 1 MiB, those on a run up to 1.3 MiB and mzk_read up to 2 MiB. */
 #ifndef MAZHOKETH_H
 #define MAZHOKETH_H
 
