@@ -9,12 +9,12 @@ use lib.Dec.{leb, eqb}
 use lib.ListN.{length, getD, take, drop, length-drop, drop-of-length-le}
 use lib.Seq.{getD-drop}
 use borrow.Author.Tests.{eq-eqb, ne-eqb}
-use Rattle.reader.specs.declared.numbers.Number.the-variants as num
+use Rattle.scan.specs.declared.numbers.Number.the-variants as num
 use Rattle.market.specs.Bytes.{classOf, isEnd, isSpace, blank, lineFeed, minus, digit0, digit9}
 use Rattle.market.specs.Fields.{got, number}
-use Rattle.reader.specs.Positions.{numberAt}
-use Rattle.reader.proofs.Left.{left-cons}
-use Rattle.reader.proofs.numbers.Answers.{scan-at, scan-no}
+use Rattle.scan.specs.Positions.{numberAt}
+use Rattle.scan.proofs.Left.{left-cons}
+use Rattle.scan.proofs.numbers.Answers.{scan-at, scan-no}
 use Rattle.listing.specs.declared.first_line.Parameters.the-variants.{Given, Missing}
 use Rattle.listing.specs.Listing.{firstLine, last, second, parametersOf}
 use Rattle.listing.specs.FirstLine.{inWord, given}

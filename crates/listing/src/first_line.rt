@@ -1,7 +1,7 @@
 // The first line: where it ends, and its two numbers.
 
-use reader::numbers::Number;
-use reader::numbers::read_number;
+use scan::numbers::Number;
+use scan::numbers::read_number;
 ghost use mathlib.Core.Path.{_≡_};
 ghost use lib.ListN.{length};
 ghost use Rattle.listing.specs.Listing.{firstLine, parametersOf};

@@ -11,7 +11,8 @@ use Rattle.reader.specs.declared.entries.Scanned.{Scanned}
 use Rattle.reader.specs.declared.entry.Entry.{Entry}
 use Rattle.reader.specs.declared.entry.Entry.the-variants as line
 use Rattle.market.specs.Parse.{Triplet, triplet, Parsed, rejected, isAmong, entries}
-use Rattle.reader.specs.Arrays.{tripletsOf, parsed, Arrays}
+use Rattle.compress.specs.Arrays.{tripletsOf, Arrays}
+use Rattle.reader.specs.Scanned.{parsed}
 
 -- the entry line at p, by what is made of the text from it on: its place is taken if it is new; or the line is refused
 abbrev pub EntryAt : List ℕ → (p n : ℕ) → Entry → Type 0

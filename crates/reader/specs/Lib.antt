@@ -1,10 +1,5 @@
--- What the contracts of the reader's parts speak of: the table of classes, positions, arrays, entry lines, marks, buckets. Nothing here is part of document 01's meaning.
-pub mod Classes
-pub mod Positions
-pub mod Arrays
+-- What the contracts of the reader's parts speak of: what is scanned, entry lines, marks. Nothing here is part of document 01's meaning.
+pub mod Scanned
 pub mod Entries
 pub mod Opening
 pub mod Marks
-pub mod Slots
-pub mod Buckets
-pub mod Rows

@@ -10,8 +10,9 @@ ghost use mathlib.Core.List.{[]};
 ghost use Prim.Native.Nat.{ℕ};
 ghost use lib.ListN.{drop};
 ghost use Rattle.market.specs.Parse.{entries};
-ghost use Rattle.reader.specs.Classes.{Classes};
-ghost use Rattle.reader.specs.Arrays.{parsed, Arrays, Within};
+ghost use Rattle.scan.specs.Classes.{Classes};
+ghost use Rattle.compress.specs.Arrays.{Arrays};
+ghost use Rattle.reader.specs.Scanned.{parsed, Within};
 ghost use Rattle.reader.specs.Entries.{Held, remaining, Ended};
 
 // A text's rows and count of entries, or its refusal with number and line.

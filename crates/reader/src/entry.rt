@@ -1,13 +1,13 @@
 // One entry line of a text.
 
-use crate::lines::Fields;
-use crate::lines::read_line;
+use scan::lines::Fields;
+use scan::lines::read_line;
 ghost use mathlib.Core.Path.{_≡_};
 ghost use Prim.Native.Nat.{_≤_};
 ghost use Rattle.base.specs.Integers.{within};
 ghost use Rattle.matrix.specs.Limits.{maxRows, maxValue};
 ghost use Rattle.market.specs.Parse.{isEntry};
-ghost use Rattle.reader.specs.Classes.{Classes};
+ghost use Rattle.scan.specs.Classes.{Classes};
 ghost use Rattle.reader.specs.Entries.{EntryAt};
 
 // Whether a value is within its limits.

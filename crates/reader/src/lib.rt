@@ -1,16 +1,12 @@
 // The reader of Matrix Market integer symmetric text.
-mod buckets;
-mod classes;
 mod entries;
 mod entry;
-mod lines;
 mod marks;
-pub mod numbers;
 mod opening;
 mod parse;
-mod rows;
 
 use base::Answer;
+use compress::rows;
 use entries::Scanned;
 ghost use mathlib.Core.Path.{_≡_};
 ghost use lib.ListN.{length};

@@ -5,7 +5,7 @@ ghost use mathlib.Core.List.{List, []};
 ghost use Prim.Native.Nat.{_≤_, _<_};
 ghost use lib.IntN.{ℤ};
 ghost use lib.ListN.{length};
-ghost use Rattle.reader.specs.Arrays.{tripletsOf};
+ghost use Rattle.compress.specs.Arrays.{tripletsOf};
 ghost use Rattle.reader.specs.Entries.{Lower};
 ghost use Rattle.reader.specs.Marks.{isMarked, marked, bitOf, Marks};
 

@@ -1,14 +1,14 @@
 // The lines before the size line: line 1, and the lines that begin with %.
 
-use crate::classes::LINE_END;
-use crate::classes::class_of;
 use market::HEADER;
+use scan::classes::LINE_END;
+use scan::classes::class_of;
 ghost use mathlib.Core.Path.{_≡_};
 ghost use Prim.Native.Nat.{_≤_};
 ghost use lib.ListN.{length};
 ghost use Rattle.base.specs.Lists.{begins};
 ghost use Rattle.market.specs.Bytes.{header};
-ghost use Rattle.reader.specs.Classes.{Classes};
+ghost use Rattle.scan.specs.Classes.{Classes};
 ghost use Rattle.reader.specs.Opening.{LineEnds, Skipped};
 
 // Whether a text begins with line 1.

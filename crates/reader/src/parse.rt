@@ -1,12 +1,12 @@
 // A whole text: its rows and entries, or its refusal.
 
-use crate::classes::table;
 use crate::entries::Scanned;
 use crate::entries::read_entries;
-use crate::lines::Fields;
-use crate::lines::read_line;
 use crate::opening::has_header;
 use crate::opening::skip_comments;
+use scan::classes::table;
+use scan::lines::Fields;
+use scan::lines::read_line;
 ghost use mathlib.Core.Path.{_≡_};
 ghost use mathlib.Core.Bool.{_&&_};
 ghost use Prim.Native.Nat.{_≤_};
@@ -14,8 +14,9 @@ ghost use lib.Dec.{eqb, leb};
 ghost use lib.ListN.{drop};
 ghost use Rattle.matrix.specs.Limits.{maxRows, maxEntries};
 ghost use Rattle.market.specs.Parse.{sizeLine, parse};
-ghost use Rattle.reader.specs.Classes.{Classes};
-ghost use Rattle.reader.specs.Arrays.{parsed, Arrays};
+ghost use Rattle.scan.specs.Classes.{Classes};
+ghost use Rattle.compress.specs.Arrays.{Arrays};
+ghost use Rattle.reader.specs.Scanned.{parsed};
 
 // Whether rows, columns and entry count are a size within limits.
 fn is_size(rows: u64, columns: u64, count: u64) -> bool

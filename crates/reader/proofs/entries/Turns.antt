@@ -13,9 +13,9 @@ use Rattle.base.specs.Refusals as no
 use Rattle.matrix.specs.Limits.{maxRows}
 use Rattle.reader.specs.declared.entry.Entry.the-variants as line
 use Rattle.market.specs.Parse.{Triplet, triplet, matrixText, rejected, isAmong, entries}
-use Rattle.reader.specs.Arrays.{tripletsOf}
+use Rattle.compress.specs.Arrays.{tripletsOf}
 use Rattle.reader.specs.Entries.{EntryAt, Held, remaining}
-use Rattle.reader.proofs.Left.{left-cons}
+use Rattle.scan.proofs.Left.{left-cons}
 use Rattle.reader.proofs.entries.Triplets.{triplets-more}
 
 -- what holds of the first i places and of the next

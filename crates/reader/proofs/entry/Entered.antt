@@ -7,14 +7,14 @@ use native.Mathlib.Omega.{arith}
 use lib.IntN.{ℤ}
 use lib.ListN.{drop}
 use Rattle.base.specs.Refusals as no
-use Rattle.reader.specs.declared.lines.Fields.the-variants as fld
+use Rattle.scan.specs.declared.lines.Fields.the-variants as fld
 use Rattle.reader.specs.declared.entry.Entry.the-variants as line
 use Rattle.market.specs.Fields.{fields}
 use Rattle.market.specs.Parse.{Triplet, triplet, rejected, isEntry, isAmong, onLine, entries}
-use Rattle.reader.specs.Positions.{fieldsAt}
+use Rattle.scan.specs.Positions.{fieldsAt}
 use Rattle.reader.specs.Entries.{EntryAt}
-use Rattle.reader.proofs.Left.{left-later}
-use Rattle.reader.proofs.lines.Lines.{line-at, line-no}
+use Rattle.scan.proofs.Left.{left-later}
+use Rattle.scan.proofs.lines.Lines.{line-at, line-no}
 use Rattle.market.proofs.Inside.{inside}
 
 module _ (s : List ℕ) (p n : ℕ) where

@@ -7,7 +7,7 @@ use lib.ListN.{length, getD, drop, drop-of-length-le}
 use borrow.Author.Tests.{eq-eqb, ne-eqb}
 use Rattle.market.specs.Bytes.{classOf, percent}
 use Rattle.market.specs.Parse.{place, comments}
-use Rattle.reader.proofs.Left.{left-cons}
+use Rattle.scan.proofs.Left.{left-cons}
 
 module _ (s : List ℕ) (i k : ℕ) where
   pub ends-here : i < length s → classOf (getD s i 0) ≡ 4 → comments true k (drop i s) ≡ comments false (suc k) (drop (i + 1) s)

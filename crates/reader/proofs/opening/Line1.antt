@@ -8,7 +8,7 @@ use lib.Dec.{eqb}
 use lib.ListN.{length, getD, drop, drop-of-length-le}
 use borrow.Author.Tests.{eq-eqb, ne-eqb}
 use Rattle.base.specs.Lists.{begins}
-use Rattle.reader.proofs.Left.{left-cons}
+use Rattle.scan.proofs.Left.{left-cons}
 
 module _ (s hs : List ℕ) (i : ℕ) where
   module _ (h : i < length hs) where

@@ -16,13 +16,13 @@ use Rattle.base.specs.Lists.{begins}
 use Rattle.base.specs.Refusals as no
 use Rattle.base.proofs.Booleans.{and-left, and-right}
 use Rattle.matrix.specs.Limits.{maxRows, maxEntries, maxText}
-use Rattle.reader.specs.declared.lines.Fields.the-variants as fld
+use Rattle.scan.specs.declared.lines.Fields.the-variants as fld
 use Rattle.market.specs.Bytes.{header}
 use Rattle.market.specs.Fields.{fields}
 use Rattle.market.specs.Parse.{rejected, entries, sized, sizeLine, Place, place, comments, parse}
-use Rattle.reader.specs.Positions.{fieldsAt}
-use Rattle.reader.proofs.Left.{left-later}
-use Rattle.reader.proofs.lines.Lines.{line-at, line-no}
+use Rattle.scan.specs.Positions.{fieldsAt}
+use Rattle.scan.proofs.Left.{left-later}
+use Rattle.scan.proofs.lines.Lines.{line-at, line-no}
 use Rattle.reader.proofs.opening.Line1.{begins-length}
 
 pub fits-natural : (v : ℤ) → SFits w64 v → Fits w64 (natAbs v)

@@ -4,9 +4,9 @@ use mathlib.Core.Path.{_≡_, sym, _∙_}
 use mathlib.Core.List.{List}
 use Prim.Native.Nat.{ℕ, _+_}
 use lib.ListN.{drop}
-use Rattle.reader.specs.declared.numbers.Number.the-variants as num
+use Rattle.scan.specs.declared.numbers.Number.the-variants as num
 use Rattle.market.specs.Fields.{number}
-use Rattle.reader.specs.Positions.{numberAt}
+use Rattle.scan.specs.Positions.{numberAt}
 use Rattle.listing.proofs.FirstLine.{no-first, no-gap, other-gap, no-second, more-after, both-given}
 use Rattle.listing.proofs.first_line.read_parameters.Statement.{statement}
 use Rattle.listing.proofs.first_line.read_parameters.Tie as tie

@@ -9,7 +9,7 @@ use mir.Val.{SFits}
 use mir.Facts.{toZ-ofZ}
 use Rattle.reader.specs.declared.entry.Entry.the-variants as line
 use Rattle.market.specs.Parse.{isAmong}
-use Rattle.reader.specs.Arrays.{tripletsOf}
+use Rattle.compress.specs.Arrays.{tripletsOf}
 use Rattle.reader.specs.Entries.{EntryAt, remaining}
 use Rattle.reader.specs.Marks.{isMarked}
 use Rattle.reader.proofs.marks.Triangle.{marks-none}

@@ -13,10 +13,10 @@ use mir.Val.{SFits, toZ, ofZ}
 use mir.Facts.{toZ-ofZ}
 use borrow.Author.Tests.{not-true, not-false}
 use Rattle.base.specs.Refusals as no
-use Rattle.reader.specs.declared.lines.Fields.the-variants as fld
+use Rattle.scan.specs.declared.lines.Fields.the-variants as fld
 use Rattle.market.specs.Fields.{fields}
 use Rattle.market.specs.Parse.{rejected, sizeLine, entries}
-use Rattle.reader.specs.Positions.{fieldsAt}
+use Rattle.scan.specs.Positions.{fieldsAt}
 use Rattle.base.proofs.Integers.{not-negative}
 use Rattle.reader.proofs.parse.Sizes.{fits-natural, size-broken, size-negative, size-tested, size-limits}
 use Rattle.reader.proofs.parse.parse_size.Statement.{statement}

@@ -1,0 +1,102 @@
+// Values, and lines of three fields, at a position of a text.
+
+use crate::classes::LINE_END;
+use crate::classes::SIGN;
+use crate::classes::class_of;
+use crate::numbers::Number;
+use crate::numbers::read_field;
+use crate::numbers::scan_number;
+use crate::numbers::skip_spaces;
+ghost use mathlib.Core.Path.{_≡_};
+ghost use lib.ListN.{drop};
+ghost use Rattle.market.specs.Fields.{value, valueField, fields};
+ghost use Rattle.scan.specs.Classes.{Classes};
+ghost use Rattle.scan.specs.Positions.{valueAt, fieldsAt};
+
+// A value and the position after it, or none.
+pub(crate) enum Value {
+    At(i64, usize),
+    No,
+}
+
+// The value at a position: a number that may carry a sign, and no `-0`.
+fn read_value(classes: &[u8; 256], s: &[u8], at: usize) -> Value
+    requires { ⌜ Classes (now classes) ⌝ }
+    ensures { λ r. ⌜ r ≡ valueAt at (value (drop at (now (s .entry)))) ⌝ }
+{
+    if s.len() <= at {
+        return Value::No;
+    }
+    let b = s[at];
+    if class_of(classes, b) == SIGN {
+        let found = scan_number(classes, s, at + 1);
+        let Number::At(v, p) = found else {
+            return Value::No;
+        };
+        if v == 0 {
+            return Value::No;
+        }
+        let m = v as i64;
+        return Value::At(0 - m, p);
+    }
+    let plain = scan_number(classes, s, at);
+    let Number::At(w, q) = plain else {
+        return Value::No;
+    };
+    Value::At(w as i64, q)
+}
+
+// One or more spaces and a value at a position.
+fn read_value_field(classes: &[u8; 256], s: &[u8], at: usize) -> Value
+    requires { ⌜ Classes (now classes) ⌝ }
+    ensures { λ r. ⌜ r ≡ valueAt at (valueField (drop at (now (s .entry)))) ⌝ }
+{
+    let p = skip_spaces(classes, s, at);
+    if p <= at {
+        return Value::No;
+    }
+    read_value(classes, s, p)
+}
+
+// A line's three fields and the position of the next line; or a line that breaks the form.
+pub enum Fields {
+    Line {
+        row: u64,
+        column: u64,
+        value: i64,
+        next: usize,
+    },
+    Broken,
+}
+
+// The line at a position.
+pub fn read_line(classes: &[u8; 256], s: &[u8], at: usize) -> Fields
+    requires { ⌜ Classes (now classes) ⌝ }
+    ensures { λ r. ⌜ r ≡ fieldsAt at (fields (drop at (now (s .entry)))) ⌝ }
+{
+    let first = scan_number(classes, s, at);
+    let Number::At(row, p) = first else {
+        return Fields::Broken;
+    };
+    let second = read_field(classes, s, p);
+    let Number::At(column, q) = second else {
+        return Fields::Broken;
+    };
+    let third = read_value_field(classes, s, q);
+    let Value::At(value, e) = third else {
+        return Fields::Broken;
+    };
+    if s.len() <= e {
+        return Fields::Broken;
+    }
+    let z = s[e];
+    if class_of(classes, z) != LINE_END {
+        return Fields::Broken;
+    }
+    Fields::Line {
+        row,
+        column,
+        value,
+        next: e + 1,
+    }
+}

@@ -1,0 +1,104 @@
+// Numbers at a position of a text.
+
+use crate::classes::DIGIT;
+use crate::classes::SPACE;
+use crate::classes::class_of;
+use crate::classes::table;
+ghost use mathlib.Core.Path.{_≡_};
+ghost use Prim.Native.Nat.{_+_, _<_};
+ghost use lib.ListN.{drop};
+ghost use Rattle.market.specs.Fields.{number, spaces, field};
+ghost use Rattle.scan.specs.Classes.{Classes};
+ghost use Rattle.scan.specs.Positions.{numberAt, isNumeral, pick};
+
+// A number and the position after it, or none.
+pub enum Number {
+    At(u64, usize),
+    No,
+}
+
+fn wide(x: u8) -> u64
+    ensures { λ r. ⌜ (r ≡ x) × (r < 256) ⌝ }
+{
+    x as u64
+}
+
+// What k digits make, of which the first is given, and which end before next.
+fn numeral(first: u8, v: u64, k: usize, next: usize) -> Number
+    ensures { λ r. ⌜ r ≡ pick (isNumeral first k) (Number.At v next) Number.No ⌝ }
+{
+    if k < 1 {
+        return Number::No;
+    }
+    if 10 < k {
+        return Number::No;
+    }
+    if k <= 1 {
+        return Number::At(v, next);
+    }
+    if first == b'0' {
+        return Number::No;
+    }
+    Number::At(v, next)
+}
+
+// The number at a position: 1 to 10 digits and no needless leading zero.
+pub(crate) fn scan_number(classes: &[u8; 256], s: &[u8], at: usize) -> Number
+    requires { ⌜ Classes (now classes) ⌝ }
+    ensures { λ r. ⌜ r ≡ numberAt at (number (drop at (now (s .entry)))) ⌝ }
+{
+    if s.len() <= at {
+        return Number::No;
+    }
+    let first = s[at];
+    let mut v: u64 = 0;
+    let mut i = at;
+    while i < s.len() {
+        let b = s[i];
+        if class_of(classes, b) != DIGIT {
+            return numeral(first, v, i - at, i);
+        }
+        if 10 <= i - at {
+            return Number::No;
+        }
+        v = v * 10 + (wide(b) - 48);
+        i += 1;
+    }
+    numeral(first, v, i - at, i)
+}
+
+// The same for a caller that has no table.
+pub fn read_number(s: &[u8], at: usize) -> Number
+    ensures { λ r. ⌜ r ≡ numberAt at (number (drop at (now (s .entry)))) ⌝ }
+{
+    let classes = table();
+    scan_number(&classes, s, at)
+}
+
+// The position after the spaces at a position.
+pub(crate) fn skip_spaces(classes: &[u8; 256], s: &[u8], at: usize) -> usize
+    requires { ⌜ Classes (now classes) ⌝ }
+    ensures { λ r. ⌜ r ≡ at + spaces (drop at (now (s .entry))) ⌝ }
+{
+    let mut i = at;
+    while i < s.len() {
+        let b = s[i];
+        if class_of(classes, b) != SPACE {
+            return i;
+        }
+        i += 1;
+    }
+    i
+}
+
+// One or more spaces and a number at a position.
+pub(crate) fn read_field(classes: &[u8; 256], s: &[u8], at: usize) -> Number
+    requires { ⌜ Classes (now classes) ⌝ }
+    ensures { λ r. ⌜ r ≡ numberAt at (field (drop at (now (s .entry)))) ⌝ }
+{
+    let p = skip_spaces(classes, s, at);
+    if p <= at {
+        return Number::No;
+    }
+    scan_number(classes, s, p)
+}
