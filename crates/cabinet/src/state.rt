@@ -19,7 +19,7 @@ ghost use Rattle.words.specs.LittleEndian.{unsigned, signed, unsignedBytes, sig
 ghost use Rattle.cabinet.specs.Runs.{stateBytes, countBytes, replyTo};
 ghost use Rattle.lent.specs.Word.{word};
 
-pub fn load_state(bytes: &[u8]) -> State
+pub(crate) fn load_state(bytes: &[u8]) -> State
     requires { ⌜ length (now bytes) ≡ stateBytes ⌝ }
     ensures { λ r. ⌜ (r .made ≡ unsigned 4 (take countBytes (now (bytes .entry)))) × (r .held ≡ signed 8 (drop countBytes (now (bytes .entry)))) ⌝ }
 {
@@ -33,7 +33,7 @@ pub fn load_state(bytes: &[u8]) -> State
     }
 }
 
-pub fn store_state(state: State, bytes: &mut [u8])
+pub(crate) fn store_state(state: State, bytes: &mut [u8])
     requires { ⌜ length (now bytes) ≡ stateBytes ⌝ }
     ensures { λ _. ⌜ now (bytes .exit) ≡ stored (unsignedBytes 4 (state .made) ++ signedBytes 8 (state .held)) (now (bytes .entry)) ⌝ }
 {
@@ -44,7 +44,7 @@ pub fn store_state(state: State, bytes: &mut [u8])
 }
 
 // The word of a call whose state has not 192 bytes: 5, 6, 8, then 11.
-pub fn no_state(
+pub(crate) fn no_state(
     n: u32,
     starts: &[u32],
     columns: &[u32],
