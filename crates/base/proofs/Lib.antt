@@ -6,5 +6,6 @@ pub mod Sums
 pub mod Graph
 pub mod Each
 pub mod Left
+pub mod Found
 pub mod Replies
 pub mod Fill

@@ -1,17 +1,9 @@
 pub mod Matrix
 pub mod Ascending
 pub mod Within
-pub mod Found
 pub mod Checks
 pub mod Rows
 pub mod Symmetry
-pub mod RowForce
-pub mod Moved
-pub mod Forces
-pub mod Replied
 pub mod Entries
 pub mod Cut
-pub mod Regular
-pub mod Cursors
-pub mod RowsMet
 pub mod SmallForces

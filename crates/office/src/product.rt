@@ -25,7 +25,7 @@ fn product_in(
     ensures { λ r. ⌜ Answered (productReply (matrixOf n (now (starts .entry)) (now (columns .entry)) (now (values .entry))) (now (displacements .entry)) (length (now (forces .entry)) / 8)) (signedBytes 8 (product (matrixOf n (now (starts .entry)) (now (columns .entry)) (now (values .entry))) (now (displacements .entry)))) (now (forces .entry)) r (now (forces .exit)) ⌝ }
 {
     let room = least(forces.len() / 8, sums.len());
-    let answer = matrix::product(n, starts, columns, values, displacements, &mut sums[..room]);
+    let answer = multiply::product(n, starts, columns, values, displacements, &mut sums[..room]);
     let Answer::Accepted(_) = answer else {
         return word_of(answer);
     };

@@ -13,7 +13,7 @@ use fields::Record;
 use fields::WHOLE;
 use fields::WIDTH;
 use fields::record_at;
-use matrix::is_matrix;
+use symmetric::is_matrix;
 ghost use mathlib.Core.Path.{_≡_};
 ghost use mathlib.Core.List.{List};
 ghost use lib.IntN.{ℤ};

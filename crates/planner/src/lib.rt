@@ -5,7 +5,7 @@ use base::Answer;
 use base::MATRIX;
 use base::PARAMETER;
 use base::SHORT;
-use matrix::is_matrix;
+use symmetric::is_matrix;
 
 mod groups;
 mod loads;

@@ -15,7 +15,7 @@ pub fn write(n: u32, starts: &[u32], columns: &[u32], values: &[i32], text: &mut
     ensures { λ r. ⌜ replyOf r ≡ writeReply (matrixOf n (now (starts .entry)) (now (columns .entry)) (now (values .entry))) (length (now (text .entry))) ⌝ }
     ensures { λ _. ⌜ now (text .exit) ≡ lent (writeReply (matrixOf n (now (starts .entry)) (now (columns .entry)) (now (values .entry))) (length (now (text .entry)))) (written (matrixOf n (now (starts .entry)) (now (columns .entry)) (now (values .entry)))) (now (text .entry)) ⌝ }
 {
-    if !matrix::is_matrix(n, starts, columns, values) {
+    if !symmetric::is_matrix(n, starts, columns, values) {
         return Answer::Refused(base::MATRIX, 0);
     }
     let size = rows::tally_rows(n, starts, columns, values);

@@ -13,7 +13,7 @@ use borrow.Author.Needs.{needs}
 use Rattle.base.specs.Integers.{within}
 use Rattle.base.proofs.Integers.{abs-sub, fits-abs}
 use Rattle.matrix.proofs.Within.{within-both}
-use Rattle.matrix.proofs.Found.{Found, found-none, found-next, found-all}
+use Rattle.base.proofs.Found.{Found, found-none, found-next, found-all}
 use Rattle.matrix.proofs.limits.all_within.Statement.{statement}
 use Rattle.matrix.proofs.limits.all_within.Tie as tie
 

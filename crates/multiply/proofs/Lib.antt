@@ -1,0 +1,4 @@
+mod RowForce
+mod Moved
+mod Forces
+mod Replied

@@ -1,0 +1,3 @@
+mod Regular
+mod Cursors
+mod RowsMet

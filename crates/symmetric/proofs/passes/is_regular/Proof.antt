@@ -1,0 +1,17 @@
+-- `passes::is_regular`: as many cursors as a matrix has rows at most.
+use borrow.Author.Needs.{needs}
+use Rattle.matrix.proofs.Checks.{shape}
+use Rattle.symmetric.proofs.passes.is_regular.Statement.{statement}
+use Rattle.symmetric.proofs.passes.is_regular.Tie as tie
+
+slice-aggregate-meet-rows : tie.Need-slice-aggregate-meet-rows
+slice-aggregate-meet-rows c = search needs
+
+meet-rows-requires : tie.Need-meet-rows-requires
+meet-rows-requires c κs = let a = c .before .before .before .pre in (a, shape _ a .few)
+
+returns : tie.Need-returns
+returns c = search needs
+
+pub is-regular-spec : {M : Type 1} → statement M
+is-regular-spec = tie.close (tie.spec slice-aggregate-meet-rows meet-rows-requires returns)
