@@ -20,7 +20,7 @@ use Rattle.market.specs.FullRows.{full, ofTriplets, readMatrix, readReply}
 use Rattle.market.specs.AcceptedText.{leftIn, SameRows}
 use Rattle.market.proofs.Accepted.{parse-accepted}
 use Rattle.market.proofs.AcceptedText.{accepted-text}
-use Rattle.planner.specs.Planner.{plan, areParameters}
+use Rattle.race.specs.Planner.{plan, areParameters}
 use Rattle.planner.proofs.PlanReply.{parameters-in}
 use Rattle.listing.specs.declared.first_line.Parameters.the-variants.{Given, Missing}
 use Rattle.listing.specs.Listing.{maxInput, firstLine, restOf, Parameters, parameters, missing, parametersOf, refusedLine, planned, judged, listing}

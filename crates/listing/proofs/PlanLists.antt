@@ -12,8 +12,8 @@ use Rattle.matrix.specs.Matrix.{Matrix, isMatrix, matrixCheck}
 use Rattle.matrix.proofs.Matrix.{matrix-facts}
 use Rattle.plan.specs.Groups.{Plan, flat, planOf}
 use Rattle.plan.proofs.FlatRecords.{plan-flat}
-use Rattle.planner.specs.Planner.{plan, areParameters, planReply}
-use Rattle.planner.proofs.PlannedSound.{made-long, planned-sound}
+use Rattle.race.specs.Planner.{plan, areParameters, planReply}
+use Rattle.race.proofs.PlannedSound.{made-long, planned-sound}
 use Rattle.listing.specs.Listing.{parameters, planned, planListing, refusedLine}
 
 -- the first k records of a flat list, and an order, are the plan

@@ -14,7 +14,7 @@ use Rattle.market.specs.Parse.{Parsed, matrixText, rejected, parse}
 use Rattle.market.specs.FullRows.{ofTriplets}
 use Rattle.market.specs.Text.{natural}
 use Rattle.plan.specs.Groups.{Group, Plan, fields}
-use Rattle.planner.specs.Planner.{areParameters, plan}
+use Rattle.race.specs.Planner.{areParameters, plan}
 
 -- "24,576 bytes together at most"
 abbrev pub maxInput : ℕ

@@ -22,8 +22,8 @@ use Rattle.plan.specs.Sound.{sound, isSound}
 use Rattle.plan.proofs.Cut.{mostFields}
 use Rattle.plan.proofs.Once.{once}
 use Rattle.plan.proofs.Sound.{sound-facts}
-use Rattle.planner.specs.Planner.{planRows, plan, areParameters, planReply}
-use Rattle.planner.proofs.PlannedSound.{planned-sound}
+use Rattle.race.specs.Planner.{planRows, plan, areParameters, planReply}
+use Rattle.race.proofs.PlannedSound.{planned-sound}
 use Rattle.words.specs.LittleEndian.{bytesOf, unsignedBytes, stored}
 use Rattle.words.proofs.Blocks.{length-encoded}
 use Rattle.lent.specs.Word.{word}

@@ -8,7 +8,7 @@ use Rattle.market.specs.Parse.{parse}
 use Rattle.market.specs.FullRows.{readMatrix, readReply}
 use Rattle.matrix.specs.Matrix.{Matrix}
 use Rattle.plan.specs.Groups.{flat}
-use Rattle.planner.specs.Planner.{plan, planReply}
+use Rattle.race.specs.Planner.{plan, planReply}
 use Rattle.words.specs.LittleEndian.{unsignedBytes, signedBytes}
 use Rattle.lent.specs.Word.{word}
 

@@ -12,8 +12,8 @@ use Rattle.base.specs.Lists.{concat, filter, isIn, trim, trimCons}
 use Rattle.base.proofs.Booleans.{and-right, and-false}
 use Rattle.levels.specs.Levels.{reach, ownLevels, levels, levelsFrom, region}
 use Rattle.plan.specs.Groups.{Group, Plan, width, fields}
-use Rattle.planner.specs.Loads.{load}
-use Rattle.planner.specs.Planner.{Pair, pairs, planPairs, _then_, leaf, splits, split, planGroup}
+use Rattle.race.specs.Loads.{load}
+use Rattle.race.specs.Planner.{Pair, pairs, planPairs, _then_, leaf, splits, split, planGroup}
 use Rattle.planner.specs.Records.{Holds}
 use Rattle.planner.proofs.Holding.{holds-leaf, holds-then}
 

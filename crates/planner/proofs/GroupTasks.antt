@@ -16,8 +16,8 @@ use Rattle.levels.specs.Sorted.{Sorted}
 use Rattle.levels.proofs.Proper.{proper-same}
 use Rattle.levels.proofs.Own.{own-same}
 use Rattle.plan.specs.Groups.{width, fields}
-use Rattle.planner.specs.Loads.{load}
-use Rattle.planner.specs.Planner.{planGroup}
+use Rattle.race.specs.Loads.{load}
+use Rattle.race.specs.Planner.{planGroup}
 use Rattle.planner.specs.Stretches.{levelsIn, Levelled, Loaded}
 use Rattle.planner.specs.Records.{groupOf, Holds}
 use Rattle.planner.specs.Cycle.{GroupTask, PairsTask, pairsPlan}

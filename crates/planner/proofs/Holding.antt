@@ -7,7 +7,7 @@ use lib.ListN.{take, length-append}
 use Rattle.base.specs.Lists.{concat}
 use Rattle.base.proofs.Lists.{concat-append}
 use Rattle.plan.specs.Groups.{Group, Plan, width, fields, flat}
-use Rattle.planner.specs.Planner.{nothing, _then_, leaf}
+use Rattle.race.specs.Planner.{nothing, _then_, leaf}
 use Rattle.planner.specs.Records.{Holds}
 
 flat-append : (gs hs : List Group) → flat (gs ++ hs) ≡ flat gs ++ flat hs

@@ -10,7 +10,7 @@ use Rattle.base.specs.Lists.{concat}
 use Rattle.levels.specs.Group.{Proper}
 use Rattle.levels.specs.Sort.{maxLevels}
 use Rattle.levels.proofs.Proper.{proper-left, proper-right}
-use Rattle.planner.specs.Loads.{load}
+use Rattle.race.specs.Loads.{load}
 use Rattle.planner.specs.Stretches.{Levelled, Loaded}
 use Rattle.planner.proofs.Stretches.{rowsIn, length-ends, ends-at, rows-next, rows-le, level-at}
 use Rattle.planner.proofs.Weights.{load-append}

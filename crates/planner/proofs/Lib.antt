@@ -1,13 +1,3 @@
-pub mod Tiles
-pub mod Parts
-pub mod Colours
-pub mod Placed
-pub mod Apart
-pub mod Blocks
-pub mod Walks
-pub mod Fine
-pub mod Planned
-pub mod PlannedSound
 pub mod Weights
 pub mod Stretches
 pub mod LevelLoads

@@ -9,10 +9,10 @@ use lib.Seq.{take-take}
 use Rattle.base.specs.Lists.{concat}
 use Rattle.levels.specs.Rows.{adjOf}
 use Rattle.plan.specs.Groups.{Plan, red, blue}
-use Rattle.planner.specs.Loads.{load}
+use Rattle.race.specs.Loads.{load}
 use Rattle.extents.specs.Extents.{Extent, extent, cut}
-use Rattle.planner.specs.Planner as planner
-use Rattle.planner.specs.Planner.{Planner, pairs, planPairs, _then_, planGroup}
+use Rattle.race.specs.Planner as planner
+use Rattle.race.specs.Planner.{Planner, pairs, planPairs, _then_, planGroup}
 use Rattle.planner.specs.Records.{groupOf}
 use Rattle.planner.specs.Cycle.{PairsTask, pairsPlan}
 use Rattle.planner.specs.declared.records.Group.{Group}

@@ -8,9 +8,9 @@ use lib.ListN.{length, take, drop, length-map, length-drop, drop-of-length-le}
 use lib.Seq.{length-take-le}
 use Rattle.base.specs.Lists.{concat}
 use Rattle.levels.specs.Levels.{reach}
-use Rattle.planner.specs.Loads.{load}
+use Rattle.race.specs.Loads.{load}
 use Rattle.extents.specs.Extents.{Extent, extent, cut}
-use Rattle.planner.specs.Planner.{pairs}
+use Rattle.race.specs.Planner.{pairs}
 use Rattle.extents.proofs.Extents.{Taken, extent-taken, cut-levels}
 
 -- a pair takes no more than there is

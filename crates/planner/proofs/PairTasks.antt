@@ -12,8 +12,8 @@ use Rattle.levels.specs.Rows.{adjOf}
 use Rattle.levels.proofs.Proper.{proper-left, proper-right}
 use Rattle.plan.specs.Groups.{Plan}
 use Rattle.plan.specs.Sound.{maxWorkers}
-use Rattle.planner.specs.Loads.{load}
-use Rattle.planner.specs.Planner.{pairs, planPairs, _then_, planGroup}
+use Rattle.race.specs.Loads.{load}
+use Rattle.race.specs.Planner.{pairs, planPairs, _then_, planGroup}
 use Rattle.extents.specs.Scans.{Scale}
 use Rattle.planner.specs.Stretches.{levelsIn, endsOf, Levelled}
 use Rattle.planner.specs.Records.{groupOf, Holds}

@@ -15,9 +15,9 @@ use Rattle.levels.specs.Rows.{Rows, adjOf}
 use Rattle.levels.proofs.Rows.{pattern-neighbours, rows-of, rows-graph}
 use Rattle.plan.specs.Groups.{Plan, width, flat}
 use Rattle.plan.specs.Sound.{maxWorkers}
-use Rattle.planner.specs.Planner.{planRows, plan, areParameters, planReply}
+use Rattle.race.specs.Planner.{planRows, plan, areParameters, planReply}
 use Rattle.planner.specs.Records.{Holds}
-use Rattle.planner.proofs.Planned.{rows-few}
+use Rattle.race.proofs.Planned.{rows-few}
 
 -- parameters are within their limits
 pub parameters-in : (w p : ℕ) → areParameters w p ≡ true → (w ≤ maxWorkers) × (p ≤ 100)

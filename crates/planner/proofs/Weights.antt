@@ -10,7 +10,7 @@ use Rattle.base.specs.Lists.{concat, sum}
 use Rattle.levels.specs.Group.{Proper}
 use Rattle.levels.specs.Rows.{Rows, adjOf}
 use Rattle.levels.proofs.Members.{proper-short}
-use Rattle.planner.specs.Loads.{weight, load}
+use Rattle.race.specs.Loads.{weight, load}
 use Rattle.extents.specs.Scans.{maxLoad}
 use Rattle.extents.proofs.Ends.{sum-append}
 

@@ -18,11 +18,11 @@ use Rattle.levels.proofs.Own.{sorted-levels}
 use Rattle.levels.proofs.Rows.{rows-graph}
 use Rattle.plan.specs.Groups.{Plan, width, whole, flat}
 use Rattle.plan.specs.Sound.{maxWorkers, maxGroups}
-use Rattle.planner.specs.Planner.{leaf, planGroup, planRows}
+use Rattle.race.specs.Planner.{leaf, planGroup, planRows}
 use Rattle.planner.specs.Records.{groupOf, Holds}
 use Rattle.planner.specs.Cycle.{GroupTask}
 use Rattle.planner.specs.declared.records.Group.{Group}
-use Rattle.planner.proofs.Planned.{rows-few}
+use Rattle.race.proofs.Planned.{rows-few}
 use Rattle.planner.proofs.GroupPlans.{two-orders}
 
 map-same : (xs : List ℕ) → map (λ x. x) xs ≡ xs

@@ -9,8 +9,8 @@ use Rattle.levels.specs.Group.{Proper}
 use Rattle.levels.specs.Rows.{Rows, adjOf}
 use Rattle.plan.specs.Groups.{Plan, width}
 use Rattle.plan.specs.Sound.{maxWorkers, maxGroups}
-use Rattle.planner.specs.Loads.{load}
-use Rattle.planner.specs.Planner.{pairs, planPairs, planGroup}
+use Rattle.race.specs.Loads.{load}
+use Rattle.race.specs.Planner.{pairs, planPairs, planGroup}
 use Rattle.extents.specs.Scans.{Scale}
 use Rattle.planner.specs.Stretches.{Levelled}
 use Rattle.planner.specs.Records.{groupOf}

@@ -5,7 +5,7 @@ use Prim.Native.Nat.{ℕ, _+_, _-_}
 use lib.ListN.{length, take, drop}
 use Rattle.base.specs.Lists.{concat}
 use Rattle.levels.specs.Sort.{maxLevels}
-use Rattle.planner.specs.Loads.{load}
+use Rattle.race.specs.Loads.{load}
 
 -- the levels that end at ends in a stretch, done rows before it
 unfoldable pub levelsIn : (done : ℕ) (ends stretch : List ℕ) → List (List ℕ)

@@ -18,7 +18,7 @@ ghost use Rattle.base.specs.Replies.{lent};
 ghost use Rattle.base.specs.Answers.{replyOf};
 ghost use Rattle.matrix.specs.Checks.{matrixOf};
 ghost use Rattle.plan.specs.Groups.{flat};
-ghost use Rattle.planner.specs.Planner.{plan, areParameters, planReply};
+ghost use Rattle.race.specs.Planner.{plan, areParameters, planReply};
 
 // Whether there may be so many workers and this share.
 fn are_parameters(workers: u32, p: u32) -> bool

@@ -5,7 +5,7 @@ ghost use lib.ListN.{length};
 ghost use Rattle.levels.specs.Group.{Proper};
 ghost use Rattle.levels.specs.Rows.{Rows, adjOf};
 ghost use Rattle.levels.specs.Sort.{maxLevels};
-ghost use Rattle.planner.specs.Loads.{weight, load};
+ghost use Rattle.race.specs.Loads.{weight, load};
 ghost use Rattle.planner.specs.Stretches.{levelsIn, Levelled, Loaded};
 
 // What row v adds to its group's load.

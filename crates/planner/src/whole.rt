@@ -11,7 +11,7 @@ ghost use Rattle.levels.specs.Levels.{ownLevels};
 ghost use Rattle.levels.specs.Rows.{Rows, adjOf};
 ghost use Rattle.plan.specs.Groups.{width};
 ghost use Rattle.plan.specs.Sound.{maxWorkers, maxGroups};
-ghost use Rattle.planner.specs.Planner.{planRows};
+ghost use Rattle.race.specs.Planner.{planRows};
 ghost use Rattle.planner.specs.Records.{Holds};
 
 // The rows by their numbers.

@@ -21,8 +21,8 @@ use Rattle.plan.specs.Groups.{Plan, fields as groupFields, flat}
 use Rattle.plan.specs.Sound.{eachOnce, depthFirst, children, tiled, apart, rowsOf as groupRows, likeApart, childrenSound, allSound, sound, isSound}
 use Rattle.levels.specs.Levels.{near, region, root, isNext, levelsFrom, levels, ownLevels}
 use Rattle.extents.specs.Extents.{Extent, endsFrom, best, nearest, off, serves, extentOf, extentFrom, extent, cutAt, cut}
-use Rattle.planner.specs.Loads.{weight, load}
-use Rattle.planner.specs.Planner.{nothing, _then_, leaf, pairs, planPairs, splits, split, planGroup, planRows, plan, areParameters, planReply}
+use Rattle.race.specs.Loads.{weight, load}
+use Rattle.race.specs.Planner.{nothing, _then_, leaf, pairs, planPairs, splits, split, planGroup, planRows, plan, areParameters, planReply}
 use Rattle.run.specs.Job.{Job, rowAt}
 use Rattle.run.specs.Tree.{forest, tree, leaves, holds, ownerIn, unfinished, redOpen, blocked}
 use Rattle.run.specs.Updates.{entryAt, displacementAt, later, withEach, rowUpdates, owner, when, upTo, updates, accesses, finished, noUpdate, next, waits}

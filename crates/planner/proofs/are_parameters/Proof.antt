@@ -1,6 +1,6 @@
 -- `are_parameters` meets its contract.
 use borrow.Author.Tests.{lt-leb, le-leb}
-use Rattle.planner.specs.Planner.{areParameters}
+use Rattle.race.specs.Planner.{areParameters}
 use Rattle.planner.proofs.are_parameters.Statement.{statement}
 use Rattle.planner.proofs.are_parameters.Tie as tie
 

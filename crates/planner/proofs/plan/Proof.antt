@@ -9,7 +9,7 @@ use lib.Seq.{length-take-le, take-at}
 use Rattle.base.proofs.Booleans.{fails, holds}
 use Rattle.matrix.specs.Matrix.{Matrix, isMatrix}
 use Rattle.matrix.specs.Checks.{matrixOf}
-use Rattle.planner.specs.Planner.{areParameters}
+use Rattle.race.specs.Planner.{areParameters}
 use Rattle.planner.proofs.PlanReply.{parameters-in, rows, count-few, refuses-matrix, refuses-parameters, refuses-order, refuses-groups, accepts}
 use Rattle.planner.proofs.plan.Statement.{statement}
 use Rattle.planner.proofs.plan.Tie as tie

@@ -9,7 +9,7 @@ use Rattle.base.specs.Answers.{replyOf}
 use Rattle.base.specs.declared.Answer.{Answer}
 use Rattle.matrix.specs.Matrix.{Matrix}
 use Rattle.matrix.specs.Checks.{matrixOf}
-use Rattle.planner.specs.Planner.{planReply}
+use Rattle.race.specs.Planner.{planReply}
 use Rattle.lent.specs.Word.{word}
 use Rattle.office.specs.Lent.{planIn}
 use Rattle.lent.proofs.Answers.{begins-fits, begins-size}

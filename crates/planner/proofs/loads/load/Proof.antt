@@ -7,7 +7,7 @@ use lib.ListN.{length, take, getD}
 use lib.Seq.{take-all}
 use Rattle.base.proofs.Lists.{in-get}
 use Rattle.levels.specs.Rows.{adjOf}
-use Rattle.planner.specs.Loads.{load}
+use Rattle.race.specs.Loads.{load}
 use Rattle.planner.proofs.Weights.{load-split, load-next, load-few}
 use Rattle.planner.proofs.loads.load.Statement.{statement}
 use Rattle.planner.proofs.loads.load.Tie as tie

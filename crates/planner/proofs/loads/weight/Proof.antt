@@ -1,6 +1,6 @@
 -- `weight` meets its contract.
 use mathlib.Core.Path.{refl}
-use Rattle.planner.specs.Loads.{weight}
+use Rattle.race.specs.Loads.{weight}
 use Rattle.planner.proofs.loads.weight.Statement.{statement}
 use Rattle.planner.proofs.loads.weight.Tie as tie
 

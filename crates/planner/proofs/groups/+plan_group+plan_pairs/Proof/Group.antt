@@ -8,7 +8,7 @@ use lib.Seq.{length-take-le}
 use Rattle.levels.specs.Rows.{adjOf}
 use Rattle.levels.specs.Sort.{maxLevels}
 use Rattle.base.proofs.Lists.{getD-zeros}
-use Rattle.planner.specs.Planner.{planGroup, leaf}
+use Rattle.race.specs.Planner.{planGroup, leaf}
 use Rattle.planner.specs.Records.{groupOf, Holds}
 use Rattle.planner.proofs.GroupPlans.{leaf-stages, leaf-workers, leaf-levels, holds-unsplit}
 use Rattle.planner.proofs.GroupTasks.{record-room, index-few, levels-few, unsorted, levelled-in, stretch-proper, ends-few, pairs-task, split-holds}

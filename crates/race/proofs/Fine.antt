@@ -11,12 +11,12 @@ use Rattle.base.proofs.Each.{Each, Pairwise, each-map}
 use Rattle.levels.proofs.Own.{Apart}
 use Rattle.plan.specs.Groups.{Group}
 use Rattle.plan.specs.Sound.{maxDepth, children, tiled, likeApart, childrenSound, allSound}
-use Rattle.planner.proofs.Parts.{Part, allRows, recordOf, recordsOf, groupsOf}
-use Rattle.planner.proofs.Colours.{Like}
-use Rattle.planner.proofs.Placed.{Placed, Covers, placed-left, placed-right, placed-sub}
-use Rattle.planner.proofs.Apart.{like-apart}
-use Rattle.planner.proofs.Blocks.{Inside, Under, Ready, block-under, block-children, ready-mine, ready-theirs, all-append}
-use Rattle.planner.proofs.Walks.{Above, Walked, walk-none, walk-child, walk-then}
+use Rattle.race.proofs.Parts.{Part, allRows, recordOf, recordsOf, groupsOf}
+use Rattle.race.proofs.Colours.{Like}
+use Rattle.race.proofs.Placed.{Placed, Covers, placed-left, placed-right, placed-sub}
+use Rattle.race.proofs.Apart.{like-apart}
+use Rattle.race.proofs.Blocks.{Inside, Under, Ready, block-under, block-children, ready-mine, ready-theirs, all-append}
+use Rattle.race.proofs.Walks.{Above, Walked, walk-none, walk-child, walk-then}
 
 -- the groups below a group for each of its workers, at most
 abbrev pub perWorker : (stages : ℕ) → ℕ

@@ -11,7 +11,7 @@ use Rattle.matrix.specs.Matrix.{Matrix, neighbours, matrixCheck}
 use Rattle.plan.specs.Groups.{Group, Plan, whole, red, blue, width}
 use Rattle.plan.specs.Sound.{maxWorkers, maxDepth}
 use Rattle.levels.specs.Levels.{reach, ownLevels}
-use Rattle.planner.specs.Loads.{load}
+use Rattle.race.specs.Loads.{load}
 use Rattle.extents.specs.Extents.{extent, cut}
 
 unfoldable pub nothing : Plan

@@ -16,9 +16,9 @@ use Rattle.plan.specs.Groups.{Plan, width, flat}
 use Rattle.plan.specs.Sound.{maxWorkers, maxGroups, isSound, isPlan, planCheck, checkReply}
 use Rattle.plan.proofs.FlatRecords.{length-flat, plan-flat}
 use Rattle.plan.proofs.Sound.{sound-long}
-use Rattle.planner.specs.Planner.{plan, areParameters, planReply}
-use Rattle.planner.specs.PlannedSound.{orderLeft, groupsLeft, PlanRoom, PlanLeft, PlannedSound}
-use Rattle.planner.proofs.Planned.{rows-few, rows-sound}
+use Rattle.race.specs.Planner.{plan, areParameters, planReply}
+use Rattle.race.specs.PlannedSound.{orderLeft, groupsLeft, PlanRoom, PlanLeft, PlannedSound}
+use Rattle.race.proofs.Planned.{rows-few, rows-sound}
 
 -- 1 to 16 workers
 workers-between : (w p : ℕ) → areParameters w p ≡ true → (1 ≤ w) × (w ≤ maxWorkers)

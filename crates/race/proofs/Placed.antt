@@ -8,7 +8,7 @@ use lib.ListN.{length, take, drop, length-append}
 use lib.Seq.{take-add, take-take, drop-drop, take-append-seam, drop-append-seam}
 use Rattle.base.specs.Lists.{isIn}
 use Rattle.base.proofs.Counts.{Same, count-in, in-count, same-length}
-use Rattle.planner.proofs.Parts.{Part}
+use Rattle.race.proofs.Parts.{Part}
 
 -- xs stands in the order O from place s on
 abbrev pub Placed : List ℕ → ℕ → List ℕ → Type 0

@@ -9,7 +9,7 @@ use Rattle.base.specs.Replies.{accepted, lent}
 use Rattle.matrix.specs.Matrix.{Matrix, isMatrix}
 use Rattle.plan.specs.Groups.{width, flat}
 use Rattle.plan.specs.Sound.{isSound, checkReply}
-use Rattle.planner.specs.Planner.{plan, areParameters, planReply}
+use Rattle.race.specs.Planner.{plan, areParameters, planReply}
 
 -- what the planner's call leaves in the lent order, and in the lent groups
 unfoldable pub orderLeft : Matrix → (w p : ℕ) (order groups : List ℕ) → List ℕ

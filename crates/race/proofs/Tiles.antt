@@ -7,9 +7,9 @@ use native.Mathlib.Omega.{arith}
 use lib.ListN.{length, take, drop, length-take, length-drop, length-map}
 use Rattle.base.specs.Lists.{concat}
 use Rattle.levels.specs.Levels.{reach}
-use Rattle.planner.specs.Loads.{load}
+use Rattle.race.specs.Loads.{load}
 use Rattle.extents.specs.Extents.{Extent, extent, cut}
-use Rattle.planner.specs.Planner.{Pair, pairs}
+use Rattle.race.specs.Planner.{Pair, pairs}
 use Rattle.extents.proofs.Extents.{Taken, extent-taken, cut-levels}
 
 -- cs are pairs of the levels ls, in order, with the free workers: of the first c levels m are red, reach of each colour at least

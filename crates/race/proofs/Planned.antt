@@ -19,12 +19,12 @@ use Rattle.levels.proofs.Own.{Apart, own-same, own-apart}
 use Rattle.plan.specs.Groups.{Group, Plan, whole}
 use Rattle.plan.specs.Sound.{maxWorkers, maxDepth, maxGroups, eachOnce, depthFirst, allSound, sound}
 use Rattle.plan.proofs.Once.{same-once}
-use Rattle.planner.specs.Loads.{load}
-use Rattle.planner.specs.Planner.{Planner, nothing, _then_, leaf, pairs, planPairs, splits, split, planGroup, planRows}
-use Rattle.planner.proofs.Tiles.{Tiles, pairs-tile}
-use Rattle.planner.proofs.Parts.{Part, parts, allRows, recordOf, planParts, planPairs-parts, tiles-rows, tiles-tiled, tiles-groups}
-use Rattle.planner.proofs.Colours.{tiles-apart}
-use Rattle.planner.proofs.Fine.{perWorker, Fine, Kids, kids-none, kids-more, fine-leaf, fine-split}
+use Rattle.race.specs.Loads.{load}
+use Rattle.race.specs.Planner.{Planner, nothing, _then_, leaf, pairs, planPairs, splits, split, planGroup, planRows}
+use Rattle.race.proofs.Tiles.{Tiles, pairs-tile}
+use Rattle.race.proofs.Parts.{Part, parts, allRows, recordOf, planParts, planPairs-parts, tiles-rows, tiles-tiled, tiles-groups}
+use Rattle.race.proofs.Colours.{tiles-apart}
+use Rattle.race.proofs.Fine.{perWorker, Fine, Kids, kids-none, kids-more, fine-leaf, fine-split}
 
 module _ (adj : ℕ → List ℕ) (n : ℕ) where
   -- the plan of the group g is its record, and fine below it

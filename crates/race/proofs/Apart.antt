@@ -13,9 +13,9 @@ use Rattle.base.proofs.Lists.{any-get}
 use Rattle.base.proofs.Each.{Each, Pairwise}
 use Rattle.levels.proofs.Own.{Apart}
 use Rattle.plan.specs.Sound.{apart, rowsOf, likeApart}
-use Rattle.planner.proofs.Parts.{Part, recordOf, recordsOf}
-use Rattle.planner.proofs.Colours.{Across, Like}
-use Rattle.planner.proofs.Placed.{Sub, Covers}
+use Rattle.race.proofs.Parts.{Part, recordOf, recordsOf}
+use Rattle.race.proofs.Colours.{Across, Like}
+use Rattle.race.proofs.Placed.{Sub, Covers}
 
 module _ (adj : ℕ → List ℕ) where
   -- rows that are apart, each from each

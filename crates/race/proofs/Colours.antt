@@ -11,9 +11,9 @@ use Rattle.base.proofs.Lists.{isIn-concat}
 use Rattle.base.proofs.Each.{Each, Pairwise, each-map}
 use Rattle.levels.specs.Levels.{reach}
 use Rattle.plan.specs.Groups.{red, blue}
-use Rattle.planner.specs.Planner.{Pair}
-use Rattle.planner.proofs.Tiles.{Tiles, done, more}
-use Rattle.planner.proofs.Parts.{Part, parts}
+use Rattle.race.specs.Planner.{Pair}
+use Rattle.race.proofs.Tiles.{Tiles, done, more}
+use Rattle.race.proofs.Parts.{Part, parts}
 
 -- ---- places
 

@@ -10,8 +10,8 @@ use Rattle.base.specs.Lists.{concat}
 use Rattle.base.proofs.Lists.{concat-append}
 use Rattle.plan.specs.Groups.{Group, Plan, red, blue}
 use Rattle.plan.specs.Sound.{tiled}
-use Rattle.planner.specs.Planner.{Pair, Planner, nothing, _then_, planPairs}
-use Rattle.planner.proofs.Tiles.{Tiles, done, more}
+use Rattle.race.specs.Planner.{Pair, Planner, nothing, _then_, planPairs}
+use Rattle.race.proofs.Tiles.{Tiles, done, more}
 
 -- a child's rows, colour and workers
 pub record Part : Type 0 where

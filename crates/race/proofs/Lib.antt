@@ -1,0 +1,10 @@
+pub mod Tiles
+pub mod Parts
+pub mod Colours
+pub mod Placed
+pub mod Apart
+pub mod Blocks
+pub mod Walks
+pub mod Fine
+pub mod Planned
+pub mod PlannedSound
