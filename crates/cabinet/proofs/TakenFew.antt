@@ -13,11 +13,11 @@ use Rattle.run.specs.Updates.{count, upTo, updates, accesses}
 use Rattle.run.specs.Machine.{State, workers, refusal, Outcome, moved, halted, onward, load, store, step, oneMore, steps}
 use Rattle.run.specs.EveryRun.{OneAccess, loads, stores}
 use Rattle.tables.specs.Laid.{maxUpdates}
-use Rattle.tables.specs.UpdateTable.{before}
+use Rattle.layout.specs.UpdateTable.{before}
 use Rattle.run.proofs.Able.{able}
 use Rattle.run.proofs.Accepted.{facts}
 use Rattle.run.proofs.Schedule.{step-end, steps-on, steps-end, step-one}
-use Rattle.tables.proofs.UpdateRoom.{room}
+use Rattle.layout.proofs.UpdateRoom.{room}
 
 one-made : {j : Job} {s : State} {w : ℕ} {t : State} → OneAccess j s w t → t .made ≡ onward (s .made) w
 unfolding load store

@@ -20,12 +20,12 @@ use Rattle.run.specs.Job.{jobOf}
 use Rattle.run.specs.Calls.{jobChecks}
 use Rattle.machine.specs.Record.{stateOf, allBelow, fine, Halves}
 use Rattle.tables.specs.Laid.{maxUpdates, Laid, Bounded}
-use Rattle.tables.specs.Upper.{Upper}
-use Rattle.tables.specs.UpdateTable.{Given, Blank}
+use Rattle.upper.specs.Upper.{Upper}
+use Rattle.layout.specs.UpdateTable.{Given, Blank}
 use Rattle.calls.specs.Begun.{Zeros, Begun}
 use Rattle.machine.specs.declared.state.State.{State}
 use Rattle.calls.proofs.JobChecked.{job-given}
-use Rattle.tables.proofs.AllWorkers.{blank-zeros}
+use Rattle.layout.proofs.AllWorkers.{blank-zeros}
 use Rattle.machine.proofs.TableWaits.{table-state}
 use Rattle.machine.proofs.GivenTables.{triangle-of}
 use Rattle.calls.proofs.Beginning.{begin-refused, begin-unfit, begin-taken, state-size}

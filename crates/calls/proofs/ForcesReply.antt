@@ -19,7 +19,7 @@ use Rattle.run.specs.Machine.{State, over, positionOf, original}
 use Rattle.run.specs.Calls as calls
 use Rattle.run.specs.Calls.{forceList, forcesOf, answerOf, answerLent, forcesLent}
 use Rattle.calls.specs.Scatter.{Scattered}
-use Rattle.tables.specs.UpdateTable.{Given}
+use Rattle.layout.specs.UpdateTable.{Given}
 use Rattle.calls.specs.Begun.{beginReply}
 use Rattle.calls.specs.Answers.{forcesReply}
 use Rattle.run.proofs.Accepted.{tree-of, order-of}

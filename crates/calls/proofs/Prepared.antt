@@ -16,8 +16,8 @@ use Rattle.run.specs.Machine.{workersOf, workers, over}
 use Rattle.machine.specs.Record.{allBelow, done}
 use Rattle.machine.specs.Steps.{StepTables}
 use Rattle.tables.specs.Laid.{Waits}
-use Rattle.tables.specs.Waits.{Recorded, Blocks}
-use Rattle.tables.specs.UpdateTable.{Given}
+use Rattle.waits.specs.Waits.{Recorded, Blocks}
+use Rattle.layout.specs.UpdateTable.{Given}
 use Rattle.calls.specs.Begun.{Prepared}
 use Rattle.run.proofs.Accepted.{facts}
 use Rattle.machine.proofs.BlockedLeaves.{recorded-of, waits-of}

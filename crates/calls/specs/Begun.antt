@@ -18,7 +18,7 @@ use Rattle.run.specs.Calls.{jobChecks, stateCheck}
 use Rattle.machine.specs.Record.{stateOf}
 use Rattle.machine.specs.Updates.{Triangle}
 use Rattle.tables.specs.Laid.{maxUpdates, Laid, Bounded}
-use Rattle.tables.specs.UpdateTable.{Given}
+use Rattle.layout.specs.UpdateTable.{Given}
 use Rattle.machine.specs.declared.state.State.{State}
 
 -- 5, 6, 8, 11 in turn

@@ -11,7 +11,7 @@ use machine::state::State;
 use plan::fields::record_at;
 use ready_set::ready_bits;
 use scatter::scatter;
-use tables::waits::blocked_groups;
+use waits::blocked_groups;
 ghost use mathlib.Core.Path.{_≡_};
 ghost use lib.ListN.{length};
 ghost use Rattle.base.specs.Answers.{replyOf};

@@ -19,13 +19,13 @@ use Rattle.plan.proofs.Sound.{SoundFacts, sound-facts}
 use Rattle.run.specs.Job.{Job, Accepted}
 use Rattle.run.specs.Updates.{finished, upTo}
 use Rattle.tables.specs.Laid.{hasChild, groupAt, Leaf, Laid, Waits}
-use Rattle.tables.specs.Waits.{Recorded, Ended, Blocks}
+use Rattle.waits.specs.Waits.{Recorded, Ended, Blocks}
 use Rattle.tables.proofs.FlatOpen.{openReds, red-flat}
 use Rattle.tables.proofs.LeafWait.{Forward}
 use Rattle.tables.proofs.LeafOwner.{leaf-blocked}
-use Rattle.tables.proofs.Passes.{forward-from}
-use Rattle.tables.proofs.Reached.{record-get, has-child, start-reached}
-use Rattle.tables.proofs.NextRecord.{parent-before}
+use Rattle.waits.proofs.Passes.{forward-from}
+use Rattle.layout.proofs.Reached.{record-get, has-child, start-reached}
+use Rattle.layout.proofs.NextRecord.{parent-before}
 
 -- ---- what the code needs of a sound plan's records
 

@@ -23,9 +23,9 @@ use Rattle.run.specs.Updates.{later, rowUpdates, updates}
 use Rattle.run.proofs.Accepted.{order-of}
 use Rattle.run.proofs.RowUpdates.{row-length}
 use Rattle.tables.specs.Laid.{Laid, Bounded}
-use Rattle.tables.specs.Upper.{upperTo, Upper}
-use Rattle.tables.proofs.UpperRows.{upper-whole}
-use Rattle.tables.proofs.PlacedRows.{place-below, placed-same}
+use Rattle.upper.specs.Upper.{upperTo, Upper}
+use Rattle.upper.proofs.UpperRows.{upper-whole}
+use Rattle.upper.proofs.PlacedRows.{place-below, placed-same}
 use Rattle.machine.specs.Updates.{entryPlace, Readable, Triangle}
 use Rattle.machine.specs.Steps.{StepTables}
 use Rattle.machine.proofs.TableUpdates.{placed-at, row-is, begins-is}

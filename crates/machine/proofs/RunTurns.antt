@@ -18,7 +18,7 @@ use Rattle.run.specs.Job.{Job, Accepted}
 use Rattle.run.specs.Updates.{Update, count, accesses, next}
 use Rattle.run.specs.Machine.{State, workers, refusal, onward, stepIf, step, Stepped, steps}
 use Rattle.tables.specs.Laid.{Laid, Waits}
-use Rattle.tables.specs.Waits.{Recorded, Blocks, Ahead}
+use Rattle.waits.specs.Waits.{Recorded, Blocks, Ahead}
 use Rattle.machine.specs.declared.steps.Pick.{Pick}
 use Rattle.machine.specs.declared.steps.Pick.the-variants.{Taken, Refused}
 use Rattle.machine.specs.Updates.{updateIn, Triangle}

@@ -14,7 +14,7 @@ use Rattle.plan.specs.Sound.{maxWorkers}
 use Rattle.run.specs.Job.{Job, rowAt}
 use Rattle.run.specs.Updates.{Update, entryAt, displacementAt, later, rowUpdates, upTo, updates, noUpdate}
 use Rattle.tables.specs.Laid.{updateAt, Laid}
-use Rattle.tables.specs.Upper.{partAt}
+use Rattle.upper.specs.Upper.{partAt}
 use Rattle.machine.specs.Updates.{byTurns, updateIn, Triangle}
 use Rattle.run.proofs.RowUpdates.{row-length, row-at}
 use Rattle.run.proofs.Work.{cum, At, locate}

@@ -10,7 +10,7 @@ use Rattle.matrix.specs.Matrix.{displacement}
 use Rattle.run.specs.Job.{Job, rowAt}
 use Rattle.run.specs.Updates.{Update, later}
 use Rattle.tables.specs.Laid.{maxUpdates}
-use Rattle.tables.specs.Upper.{partAt, Placed}
+use Rattle.upper.specs.Upper.{partAt, Placed}
 
 -- a at even numbers k, b at odd ones
 abbrev pub byTurns : (k a b : ℕ) → ℕ

@@ -1,8 +1,8 @@
 // A run's state: one record, handed in and handed back.
 use crate::steps::Pick;
 use crate::steps::step;
-use tables::waits::blocked_groups;
-use tables::waits::next_ends;
+use waits::blocked_groups;
+use waits::next_ends;
 ghost use mathlib.Core.Path.{_≡_};
 ghost use mathlib.Core.List.{List};
 ghost use Prim.Native.Nat.{ℕ, _≤_, _<_};
@@ -15,7 +15,7 @@ ghost use Rattle.run.specs.Updates.{count};
 ghost use Rattle.run.specs.Machine as machine;
 ghost use Rattle.machine.specs.Record.{stateOf, allBelow, fine, done, Halves};
 ghost use Rattle.tables.specs.Laid.{Laid, Waits};
-ghost use Rattle.tables.specs.Waits.{Recorded};
+ghost use Rattle.waits.specs.Waits.{Recorded};
 ghost use Rattle.machine.specs.Updates.{Triangle};
 ghost use Rattle.machine.specs.Steps.{StepTables};
 ghost use Rattle.machine.specs.Stepped.{endedWith, steppedOf, comesTo};

@@ -5,17 +5,4 @@ pub mod FlatWait
 pub mod LeafIndex
 pub mod LeafWait
 pub mod LeafOwner
-pub mod Passes
-pub mod Reached
-pub mod NextRecord
-pub mod PassTurns
 pub mod Different
-pub mod UpperRows
-pub mod PositionTable
-pub mod PlacedRows
-pub mod JoinRows
-pub mod ListedRows
-pub mod UpdateRoom
-pub mod WorkerTable
-pub mod AllWorkers
-pub mod GivenRows

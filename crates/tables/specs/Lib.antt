@@ -1,4 +1,1 @@
 pub mod Laid
-pub mod Waits
-pub mod Upper
-pub mod UpdateTable

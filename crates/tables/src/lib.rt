@@ -1,5 +1,1 @@
-// The tables that the steps of a run look things up in: the upper triangle, the row of every update, and which leaves are blocked.
-mod leaf;
-pub mod rows;
-mod upper;
-pub mod waits;
+// What the tables of a run hold, and laws on the leaves of flat records. The code is in upper, layout and waits.

@@ -1,0 +1,4 @@
+pub mod UpperRows
+pub mod PositionTable
+pub mod PlacedRows
+pub mod JoinRows

@@ -1,0 +1,103 @@
+-- `waits::next_ends` meets its contract: the records before index i are treated.
+use mathlib.Core.Path.{_≡_, ap, subst}
+use Prim.Native.Nat.{ℕ, _-_, _≤_, _<_}
+use native.Mathlib.Omega.{arith}
+use Rattle.plan.specs.Groups.{Group}
+use Rattle.plan.specs.Checks.{groupOf}
+use Rattle.waits.specs.Waits.{Ahead}
+use Rattle.waits.proofs.PassTurns.{ahead-none, ahead-next}
+use borrow.Author.Needs.{needs}
+use Rattle.waits.proofs.next_ends.Statement.{statement}
+use Rattle.waits.proofs.next_ends.Tie as tie
+
+abbrev Inv-loop : tie.InvT-loop
+Inv-loop groups count ends made stops₀ i₀ stops i = (i ≤ count) × Ahead i groups ends made stops
+
+abbrev μ-loop : tie.MeasureT-loop
+μ-loop groups count ends made stops₀ i₀ stops i = count - i
+
+loop-holds : tie.Need-loop-holds Inv-loop μ-loop
+loop-holds c = (search needs, ahead-none (c .before .args .groups .now) (c .before .args .ends .now) (c .before .args .made .now) 4294967295)
+
+record-at-requires : tie.Need-record-at-requires Inv-loop μ-loop
+record-at-requires c κs = search needs
+
+-- the worker's number is an index
+first-low : (c : tie.After-record-at Inv-loop μ-loop) → c .record-at .result .first < 16
+first-low c =
+    let l = c .before .before in
+    let s = l .before .before in
+    omega (arith, ap (λ (g : Group). g .first) (c .record-at .ensures .is), s .pre .firsts (l .loop .i) (c .before .loop-test .taken))
+
+mul-next-end : tie.Need-mul-next-end Inv-loop μ-loop
+mul-next-end c = search needs
+
+element-copy-out-next-end : tie.Need-element-copy-out-next-end Inv-loop μ-loop
+element-copy-out-next-end c = let low = first-low c in search needs
+
+mul-next-end-2 : tie.Need-mul-next-end-2 Inv-loop μ-loop
+mul-next-end-2 c = search needs
+
+element-copy-out-next-end-2 : tie.Need-element-copy-out-next-end-2 Inv-loop μ-loop
+element-copy-out-next-end-2 c = search needs
+
+mul-next-end-3 : tie.Need-mul-next-end-3 Inv-loop μ-loop
+mul-next-end-3 c = search needs
+
+array-read-next-end : tie.Need-array-read-next-end Inv-loop μ-loop
+array-read-next-end c = let low = first-low (c .before .before) in search needs
+
+next-end-requires : tie.Need-next-end-requires Inv-loop μ-loop
+next-end-requires c κs = search needs
+
+mul-stops : tie.Need-mul-stops Inv-loop μ-loop
+mul-stops c = search needs
+
+array-write-stops : tie.Need-array-write-stops Inv-loop μ-loop
+array-write-stops c = let low = first-low (c .before .before .before) in search needs
+
+add-i : tie.Need-add-i Inv-loop μ-loop
+add-i c = search needs
+
+loop-less : tie.Need-loop-less Inv-loop μ-loop
+loop-less c = search needs
+
+loop-again : tie.Need-loop-again Inv-loop μ-loop
+loop-again c =
+    let r = c .before .before .before in
+    let t = r .before in
+    let l = t .before in
+    let s = l .before .before in
+    let a = s .args in (
+      search needs,
+      ahead-next (a .count) (a .groups .now) (s .pre) (l .loop .i) (groupOf (r .record-at .result)) (r .record-at .ensures .is) (t .loop-test .taken) (a .ends .now) (a .made .now) (l .loop .stops) (c .next-end .result) (c .next-end .ensures) (l .loop .inv .1),
+    )
+
+returns : tie.Need-returns Inv-loop μ-loop
+returns c =
+    let l = c .before in
+    let a = l .before .before .args in
+    let e : l .loop .i ≡ a .count = search needs in
+    subst (λ (k : ℕ). Ahead k (a .groups .now) (a .ends .now) (a .made .now) (l .loop .stops)) e (l .loop .inv .1)
+
+pub next-ends-spec : {M : Type 1} → statement M
+next-ends-spec =
+    tie.close
+    (tie.spec
+    Inv-loop
+    μ-loop
+    loop-holds
+    record-at-requires
+    mul-next-end
+    element-copy-out-next-end
+    mul-next-end-2
+    element-copy-out-next-end-2
+    mul-next-end-3
+    array-read-next-end
+    next-end-requires
+    mul-stops
+    array-write-stops
+    add-i
+    loop-less
+    loop-again
+    returns)

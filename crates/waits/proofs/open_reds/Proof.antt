@@ -1,0 +1,129 @@
+-- `waits::open_reds` meets its contract: the records from index i on are treated.
+use mathlib.Core.Path.{ap}
+use Prim.Native.Nat.{_-_, _≤_, _<_}
+use native.Mathlib.Omega.{arith}
+use Rattle.plan.specs.Groups.{Group}
+use Rattle.plan.specs.Checks.{groupOf}
+use Rattle.waits.proofs.PassTurns.{Backward, backward-none, backward-next, backward-all}
+use borrow.Author.Needs.{needs}
+use Rattle.waits.proofs.open_reds.Statement.{statement}
+use Rattle.waits.proofs.open_reds.Tie as tie
+
+abbrev Inv-loop : tie.InvT-loop
+Inv-loop groups count ends made parents₀ opens₀ reds₀ i₀ parents opens reds i = (1 ≤ i) × (i ≤ count) × Backward count groups ends made i parents opens reds
+
+abbrev μ-loop : tie.MeasureT-loop
+μ-loop groups count ends made parents₀ opens₀ reds₀ i₀ parents opens reds i = i
+
+loop-holds : tie.Need-loop-holds Inv-loop μ-loop
+loop-holds c =
+    let s = c .before in
+    let a = s .args in
+    (s .pre .some, search needs, backward-none (a .count) (a .groups .now) (a .ends .now) (a .made .now))
+
+sub-i : tie.Need-sub-i Inv-loop μ-loop
+sub-i c = search needs
+
+record-at-requires : tie.Need-record-at-requires Inv-loop μ-loop
+record-at-requires c κs = search needs
+
+-- the record's numbers are indices
+parent-low : (c : tie.After-record-at Inv-loop μ-loop) → c .record-at .result .parent < 512
+parent-low c =
+    let l = c .before .before in
+    let s = l .before .before in
+    omega (arith, ap (λ (g : Group). g .parent) (c .record-at .ensures .is), s .pre .parents (l .loop .i - 1) (omega (arith, c .before .loop-test .taken)) (omega (arith, l .loop .inv .1, c .before .loop-test .taken)), s .pre .few, l .loop .inv .1)
+
+first-low : (c : tie.After-record-at Inv-loop μ-loop) → c .record-at .result .first < 16
+first-low c =
+    let l = c .before .before in
+    let s = l .before .before in
+    omega (arith, ap (λ (g : Group). g .first) (c .record-at .ensures .is), s .pre .firsts (l .loop .i - 1) (omega (arith, l .loop .inv .1, c .before .loop-test .taken)))
+
+array-read-open-if : tie.Need-array-read-open-if Inv-loop μ-loop
+array-read-open-if c = search needs
+
+array-read-open-if-2 : tie.Need-array-read-open-if-2 Inv-loop μ-loop
+array-read-open-if-2 c = search needs
+
+mul-open-if : tie.Need-mul-open-if Inv-loop μ-loop
+mul-open-if c = search needs
+
+element-copy-out-open-if : tie.Need-element-copy-out-open-if Inv-loop μ-loop
+element-copy-out-open-if c = let low = first-low c in search needs
+
+mul-open-if-2 : tie.Need-mul-open-if-2 Inv-loop μ-loop
+mul-open-if-2 c = search needs
+
+element-copy-out-open-if-2 : tie.Need-element-copy-out-open-if-2 Inv-loop μ-loop
+element-copy-out-open-if-2 c = search needs
+
+open-if-requires : tie.Need-open-if-requires Inv-loop μ-loop
+open-if-requires c κs = search needs
+
+array-write-parents : tie.Need-array-write-parents Inv-loop μ-loop
+array-write-parents c = let low = parent-low (c .before .before .before) in search needs
+
+array-read-opens : tie.Need-array-read-opens Inv-loop μ-loop
+array-read-opens c = let low = parent-low (c .before .before .before) in search needs
+
+array-write-opens : tie.Need-array-write-opens Inv-loop μ-loop
+array-write-opens c = let low = parent-low (c .before .before .before) in search needs
+
+array-read-reds : tie.Need-array-read-reds Inv-loop μ-loop
+array-read-reds c = let low = parent-low (c .before .before .before) in search needs
+
+open-red-requires : tie.Need-open-red-requires Inv-loop μ-loop
+open-red-requires c κs = search needs
+
+array-write-reds : tie.Need-array-write-reds Inv-loop μ-loop
+array-write-reds c = let low = parent-low (c .before .before .before .before) in search needs
+
+loop-less : tie.Need-loop-less Inv-loop μ-loop
+loop-less c = search needs
+
+loop-again : tie.Need-loop-again Inv-loop μ-loop
+loop-again c =
+    let o = c .before .open-if in
+    let r = c .before .before .before .before in
+    let t = r .before in
+    let l = t .before in
+    let s = l .before .before in
+    let a = s .args in (
+      search needs,
+      search needs,
+      backward-next (a .count) (a .groups .now) (a .ends .now) (a .made .now) (s .pre) (l .loop .i) (t .loop-test .taken) (l .loop .inv .1) (groupOf (r .record-at .result)) (r .record-at .ensures .is)
+          (l .loop .parents) (l .loop .opens) (l .loop .reds) (o .result) (c .open-red .result) (o .ensures) (c .open-red .ensures) (l .loop .inv .2),
+    )
+
+returns : tie.Need-returns Inv-loop μ-loop
+returns c =
+    let l = c .before in
+    let a = l .before .before .args in
+    backward-all (a .count) (a .groups .now) (a .ends .now) (a .made .now) (l .loop .i) (search needs) (l .loop .parents) (l .loop .opens) (l .loop .reds) (l .loop .inv .2)
+
+pub open-reds-spec : {M : Type 1} → statement M
+open-reds-spec =
+    tie.close
+    (tie.spec
+    Inv-loop
+    μ-loop
+    loop-holds
+    sub-i
+    record-at-requires
+    array-read-open-if
+    array-read-open-if-2
+    mul-open-if
+    element-copy-out-open-if
+    mul-open-if-2
+    element-copy-out-open-if-2
+    open-if-requires
+    array-write-parents
+    array-read-opens
+    array-write-opens
+    array-read-reds
+    open-red-requires
+    array-write-reds
+    loop-less
+    loop-again
+    returns)

@@ -1,0 +1,84 @@
+-- `waits::pass_down` meets its contract: the records before index i are treated.
+use mathlib.Core.Path.{_≡_, ap, subst}
+use Prim.Native.Nat.{ℕ, _-_, _≤_, _<_}
+use native.Mathlib.Omega.{arith}
+use Rattle.plan.specs.Groups.{Group}
+use Rattle.plan.specs.Checks.{groupOf}
+use Rattle.waits.specs.Waits.{Passed}
+use Rattle.waits.proofs.PassTurns.{passed-none, passed-next}
+use borrow.Author.Needs.{needs}
+use Rattle.waits.proofs.pass_down.Statement.{statement}
+use Rattle.waits.proofs.pass_down.Tie as tie
+
+abbrev Inv-loop : tie.InvT-loop
+Inv-loop groups count reds blocks₀ i₀ blocks i = (1 ≤ i) × (i ≤ count) × Passed i groups reds blocks
+
+abbrev μ-loop : tie.MeasureT-loop
+μ-loop groups count reds blocks₀ i₀ blocks i = count - i
+
+loop-holds : tie.Need-loop-holds Inv-loop μ-loop
+loop-holds c = (search needs, c .before .pre .some, passed-none (c .before .args .groups .now) (c .before .args .reds .now))
+
+record-at-requires : tie.Need-record-at-requires Inv-loop μ-loop
+record-at-requires c κs = search needs
+
+-- the parent's number is an index
+parent-low : (c : tie.After-record-at Inv-loop μ-loop) → c .record-at .result .parent < 512
+parent-low c =
+    let l = c .before .before in
+    let s = l .before .before in
+    omega (arith, ap (λ (g : Group). g .parent) (c .record-at .ensures .is), s .pre .parents (l .loop .i) (l .loop .inv .0) (c .before .loop-test .taken), s .pre .few, c .before .loop-test .taken)
+
+array-read-blocked-if : tie.Need-array-read-blocked-if Inv-loop μ-loop
+array-read-blocked-if c = let low = parent-low c in search needs
+
+element-copy-out-blocked-if : tie.Need-element-copy-out-blocked-if Inv-loop μ-loop
+element-copy-out-blocked-if c = let low = parent-low c in search needs
+
+blocked-if-requires : tie.Need-blocked-if-requires Inv-loop μ-loop
+blocked-if-requires c κs = search needs
+
+array-write-blocks : tie.Need-array-write-blocks Inv-loop μ-loop
+array-write-blocks c = search needs
+
+add-i : tie.Need-add-i Inv-loop μ-loop
+add-i c = search needs
+
+loop-less : tie.Need-loop-less Inv-loop μ-loop
+loop-less c = search needs
+
+loop-again : tie.Need-loop-again Inv-loop μ-loop
+loop-again c =
+    let r = c .before .before in
+    let t = r .before in
+    let l = t .before in
+    let s = l .before .before in
+    let a = s .args in (
+      search needs,
+      search needs,
+      passed-next (a .count) (a .groups .now) (s .pre) (l .loop .i) (groupOf (r .record-at .result)) (r .record-at .ensures .is) (l .loop .inv .0) (t .loop-test .taken) (a .reds .now) (l .loop .blocks) (c .blocked-if .result) (c .blocked-if .ensures) (l .loop .inv .2),
+    )
+
+returns : tie.Need-returns Inv-loop μ-loop
+returns c =
+    let l = c .before in
+    let a = l .before .before .args in
+    let e : l .loop .i ≡ a .count = search needs in
+    subst (λ (k : ℕ). Passed k (a .groups .now) (a .reds .now) (l .loop .blocks)) e (l .loop .inv .2)
+
+pub pass-down-spec : {M : Type 1} → statement M
+pass-down-spec =
+    tie.close
+    (tie.spec
+    Inv-loop
+    μ-loop
+    loop-holds
+    record-at-requires
+    array-read-blocked-if
+    element-copy-out-blocked-if
+    blocked-if-requires
+    array-write-blocks
+    add-i
+    loop-less
+    loop-again
+    returns)

@@ -1,0 +1,115 @@
+// Which leaves are blocked, and up to which counts this stays so: found by passes over the records.
+use plan::fields::BLUE;
+use plan::fields::RED;
+use plan::fields::record_at;
+ghost use mathlib.Core.Path.{_≡_};
+ghost use Rattle.waits.specs.Waits.{Recorded, openIf, openRed, blockedIf, nextEnd, OpenReds, Passed, Blocks, Ahead};
+
+// Whether a group is open, 1 or 0: no parent, so a leaf, with a count below its end; or with an open group below.
+fn open_if(parent: u8, below: u8, made: u32, end: u32) -> u8
+    ensures { λ r. ⌜ r ≡ openIf parent below made end ⌝ }
+{
+    if parent == 0 {
+        if made < end { 1 } else { 0 }
+    } else {
+        below
+    }
+}
+
+// .. and red.
+fn open_red(colour: usize, opened: u8) -> u8
+    ensures { λ r. ⌜ r ≡ openRed colour opened ⌝ }
+{
+    if colour == RED { opened } else { 0 }
+}
+
+// A group is blocked if its parent is, or if it is blue and has an open red sibling.
+fn blocked_if(above: u8, colour: usize, red: u8) -> u8
+    ensures { λ r. ⌜ r ≡ blockedIf above colour red ⌝ }
+{
+    if above == 1 {
+        return 1;
+    }
+    if colour != BLUE {
+        return 0;
+    }
+    if red == 1 { 1 } else { 0 }
+}
+
+// An end past the count that comes before the stop is the stop.
+fn next_end(made: u32, end: u32, stop: u32) -> u32
+    ensures { λ r. ⌜ r ≡ nextEnd made end stop ⌝ }
+{
+    if end <= made {
+        return stop;
+    }
+    if end < stop { end } else { stop }
+}
+
+// The groups that have an open red child, from the last record to the first.
+fn open_reds(groups: &[u32], count: usize, ends: &[u32; 512], made: &[u32; 16]) -> [u8; 512]
+    requires { ⌜ Recorded count (now groups) ⌝ }
+    ensures { λ r. ⌜ OpenReds count (now (groups .entry)) (now (ends .entry)) (now (made .entry)) r ⌝ }
+{
+    let mut parents = [0u8; 512];
+    let mut opens = [0u8; 512];
+    let mut reds = [0u8; 512];
+    let mut i = count;
+    while 1 < i {
+        i -= 1;
+        let g = record_at(groups, i);
+        let first = g.first;
+        let parent = g.parent;
+        let opened = open_if(parents[i], opens[i], made[first], ends[i]);
+        parents[parent] = 1;
+        opens[parent] = opens[parent] | opened;
+        reds[parent] = reds[parent] | open_red(g.colour, opened);
+    }
+    reds
+}
+
+// The groups that are blocked, from the first record to the last.
+fn pass_down(groups: &[u32], count: usize, reds: &[u8; 512]) -> [u8; 512]
+    requires { ⌜ Recorded count (now groups) ⌝ }
+    ensures { λ r. ⌜ Passed count (now (groups .entry)) (now (reds .entry)) r ⌝ }
+{
+    let mut blocks = [0u8; 512];
+    let mut i = 1;
+    while i < count {
+        let g = record_at(groups, i);
+        let parent = g.parent;
+        blocks[i] = blocked_if(blocks[parent], g.colour, reds[parent]);
+        i += 1;
+    }
+    blocks
+}
+
+// The groups that are blocked by these counts.
+pub fn blocked_groups(
+    groups: &[u32],
+    count: usize,
+    ends: &[u32; 512],
+    made: &[u32; 16],
+) -> [u8; 512]
+    requires { ⌜ Recorded count (now groups) ⌝ }
+    ensures { λ r. ⌜ Blocks count (now (groups .entry)) (now (ends .entry)) (now (made .entry)) r ⌝ }
+{
+    let reds = open_reds(groups, count, ends, made);
+    pass_down(groups, count, &reds)
+}
+
+// For each worker the next end of a group of its own: up to there it finishes no leaf.
+pub fn next_ends(groups: &[u32], count: usize, ends: &[u32; 512], made: &[u32; 16]) -> [u32; 16]
+    requires { ⌜ Recorded count (now groups) ⌝ }
+    ensures { λ r. ⌜ Ahead count (now (groups .entry)) (now (ends .entry)) (now (made .entry)) r ⌝ }
+{
+    let mut stops = [4294967295u32; 16];
+    let mut i = 0;
+    while i < count {
+        let g = record_at(groups, i);
+        let first = g.first;
+        stops[first] = next_end(made[first], ends[i], stops[first]);
+        i += 1;
+    }
+    stops
+}
