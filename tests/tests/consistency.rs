@@ -37,16 +37,7 @@ impl Run {
 
     /// What the run's calls are lent.
     fn lent(&self) -> Lent<'_> {
-        Lent {
-            n: self.matrix.n,
-            starts: &self.matrix.starts,
-            columns: &self.matrix.columns,
-            values: &self.matrix.values,
-            movements: &self.movements,
-            order: &self.plan.order,
-            groups: &self.groups,
-            group_count: self.plan.group_count(),
-        }
+        Lent::new(&self.matrix, &self.movements, &self.plan, &self.groups)
     }
 
     /// A call of picks, compared with the book; the number taken.

@@ -572,16 +572,7 @@ fn made_up_runs_agree() {
         let plan = plans::random_plan(&mut rng, &matrix);
         let run = WrittenOut::new(&matrix, &movements, &plan);
         let groups = plan.flat();
-        let lent = Lent {
-            n: matrix.n,
-            starts: &matrix.starts,
-            columns: &matrix.columns,
-            values: &matrix.values,
-            movements: &movements,
-            order: &plan.order,
-            groups: &groups,
-            group_count: plan.group_count(),
-        };
+        let lent = Lent::new(&matrix, &movements, &plan, &groups);
         let (mut state, mut sums) = made_up(&mut rng, &run, matrix.n as usize);
         for _ in 0..6 {
             let any: Vec<u8> = (0..=run.moves.len() as u8).collect();

@@ -56,16 +56,7 @@ impl Lists {
 
     /// What a call is lent.
     fn lent(&self) -> Lent<'_> {
-        Lent {
-            n: self.matrix.n,
-            starts: &self.matrix.starts,
-            columns: &self.matrix.columns,
-            values: &self.matrix.values,
-            movements: &self.movements,
-            order: &self.plan.order,
-            groups: &self.groups,
-            group_count: self.plan.group_count(),
-        }
+        Lent::new(&self.matrix, &self.movements, &self.plan, &self.groups)
     }
 
     /// The forces of a run of single picks of the lowest ready worker, and the number of picks.

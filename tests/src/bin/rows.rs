@@ -159,16 +159,7 @@ fn run_case(rng: &mut Prng) -> Line {
     let movements = nets::random_movements(rng, matrix.n);
     let (mut state, mut sums) = any_state(rng, &matrix, &plan);
     let groups = plan.flat();
-    let lent = Lent {
-        n: matrix.n,
-        starts: &matrix.starts,
-        columns: &matrix.columns,
-        values: &matrix.values,
-        movements: &movements,
-        order: &plan.order,
-        groups: &groups,
-        group_count: plan.group_count(),
-    };
+    let lent = Lent::new(&matrix, &movements, &plan, &groups);
     let mut line = Line::new("run");
     line.matrix(&matrix).list("movements", &movements);
     line.list("order", &plan.order).list("groups", &groups);

@@ -1,7 +1,8 @@
 //! The run: picks, the ready set and the force list, for every state.
 
 use super::leaves::{Leaf, Leaves};
-use super::matrix::{judge_movements, Rows};
+use super::matrix::{judge_movements, Matrix, Rows};
+use super::planner::Plan;
 use super::soundness::{self, SoundPlan};
 use super::{room, Refusal, WORKERS};
 
@@ -36,6 +37,25 @@ pub struct Lent<'a> {
 }
 
 impl<'a> Lent<'a> {
+    /// The lists of a matrix, its movements and a plan, whose records are in one list.
+    pub fn new(
+        matrix: &'a Matrix,
+        movements: &'a [i32],
+        plan: &'a Plan,
+        groups: &'a [u32],
+    ) -> Lent<'a> {
+        Lent {
+            n: matrix.n,
+            starts: &matrix.starts,
+            columns: &matrix.columns,
+            values: &matrix.values,
+            movements,
+            order: &plan.order,
+            groups,
+            group_count: plan.group_count(),
+        }
+    }
+
     /// Refusals 5, 6 and 8, else the matrix and its plan.
     pub fn judge(&self) -> Result<(Rows<'a>, SoundPlan<'a>), Refusal> {
         let rows = Rows::lent(self.n, self.starts, self.columns, self.values)?;
