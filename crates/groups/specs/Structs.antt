@@ -1,0 +1,26 @@
+-- Groups as structs, and as records of a flat list.
+use mathlib.Core.Path.{_≡_}
+use mathlib.Core.List.{List, _++_, map}
+use Prim.Native.Nat.{ℕ, _*_, min}
+use lib.ListN.{length, take, drop}
+use Rattle.plan.specs.Groups as plan
+use Rattle.plan.specs.Groups.{width, flat, records}
+use Rattle.plan.specs.Sound.{maxGroups}
+use Rattle.planner.specs.Records.{groupOf}
+use Rattle.planner.specs.declared.records.Group.{Group}
+
+-- the struct of a group
+abbrev pub ofGroup : plan.Group → Group
+ofGroup g = record { start = g .start; length = g .length; first = g .first; workers = g .workers; colour = g .colour; parent = g .parent }
+
+-- how many of the groups a plan may have
+abbrev pub few : List Group → ℕ
+few gs = min maxGroups (length gs)
+
+-- the numbers begin with the records of so many
+pub record Flattened (gs : List Group) (numbers : List ℕ) : Type 0 where
+  pub is : take (width * few gs) numbers ≡ flat (map groupOf (take (few gs) gs))
+
+-- a slice of structs, its first ones taken from the first records of a flat list
+unfoldable pub gathered : (count : ℕ) (numbers : List ℕ) (gs : List Group) → List Group
+gathered count numbers gs = map ofGroup (records count numbers) ++ drop count gs
