@@ -16,7 +16,7 @@ ghost use Rattle.plan.specs.Sound.{maxGroups, checkReply};
 ghost use Rattle.plan.specs.Checks.{recordAt};
 ghost use Rattle.planner.specs.Planner.{plan, planReply};
 ghost use Rattle.planner.specs.Records.{groupOf};
-ghost use Rattle.groups.specs.Structs.{ofGroup, Flattened, gathered};
+ghost use Rattle.groups.specs.Structs.{ofGroup, Flattened, gathered, Planned};
 
 // Writes a group's record at an index.
 fn put(numbers: &mut [u32; 3072], k: usize, g: Group)
@@ -53,4 +53,123 @@ fn flatten(groups: &[Group]) -> [u32; 3072]
         k += 1;
     }
     numbers
+}
+
+// Writes the first `count` groups of a flat list to the front of a slice.
+fn gather(numbers: [u32; 3072], count: usize, groups: &mut [Group])
+    requires { ⌜ (count ≤ maxGroups) × (count ≤ length (now groups)) ⌝ }
+    ensures { λ _. ⌜ now (groups .exit) ≡ gathered count numbers (now (groups .entry)) ⌝ }
+{
+    let mut k = 0usize;
+    while k < count {
+        groups[k] = get(&numbers, k);
+        k += 1;
+    }
+}
+
+// The check of a plan whose groups stand in a flat list.
+fn check_flat(
+    n: u32,
+    starts: &[u32],
+    columns: &[u32],
+    values: &[i32],
+    order: &[u32],
+    numbers: [u32; 3072],
+    count: usize,
+) -> Answer
+    ensures { λ r. ⌜ replyOf r ≡ checkReply (matrixOf n (now (starts .entry)) (now (columns .entry)) (now (values .entry))) (now (order .entry)) numbers count ⌝ }
+{
+    if MAX_GROUPS < count {
+        return plan::check(n, starts, columns, values, order, &numbers, 513);
+    }
+    plan::check(n, starts, columns, values, order, &numbers, count as u32)
+}
+
+// The check of a plan: 5 if the lists are no matrix, 8 if the plan is not sound for it.
+pub fn check(
+    n: u32,
+    starts: &[u32],
+    columns: &[u32],
+    values: &[i32],
+    order: &[u32],
+    groups: &[Group],
+) -> Answer
+    ensures { λ r. ⌜ replyOf r ≡ checkReply (matrixOf n (now (starts .entry)) (now (columns .entry)) (now (values .entry))) (now (order .entry)) (flat (map groupOf (now (groups .entry)))) (length (now (groups .entry))) ⌝ }
+{
+    check_flat(n, starts, columns, values, order, flatten(groups), groups.len())
+}
+
+// A plan in flat lists, and the planner's answer.
+struct Made {
+    numbers: [u32; 3072],
+    count: usize,
+    answer: Answer,
+}
+
+// The plan of a matrix, if there is room for its order, and for its groups in so many places.
+fn plan_flat(
+    n: u32,
+    starts: &[u32],
+    columns: &[u32],
+    values: &[i32],
+    workers: u32,
+    p: u32,
+    order: &mut [u32],
+    room: usize,
+) -> Made
+    ensures { λ r. ⌜ Planned (matrixOf n (now (starts .entry)) (now (columns .entry)) (now (values .entry))) workers p (now (order .entry)) room r (now (order .exit)) ⌝ }
+{
+    let mut numbers = [0u32; 3072];
+    let places = if room < MAX_GROUPS { room } else { MAX_GROUPS };
+    let size = 6 * places;
+    let answer = planner::plan(
+        n,
+        starts,
+        columns,
+        values,
+        workers,
+        p,
+        order,
+        &mut numbers[..size],
+    );
+    let count = match answer {
+        Answer::Accepted(made) => made as usize,
+        Answer::Refused(number, place) => 0,
+    };
+    Made {
+        numbers,
+        count,
+        answer,
+    }
+}
+
+// The plan of a matrix: its order, and its groups.
+pub fn plan(
+    n: u32,
+    starts: &[u32],
+    columns: &[u32],
+    values: &[i32],
+    workers: u32,
+    p: u32,
+    order: &mut [u32],
+    groups: &mut [Group],
+) -> Answer
+    ensures reply { λ r. ⌜ replyOf r ≡ planReply (matrixOf n (now (starts .entry)) (now (columns .entry)) (now (values .entry))) workers p (length (now (order .entry))) (width * length (now (groups .entry))) ⌝ }
+    ensures lent_order { λ r. ⌜ now (order .exit) ≡ lent (planReply (matrixOf n (now (starts .entry)) (now (columns .entry)) (now (values .entry))) workers p (length (now (order .entry))) (width * length (now (groups .entry))))
+        (plan (matrixOf n (now (starts .entry)) (now (columns .entry)) (now (values .entry))) workers p .order) (now (order .entry)) ⌝ }
+    ensures lent_groups { λ r. ⌜ now (groups .exit) ≡ lent (planReply (matrixOf n (now (starts .entry)) (now (columns .entry)) (now (values .entry))) workers p (length (now (order .entry))) (width * length (now (groups .entry))))
+        (map ofGroup (plan (matrixOf n (now (starts .entry)) (now (columns .entry)) (now (values .entry))) workers p .groups)) (now (groups .entry)) ⌝ }
+{
+    let made = plan_flat(
+        n,
+        starts,
+        columns,
+        values,
+        workers,
+        p,
+        order,
+        groups.len(),
+    );
+    gather(made.numbers, made.count, groups);
+    made.answer
 }
