@@ -1,3 +1,4 @@
+pub mod CheckReply
 pub mod Flattening
 pub mod Gathering
 pub mod Walking
