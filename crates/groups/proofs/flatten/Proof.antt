@@ -33,11 +33,11 @@ use denote.Laws.{Is, shows}
 use denote.Plain.{Nothing, nothing-lawful, uint-makes, uint-copy}
 use denote.Builtin.{u32, usize}
 use denote.Ref.{RefT, MutRef}
-use denote.Slice.{sliceTy, sliceVal, ShrSlice, Room, slice-vals, shr-slice-tells, shr-slice-copy}
+use denote.Slice.{sliceTy, sliceVal, ShrSlice, Room, slice-vals, shr-slice-tells}
 use denote.Array.{arrayVal, array-repeat}
 use denote.Index.{place-is, elem-out, elem-back, looks-slice, shuts-slice}
 use denote.Lend.{lends-ref, ref-back}
-use denote.Signature.{plain}
+use denote.Signature.{plain, shrSliceOf}
 use denote.Steps.{owned, peeks, facts, heard, nothing}
 use denote.Triple.Entry.{onEntry}
 use denote.Triple.Spec.{Meets, tripleOf}
@@ -45,7 +45,7 @@ use denote.Triple.Statement.{Contract, Triple}
 use denote.Triple.Call.{calls-at}
 use denote.Triple.Clauses.{ensured, lasts}
 use denote.Triple.Table.{entered, cited}
-use denote.Triple.Walked.{says, Stays, stay-none-slice, walkOf, goes-none-slice, Walks, ends-at, walked, walk-meets}
+use denote.Triple.Walked.{says, Stays, stay-dropped, walkOf, goes-dropped, Walks, ends-at, walked, walk-meets}
 use denote.Exit.{yes}
 use Rattle.plan.specs.Groups.{width, fields}
 use Rattle.plan.specs.Sound.{maxGroups}
@@ -67,7 +67,7 @@ use Rattle.groups.proofs.flatten.Code as code
 use Rattle.groups.proofs.flatten.Code.Mir as body
 
 abbrev stayed : Stays (flatten.ended .signature .params) (flatten.ended .kept)
-stayed = (stay-none-slice (0 ∷ []) tt (plain (λ _. T.the-row)) yes, tt)
+stayed = (stay-dropped _ yes, tt)
 
 -- the contract that the proof cites
 abbrev Put : {M : Type 1} (𝓤 : URA M) (H : Heap 𝓤) (A : Atoms 𝓤) (mem : Memory → SProp 𝓤) (run : Routine → Fun 𝓤) → Contract 𝓤
@@ -93,18 +93,15 @@ module _ {M : Type 1} (𝓤 : URA M) (H : Heap 𝓤) (A : Atoms 𝓤) (W : Given
   abbrev Post : Val → SProp 𝓤
   Post = walkOf 𝓤 H A flatten.ended stayed (flatten.clauses 𝓤 H A memory run) .post (((κ, tt), (q, tt), tt, (x, tt), (v ∷ [], tt)), tt)
 
-  -- what the slice owns, and the fractured borrow in it
-  abbrev Own : Fml
-  Own = ShrSlice (named 0) κ T.the-row .own x (v ∷ [])
-
+  -- the fractured borrow in the slice
   abbrev Fractured : Fml
   Fractured = fshr-bor κ (λ s. arr-parts (shares T.the-row) (length gs) .part s gs b o)
 
-  exits : (ns : List ℕ) (w : Val) → Flattened gs ns → ent 𝓤 (⋆ 𝓤 H A (‵ (flft κ q) ∷ ‵ Own ∷ ‵ (Flat .own ns (w ∷ [])) ∷ [])) (Post w)
+  exits : (ns : List ℕ) (w : Val) → Flattened gs ns → ent 𝓤 (⋆ 𝓤 H A (‵ (flft κ q) ∷ ‵ (Flat .own ns (w ∷ [])) ∷ [])) (Post w)
   exits ns w e =
-      qed W (‵ (flft κ q) ∷ ‵ Own ∷ ‵ (Flat .own ns (w ∷ [])) ∷ []) ∵
+      qed W (‵ (flft κ q) ∷ ‵ (Flat .own ns (w ∷ [])) ∷ []) ∵
       suffices ! _ (ends-at 𝓤 H A flatten.ended stayed (flatten.clauses 𝓤 H A memory run) W (((κ, tt), (q, tt), tt, (x, tt), (v ∷ [], tt)), tt) w ns (tt, tt) (tt, tt)) $ says ! e $
-      nothing ! $ move ! (1 ∷ 0 ∷ []) $ join ! $ nothing ! $ move ! (2 ∷ 0 ∷ []) $ fjoin ! $ move ! (1 ∷ 0 ∷ []) $ frame ! $ frame ! $ done !
+      nothing ! $ move ! (1 ∷ 0 ∷ []) $ join ! $ frame ! $ nothing ! $ nothing ! $ fjoin ! $ frame ! $ done !
 
   -- the loop's order: by how many groups are left
   abbrev Nearer : Begun gs → Begun gs → Type 0
@@ -129,7 +126,7 @@ module _ {M : Type 1} (𝓤 : URA M) (H : Heap 𝓤) (A : Atoms 𝓤) (W : Given
         ∷ ‵ (froom tyUnit l₇ 0) ∷ ‵ (fdies tyUnit l₇) ∷ ‵ (froom tyBool l₆ 0) ∷ ‵ (fdies tyBool l₆) ∷ ‵ (froom (tyInt w64) l₅ 0) ∷ ‵ (fdies (tyInt w64) l₅)
         ∷ ‵ (froom tyBool l₄ 0) ∷ ‵ (fdies tyBool l₄) ∷ ‵ (fat fullShare (tyInt w64) l₃ 0 (vint w64 (t .k))) ∷ ‵ (fdies (tyInt w64) l₃)
         ∷ ‵ (partAt Flat fullShare (t .numbers) l₂ 0) ∷ ‵ (fdies numbersTy l₂) ∷ ‵ (fat fullShare groupsTy l₁ 0 v) ∷ ‵ (fdies groupsTy l₁)
-        ∷ ‵ (froom numbersTy l₀ 0) ∷ ‵ (fdies numbersTy l₀) ∷ ‵ (flft κ q) ∷ ‵ Fractured ∷ ‵ Own ∷ []
+        ∷ ‵ (froom numbersTy l₀ 0) ∷ ‵ (fdies numbersTy l₀) ∷ ‵ (flft κ q) ∷ ‵ Fractured ∷ []
 
     -- the loop is left: the list is copied into the result
     leaves : (t : Begun gs) → few gs ≤ t .k → Sq W (At t) (runs C Λ En body.t-4 (atRet En Post))
@@ -137,12 +134,12 @@ module _ {M : Type 1} (𝓤 : URA M) (H : Heap 𝓤) (A : Atoms 𝓤) (W : Given
     leaves t m =
         move ! (16 ∷ []) $ fpick ! (λ vs. fsplit ! $ move ! (1 ∷ []) $ peeks ! Flat (Is Flat) (shows 𝓤 H A Flat) (t .numbers) vs (λ is.
         rewrite ! 0 (λ (ws : List Val). ‵ (Flat .own (t .numbers) ws)) (is .1 .0 .0) refl $ rewrite ! 1 (λ (ws : List Val). ‵ (cellAt fullShare (Flat .mir) ws l₂ 0)) (is .1 .0 .0) refl $
-        -- [what the list owns; _2; _10; …; _9; …; _8; …; _7; …; _6; …; _5; …; _4; …; _3; …; …; _1; …; room for _0; …; the token; the borrow; what the slice owns]
+        -- [what the list owns; _2; _10; …; _9; …; _8; …; _7; …; _6; …; _5; …; _4; …; _3; …; …; _1; …; room for _0; …; the token; the borrow]
         assigns ! (of-opd ! (load ! (from ! (stop !)) (look ! 1 refl))) (from ! (stop !)) (init ! 21 refl (flat-lawful 𝓤 H A W .typed (t .numbers) (arrayVal (is .0) ∷ []) (is .0, ((refl, is .1 .0 .1), is .1 .1)) .0)) $
         returns ! (look ! 21 refl) $ forget ! 1 refl $ forget ! 16 refl $ forget ! 19 refl $ forget ! 21 refl $
         move ! (21 ∷ 22 ∷ []) $ free1 ! $ move ! (19 ∷ 20 ∷ []) $ free1 ! $ move ! (1 ∷ 18 ∷ []) $ free1 ! $ move ! (15 ∷ 16 ∷ []) $ free1 ! $ move ! (13 ∷ 14 ∷ []) $ free1 ! $ move ! (11 ∷ 12 ∷ []) $ free1 ! $
         move ! (9 ∷ 10 ∷ []) $ free1 ! $ move ! (7 ∷ 8 ∷ []) $ free1 ! $ move ! (5 ∷ 6 ∷ []) $ free1 ! $ move ! (3 ∷ 4 ∷ []) $ free1 ! $ move ! (1 ∷ 2 ∷ []) $ free1 ! $ free0 ! $
-        keep ! (1 ∷ 3 ∷ 0 ∷ []) $ by ! (exits (t .numbers) (arrayVal (is .0)) (all-begun t m))))
+        keep ! (1 ∷ 0 ∷ []) $ by ! (exits (t .numbers) (arrayVal (is .0)) (all-begun t m))))
 
     -- a turn's end: one more group, or the loop is left
     abbrev Turned : Begun gs → Out → SProp 𝓤
@@ -178,7 +175,7 @@ module _ {M : Type 1} (𝓤 : URA M) (H : Heap 𝓤) (A : Atoms 𝓤) (W : Given
           rewrite ! 2 (λ (p : ℕ). ‵ (fat fullShare tyPtr l₉ 0 (vptr b p))) (sym (place-is 24 o (t .k))) refl $
           move ! (23 ∷ 22 ∷ []) $ looks-slice ! tt T.the-row (Is T.the-row) (shows 𝓤 H A T.the-row) group-vals group-tells (group-copy 𝓤 H A W) gs b o (λ q′.
           elem-out ! T.the-row (Is T.the-row) (shows 𝓤 H A T.the-row) group-vals group-tells q′ gs (t .k) none b o within (λ is.
-          -- [groups[k]; what it owns; the others; what shuts; the borrow; _10; …; _9; …; _8; …; _7; …; _6; …; _5; …; _4; …; _3; …; _2; …; _1; …; _0; …; what the slice owns]
+          -- [groups[k]; what it owns; the others; what shuts; the borrow; _10; …; _9; …; _8; …; _7; …; _6; …; _5; …; _4; …; _3; …; _2; …; _1; …; _0; …]
           assigns ! (of-opd ! (load ! (from ! (hop ! (look ! 7 refl) (stop !))) (look-raw ! 0 refl))) (from ! (stop !)) (init ! 5 refl (group-lawful 𝓤 H A W .typed g _ is .0)) $
           elem-back ! T.the-row q′ gs (t .k) none (group-vals g) b o within $ shuts-slice ! tt T.the-row q′ gs b o $
           -- [the token; the borrow; _10; …]: the list is lent for a lifetime α of the call
@@ -194,10 +191,10 @@ module _ {M : Type 1} (𝓤 : URA M) (H : Heap 𝓤) (A : Atoms 𝓤) (W : Given
           move ! (2 ∷ []) $ split ! $ move ! (1 ∷ []) $ facts ! Nothing (Is Nothing) (shows 𝓤 H A Nothing) u (w ∷ []) (λ is-unit.
           land ! (from ! (stop !)) (init ! 12 refl (nothing-lawful 𝓤 H A W .typed u _ is-unit .0)) $
           split ! $ lft-end ! tt $ move ! (0 ∷ 4 ∷ 2 ∷ []) $ use3 W (later (‵ (partAt Flat fullShare (zs .0) l₂ 0))) (ref-back 𝓤 H A W Flat (α ∷ []) δ (zs .0) l₂ 0) $ await ! tt $
-          -- [_2; …; …; the token; the borrow; _10; …; _9; …; _8; …; _7; …; _6; …; _5; …; _4; …; _3; …; …; _1; …; _0; …; what the slice owns]
+          -- [_2; …; …; the token; the borrow; _10; …; _9; …; _8; …; _7; …; _6; …; _5; …; _4; …; _3; …; …; _1; …; _0; …]
           assigns-last ! (bin ! (load ! (from ! (stop !)) (look ! 19 refl)) (lit ! tt) (record { fits = next-small })) (from ! (stop !)) (store ! 19 refl (tt, record { fits = next-small })) $
           forget ! 5 refl $ forget ! 7 refl $ forget ! 9 refl $ forget ! 11 refl $ forget ! 15 refl $
-          keep ! (5 ∷ 6 ∷ 7 ∷ 8 ∷ 9 ∷ 10 ∷ 11 ∷ 12 ∷ 13 ∷ 14 ∷ 15 ∷ 16 ∷ 17 ∷ 18 ∷ 19 ∷ 20 ∷ 0 ∷ 21 ∷ 22 ∷ 23 ∷ 24 ∷ 25 ∷ 3 ∷ 4 ∷ 26 ∷ []) $
+          keep ! (5 ∷ 6 ∷ 7 ∷ 8 ∷ 9 ∷ 10 ∷ 11 ∷ 12 ∷ 13 ∷ 14 ∷ 15 ∷ 16 ∷ 17 ∷ 18 ∷ 19 ∷ 20 ∷ 0 ∷ 21 ∷ 22 ∷ 23 ∷ 24 ∷ 25 ∷ 3 ∷ 4 ∷ []) $
           again ! Nearer At t (next t none within in-plan (zs .0) e) (omega arith))))))))))
         where
           small : t .k * 24 < 2 ^ 64
@@ -233,9 +230,9 @@ module _ {M : Type 1} (𝓤 : URA M) (H : Heap 𝓤) (A : Atoms 𝓤) (W : Given
       assigns ! (rep ! 3072 (lit ! tt)) (from ! (stop !)) (init ! 17 refl (flat-lawful 𝓤 H A W .typed zeros _ is .0)) $
       assigns ! (of-opd ! (lit ! tt)) (from ! (stop !)) (init ! 15 refl (tt, record { fits = lit< tt })) $
       move ! (17 ∷ 0 ∷ []) $ fjoin ! $ fpack ! (List Val) (λ us. fsep (cellAt fullShare (Flat .mir) us l₂ 0) (Flat .own zeros us)) (arrayVal (replicate 3072 (vint w32 0)) ∷ []) $
-      -- the slice is Copy: one copy of what it owns is kept for the exit, and of the other the borrow
-      move ! (23 ∷ []) $ fsplit ! $ use1 W (‵ Own ⊛ ‵ Own) (shr-slice-copy 𝓤 H A W (named 0) κ T.the-row .twice x (v ∷ [])) $ split ! $ fsplit ! $ drop ! $ fsplit ! $ drop ! $ move ! (25 ∷ []) $ split ! $
-      keep ! (6 ∷ 7 ∷ 8 ∷ 9 ∷ 10 ∷ 11 ∷ 12 ∷ 13 ∷ 14 ∷ 15 ∷ 16 ∷ 17 ∷ 18 ∷ 19 ∷ 20 ∷ 21 ∷ 5 ∷ 22 ∷ 23 ∷ 24 ∷ 25 ∷ 26 ∷ 0 ∷ 2 ∷ 3 ∷ []) $
+      -- of what the slice owns, the borrow is kept
+      move ! (23 ∷ []) $ fsplit ! $ fsplit ! $ drop ! $ fsplit ! $ drop ! $ move ! (24 ∷ []) $ split ! $
+      keep ! (5 ∷ 6 ∷ 7 ∷ 8 ∷ 9 ∷ 10 ∷ 11 ∷ 12 ∷ 13 ∷ 14 ∷ 15 ∷ 16 ∷ 17 ∷ 18 ∷ 19 ∷ 20 ∷ 4 ∷ 21 ∷ 22 ∷ 23 ∷ 24 ∷ 25 ∷ 0 ∷ 2 ∷ []) $
       first ! $ blocks ! $ loops ! 𝓣 Nearer Nearer-wf (At 𝓣 known room l₀ l₁ l₂ l₃ l₄ l₅ l₆ l₇ l₈ l₉ l₁₀) (turns 𝓣 known room l₀ l₁ l₂ l₃ l₄ l₅ l₆ l₇ l₈ l₉ l₁₀) (begin gs zeros)))))))))))))
     where
       zeros : List ℕ
@@ -247,7 +244,7 @@ module _ {M : Type 1} (𝓤 : URA M) (H : Heap 𝓤) (A : Atoms 𝓤) (W : Given
       (λ κs qs bounds a g are. via 𝓤 _ (fst∗ 𝓤 _ (emp 𝓤)) (walk 𝓤 H A W memory run (κs .0) (qs .0) (a .0 .ptr .0) (a .0 .ptr .1) (a .0 .name) (a .0 .now) 𝓣 known (are .0 .0 .1)))
 
   flatten-meets : Meets 𝓤 H A flatten.signature (WpFn 𝓤 H (𝓣 .C) (𝓣 .Λ) code.function) (flatten.spec 𝓤 H A memory run)
-  flatten-meets = walk-meets 𝓤 H A flatten.ended stayed W (goes-none-slice 𝓤 H A W 1 (0 ∷ []) tt (plain (λ _. T.the-row)) yes, tt) (flatten.clauses 𝓤 H A memory run) (WpFn 𝓤 H (𝓣 .C) (𝓣 .Λ) code.function) (WpFn-mono 𝓤 H (W .laws) 𝓣 code.function) flatten-walks
+  flatten-meets = walk-meets 𝓤 H A flatten.ended stayed W (goes-dropped 𝓤 H A W 1 (shrSliceOf (0 ∷ []) tt (plain (λ _. T.the-row))) yes (λ κs x f. refl), tt) (flatten.clauses 𝓤 H A memory run) (WpFn 𝓤 H (𝓣 .C) (𝓣 .Λ) code.function) (WpFn-mono 𝓤 H (W .laws) 𝓣 code.function) flatten-walks
 
 pub flatten-spec : {M : Type 1} → stated.statement M
 unfolding code.routine tablesOf

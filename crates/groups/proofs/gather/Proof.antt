@@ -44,7 +44,7 @@ use denote.Triple.Statement.{Contract, Triple}
 use denote.Triple.Call.{calls-at}
 use denote.Triple.Clauses.{ensured, lasts}
 use denote.Triple.Table.{entered, cited}
-use denote.Triple.Walked.{says, needs, Stays, stay-none, stay-slice, walkOf, goes-none, goes-slice, Walks, ends-at, walked, walk-meets}
+use denote.Triple.Walked.{says, needs, Stays, stay-dropped, stay-slice, walkOf, goes-dropped, goes-slice, Walks, ends-at, walked, walk-meets}
 use denote.Exit.{yes}
 use Rattle.plan.specs.Checks.{recordAt}
 use Rattle.plan.specs.Sound.{maxGroups}
@@ -65,7 +65,7 @@ use Rattle.groups.proofs.gather.Code as code
 use Rattle.groups.proofs.gather.Code.Mir as body
 
 abbrev stayed : Stays (gather.ended .signature .params) (gather.ended .kept)
-stayed = (stay-none (λ _. Flat) yes, (stay-none (λ _. usize) yes, (stay-slice (0 ∷ []) tt (plain (λ _. T.the-row)), tt)))
+stayed = (stay-dropped _ yes, (stay-dropped _ yes, (stay-slice (0 ∷ []) tt (plain (λ _. T.the-row)), tt)))
 
 -- the contract that the proof cites
 abbrev Get : {M : Type 1} (𝓤 : URA M) (H : Heap 𝓤) (A : Atoms 𝓤) (mem : Memory → SProp 𝓤) (run : Routine → Fun 𝓤) → Contract 𝓤
@@ -118,7 +118,7 @@ module _ {M : Type 1} (𝓤 : URA M) (H : Heap 𝓤) (A : Atoms 𝓤) (W : Given
       suffices ! _ (ends-at 𝓤 H A gather.ended stayed (gather.clauses 𝓤 H A memory run) W (((κ, tt), (q, tt), tt, a, vals), tt) vunit tt (tt, (tt, (all, tt))) (tt, (tt, (all-long, tt)))) $ says ! refl $
       nothing ! $ move ! (3 ∷ 0 ∷ []) $ join ! $ frame ! $
       fjoin ! $ pureI ! (at-slice T.the-row (x all) (v ∷ [])) (tt, (tt, tt)) (ap (λ (m : ℕ). sliceVal (b, o) m ∷ []) (sym all-long), subst (Room T.the-row) (sym all-long) room) $ fjoin ! $
-      nothing ! $ move ! (1 ∷ 0 ∷ []) $ fjoin ! $ owned ! usize (Is usize) (uint-makes 𝓤 H A W w64) count _ (refl, count-small) $ fjoin ! $ owned ! Flat (Is Flat) (flat-makes 𝓤 H A W) ns _ are-numbers $ fjoin ! $
+      nothing ! $ move ! (1 ∷ 0 ∷ []) $ fjoin ! $ nothing ! $ fjoin ! $ nothing ! $ fjoin ! $
       feqI ! (List Val) (vunit ∷ []) (vunit ∷ []) refl $ move ! (1 ∷ 0 ∷ []) $ done !
 
   -- the loop's state, and its order: by how many groups are left
@@ -260,7 +260,7 @@ module _ {M : Type 1} (𝓤 : URA M) (H : Heap 𝓤) (A : Atoms 𝓤) (W : Given
       walk 𝓤 H A W memory run (κs .0) (qs .0) (a .1 .1 .0 .ptr .0) (a .1 .1 .0 .ptr .1) (a .1 .1 .0 .name) (a .1 .1 .0 .now) (a .0) _ (are .0) (a .1 .0) (fits .0) (fits .1) (are .1 .1 .0 .0 .1) 𝓣 known))
 
   gather-meets : Meets 𝓤 H A gather.signature (WpFn 𝓤 H (𝓣 .C) (𝓣 .Λ) code.function) (gather.spec 𝓤 H A memory run)
-  gather-meets = walk-meets 𝓤 H A gather.ended stayed W (goes-none 𝓤 H A W 1 (λ _. Flat) yes (λ κs x f. refl), (goes-none 𝓤 H A W 1 (λ _. usize) yes (λ κs x f. refl), (goes-slice 𝓤 H A W 1 0 tt (plain (λ _. T.the-row)), tt)))
+  gather-meets = walk-meets 𝓤 H A gather.ended stayed W (goes-dropped 𝓤 H A W 1 (plain (λ _. Flat)) yes (λ κs x f. refl), (goes-dropped 𝓤 H A W 1 (plain (λ _. usize)) yes (λ κs x f. refl), (goes-slice 𝓤 H A W 1 0 tt (plain (λ _. T.the-row)), tt)))
       (gather.clauses 𝓤 H A memory run) (WpFn 𝓤 H (𝓣 .C) (𝓣 .Λ) code.function) (WpFn-mono 𝓤 H (W .laws) 𝓣 code.function) gather-walks
 
 pub gather-spec : {M : Type 1} → stated.statement M
