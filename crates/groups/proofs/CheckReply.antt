@@ -1,6 +1,6 @@
 -- The reply of the check of a plan, from the flat list of its groups.
 use mathlib.Core.Path.{_≡_, refl, sym, ap, _∙_}
-use mathlib.Core.Bool.{Bool, true, false, _&&_}
+use mathlib.Core.Bool.{Bool, true, false}
 use mathlib.Core.List.{List, [], _++_, map, append-nil}
 use Prim.Native.Nat.{ℕ, _*_, _≤_, _<_}
 use native.Mathlib.Omega.{arith}
@@ -8,7 +8,6 @@ use lib.Dec.{leb}
 use lib.ListN.{length, take, drop, length-append, length-map, take-append-drop}
 use lib.Seq.{take-length}
 use borrow.Author.Tests.{leb-true, leb-false, lt-leb, le-leb}
-use Rattle.base.specs.Replies.{inTurn}
 use Rattle.base.proofs.Booleans.{and-false}
 use Rattle.matrix.specs.Matrix.{Matrix}
 use Rattle.plan.specs.Groups as plan

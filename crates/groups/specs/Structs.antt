@@ -7,7 +7,7 @@ use Rattle.plan.specs.Groups as defined
 use Rattle.plan.specs.Groups.{width, flat, records}
 use Rattle.plan.specs.Sound.{maxGroups}
 use Rattle.base.specs.Answers.{replyOf}
-use Rattle.base.specs.Replies.{lent}
+use Rattle.base.specs.Replies.{Reply, accepted, refused, lent}
 use Rattle.matrix.specs.Matrix.{Matrix}
 use Rattle.planner.specs.Planner.{plan, planReply}
 use Rattle.planner.specs.Records.{groupOf}
@@ -29,6 +29,11 @@ pub record Flattened (gs : List Group) (numbers : List ℕ) : Type 0 where
 -- a slice of structs, its first ones taken from the first records of a flat list
 unfoldable pub gathered : (count : ℕ) (numbers : List ℕ) (gs : List Group) → List Group
 gathered count numbers gs = map ofGroup (records count numbers) ++ drop count gs
+
+-- how many records a reply accepts
+abbrev pub countOf : Reply → ℕ
+countOf (accepted k) = k
+countOf (refused number place) = 0
 
 -- what the planner leaves: a reply, a flat list of so many records and the order; `room` is how many groups the slice may have
 pub record Planned (m : Matrix) (w p : ℕ) (order : List ℕ) (room : ℕ) (made : Made) (left : List ℕ) : Type 0 where

@@ -6,7 +6,7 @@ use planner::records;
 use planner::records::Group;
 ghost use mathlib.Core.Path.{_≡_};
 ghost use mathlib.Core.List.{List, _++_, map};
-ghost use Prim.Native.Nat.{_+_, _*_, _≤_, _<_};
+ghost use Prim.Native.Nat.{_+_, _*_, _≤_, _<_, min};
 ghost use lib.ListN.{length, take};
 ghost use Rattle.base.specs.Replies.{lent};
 ghost use Rattle.base.specs.Answers.{replyOf};
@@ -16,7 +16,7 @@ ghost use Rattle.plan.specs.Sound.{maxGroups, checkReply};
 ghost use Rattle.plan.specs.Checks.{recordAt};
 ghost use Rattle.planner.specs.Planner.{plan, planReply};
 ghost use Rattle.planner.specs.Records.{groupOf};
-ghost use Rattle.groups.specs.Structs.{ofGroup, Flattened, gathered, Planned};
+ghost use Rattle.groups.specs.Structs.{ofGroup, Flattened, gathered, countOf, Planned};
 
 // Writes a group's record at an index.
 fn put(numbers: &mut [u32; 3072], k: usize, g: Group)
@@ -96,17 +96,42 @@ pub fn check(
 ) -> Answer
     ensures { λ r. ⌜ replyOf r ≡ checkReply (matrixOf n (now (starts .entry)) (now (columns .entry)) (now (values .entry))) (now (order .entry)) (flat (map groupOf (now (groups .entry)))) (length (now (groups .entry))) ⌝ }
 {
-    check_flat(n, starts, columns, values, order, flatten(groups), groups.len())
+    check_flat(
+        n,
+        starts,
+        columns,
+        values,
+        order,
+        flatten(groups),
+        groups.len(),
+    )
 }
 
-// A plan in flat lists, and the planner's answer.
+// How many groups a call accepted.
+fn count_of(answer: Answer) -> usize
+    ensures { λ r. ⌜ r ≡ countOf (replyOf answer) ⌝ }
+{
+    match answer {
+        Answer::Accepted(count) => count as usize,
+        Answer::Refused(number, place) => 0,
+    }
+}
+
+// How many numbers of a flat list the groups of a slice may fill.
+fn size_for(room: usize) -> usize
+    ensures { λ r. ⌜ r ≡ min (width * room) 3072 ⌝ }
+{
+    if room < MAX_GROUPS { 6 * room } else { 3072 }
+}
+
+// A plan's groups in a flat list, and the planner's answer.
 struct Made {
     numbers: [u32; 3072],
     count: usize,
     answer: Answer,
 }
 
-// The plan of a matrix, if there is room for its order, and for its groups in so many places.
+// The plan of a matrix, if there is room for its order, and for its groups in a slice of `room`.
 fn plan_flat(
     n: u32,
     starts: &[u32],
@@ -120,8 +145,7 @@ fn plan_flat(
     ensures { λ r. ⌜ Planned (matrixOf n (now (starts .entry)) (now (columns .entry)) (now (values .entry))) workers p (now (order .entry)) room r (now (order .exit)) ⌝ }
 {
     let mut numbers = [0u32; 3072];
-    let places = if room < MAX_GROUPS { room } else { MAX_GROUPS };
-    let size = 6 * places;
+    let size = size_for(room);
     let answer = planner::plan(
         n,
         starts,
@@ -132,10 +156,7 @@ fn plan_flat(
         order,
         &mut numbers[..size],
     );
-    let count = match answer {
-        Answer::Accepted(made) => made as usize,
-        Answer::Refused(number, place) => 0,
-    };
+    let count = count_of(answer);
     Made {
         numbers,
         count,
@@ -160,16 +181,7 @@ pub fn plan(
     ensures lent_groups { λ r. ⌜ now (groups .exit) ≡ lent (planReply (matrixOf n (now (starts .entry)) (now (columns .entry)) (now (values .entry))) workers p (length (now (order .entry))) (width * length (now (groups .entry))))
         (map ofGroup (plan (matrixOf n (now (starts .entry)) (now (columns .entry)) (now (values .entry))) workers p .groups)) (now (groups .entry)) ⌝ }
 {
-    let made = plan_flat(
-        n,
-        starts,
-        columns,
-        values,
-        workers,
-        p,
-        order,
-        groups.len(),
-    );
+    let made = plan_flat(n, starts, columns, values, workers, p, order, groups.len());
     gather(made.numbers, made.count, groups);
     made.answer
 }

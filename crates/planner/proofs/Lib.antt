@@ -21,3 +21,4 @@ pub mod NextPair
 pub mod PairTasks
 pub mod WholePlan
 pub mod PlanReply
+pub mod Rooms
