@@ -1,5 +1,5 @@
 -- What the planner's call leaves in a flat array, for a slice of so many structs.
-use mathlib.Core.Path.{_≡_, refl, sym, ap, _∙_}
+use mathlib.Core.Path.{_≡_, refl, ap, _∙_}
 use mathlib.Core.List.{List, _++_, map, append-assoc}
 use Prim.Native.Nat.{ℕ, _+_, _*_, _≤_, min}
 use native.Mathlib.Omega.{arith}
@@ -10,7 +10,7 @@ use Rattle.base.specs.Replies.{Reply, accepted, refused, lent}
 use Rattle.base.specs.declared.Answer.{Answer}
 use Rattle.matrix.specs.Limits.{maxRows}
 use Rattle.matrix.specs.Matrix.{Matrix}
-use Rattle.plan.specs.Groups.{width, flat, records}
+use Rattle.plan.specs.Groups.{width, flat}
 use Rattle.plan.specs.Sound.{maxGroups}
 use Rattle.plan.proofs.Cut.{mostFields}
 use Rattle.plan.proofs.FlatRecords.{records-flat, length-flat}

@@ -27,7 +27,7 @@ use denote.Plain.{uint-vals, uint-tells, uint-makes}
 use denote.Builtin.{u32, i32, usize}
 use denote.Enum.Laws as EL
 use denote.Ref.{RefT}
-use denote.Slice.{sliceVal, ShrSlice, slice-vals, shr-slice-tells, shr-slice-lawful}
+use denote.Slice.{ShrSlice, slice-vals, shr-slice-tells, shr-slice-lawful}
 use denote.Signature.{plain, shrSliceOf}
 use denote.Steps.{owned, peeks, heard, nothing}
 use denote.Triple.Entry.{Args, Vals, onEntry}
@@ -48,7 +48,7 @@ use Rattle.planner.specs.declared.records.Group.{Group}
 use Rattle.planner.proofs.records.Group as T
 use Rattle.groups.specs.Structs.{Flattened}
 use Rattle.groups.proofs.CheckReply.{reply-flattened}
-use Rattle.groups.proofs.Walking.{Flat, flat-lawful}
+use Rattle.groups.proofs.Walking.{Flat, flat-lawful, at}
 use Rattle.groups.proofs.flatten as flatten
 use Rattle.groups.proofs.flatten.Symbol as flatten-def
 use Rattle.groups.proofs.flatten.Symbol.{name as #groups·flatten}
@@ -75,10 +75,6 @@ module _ {M : Type 1} (𝓤 : URA M) (H : Heap 𝓤) (A : Atoms 𝓤) (memory : 
 
 module _ {M : Type 1} (𝓤 : URA M) (H : Heap 𝓤) (A : Atoms 𝓤) (W : Given 𝓤 H A) (memory : Memory → SProp 𝓤) (run : Routine → Fun 𝓤) (κ₀ κ₁ κ₂ κ₃ κ₄ : Lft) (q₀ q₁ q₂ q₃ q₄ : Share)
     (n : ℕ) (starts columns : RefT (List ℕ)) (values : RefT (List ℤ)) (order : RefT (List ℕ)) (groups : RefT (List Group)) (n-small : n < 2 ^ 32) where
-  -- the machine value of a slice
-  abbrev at : {X : Type 0} → RefT (List X) → Val
-  at s = sliceVal (s .ptr) (length (s .now))
-
   abbrev κs : Lfts 5
   κs = (κ₀, (κ₁, (κ₂, (κ₃, (κ₄, tt)))))
 
