@@ -19,7 +19,7 @@ use contract.Lifetimes.{Lfts, Shares}
 use contract.Monad.{Fun, fact, factI}
 use contract.Running.{givenOf, tables, tablesOf}
 use sound.WpLaws.{fmOf, WpFn-mono}
-use types.Kit.{Given, Item, ‵, raw, _⊛_, some, later, ⋆, _$_, _∵_, !, qed, by, move, keep, drop, use0, use1, use2, group, split, join, pick, rewrite, fsplit, fjoin, feqL, suffices, frame, await, done}
+use types.Kit.{Given, Item, ‵, raw, _⊛_, ⋆, _$_, _∵_, !, qed, by, move, keep, drop, use0, use1, use2, group, split, join, rewrite, fsplit, fjoin, feqL, suffices, frame, done}
 use types.Part.{agg, whole, sub, look-in}
 use types.Run.{look, init, forget, stop, hop, fld, from, load, addr, of-opd, and-then, no-more, assigns, land, returns, enter, alloc1, alloc0, params1, pass1, pass0, free1, free0}
 use denote.RattleType.{owns}
@@ -29,16 +29,16 @@ use denote.Builtin.{u32, i32, usize}
 use denote.Enum.Laws as EL
 use denote.Ref.{RefT}
 use denote.Slice.{ShrSlice, MutSlice, finally, slice-vals, shr-slice-tells, shr-slice-lawful, mut-slice-tells, mut-slice-lawful}
-use denote.Signature.{plain, shrSliceOf}
-use denote.Steps.{only, owned, peeks, facts, heard, nothing}
+use denote.Signature.{plain}
+use denote.Steps.{only, owned, peeks, facts, nothing}
 use denote.Struct.Laws as LL
 use denote.Triple.Entry.{Args, Vals, onEntry}
 use denote.Triple.Spec.{Meets, tripleOf}
 use denote.Triple.Statement.{Contract, Triple}
 use denote.Triple.Call.{calls-at}
-use denote.Triple.Clauses.{Lasts, ensured, lasts}
+use denote.Triple.Clauses.{Lasts, lasts}
 use denote.Triple.Table.{entered, cited}
-use denote.Triple.Walked.{says, Stays, stay-dropped, gave-slice, walkOf, goes-dropped, goes-gave-slice, Walks, ends-at, walked, walk-meets}
+use denote.Triple.Walked.{says, Stays, stay-dropped, gave-slice, walkOf, goes-gave-slice, Walks, ends-at, walked, walk-meets}
 use denote.Exit.{yes}
 use Rattle.base.proofs.Answer as S
 use Rattle.base.proofs.Answer.Laws as S′
@@ -50,7 +50,7 @@ use Rattle.groups.specs.declared.Made.{Made}
 use Rattle.groups.specs.Structs.{gathered, Planned}
 use Rattle.groups.proofs.Made as R
 use Rattle.groups.proofs.Made.Laws as R′
-use Rattle.groups.proofs.Walking.{Flat, flat-makes, at}
+use Rattle.groups.proofs.Walking.{u32-dropped, slice-dropped, hears, Flat, flat-makes, at}
 use Rattle.groups.proofs.plan_flat as plan-flat
 use Rattle.groups.proofs.plan_flat.Symbol as plan-flat-def
 use Rattle.groups.proofs.plan_flat.Symbol.{name as #groups·plan-flat}
@@ -214,9 +214,8 @@ module _ {M : Type 1} (𝓤 : URA M) (H : Heap 𝓤) (A : Atoms 𝓤) (W : Given
         -- [what `plan_flat` asks; the token of groups; what groups owns; …; _15; …; _14; …; … _1; …; _0; …]
         calls-at ! (fmOf 𝓤 H (W .laws) 𝓣) (PlanFlat 𝓤 H A memory run) known-plan to-plan (and-then ! (load ! (from ! (stop !)) (look ! 32 refl)) (and-then ! (load ! (from ! (stop !)) (look ! 30 refl)) (and-then ! (load ! (from ! (stop !)) (look ! 28 refl))
         (and-then ! (load ! (from ! (stop !)) (look ! 26 refl)) (and-then ! (load ! (from ! (stop !)) (look ! 24 refl)) (and-then ! (load ! (from ! (stop !)) (look ! 22 refl)) (and-then ! (load ! (from ! (stop !)) (look ! 12 refl)) (and-then ! (load ! (from ! (stop !)) (look ! 10 refl)) (no-more !))))))))) (λ w.
-        use1 W (later (some (λ (r : Made). (Four ⊛ ‵ (R.the-row .own r (w ∷ []))) ⊛ raw (ensured 𝓤 H A plan-flat.ended (plan-flat.clauses 𝓤 H A memory run) lent-on passed tt r)))) (id⊢ 𝓤 _) $ await ! tt $ pick ! (λ r.
-        split ! $ move ! (1 ∷ []) $ use1 W (some (λ (ws : Lasts plan-flat.ended lent-on passed). ‵ (lasts plan-flat.ended lent-on passed ws) ⊛ raw (fact 𝓤 (Said r ws)))) (id⊢ 𝓤 _) $ pick ! (λ ws.
-        split ! $ move ! (1 ∷ []) $ heard ! (Said r ws) (λ said. fsplit ! $ drop ! $ fsplit ! $ drop ! $ fsplit ! $ drop ! $ fsplit ! $ drop ! $ fsplit ! $ drop ! $ fsplit ! $ drop ! $ fsplit ! $ fsplit ! $ move ! (1 ∷ []) $ feqL ! (λ long.
+        hears ! tt Four (λ (r : Made). R.the-row .own r (w ∷ [])) (lasts plan-flat.ended lent-on passed) Said (id⊢ 𝓤 _) (λ r ws said.
+        fsplit ! $ drop ! $ fsplit ! $ drop ! $ fsplit ! $ drop ! $ fsplit ! $ drop ! $ fsplit ! $ drop ! $ fsplit ! $ drop ! $ fsplit ! $ fsplit ! $ move ! (1 ∷ []) $ feqL ! (λ long.
         move ! (2 ∷ []) $ split ! $ move ! (1 ∷ []) $ peeks ! R.the-row (Is R.the-row) (shows 𝓤 H A R.the-row) r (w ∷ []) (λ is.
         -- [what the plan made owns; the tokens; the last order; …; the token of groups; what groups owns; …; _15; …; _14; …; … _1; …; _0; …]
         land ! (from ! (stop !)) (init ! 19 refl (LL.lawful R.the-type R′.the-laws 𝓤 H A W .typed r _ is .0)) $ rewrite ! 19 (λ (u : Val). ‵ (fat fullShare R′.mir l₉ 0 u)) (ap only (LL.tells R.the-type R′.the-laws r (w ∷ []) is)) refl $
@@ -226,9 +225,7 @@ module _ {M : Type 1} (𝓤 : URA M) (H : Heap 𝓤) (A : Atoms 𝓤) (W : Given
         -- [what `gather` asks; what the plan made owns; the tokens; the last order; …; …; _15; …; _14; …; … _1; …; _0; …]
         calls-at ! (fmOf 𝓤 H (W .laws) 𝓣) (Gather 𝓤 H A memory run) known-gather (to-gather r) (and-then ! (load ! (from ! (fld ! refl (stop !))) (look-in ! 18 (sub ! 0 refl (whole !)))) (and-then ! (load ! (from ! (fld ! refl (stop !))) (look-in ! 18 (sub ! 1 refl (whole !))))
         (and-then ! (load ! (from ! (stop !)) (look ! 6 refl)) (no-more !)))) (λ u.
-        use1 W (later (some (λ (e : Unit {0}). (Last ⊛ ‵ (Nothing .own e (u ∷ []))) ⊛ raw (ensured 𝓤 H A gather.ended (gather.clauses 𝓤 H A memory run) (κ₄, tt) (given-on r) tt e)))) (id⊢ 𝓤 _) $ await ! tt $ pick ! (λ e.
-        split ! $ move ! (1 ∷ []) $ use1 W (some (λ (hs : Lasts gather.ended (κ₄, tt) (given-on r)). ‵ (lasts gather.ended (κ₄, tt) (given-on r) hs) ⊛ raw (fact 𝓤 (Got r hs)))) (id⊢ 𝓤 _) $ pick ! (λ hs.
-        split ! $ move ! (1 ∷ []) $ heard ! (Got r hs) (λ got. fsplit ! $ drop ! $ fsplit ! $ drop ! $ fsplit ! $ fsplit ! $ move ! (1 ∷ []) $ feqL ! (λ long′.
+        hears ! tt Last (λ (e : Unit {0}). Nothing .own e (u ∷ [])) (lasts gather.ended (κ₄, tt) (given-on r)) (λ _ hs. Got r hs) (id⊢ 𝓤 _) (λ e hs got. fsplit ! $ drop ! $ fsplit ! $ drop ! $ fsplit ! $ fsplit ! $ move ! (1 ∷ []) $ feqL ! (λ long′.
         move ! (2 ∷ []) $ split ! $ move ! (1 ∷ []) $ facts ! Nothing (Is Nothing) (shows 𝓤 H A Nothing) e (u ∷ []) (λ is-unit.
         -- [the token of groups; the last groups; …; what the plan made owns; the tokens; the last order; …; …; _15; …; _14; …; … _1; …; _0; …]
         land ! (from ! (stop !)) (init ! 12 refl (nothing-lawful 𝓤 H A W .typed e _ is-unit .0)) $
@@ -236,7 +233,7 @@ module _ {M : Type 1} (𝓤 : URA M) (H : Heap 𝓤) (A : Atoms 𝓤) (W : Given
         returns ! (look ! 38 refl) $ forget ! 8 refl $ forget ! 10 refl $ forget ! 12 refl $ forget ! 14 refl $ forget ! 16 refl $ forget ! 18 refl $ forget ! 20 refl $ forget ! 22 refl $ forget ! 24 refl $ forget ! 26 refl $ forget ! 28 refl $ forget ! 30 refl $ forget ! 32 refl $ forget ! 34 refl $ forget ! 36 refl $ forget ! 38 refl $
         move ! (38 ∷ 39 ∷ []) $ free1 ! $ move ! (36 ∷ 37 ∷ []) $ free1 ! $ move ! (34 ∷ 35 ∷ []) $ free1 ! $ move ! (32 ∷ 33 ∷ []) $ free1 ! $ move ! (30 ∷ 31 ∷ []) $ free1 ! $ move ! (28 ∷ 29 ∷ []) $ free1 ! $ move ! (26 ∷ 27 ∷ []) $ free1 ! $ move ! (24 ∷ 25 ∷ []) $ free1 ! $
         move ! (22 ∷ 23 ∷ []) $ free1 ! $ move ! (20 ∷ 21 ∷ []) $ free1 ! $ move ! (18 ∷ 19 ∷ []) $ free1 ! $ move ! (16 ∷ 17 ∷ []) $ free1 ! $ move ! (14 ∷ 15 ∷ []) $ free1 ! $ move ! (12 ∷ 13 ∷ []) $ free1 ! $ move ! (10 ∷ 11 ∷ []) $ free1 ! $ move ! (8 ∷ 9 ∷ []) $ free1 ! $ free0 ! $
-        keep ! (4 ∷ 0 ∷ 5 ∷ 1 ∷ []) $ by ! (exits r w is _ said _ got long long′)))))))))))))))))))))))))))))
+        keep ! (4 ∷ 0 ∷ 5 ∷ 1 ∷ []) $ by ! (exits r w is _ said _ got long long′)))))))))))))))))))))))))
 
 module _ {M : Type 1} (𝓤 : URA M) (H : Heap 𝓤) (A : Atoms 𝓤) (W : Given 𝓤 H A) (memory : Memory → SProp 𝓤) (run : Routine → Fun 𝓤) (𝓣 : Tables 𝓤 H)
     (known-plan : Triple 𝓤 (𝓣 .C #groups·plan-flat) (PlanFlat 𝓤 H A memory run)) (known-gather : Triple 𝓤 (𝓣 .C #groups·gather) (Gather 𝓤 H A memory run)) where
@@ -250,25 +247,7 @@ module _ {M : Type 1} (𝓤 : URA M) (H : Heap 𝓤) (A : Atoms 𝓤) (W : Given
       (are .1 .0) (are .1 .1 .0) (are .1 .1 .1 .0) (are .1 .1 .1 .1 .1 .1 .0) (are .1 .1 .1 .1 .1 .1 .1 .0)))
 
   plan-meets : Meets 𝓤 H A plan.signature (WpFn 𝓤 H (𝓣 .C) (𝓣 .Λ) code.function) (plan.spec 𝓤 H A memory run)
-  plan-meets = walk-meets 𝓤 H A plan.ended stayed W (
-    goes-dropped 𝓤 H A W 5 (plain (λ _. u32)) yes (λ κs x f. refl),
-    (
-      goes-dropped 𝓤 H A W 5 (shrSliceOf (0 ∷ []) tt (plain (λ _. u32))) yes (λ κs x f. refl),
-      (
-        goes-dropped 𝓤 H A W 5 (shrSliceOf (1 ∷ []) tt (plain (λ _. u32))) yes (λ κs x f. refl),
-        (
-          goes-dropped 𝓤 H A W 5 (shrSliceOf (2 ∷ []) tt (plain (λ _. i32))) yes (λ κs x f. refl),
-          (
-            goes-dropped 𝓤 H A W 5 (plain (λ _. u32)) yes (λ κs x f. refl),
-            (
-              goes-dropped 𝓤 H A W 5 (plain (λ _. u32)) yes (λ κs x f. refl),
-              (goes-gave-slice 𝓤 H A W 5 3 tt (plain (λ _. u32)), (goes-gave-slice 𝓤 H A W 5 4 tt (plain (λ _. T.the-row)), tt)),
-            ),
-          ),
-        ),
-      ),
-    ),
-  )
+  plan-meets = walk-meets 𝓤 H A plan.ended stayed W (u32-dropped 𝓤 H A W 5, (slice-dropped 𝓤 H A W 5 0 tt u32, (slice-dropped 𝓤 H A W 5 1 tt u32, (slice-dropped 𝓤 H A W 5 2 tt i32, (u32-dropped 𝓤 H A W 5, (u32-dropped 𝓤 H A W 5, (goes-gave-slice 𝓤 H A W 5 3 tt (plain (λ _. u32)), (goes-gave-slice 𝓤 H A W 5 4 tt (plain (λ _. T.the-row)), tt))))))))
       (plan.clauses 𝓤 H A memory run) (WpFn 𝓤 H (𝓣 .C) (𝓣 .Λ) code.function) (WpFn-mono 𝓤 H (W .laws) 𝓣 code.function) plan-walks
 
 pub plan-spec : {M : Type 1} → stated.statement M
