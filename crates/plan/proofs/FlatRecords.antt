@@ -49,7 +49,7 @@ length-flat [] = refl
 length-flat (g ∷ gs) = omega (arith, length-flat gs)
 
 -- they are read back, whatever stands after them
-records-flat : (gs : List Group) (rest : List ℕ) → records (length gs) (flat gs ++ rest) ≡ gs
+pub records-flat : (gs : List Group) (rest : List ℕ) → records (length gs) (flat gs ++ rest) ≡ gs
 unfolding records flat fields ofFields
 records-flat [] rest = refl
 records-flat (g ∷ gs) rest = ap (λ (hs : List Group). g ∷ hs) (records-flat gs rest)

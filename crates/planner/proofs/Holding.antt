@@ -10,7 +10,7 @@ use Rattle.plan.specs.Groups.{Group, Plan, width, fields, flat}
 use Rattle.race.specs.Planner.{nothing, _then_, leaf}
 use Rattle.planner.specs.Records.{Holds}
 
-flat-append : (gs hs : List Group) → flat (gs ++ hs) ≡ flat gs ++ flat hs
+pub flat-append : (gs hs : List Group) → flat (gs ++ hs) ≡ flat gs ++ flat hs
 unfolding flat
 flat-append gs hs = ap concat (map-append fields gs hs) ∙ concat-append (map fields gs) (map fields hs)
 

@@ -9,7 +9,7 @@ use symmetric::is_matrix;
 
 mod groups;
 mod loads;
-mod records;
+pub mod records;
 mod whole;
 
 ghost use mathlib.Core.Path.{_≡_};

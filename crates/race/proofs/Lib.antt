@@ -8,3 +8,4 @@ pub mod Walks
 pub mod Fine
 pub mod Planned
 pub mod PlannedSound
+pub mod Rooms

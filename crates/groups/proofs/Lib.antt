@@ -1,0 +1,5 @@
+pub mod CheckReply
+pub mod Flattening
+pub mod Gathering
+pub mod PlanReply
+pub mod Walking

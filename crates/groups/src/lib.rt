@@ -1,0 +1,187 @@
+// Plans whose groups stand in a lent slice of structs. The borrow checker covers no function over such a slice, so these are
+// few and thin, each proved by a walk of its own: the work is done on a flat list.
+use base::Answer;
+use plan::MAX_GROUPS;
+use planner::records;
+use planner::records::Group;
+ghost use mathlib.Core.Path.{_≡_};
+ghost use mathlib.Core.List.{List, _++_, map};
+ghost use Prim.Native.Nat.{_+_, _*_, _≤_, _<_, min};
+ghost use lib.ListN.{length, take};
+ghost use Rattle.base.specs.Replies.{lent};
+ghost use Rattle.base.specs.Answers.{replyOf};
+ghost use Rattle.matrix.specs.Checks.{matrixOf};
+ghost use Rattle.plan.specs.Groups.{width, fields, flat};
+ghost use Rattle.plan.specs.Sound.{maxGroups, checkReply};
+ghost use Rattle.plan.specs.Checks.{recordAt};
+ghost use Rattle.race.specs.Planner.{plan, planReply};
+ghost use Rattle.planner.specs.Records.{groupOf};
+ghost use Rattle.groups.specs.Structs.{ofGroup, Flattened, gathered, countOf, Planned};
+
+// Writes a group's record at an index.
+fn put(numbers: &mut [u32; 3072], k: usize, g: Group)
+    requires { ⌜ k < maxGroups ⌝ }
+    ensures { λ _. ⌜ take (width * (k + 1)) (now (numbers .exit)) ≡ take (width * k) (now (numbers .entry)) ++ fields (groupOf g) ⌝ }
+{
+    records::put(numbers, k as u32, g);
+}
+
+// The group at an index.
+fn get(numbers: &[u32; 3072], k: usize) -> Group
+    requires { ⌜ k < maxGroups ⌝ }
+    ensures { λ r. ⌜ r ≡ ofGroup (recordAt (now (numbers .entry)) k) ⌝ }
+{
+    let at = 6 * k;
+    Group {
+        start: numbers[at],
+        length: numbers[at + 1],
+        first: numbers[at + 2],
+        workers: numbers[at + 3],
+        colour: numbers[at + 4],
+        parent: numbers[at + 5],
+    }
+}
+
+// The flat list of the groups, of the first 512 if there are more.
+fn flatten(groups: &[Group]) -> [u32; 3072]
+    ensures { λ r. ⌜ Flattened (now (groups .entry)) r ⌝ }
+{
+    let mut numbers = [0u32; 3072];
+    let mut k = 0usize;
+    while k < groups.len() && k < MAX_GROUPS {
+        put(&mut numbers, k, groups[k]);
+        k += 1;
+    }
+    numbers
+}
+
+// Writes the first `count` groups of a flat list to the front of a slice.
+fn gather(numbers: [u32; 3072], count: usize, groups: &mut [Group])
+    requires { ⌜ (count ≤ maxGroups) × (count ≤ length (now groups)) ⌝ }
+    ensures { λ _. ⌜ now (groups .exit) ≡ gathered count numbers (now (groups .entry)) ⌝ }
+{
+    let mut k = 0usize;
+    while k < count {
+        groups[k] = get(&numbers, k);
+        k += 1;
+    }
+}
+
+// The check of a plan whose groups stand in a flat list.
+fn check_flat(
+    n: u32,
+    starts: &[u32],
+    columns: &[u32],
+    values: &[i32],
+    order: &[u32],
+    numbers: [u32; 3072],
+    count: usize,
+) -> Answer
+    ensures { λ r. ⌜ replyOf r ≡ checkReply (matrixOf n (now (starts .entry)) (now (columns .entry)) (now (values .entry))) (now (order .entry)) numbers count ⌝ }
+{
+    if MAX_GROUPS < count {
+        return plan::check(n, starts, columns, values, order, &numbers, 513);
+    }
+    plan::check(n, starts, columns, values, order, &numbers, count as u32)
+}
+
+// The check of a plan: 5 if the lists are no matrix, 8 if the plan is not sound for it.
+pub fn check(
+    n: u32,
+    starts: &[u32],
+    columns: &[u32],
+    values: &[i32],
+    order: &[u32],
+    groups: &[Group],
+) -> Answer
+    ensures { λ r. ⌜ replyOf r ≡ checkReply (matrixOf n (now (starts .entry)) (now (columns .entry)) (now (values .entry))) (now (order .entry)) (flat (map groupOf (now (groups .entry)))) (length (now (groups .entry))) ⌝ }
+{
+    check_flat(
+        n,
+        starts,
+        columns,
+        values,
+        order,
+        flatten(groups),
+        groups.len(),
+    )
+}
+
+// How many groups a call accepted.
+fn count_of(answer: Answer) -> usize
+    ensures { λ r. ⌜ r ≡ countOf (replyOf answer) ⌝ }
+{
+    match answer {
+        Answer::Accepted(count) => count as usize,
+        Answer::Refused(number, place) => 0,
+    }
+}
+
+// How many numbers of a flat list the groups of a slice may fill.
+fn size_for(room: usize) -> usize
+    ensures { λ r. ⌜ r ≡ min (width * room) 3072 ⌝ }
+{
+    if room < MAX_GROUPS { 6 * room } else { 3072 }
+}
+
+// A plan's groups in a flat list, and the planner's answer.
+struct Made {
+    numbers: [u32; 3072],
+    count: usize,
+    answer: Answer,
+}
+
+// The plan of a matrix, if there is room for its order, and for its groups in a slice of `room`.
+fn plan_flat(
+    n: u32,
+    starts: &[u32],
+    columns: &[u32],
+    values: &[i32],
+    workers: u32,
+    p: u32,
+    order: &mut [u32],
+    room: usize,
+) -> Made
+    ensures { λ r. ⌜ Planned (matrixOf n (now (starts .entry)) (now (columns .entry)) (now (values .entry))) workers p (now (order .entry)) room r (now (order .exit)) ⌝ }
+{
+    let mut numbers = [0u32; 3072];
+    let size = size_for(room);
+    let answer = planner::plan(
+        n,
+        starts,
+        columns,
+        values,
+        workers,
+        p,
+        order,
+        &mut numbers[..size],
+    );
+    let count = count_of(answer);
+    Made {
+        numbers,
+        count,
+        answer,
+    }
+}
+
+// The plan of a matrix: its order, and its groups.
+pub fn plan(
+    n: u32,
+    starts: &[u32],
+    columns: &[u32],
+    values: &[i32],
+    workers: u32,
+    p: u32,
+    order: &mut [u32],
+    groups: &mut [Group],
+) -> Answer
+    ensures reply { λ r. ⌜ replyOf r ≡ planReply (matrixOf n (now (starts .entry)) (now (columns .entry)) (now (values .entry))) workers p (length (now (order .entry))) (width * length (now (groups .entry))) ⌝ }
+    ensures lent_order { λ r. ⌜ now (order .exit) ≡ lent (planReply (matrixOf n (now (starts .entry)) (now (columns .entry)) (now (values .entry))) workers p (length (now (order .entry))) (width * length (now (groups .entry))))
+        (plan (matrixOf n (now (starts .entry)) (now (columns .entry)) (now (values .entry))) workers p .order) (now (order .entry)) ⌝ }
+    ensures lent_groups { λ r. ⌜ now (groups .exit) ≡ lent (planReply (matrixOf n (now (starts .entry)) (now (columns .entry)) (now (values .entry))) workers p (length (now (order .entry))) (width * length (now (groups .entry))))
+        (map ofGroup (plan (matrixOf n (now (starts .entry)) (now (columns .entry)) (now (values .entry))) workers p .groups)) (now (groups .entry)) ⌝ }
+{
+    let made = plan_flat(n, starts, columns, values, workers, p, order, groups.len());
+    gather(made.numbers, made.count, groups);
+    made.answer
+}

@@ -1,0 +1,75 @@
+-- The rooms of the lent lists cut to what a plan can need, and what an accepted call of the planner has checked.
+use mathlib.Core.Path.{_≡_}
+use mathlib.Core.Bool.{true}
+use mathlib.Core.List.{List, [], _∷_}
+use Prim.Native.Nat.{ℕ, _*_, _/_, _≤_, min}
+use native.Mathlib.Nat.{min-comm}
+use native.Mathlib.Omega.{arith}
+use lib.Dec.{leb}
+use lib.ListN.{length}
+use borrow.Author.Tests.{leb-true, le-leb}
+use Rattle.base.specs.Refusals as no
+use Rattle.base.specs.Replies.{accepted, refused, Check, check, inTurn, roomFor}
+use Rattle.base.proofs.Booleans.{both-ways, leb-min}
+use Rattle.base.proofs.Replies.{inTurn-same, accepted-all}
+use Rattle.matrix.specs.Limits.{maxRows}
+use Rattle.matrix.specs.Matrix.{Matrix, isMatrix, neighbours, matrixCheck}
+use Rattle.matrix.proofs.Matrix.{matrix-facts}
+use Rattle.plan.specs.Groups.{Group, Plan, width, flat}
+use Rattle.plan.specs.Sound.{sound, isSound}
+use Rattle.plan.proofs.Cut.{mostFields}
+use Rattle.plan.proofs.FlatRecords.{length-flat}
+use Rattle.plan.proofs.Once.{once}
+use Rattle.plan.proofs.Sound.{sound-facts}
+use Rattle.race.specs.Planner.{plan, areParameters, planReply}
+use Rattle.race.proofs.PlannedSound.{planned-sound}
+
+-- a sound order has each row once
+length-order : (m : Matrix) (o : Plan) → isSound m o ≡ true → length (o .order) ≡ m .n
+unfolding isSound sound
+length-order m o h = go (o .groups) h
+  where
+    go : (gs : List Group) → sound (neighbours m) (m .n) (o .order) gs ≡ true → length (o .order) ≡ m .n
+    go [] h = (let z : _≡_ {A = ℕ} 0 1 = cc in absurd (omega arith))
+    go (g ∷ gs) h = once (m .n) (o .order) (sound-facts (neighbours m) (m .n) (o .order) g gs h .once) .long
+
+-- ---- the reply
+
+groups-cut : (count b y : ℕ) → count ≤ 481 → mostFields ≤ y → leb count (min b y / width) ≡ leb count (b / width)
+groups-cut count b y few enough =
+    both-ways (leb count (min b y / width)) (leb count (b / width))
+    (λ t. le-leb count (b / width) (omega (arith, leb-true count (min b y / width) t)))
+    (λ t. le-leb count (min b y / width) (omega (arith, leb-true count (b / width) t)))
+
+module _ (m : Matrix) (w p : ℕ) where
+  -- rooms that are cut to no less than a plan can need give the same reply
+  pub rooms-cut : (a b x y : ℕ) → maxRows ≤ x → mostFields ≤ y → planReply m w p (min a x) (min b y) ≡ planReply m w p a b
+  unfolding planReply matrixCheck
+  rooms-cut a b x y hx hy =
+      inTurn-same refused (matrixCheck m) _ _ _ _ (λ ok.
+      inTurn-same refused (check no.parameter (areParameters w p)) _ _ _ _ (λ are.
+      rw (min-comm a x, leb-min (m .n) x a (omega (arith, matrix-facts m ok .few)), groups-cut (length (plan m w p .groups)) b y (planned-sound .few m w p ok are) hy)))
+
+  -- what an accepted call of k groups has checked
+  pub record Planned (a b k : ℕ) : Type 0 where
+    pub matrix : isMatrix m ≡ true
+    pub order-size : length (plan m w p .order) ≡ m .n
+    pub groups-size : length (flat (plan m w p .groups)) ≡ 6 * k
+    pub order-room : m .n ≤ a
+    pub groups-room : 6 * k ≤ b
+
+  pub planned : (a b k : ℕ) → planReply m w p a b ≡ accepted k → Planned a b k
+  unfolding planReply matrixCheck inTurn
+  planned a b k e =
+      let count = length (plan m w p .groups) in
+      let checks : List Check = matrixCheck m ∷ check no.parameter (areParameters w p) ∷ roomFor (m .n) a ∷ roomFor count (b / width) ∷ [] in
+      let all = accepted-all checks (accepted count) k e in
+      let told : accepted count ≡ accepted k = rw (all .0, all .1 .0, all .1 .1 .0, all .1 .1 .1 .0) at e in
+      let same : count ≡ k = cc in
+      record {
+        matrix = all .0;
+        order-size = length-order m (plan m w p) (planned-sound .sound m w p (all .0) (all .1 .0));
+        groups-size = rw (← same) (length-flat (plan m w p .groups));
+        order-room = leb-true (m .n) a (all .1 .1 .0);
+        groups-room = omega (arith, leb-true count (b / width) (all .1 .1 .1 .0));
+      }
