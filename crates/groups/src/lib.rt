@@ -1,5 +1,5 @@
-// Plans whose groups stand in a lent slice of structs. The borrow checker covers no function over such a slice, so these are
-// few and thin, each proved by a walk of its own: the work is done on a flat list.
+// "The plan's groups are a list of records": here in a lent slice of structs. The borrow checker covers no function over such a
+// slice, so there are four, and thin: each is proved by a walk of its own. The work is done on flat lists, by covered functions.
 use base::Answer;
 use plan::MAX_GROUPS;
 use planner::records;
@@ -18,7 +18,7 @@ ghost use Rattle.race.specs.Planner.{plan, planReply};
 ghost use Rattle.planner.specs.Records.{groupOf};
 ghost use Rattle.groups.specs.Structs.{ofGroup, Flattened, gathered, countOf, Planned};
 
-// Writes a group's record at an index.
+// Writes a group's record at an index of a flat list.
 fn put(numbers: &mut [u32; 3072], k: usize, g: Group)
     requires { ⌜ k < maxGroups ⌝ }
     ensures { λ _. ⌜ take (width * (k + 1)) (now (numbers .exit)) ≡ take (width * k) (now (numbers .entry)) ++ fields (groupOf g) ⌝ }
@@ -26,7 +26,7 @@ fn put(numbers: &mut [u32; 3072], k: usize, g: Group)
     records::put(numbers, k as u32, g);
 }
 
-// The group at an index.
+// The group at an index of a flat list.
 fn get(numbers: &[u32; 3072], k: usize) -> Group
     requires { ⌜ k < maxGroups ⌝ }
     ensures { λ r. ⌜ r ≡ ofGroup (recordAt (now (numbers .entry)) k) ⌝ }
@@ -67,7 +67,7 @@ fn gather(numbers: [u32; 3072], count: usize, groups: &mut [Group])
     }
 }
 
-// The check of a plan whose groups stand in a flat list.
+// The check of a plan whose groups stand in a flat list. No plan has more than 512: 513 stands for every count past them.
 fn check_flat(
     n: u32,
     starts: &[u32],
@@ -117,21 +117,21 @@ fn count_of(answer: Answer) -> usize
     }
 }
 
-// How many numbers of a flat list the groups of a slice may fill.
+// How many numbers of a flat list are lent to the planner, for a slice with room for so many groups.
 fn size_for(room: usize) -> usize
     ensures { λ r. ⌜ r ≡ min (width * room) 3072 ⌝ }
 {
     if room < MAX_GROUPS { 6 * room } else { 3072 }
 }
 
-// A plan's groups in a flat list, and the planner's answer.
+// What the planner made: groups in a flat list, how many, and the answer.
 struct Made {
     numbers: [u32; 3072],
     count: usize,
     answer: Answer,
 }
 
-// The plan of a matrix, if there is room for its order, and for its groups in a slice of `room`.
+// The plan of a matrix, for a slice with room for so many groups: none is needed past 512.
 fn plan_flat(
     n: u32,
     starts: &[u32],

@@ -22,8 +22,8 @@ use Rattle.planner.specs.Stretches.{levelsIn, Levelled, Loaded}
 use Rattle.planner.specs.Records.{groupOf, Holds}
 use Rattle.planner.specs.Cycle.{GroupTask, PairsTask, pairsPlan}
 use Rattle.planner.specs.declared.records.Group.{Group}
-use Rattle.planner.specs.declared.groups.Parent.{Parent}
-use Rattle.planner.specs.declared.groups.Left.{Left}
+use Rattle.planner.specs.declared.cycle.Parent.{Parent}
+use Rattle.planner.specs.declared.cycle.Left.{Left}
 use Rattle.planner.proofs.Weights.{load-concat, load-some, load-few}
 use Rattle.planner.proofs.Stretches.{ends-are, levels-in}
 use Rattle.planner.proofs.GroupPlans.{own-few, own-some, groups-some, pairsBelow, count-split, holds-split}

@@ -16,9 +16,9 @@ use Rattle.race.specs.Planner.{Planner, pairs, planPairs, _then_, planGroup}
 use Rattle.planner.specs.Records.{groupOf}
 use Rattle.planner.specs.Cycle.{PairsTask, pairsPlan}
 use Rattle.planner.specs.declared.records.Group.{Group}
-use Rattle.planner.specs.declared.groups.Parent.{Parent}
-use Rattle.planner.specs.declared.groups.Left.{Left}
-use Rattle.planner.specs.declared.groups.Pair.{Pair}
+use Rattle.planner.specs.declared.cycle.Parent.{Parent}
+use Rattle.planner.specs.declared.cycle.Left.{Left}
+use Rattle.planner.specs.declared.cycle.Pair.{Pair}
 use Rattle.extents.proofs.Extents.{Taken}
 use Rattle.planner.proofs.Stretches.{rowsIn, ends-at, rows-split}
 use Rattle.planner.proofs.PairPlans.{extentOf, cutOf, extent-of, taken-most, Bounds, pair-bounds, pairs-next}

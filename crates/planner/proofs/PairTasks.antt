@@ -18,9 +18,9 @@ use Rattle.extents.specs.Scans.{Scale}
 use Rattle.planner.specs.Stretches.{levelsIn, endsOf, Levelled}
 use Rattle.planner.specs.Records.{groupOf, Holds}
 use Rattle.planner.specs.Cycle.{GroupTask, PairsTask, pairsPlan}
-use Rattle.planner.specs.declared.groups.Parent.{Parent}
-use Rattle.planner.specs.declared.groups.Left.{Left}
-use Rattle.planner.specs.declared.groups.Pair.{Pair}
+use Rattle.planner.specs.declared.cycle.Parent.{Parent}
+use Rattle.planner.specs.declared.cycle.Left.{Left}
+use Rattle.planner.specs.declared.cycle.Pair.{Pair}
 use Rattle.extents.proofs.Ends.{sum-split}
 use Rattle.planner.proofs.Thirds.{fronted, part, patched, first-part, first-back, second-part, second-back, third-part, third-back, three-length}
 use Rattle.planner.proofs.Stretches.{length-ends, ends-at, ends-drop, levels-in}

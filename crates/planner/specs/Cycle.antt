@@ -1,4 +1,4 @@
--- What the two planners require of each other: for the contracts of src/groups.rt. `adj v` lists the rows adjacent to row v, and there are n rows.
+-- What the two planners require of each other: for the contracts of src/cycle.rt. `adj v` lists the rows adjacent to row v, and there are n rows.
 use mathlib.Core.Path.{_≡_}
 use mathlib.Core.List.{List, map}
 use Prim.Native.Nat.{ℕ, _+_, _*_, _≤_}
@@ -15,8 +15,8 @@ use Rattle.extents.specs.Scans.{Scale}
 use Rattle.planner.specs.Stretches.{Levelled}
 use Rattle.planner.specs.Records.{groupOf}
 use Rattle.planner.specs.declared.records.Group.{Group}
-use Rattle.planner.specs.declared.groups.Parent.{Parent}
-use Rattle.planner.specs.declared.groups.Left.{Left}
+use Rattle.planner.specs.declared.cycle.Parent.{Parent}
+use Rattle.planner.specs.declared.cycle.Left.{Left}
 
 -- the plan of the pairs that are left: levels ls and the workers that are free
 abbrev pub pairsPlan : (adj : ℕ → List ℕ) (n p stages : ℕ) (up : Parent) (left : Left) → List (List ℕ) → Plan

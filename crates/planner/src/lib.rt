@@ -7,7 +7,7 @@ use base::PARAMETER;
 use base::SHORT;
 use symmetric::is_matrix;
 
-mod groups;
+mod cycle;
 mod loads;
 pub mod records;
 mod whole;

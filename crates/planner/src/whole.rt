@@ -1,5 +1,5 @@
 // The whole: all rows, sorted by level, and their plan.
-use crate::groups::plan_group;
+use crate::cycle::plan_group;
 use crate::records::Group;
 use crate::records::WHOLE;
 use levels::level_sort;

@@ -148,6 +148,7 @@ module _ {M : Type 1} (𝓤 : URA M) (H : Heap 𝓤) (A : Atoms 𝓤) (W : Given
         pass1 ! (init ! 14 refl (tt, record { fits = n-small })) $ pass1 ! (init ! 12 refl (shr-slice-lawful 𝓤 H A W (named 0) κ₀ u32 .typed starts _ is₁ .0)) $
         pass1 ! (init ! 10 refl (shr-slice-lawful 𝓤 H A W (named 1) κ₁ u32 .typed columns _ is₂ .0)) $ pass1 ! (init ! 8 refl (shr-slice-lawful 𝓤 H A W (named 2) κ₂ i32 .typed values _ is₃ .0)) $
         pass1 ! (init ! 6 refl (shr-slice-lawful 𝓤 H A W (named 3) κ₃ u32 .typed order _ is₄ .0)) $ pass1 ! (init ! 4 refl (shr-slice-lawful 𝓤 H A W (named 4) κ₄ T.the-row .typed groups _ is₅ .0)) $ pass0 ! $
+        -- the locals: 0 the answer; 1 to 6 the parameters; 7 the flat list; 8 the count
         -- [_8; …; _7; …; _6; …; _5; …; _4; …; _3; …; _2; …; _1; …; _0; …; the tokens; what the parameters own]
         move ! (19 ∷ []) $ fsplit ! $ drop ! $ fsplit ! $ move ! (1 ∷ []) $ fsplit ! $ move ! (1 ∷ []) $ fsplit ! $ move ! (1 ∷ []) $ fsplit ! $ move ! (1 ∷ []) $ fsplit ! $
         -- [what groups owns; …; order's; values'; columns'; starts'; _8; …; the tokens]

@@ -108,6 +108,7 @@ module _ {M : Type 1} (𝓤 : URA M) (H : Heap 𝓤) (A : Atoms 𝓤) (W : Given
     abbrev Λ : Loops 𝓤 H
     Λ = 𝓣 .Λ
 
+    -- the locals: 0 the result; 1 groups; 2 numbers; 3 k; 4 and 6 the tests; 5 the count, then bytes; 7 what `put` returns; 8 the list lent; 9 the place of groups[k]; 10 groups[k]
     abbrev En : Env 𝓤 H
     En = (numbersTy, l₀) ∷ (groupsTy, l₁) ∷ (numbersTy, l₂) ∷ (tyInt w64, l₃) ∷ (tyBool, l₄) ∷ (tyInt w64, l₅) ∷ (tyBool, l₆) ∷ (tyUnit, l₇) ∷ (lentTy, l₈) ∷ (tyPtr, l₉) ∷ (T′.mir, l₁₀) ∷ []
 

@@ -130,6 +130,7 @@ module _ {M : Type 1} (𝓤 : URA M) (H : Heap 𝓤) (A : Atoms 𝓤) (W : Given
     abbrev Λ : Loops 𝓤 H
     Λ = 𝓣 .Λ
 
+    -- the locals: 0 the result; 1 to 3 the parameters; 4 numbers; 5 k; 6 the test; 7 what `get` returns; 8 the list lent; 9 bytes; 10 the place of groups[k]
     abbrev En : Env 𝓤 H
     En = (tyUnit, l₀) ∷ (numbersTy, l₁) ∷ (tyInt w64, l₂) ∷ (groupsTy, l₃) ∷ (numbersTy, l₄) ∷ (tyInt w64, l₅) ∷ (tyBool, l₆) ∷ (T′.mir, l₇) ∷ (lentTy, l₈) ∷ (tyInt w64, l₉) ∷ (tyPtr, l₁₀) ∷ []
 

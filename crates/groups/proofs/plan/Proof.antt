@@ -16,10 +16,10 @@ use prog.Routine.{Routine}
 use prog.Wp.{Heap, WpFn, Tables}
 use ghost.Atoms.{Atoms}
 use contract.Lifetimes.{Lfts, Shares}
-use contract.Monad.{Fun, fact, factI}
+use contract.Monad.{Fun}
 use contract.Running.{givenOf, tables, tablesOf}
 use sound.WpLaws.{fmOf, WpFn-mono}
-use types.Kit.{Given, Item, ‵, raw, _⊛_, ⋆, _$_, _∵_, !, qed, by, move, keep, drop, use0, use1, use2, group, split, join, rewrite, fsplit, fjoin, feqL, suffices, frame, done}
+use types.Kit.{Given, Item, ‵, raw, _⊛_, ⋆, _$_, _∵_, !, qed, by, move, keep, drop, use1, use2, group, split, join, rewrite, fsplit, fjoin, feqL, suffices, frame, done}
 use types.Part.{agg, whole, sub, look-in}
 use types.Run.{look, init, forget, stop, hop, fld, from, load, addr, of-opd, and-then, no-more, assigns, land, returns, enter, alloc1, alloc0, params1, pass1, pass0, free1, free0}
 use denote.RattleType.{owns}
@@ -50,7 +50,7 @@ use Rattle.groups.specs.declared.Made.{Made}
 use Rattle.groups.specs.Structs.{gathered, Planned}
 use Rattle.groups.proofs.Made as R
 use Rattle.groups.proofs.Made.Laws as R′
-use Rattle.groups.proofs.Walking.{u32-dropped, slice-dropped, hears, Flat, flat-makes, at}
+use Rattle.groups.proofs.Walking.{u32-dropped, slice-dropped, hears, tells, Flat, flat-makes, at}
 use Rattle.groups.proofs.plan_flat as plan-flat
 use Rattle.groups.proofs.plan_flat.Symbol as plan-flat-def
 use Rattle.groups.proofs.plan_flat.Symbol.{name as #groups·plan-flat}
@@ -75,10 +75,7 @@ module _ {M : Type 1} (𝓤 : URA M) (H : Heap 𝓤) (A : Atoms 𝓤) (memory : 
   abbrev Gather : Contract 𝓤
   Gather = tripleOf 𝓤 H A gather.signature (gather.spec 𝓤 H A memory run)
 
--- the machine value of a plan made, of its three parts
-abbrev mach : Made → Val
-mach r = LL.val R.the-type R′.the-laws r
-
+-- the machine values of what `plan_flat` returns: its list, and its answer
 abbrev numbersAt : Made → Val
 numbersAt r = R′.the-laws .0 .val (map (λ x. x) (r .numbers))
 
@@ -187,8 +184,7 @@ module _ {M : Type 1} (𝓤 : URA M) (H : Heap 𝓤) (A : Atoms 𝓤) (W : Given
           -- [the tokens; …; the last order; the last groups]
           move ! (3 ∷ 1 ∷ []) $ fjoin ! $ move ! (2 ∷ 0 ∷ []) $ fjoin ! $ nothing ! $ fjoin ! $ nothing ! $ fjoin ! $ nothing ! $ fjoin ! $ nothing ! $ fjoin ! $ nothing ! $ fjoin ! $ nothing ! $ fjoin ! $
           owned ! S.the-row (Is S.the-row) (EL.makes S.the-type S′.the-plain 𝓤 H A) (r .answer) _ (is-answer r w is) $ move ! (1 ∷ 0 ∷ []) $ join ! $ move ! (1 ∷ 0 ∷ []) $ join ! $
-          use0 W (raw (fact 𝓤 _)) (factI 𝓤 _ (emp 𝓤) (got ∙ said .groups-left (groups .now))) $ use0 W (raw (fact 𝓤 _)) (factI 𝓤 _ (emp 𝓤) (said .order-left)) $ join ! $
-          use0 W (raw (fact 𝓤 _)) (factI 𝓤 _ (emp 𝓤) (said .reply)) $ join ! $ move ! (1 ∷ 0 ∷ []) $ frame ! $ done !
+          tells ! (got ∙ said .groups-left (groups .now)) $ tells ! (said .order-left) $ join ! $ tells ! (said .reply) $ join ! $ move ! (1 ∷ 0 ∷ []) $ frame ! $ done !
 
   module _ (𝓣 : Tables 𝓤 H) (known-plan : Triple 𝓤 (𝓣 .C #groups·plan-flat) (PlanFlat 𝓤 H A memory run)) (known-gather : Triple 𝓤 (𝓣 .C #groups·gather) (Gather 𝓤 H A memory run)) where
     walk : Is (ShrSlice (named 0) κ₀ u32) starts (at starts ∷ []) → Is (ShrSlice (named 1) κ₁ u32) columns (at columns ∷ []) → Is (ShrSlice (named 2) κ₂ i32) values (at values ∷ [])
@@ -203,6 +199,7 @@ module _ {M : Type 1} (𝓤 : URA M) (H : Heap 𝓤) (A : Atoms 𝓤) (W : Given
         pass1 ! (init ! 24 refl (shr-slice-lawful 𝓤 H A W (named 1) κ₁ u32 .typed columns _ is₂ .0)) $ pass1 ! (init ! 22 refl (shr-slice-lawful 𝓤 H A W (named 2) κ₂ i32 .typed values _ is₃ .0)) $
         pass1 ! (init ! 20 refl (tt, record { fits = workers-small })) $ pass1 ! (init ! 18 refl (tt, record { fits = p-small })) $
         pass1 ! (init ! 16 refl (mut-slice-lawful 𝓤 H A W (named 3) κ₃ u32 .typed order _ is₄ .0)) $ pass1 ! (init ! 14 refl (mut-slice-lawful 𝓤 H A W (named 4) κ₄ T.the-row .typed groups _ is₅ .0)) $ pass0 ! $
+        -- the locals: 0 the answer; 1 to 8 the parameters; 9 what `plan_flat` returns; 10 and 11 the order lent on; 12 the room; 13 what `gather` returns; 14 and 15 the groups lent on
         -- [_15; …; _14; …; … _1; …; _0; …; the tokens; what the parameters own]
         assigns ! (addr ! (from ! (fld ! refl (hop ! (look-in ! 16 (sub ! 0 refl (whole !))) (stop !))))) (from ! (stop !)) (init ! 10 refl (tt, tt)) $
         assigns ! (agg ! (and-then ! (load ! (from ! (stop !)) (look ! 10 refl)) (and-then ! (load ! (from ! (fld ! refl (stop !))) (look-in ! 16 (sub ! 1 refl (whole !)))) (no-more !)))) (from ! (stop !)) (init ! 8 refl (tt, (tt, (record { fits = is₄ .0 .1 .0 }, tt)))) $

@@ -8,8 +8,8 @@ use lib.Seq.{length-take-le}
 use Rattle.extents.proofs.Ends.{sum-split}
 use Rattle.extents.proofs.Extents.{extent-taken}
 use Rattle.planner.proofs.PairPlans.{taken-most, Bounds, pair-bounds}
-use Rattle.planner.proofs.groups.next_pair.Statement.{statement}
-use Rattle.planner.proofs.groups.next_pair.Tie as tie
+use Rattle.planner.proofs.cycle.next_pair.Statement.{statement}
+use Rattle.planner.proofs.cycle.next_pair.Tie as tie
 
 -- how many levels the pair takes
 levels-in : (c : tie.After-next-extent) → (4 ≤ c .next-extent .result .levels) × (c .next-extent .result .levels ≤ length (c .before .before .before .args .loads .now))

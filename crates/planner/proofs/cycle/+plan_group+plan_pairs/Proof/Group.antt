@@ -12,9 +12,9 @@ use Rattle.race.specs.Planner.{planGroup, leaf}
 use Rattle.planner.specs.Records.{groupOf, Holds}
 use Rattle.planner.proofs.GroupPlans.{leaf-stages, leaf-workers, leaf-levels, holds-unsplit}
 use Rattle.planner.proofs.GroupTasks.{record-room, index-few, levels-few, unsorted, levelled-in, stretch-proper, ends-few, pairs-task, split-holds}
-use Rattle.planner.proofs.groups.plan_group.Reads as plan-group
-use Rattle.planner.proofs.groups.+plan_group+plan_pairs.Lts-plan_group as plan-group-lts
-use Rattle.planner.proofs.groups.+plan_group+plan_pairs.Proof.Base.{plan-group-at, plan-group-calls}
+use Rattle.planner.proofs.cycle.plan_group.Reads as plan-group
+use Rattle.planner.proofs.cycle.+plan_group+plan_pairs.Lts-plan_group as plan-group-lts
+use Rattle.planner.proofs.cycle.+plan_group+plan_pairs.Proof.Base.{plan-group-at, plan-group-calls}
 
 -- once the record is written
 module _ (t : ℕ) (w : plan-group-lts.After-put (plan-group-calls t) (plan-group-at t) plan-group.Post) where

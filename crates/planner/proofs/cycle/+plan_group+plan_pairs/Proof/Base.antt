@@ -3,14 +3,14 @@ use Prim.Native.Nat.{ℕ, _<_, _+_, _*_}
 use borrow.Fn.Kinds.{In}
 use borrow.Fn.PlainCycle.{Measures, is, falls, and}
 use lib.ListN.{length}
-use Rattle.planner.proofs.groups.plan_group.Reads as plan-group
-use Rattle.planner.proofs.groups.plan_group.Kinds as plan-group-kinds
-use Rattle.planner.proofs.groups.+plan_group+plan_pairs.Lts-plan_group as plan-group-lts
-use Rattle.planner.proofs.groups.plan_pairs.Reads as plan-pairs
-use Rattle.planner.proofs.groups.plan_pairs.Kinds as plan-pairs-kinds
-use Rattle.planner.proofs.groups.+plan_group+plan_pairs.Lts-plan_pairs as plan-pairs-lts
+use Rattle.planner.proofs.cycle.plan_group.Reads as plan-group
+use Rattle.planner.proofs.cycle.plan_group.Kinds as plan-group-kinds
+use Rattle.planner.proofs.cycle.+plan_group+plan_pairs.Lts-plan_group as plan-group-lts
+use Rattle.planner.proofs.cycle.plan_pairs.Reads as plan-pairs
+use Rattle.planner.proofs.cycle.plan_pairs.Kinds as plan-pairs-kinds
+use Rattle.planner.proofs.cycle.+plan_group+plan_pairs.Lts-plan_pairs as plan-pairs-lts
 use Rattle.levels.proofs.level_sort.Reads as level-sort-reads
-use Rattle.planner.proofs.groups.next_pair.Reads as next-pair-reads
+use Rattle.planner.proofs.cycle.next_pair.Reads as next-pair-reads
 use Rattle.planner.proofs.loads.level_loads.Reads as level-loads-reads
 use Rattle.planner.proofs.records.put.Reads as put-reads
 

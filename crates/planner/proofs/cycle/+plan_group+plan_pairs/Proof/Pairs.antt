@@ -6,13 +6,13 @@ use native.Mathlib.Omega.{arith}
 use borrow.Author.Needs.{needs}
 use lib.ListN.{length, length-drop}
 use lib.Seq.{length-take-le}
-use Rattle.planner.specs.declared.groups.Pair.{Pair}
+use Rattle.planner.specs.declared.cycle.Pair.{Pair}
 use Rattle.planner.proofs.Thirds.{fronted, patched}
 use Rattle.planner.proofs.NextPair.{workers-most}
 use Rattle.planner.proofs.PairTasks.{next-asked, parts-in, levels-in-ends, numbers-few, red-task, blue-task, one-length, two-length, last-held, rest-task, next-held, whole-length, part-to-end}
-use Rattle.planner.proofs.groups.plan_pairs.Reads as plan-pairs
-use Rattle.planner.proofs.groups.+plan_group+plan_pairs.Lts-plan_pairs as plan-pairs-lts
-use Rattle.planner.proofs.groups.+plan_group+plan_pairs.Proof.Base.{plan-pairs-at, plan-pairs-calls}
+use Rattle.planner.proofs.cycle.plan_pairs.Reads as plan-pairs
+use Rattle.planner.proofs.cycle.+plan_group+plan_pairs.Lts-plan_pairs as plan-pairs-lts
+use Rattle.planner.proofs.cycle.+plan_group+plan_pairs.Proof.Base.{plan-pairs-at, plan-pairs-calls}
 
 -- once the next pair is known
 module _ (t : ℕ) (w : plan-pairs-lts.After-next-pair (plan-pairs-calls t) (plan-pairs-at t) plan-pairs.Post) where
