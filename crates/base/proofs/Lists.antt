@@ -176,6 +176,9 @@ pub of-all : (p : ℕ → Bool) (xs : List ℕ) → ((v : ℕ) → isIn xs v ≡
 of-all p [] h = refl
 of-all p (x ∷ xs) h = rw (h x (rw (eq-eqb x x refl) refl)) (of-all p xs (λ v i. h v (rw i (or-true (eqb v x)))))
 
+pub range-all : (p : ℕ → Bool) (n : ℕ) → ((i : ℕ) → i < n → p i ≡ true) → all p (range 0 n) ≡ true
+range-all p n h = of-all p (range 0 n) (λ i e. h i (omega (arith, range-in i 0 n e .1)))
+
 module _ {ℓ} {A : Type ℓ} where
   -- two functions that agree on a range
   pub map-range-same : (f g : ℕ → A) (k m : ℕ) → ((i : ℕ) → k ≤ i → i < k + m → f i ≡ g i) → map f (range k m) ≡ map g (range k m)

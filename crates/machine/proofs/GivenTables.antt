@@ -3,18 +3,11 @@ use mathlib.Core.Path.{_≡_, refl, sym, ap, _∙_}
 use mathlib.Core.List.{List, _∷_}
 use Prim.Native.Nat.{ℕ, _≤_, _<_}
 use native.Mathlib.Omega.{arith}
-use lib.Dec.{eqb}
 use lib.IntN.{ℤ}
 use lib.ListN.{length, getD, take}
 use lib.Seq.{getD-take}
-use borrow.Author.Tests.{eqb-true}
-use Rattle.base.specs.Lists.{all}
-use Rattle.base.specs.Integers.{within}
-use Rattle.base.proofs.Booleans.{and-left}
-use Rattle.matrix.specs.Limits.{maxDisplacement}
-use Rattle.matrix.specs.Matrix.{areDisplacements}
 use Rattle.matrix.specs.Checks.{matrixOf}
-use Rattle.matrix.proofs.Matrix.{matrix-facts}
+use Rattle.matrix.proofs.Matrix.{matrix-facts, displacements-many}
 use Rattle.plan.specs.Groups.{planOf}
 use Rattle.plan.specs.Sound.{maxWorkers}
 use Rattle.plan.proofs.Once.{low-at}
@@ -47,10 +40,7 @@ triangle-of {n} {starts} {columns} {values} {x} {order} groups count {sizes} t =
 module _ (j : Job) (ok : Accepted j) {starts : List ℕ} {x : List ℤ} {order at : List ℕ} {beside : List ℤ} (t : Triangle j starts x order at beside) where
   -- a displacement for each row
   as-many : length x ≡ j .matrix .n
-  unfolding areDisplacements
-  as-many =
-      ap (λ (y : List ℤ). length y) (sym (t .displacements-are))
-      ∙ eqb-true (length (j .displacements)) (j .matrix .n) (and-left (eqb (length (j .displacements)) (j .matrix .n)) (all (within maxDisplacement) (j .displacements)) (ok .displacements))
+  as-many = ap (λ (y : List ℤ). length y) (sym (t .displacements-are)) ∙ displacements-many (j .matrix .n) (j .displacements) (ok .displacements)
 
   row-low : (p : ℕ) → p < j .matrix .n → getD order p 0 < j .matrix .n
   unfolding rowAt

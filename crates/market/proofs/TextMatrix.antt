@@ -13,7 +13,7 @@ use Rattle.base.specs.Integers.{within}
 use Rattle.base.proofs.Booleans.{and-false}
 use Rattle.base.proofs.Each.{each-map}
 use Rattle.base.proofs.Integers.{same-refl}
-use Rattle.base.proofs.Lists.{filter-filter, filter-in, filter-passes, filter-of, isIn-range, range-in, of-all}
+use Rattle.base.proofs.Lists.{filter-filter, filter-in, filter-passes, filter-of, isIn-range, range-in, of-all, range-all}
 use Rattle.base.proofs.Sums.{sum-below-le}
 use Rattle.matrix.specs.Limits.{maxRows, maxEntries, maxValue}
 use Rattle.matrix.specs.Matrix.{Matrix, columnsOf, valuesOf, lookup, entry, ascending, mirrored, isRow, lowerEntries, isMatrix}
@@ -164,6 +164,6 @@ module _ {n : ℕ} {es : List Triplet} (a : Accepted n es) (xs ys : List ℕ) (z
         rows-end n es xs,
         le-leb (length (rowsOf n es)) (length (made .columns)) long-columns,
         le-leb (length (rowsOf n es)) (length (made .values)) long-values,
-        of-all (isRow made) (range 0 n) (λ i h. let r = range-in i 0 n h in row-test i (omega arith)),
+        range-all (isRow made) n row-test,
       )
       (le-leb (lowerEntries made) maxEntries few-low)

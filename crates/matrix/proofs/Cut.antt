@@ -9,15 +9,16 @@ use lib.Dec.{eqb, ltb, leb}
 use lib.IntN.{ℤ, _*ℤ_}
 use lib.ListN.{length, getD, take, length-take}
 use lib.Seq.{getD-take, take-take, take-all, length-take-le}
-use borrow.Author.Tests.{ltb-true, leb-true, leb-false, eqb-true, ne-eqb}
+use borrow.Author.Tests.{ltb-true, leb-true, leb-false, ne-eqb}
 use Rattle.base.specs.Lists.{filter, all, isIn, range, sumBelow}
-use Rattle.base.specs.Integers.{sumℤ, same, within}
-use Rattle.base.proofs.Booleans.{and-left, both-ways}
-use Rattle.base.proofs.Lists.{all-range, of-all, range-in}
-use Rattle.matrix.specs.Limits.{maxRows, maxEntries, maxDisplacement}
+use Rattle.base.specs.Integers.{sumℤ, same}
+use Rattle.base.proofs.Booleans.{both-ways}
+use Rattle.base.proofs.Lists.{all-range, range-all}
+use Rattle.matrix.specs.Limits.{maxRows, maxEntries}
 use Rattle.matrix.specs.Matrix.{Matrix, partOf, columnsOf, valuesOf, lookup, entry, neighbours, mirrored, lowerEntries, isMatrix, displacement, areDisplacements, displacementCheck}
 use Rattle.matrix.specs.Checks.{matrixOf, rises, shaped, isOrdered, symmetric}
 use Rattle.matrix.specs.Product.{forceAt, product}
+use Rattle.matrix.proofs.Matrix.{displacements-many}
 use Rattle.matrix.proofs.Checks.{ordered, Shape, shape, shape-rises, matrix-parts, matrix-tidy}
 use Rattle.matrix.proofs.Rows.{row-in}
 use Rattle.matrix.proofs.Entries.{few-entries}
@@ -58,7 +59,7 @@ module _ (m : Matrix) where
         starts-first = start-same m (s .few) 0 (omega arith) ∙ s .starts-first;
         columns-long = rw (end, length-take) (omega (arith, s .columns-long));
         values-long = rw (end, length-take) (omega (arith, s .values-long));
-        rising = of-all (rises (cut m .starts)) (range 0 (m .n)) (λ i k. let l = range-in i 0 (m .n) k .1 in rises-same m (s .few) i (omega arith) ∙ all-range (rises (m .starts)) (m .n) i (s .rising) (omega arith));
+        rising = range-all (rises (cut m .starts)) (m .n) (λ i l. rises-same m (s .few) i l ∙ all-range (rises (m .starts)) (m .n) i (s .rising) l);
       })
 
   module _ (h : shaped (cut m) ≡ true) where
@@ -81,7 +82,7 @@ module _ (m : Matrix) where
           starts-first = sym (start-same m (s .few) 0 (omega arith)) ∙ s .starts-first;
           columns-long = omega (arith, end, s .columns-long, length-take mostEntries (m .columns));
           values-long = omega (arith, end, s .values-long, length-take mostEntries (m .values));
-          rising = of-all (rises (m .starts)) (range 0 (m .n)) (λ i k. let l = range-in i 0 (m .n) k .1 in sym (rises-same m (s .few) i (omega arith)) ∙ all-range (rises (cut m .starts)) (m .n) i (s .rising) (omega arith));
+          rising = range-all (rises (m .starts)) (m .n) (λ i l. sym (rises-same m (s .few) i l) ∙ all-range (rises (cut m .starts)) (m .n) i (s .rising) l);
         })
 
 -- ---- rows
@@ -177,7 +178,4 @@ cut-displacements n x few = go (leb (length x) mostStarts) refl
 
 -- n displacements are not cut
 pub displacements-kept : (n : ℕ) (x : List ℤ) → n ≤ maxRows → areDisplacements n x ≡ true → take mostStarts x ≡ x
-unfolding areDisplacements
-displacements-kept n x few h =
-    let long : length x ≡ n = eqb-true (length x) n (and-left (eqb (length x) n) (all (within maxDisplacement) x) h) in
-    take-all mostStarts x (omega arith)
+displacements-kept n x few h = take-all mostStarts x (omega (arith, displacements-many n x h))

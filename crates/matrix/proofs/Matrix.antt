@@ -201,6 +201,11 @@ module _ (m : Matrix) (ok : isMatrix m ≡ true) where
       go true e = leb-true (natAbs (entry m i j)) maxValue (lookup-all (within maxValue) j (columnsOf m i) (valuesOf m i) refl (facts .row i (column-row m i j e) .small))
       go false e = rw (absent-column m i j e) (leb-true 0 maxValue refl)
 
+-- there is a displacement for each row
+pub displacements-many : (n : ℕ) (x : List ℤ) → areDisplacements n x ≡ true → length x ≡ n
+unfolding areDisplacements
+displacements-many n x ok = eqb-true (length x) n (and-left (eqb (length x) n) (all (within maxDisplacement) x) ok)
+
 -- every displacement's size is at most the limit
 pub small-displacement : (n : ℕ) (x : List ℤ) → areDisplacements n x ≡ true → (j : ℕ) → natAbs (displacement x j) ≤ maxDisplacement
 unfolding displacement within areDisplacements

@@ -6,22 +6,21 @@ use native.Mathlib.Omega.{arith}
 use lib.Dec.{eqb}
 use lib.IntN.{ℤ, _*ℤ_}
 use lib.ListN.{length}
-use borrow.Author.Tests.{eqb-true}
 use Rattle.base.specs.Lists.{all}
 use Rattle.base.specs.Integers.{within, sumℤ}
-use Rattle.base.proofs.Booleans.{and-left, and-right}
+use Rattle.base.proofs.Booleans.{and-right}
 use Rattle.matrix.specs.Limits.{maxDisplacement}
 use Rattle.matrix.specs.Matrix.{Matrix, columnsOf, valuesOf, lookup, entry, displacement, areDisplacements}
 use Rattle.multiply.specs.Loaded.{RowOk, Loaded}
 use Rattle.matrix.specs.Product.{forceAt}
+use Rattle.matrix.proofs.Matrix.{displacements-many}
 use Rattle.matrix.proofs.Checks.{shape, matrix-tidy}
 use Rattle.matrix.proofs.Symmetry.{row-ordered, row-lengths}
 
 -- cs and vs are the columns and values of row i
 module _ (m : Matrix) (x : List ℤ) {room : ℕ} (g : Loaded m x room) (i : ℕ) (l : i < m .n) {cs : List ℕ} {vs : List ℤ} (e : cs ≡ columnsOf m i) (f : vs ≡ valuesOf m i) where
   counted : length x ≡ m .n
-  unfolding areDisplacements
-  counted = eqb-true (length x) (m .n) (and-left (eqb (length x) (m .n)) (all (within maxDisplacement) x) (g .moved))
+  counted = displacements-many (m .n) x (g .moved)
 
   pub row-ok : RowOk cs vs x
   unfolding areDisplacements

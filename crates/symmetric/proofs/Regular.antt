@@ -12,7 +12,7 @@ use borrow.Author.Tests.{lt-ltb}
 use Rattle.base.specs.Lists.{all, isIn, range}
 use Rattle.base.specs.Integers.{within}
 use Rattle.base.proofs.Booleans.{and-left, and-right, clash, is-false}
-use Rattle.base.proofs.Lists.{all-of, all-range, of-all, range-in, get-all}
+use Rattle.base.proofs.Lists.{all-of, all-range, range-all, get-all}
 use Rattle.base.proofs.Left.{all-and}
 use Rattle.base.proofs.Integers.{same-refl}
 use Rattle.matrix.specs.Limits.{maxEntries, maxValue}
@@ -65,9 +65,6 @@ module _ (m : Matrix) (g : regular m ≡ true) where
       go false e = sym (is-false (λ f. clash (mirror-of j i b f .0) e))
 
 -- ---- how it follows
-
-pub range-all : (p : ℕ → Bool) (n : ℕ) → ((i : ℕ) → i < n → p i ≡ true) → all p (range 0 n) ≡ true
-range-all p n h = of-all p (range 0 n) (λ i e. h i (omega (arith, range-in i 0 n e .1)))
 
 -- each row is met to its end
 module _ (m : Matrix) (h : shaped m ≡ true) (met : (i : ℕ) → i < m .n → Met m (m .n) i (getD (m .starts) (i + 1) 0)) where

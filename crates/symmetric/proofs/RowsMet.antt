@@ -10,13 +10,13 @@ use lib.ListN.{length, getD}
 use borrow.Author.Tests.{le-leb, lt-leb, eqb-true, eq-eqb}
 use Rattle.base.specs.Lists.{all, filter, range, sumBelow}
 use Rattle.base.proofs.Booleans.{and-left, both-ways}
-use Rattle.base.proofs.Lists.{all-range, all-of, filter-all}
+use Rattle.base.proofs.Lists.{all-range, range-all, all-of, filter-all}
 use Rattle.matrix.specs.Limits.{maxEntries}
 use Rattle.matrix.specs.Matrix.{Matrix, columnsOf, lowerEntries}
 use Rattle.matrix.specs.Checks.{shaped, placeIn}
 use Rattle.symmetric.specs.Cursors.{regular, Met, Cursors, ended}
 use Rattle.matrix.proofs.Rows.{columns-in, length-columns}
-use Rattle.symmetric.proofs.Regular.{below, range-all, regular-made}
+use Rattle.symmetric.proofs.Regular.{below, regular-made}
 
 -- how many entries of row i stand on and below the diagonal
 abbrev lowerOf : Matrix → ℕ → ℕ
