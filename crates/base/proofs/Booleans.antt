@@ -45,10 +45,6 @@ pub or-mono : (a b c d : Bool) → (a ≡ true → c ≡ true) → (b ≡ true �
 or-mono true b c d f g h = rw (f refl) refl
 or-mono false b c d f g h = rw (g h) (or-true c)
 
-pub and-mono : (a b c d : Bool) → (a ≡ true → c ≡ true) → (b ≡ true → d ≡ true) → a && b ≡ true → c && d ≡ true
-and-mono true b c d f g h = rw (f refl) (g h)
-and-mono false b c d f g h = absurd (true≢false (sym h))
-
 pub clash : {b : Bool} → b ≡ true → b ≡ false → ⊥
 clash p q = true≢false (sym p ∙ q)
 

@@ -6,8 +6,8 @@ use mathlib.Core.List.{List, [], _∷_}
 use Prim.Native.Nat.{ℕ, suc, _+_, _-_, _<_}
 use native.Mathlib.Numerals.{add-one}
 use native.Mathlib.Omega.{arith}
-use lib.ListN.{length, getD, drop}
-use lib.Seq.{drop-cons, drop-length}
+use lib.ListN.{length, drop}
+use lib.Seq.{drop-length}
 use Rattle.base.specs.Lists.{all, range}
 use Rattle.base.proofs.Booleans.{and-cross}
 
@@ -31,16 +31,6 @@ module _ (p : ℕ → Bool) (n : ℕ) where
   all-left-none = let e : n - n ≡ 0 = omega arith in rw e
 
 module _ {ℓ} {A : Type ℓ} (p : A → Bool) (xs : List A) where
-  all-drop : (k : ℕ) (d : A) → k < length xs → all p (drop k xs) ≡ p (getD xs k d) && all p (drop (k + 1) xs)
-  all-drop k d l = rw (add-one k, drop-cons xs k d l)
-
-  -- the element at place k passes, or fails
-  pub all-drop-pass : (k : ℕ) (d : A) → k < length xs → p (getD xs k d) ≡ true → all p (drop k xs) ≡ all p (drop (k + 1) xs)
-  all-drop-pass k d l h = all-drop k d l ∙ rw h
-
-  pub all-drop-fail : (k : ℕ) (d : A) → k < length xs → p (getD xs k d) ≡ false → all p (drop k xs) ≡ false
-  all-drop-fail k d l h = all-drop k d l ∙ rw h
-
   pub all-drop-none : all p (drop (length xs) xs) ≡ true
   all-drop-none = rw (drop-length xs)
 

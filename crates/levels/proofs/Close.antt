@@ -1,13 +1,13 @@
--- Levels are distances: two adjacent rows have levels that differ by at most 1, and who is on a level after one that is not empty is adjacent to a row of that one.
+-- Levels are distances: two adjacent rows have levels that differ by at most 1.
 use mathlib.Core.Path.{_≡_, sym}
 use mathlib.Core.Bool.{true, not, true≢false}
 use mathlib.Core.List.{List, [], _∷_}
 use Prim.Native.Nat.{ℕ, zero, suc, _≤_, zero-le, suc-le-suc}
 use native.Mathlib.Omega.{arith}
 use lib.ListN.{getD}
-use Rattle.base.specs.Lists.{filter, isIn}
+use Rattle.base.specs.Lists.{isIn}
 use Rattle.base.proofs.Booleans.{not-both}
-use Rattle.base.proofs.Lists.{filter-in, filter-passes, any-of, any-get}
+use Rattle.base.proofs.Lists.{filter-in, filter-passes, any-of}
 use Rattle.levels.specs.Levels.{isNext, levelsFrom}
 
 module _ (adj : ℕ → List ℕ) (T : List ℕ) where
@@ -39,17 +39,3 @@ module _ (adj : ℕ → List ℕ) (T : List ℕ) where
   levels-close (suc k) last rest zero (suc zero) u v hu hv c = omega arith
   levels-close (suc k) last rest zero (suc (suc j)) u v hu hv c = absurd (far k _ _ j u v hu hv c)
   levels-close (suc k) last rest (suc i) (suc j) u v hu hv c = suc-le-suc (levels-close k _ _ i j u v hu hv c)
-
-  -- after a level that is not empty, each row of the next is adjacent to one of it
-  pub levels-back : (k : ℕ) (last rest : List ℕ) (j v x : ℕ) → At k last rest j x → At k last rest (suc j) v
-      → (u : ℕ) × At k last rest j u × (isIn (adj v) u ≡ true)
-  unfolding levelsFrom isNext
-  levels-back zero last rest j v x hx hv = absurd (true≢false (sym hv))
-  levels-back (suc k) last rest zero v x hx hv = first k (filter (isNext adj T last rest) rest) _ v x hx hv
-    where
-      first : (k : ℕ) (last rest : List ℕ) (v x : ℕ) → isIn last x ≡ true → At k last rest 0 v → (u : ℕ) × (isIn last u ≡ true) × (isIn (adj v) u ≡ true)
-      first zero last rest v x hx hv = absurd (true≢false (sym hv))
-      first (suc k) [] rest v x hx hv = absurd (true≢false (sym hx))
-      first (suc k) (y ∷ ys) rest v x hx hv =
-          let (u, a, b) = any-get (isIn (y ∷ ys)) (adj v) (filter-passes (isNext adj T (y ∷ ys) rest) rest v hv) in (u, b, a)
-  levels-back (suc k) last rest (suc j) v x hx hv = levels-back k _ _ j v x hx hv

@@ -17,4 +17,3 @@ pub mod AtLevel
 pub mod Counting
 pub mod Placing
 pub mod OwnLevels
-pub mod Stretch

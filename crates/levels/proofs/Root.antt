@@ -1,15 +1,14 @@
--- The root of the next component: at most one row, of T and not yet reached; there is one as long as T has one there.
+-- The root of the next component: it was not yet reached, and there is one as long as T has a row there.
 use mathlib.Core.Path.{_≡_, refl, sym, ap}
 use mathlib.Core.Bool.{Bool, true, false, true≢false}
 use mathlib.Core.List.{List, [], _∷_}
-use Prim.Native.Nat.{ℕ, _≤_}
-use native.Mathlib.Omega.{arith}
+use Prim.Native.Nat.{ℕ}
 use lib.Dec.{eqb}
-use lib.ListN.{length, take, length-take}
+use lib.ListN.{take}
 use borrow.Author.Tests.{eq-eqb}
 use Rattle.base.specs.Lists.{filter, isIn, range}
 use Rattle.base.proofs.Booleans.{or-mono}
-use Rattle.base.proofs.Lists.{filter-in, filter-passes, filter-of, filter-swap}
+use Rattle.base.proofs.Lists.{filter-in, filter-of, filter-swap}
 use Rattle.levels.specs.Levels.{root}
 
 first-in : (xs : List ℕ) (v : ℕ) → isIn (take 1 xs) v ≡ true → isIn xs v ≡ true
@@ -17,16 +16,6 @@ first-in [] v h = h
 first-in (x ∷ xs) v h = or-mono (eqb v x) false (eqb v x) (isIn xs v) (λ e. e) (λ e. absurd (true≢false (sym e))) h
 
 module _ (adj : ℕ → List ℕ) (T rest : List ℕ) where
-  -- at most one row
-  pub root-one : length (root adj T rest) ≤ 1
-  unfolding root
-  root-one = omega (arith, length-take 1 (filter (isIn T) rest))
-
-  -- it is of T
-  pub root-own : (v : ℕ) → isIn (root adj T rest) v ≡ true → isIn T v ≡ true
-  unfolding root
-  root-own v h = filter-passes (isIn T) rest v (first-in (filter (isIn T) rest) v h)
-
   -- it was not yet reached
   pub root-in : (v : ℕ) → isIn (root adj T rest) v ≡ true → isIn rest v ≡ true
   unfolding root

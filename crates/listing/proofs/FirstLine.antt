@@ -67,15 +67,6 @@ first-taken (b ∷ bs) = go (isEnd b) (first-taken bs)
     go true ih = refl
     go false ih = ap (λ (l : List ℕ). b ∷ l) ih
 
-pub first-inside : (s : List ℕ) → length (firstLine s) ≤ length s
-unfolding firstLine
-first-inside [] = omega arith
-first-inside (b ∷ bs) = go (isEnd b) (first-inside bs)
-  where
-    go : (t : Bool) → length (firstLine bs) ≤ length bs → length (cond t [] (b ∷ firstLine bs)) ≤ suc (length bs)
-    go true ih = omega arith
-    go false ih = omega arith
-
 -- two numbers with one space between
 module _ (xs : List ℕ) where
   pub no-first : num.No ≡ numberAt 0 (number (drop 0 xs)) → Missing ≡ given (parametersOf xs)

@@ -48,12 +48,6 @@ module _ {A B C : Type 0} where
   map-pieces g f [] = refl
   map-pieces g f (x ∷ xs) = map-append g (f x) (concat (map f xs)) ∙ ap (λ (l : List C). map g (f x) ++ l) (map-pieces g f xs)
 
-  -- pieces of pieces
-  pub pieces-pieces : (g : B → List C) (f : A → List B) (xs : List A) → concat (map g (concat (map f xs))) ≡ concat (map (λ (x : A). concat (map g (f x))) xs)
-  pieces-pieces g f [] = refl
-  pieces-pieces g f (x ∷ xs) =
-      ap concat (map-append g (f x) (concat (map f xs))) ∙ concat-append (map g (f x)) (map g (concat (map f xs))) ∙ ap (λ (l : List C). concat (map g (f x)) ++ l) (pieces-pieces g f xs)
-
 -- functions that agree on the members of a list
 pub map-members : {A : Type 0} (f g : ℕ → A) (xs : List ℕ) → ((v : ℕ) → isIn xs v ≡ true → f v ≡ g v) → map f xs ≡ map g xs
 map-members f g [] h = refl

@@ -62,11 +62,6 @@ fits-blue s f w h d e₀ =
       workers = eqb-true (h .workers) w (and-right (eqb (h .colour) blue) (eqb (h .workers) w) (t 1));
     }
 
--- the blue of a red is the last of its pair
-paired : (w : ℕ) (h : Group) → w ≢ 0 → pending w h ≡ 0
-unfolding pending
-paired w h d = rw (ne-eqb w 0 d)
-
 -- ---- pair by pair
 
 -- the tests of a red and its blue, one after the other

@@ -56,9 +56,6 @@ module _ (ls : List (List ℕ)) (k : ℕ) where
   pub rows-split : concat ls ≡ concat (take k ls) ++ concat (drop k ls)
   rows-split = ap concat (sym (take-append-drop k ls)) ∙ concat-append (take k ls) (drop k ls)
 
-  pub rows-first : take (rowsIn k ls) (concat ls) ≡ concat (take k ls)
-  rows-first = rw rows-split (take-at (concat (take k ls)) (concat (drop k ls)) (rowsIn k ls) refl)
-
   pub rows-after : drop (rowsIn k ls) (concat ls) ≡ concat (drop k ls)
   rows-after = rw rows-split (drop-at (concat (take k ls)) (concat (drop k ls)) (rowsIn k ls) refl)
 
@@ -78,9 +75,3 @@ pub level-at : (ls : List (List ℕ)) (k : ℕ) → k < length ls → take (rows
 level-at ls k lt =
     let size : rowsIn (suc k) ls - rowsIn k ls ≡ length (getD ls k []) = omega (arith, rows-next ls k lt) in
     rw (size, rows-after ls k, drop-cons ls k [] lt) (take-at (getD ls k []) (concat (drop (suc k) ls)) (length (getD ls k [])) refl)
-
--- the levels past k, in what is left of the stretch
-pub levelled-after : {done : ℕ} {ends stretch : List ℕ} {ls : List (List ℕ)} (k : ℕ) → Levelled done ends stretch ls
-    → Levelled (done + rowsIn k ls) (drop k ends) (drop (rowsIn k ls) stretch) (drop k ls)
-levelled-after {done} {ends} {stretch} {ls} k h =
-    record { ends-are = rw (h .ends-are) (ends-drop done k ls); rows-are = rw (h .rows-are) (rows-after ls k) }

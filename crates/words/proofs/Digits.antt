@@ -7,7 +7,6 @@ use native.Mathlib.Omega.{arith}
 use lib.IntN.{ℤ}
 use lib.ListN.{length, take, drop, getD, length-take, length-drop}
 use lib.Seq.{drop-cons, drop-drop, take-add}
-use Rattle.base.proofs.Each.{Each}
 use Rattle.words.specs.LittleEndian.{number, bytesOf, ofSigned, signedBytesOf}
 use Rattle.words.specs.Places.{fourAt, eightAt}
 
@@ -45,19 +44,6 @@ number-bytesOf (suc width) v h =
     let p : v < 256 ^ width * 256 = rw pow-suc at h in
     let q : v / 256 < 256 ^ width = omega arith in
     omega (arith, number-bytesOf width (v / 256) q)
-
--- every number is a byte
-abbrev pub AreBytes : List ℕ → Type 0
-AreBytes = Each (λ b. b < 256)
-
--- the bytes of the bytes' number
-pub bytesOf-number : (bs : List ℕ) → AreBytes bs → bytesOf (length bs) (number bs) ≡ bs
-unfolding number bytesOf
-bytesOf-number [] h = refl
-bytesOf-number (b ∷ bs) h =
-    let byte : (b + 256 * number bs) % 256 ≡ b = omega (arith, h .0) in
-    let rest : (b + 256 * number bs) / 256 ≡ number bs = omega (arith, h .0) in
-    rw (byte, rest, bytesOf-number bs (h .1))
 
 -- ---- a low and a high part
 
