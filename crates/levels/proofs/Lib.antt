@@ -5,15 +5,4 @@ pub mod Close
 pub mod Reached
 pub mod Own
 pub mod Rows
-pub mod Marks
-pub mod Waves
-pub mod Visits
-pub mod Turns
-pub mod Frontiers
-pub mod Components
-pub mod MarkedRegion
 pub mod Members
-pub mod AtLevel
-pub mod Counting
-pub mod Placing
-pub mod OwnLevels

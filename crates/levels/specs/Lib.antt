@@ -1,7 +1,3 @@
 pub mod Levels
 pub mod Rows
 pub mod Group
-pub mod Marks
-pub mod Search
-pub mod Sort
-pub mod Sorted

@@ -11,8 +11,8 @@ use Rattle.base.proofs.Counts.{same-length}
 use Rattle.levels.specs.Levels.{ownLevels}
 use Rattle.levels.specs.Group.{Proper}
 use Rattle.levels.specs.Rows.{adjOf}
-use Rattle.levels.specs.Sort.{maxLevels}
-use Rattle.levels.specs.Sorted.{Sorted}
+use Rattle.sort.specs.Sort.{maxLevels}
+use Rattle.sort.specs.Sorted.{Sorted}
 use Rattle.levels.proofs.Proper.{proper-same}
 use Rattle.levels.proofs.Own.{own-same}
 use Rattle.plan.specs.Groups.{width, fields}

@@ -8,7 +8,7 @@ use lib.ListN.{length, take, drop, getD, set, take-append-drop, length-set}
 use lib.Seq.{take-suc, take-suc-set, take-all, take-add}
 use Rattle.base.specs.Lists.{concat}
 use Rattle.levels.specs.Group.{Proper}
-use Rattle.levels.specs.Sort.{maxLevels}
+use Rattle.sort.specs.Sort.{maxLevels}
 use Rattle.levels.proofs.Proper.{proper-left, proper-right}
 use Rattle.race.specs.Loads.{load}
 use Rattle.planner.specs.Stretches.{Levelled, Loaded}

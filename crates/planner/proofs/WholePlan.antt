@@ -12,7 +12,7 @@ use Rattle.base.proofs.Lists.{length-range}
 use Rattle.base.proofs.Fill.{filled}
 use Rattle.levels.specs.Levels.{ownLevels}
 use Rattle.levels.specs.Rows.{Rows, adjOf}
-use Rattle.levels.specs.Sorted.{Sorted}
+use Rattle.sort.specs.Sorted.{Sorted}
 use Rattle.levels.proofs.Proper.{proper-range}
 use Rattle.levels.proofs.Own.{sorted-levels}
 use Rattle.levels.proofs.Rows.{rows-graph}

@@ -4,7 +4,7 @@ use mathlib.Core.List.{List, [], _∷_, map}
 use Prim.Native.Nat.{ℕ, _+_, _-_}
 use lib.ListN.{length, take, drop}
 use Rattle.base.specs.Lists.{concat}
-use Rattle.levels.specs.Sort.{maxLevels}
+use Rattle.sort.specs.Sort.{maxLevels}
 use Rattle.race.specs.Loads.{load}
 
 -- the levels that end at ends in a stretch, done rows before it

@@ -7,7 +7,7 @@ use crate::records::put;
 use extents::REACH;
 use extents::cut;
 use extents::next_extent;
-use levels::level_sort;
+use sort::level_sort;
 ghost use mathlib.Core.Path.{_≡_};
 ghost use Prim.Native.Nat.{ℕ, _+_, _-_, _*_, _<_, _≤_};
 ghost use lib.ListN.{length, take, getD};

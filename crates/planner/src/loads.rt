@@ -4,7 +4,7 @@ ghost use Prim.Native.Nat.{_<_, _≤_};
 ghost use lib.ListN.{length};
 ghost use Rattle.levels.specs.Group.{Proper};
 ghost use Rattle.levels.specs.Rows.{Rows, adjOf};
-ghost use Rattle.levels.specs.Sort.{maxLevels};
+ghost use Rattle.sort.specs.Sort.{maxLevels};
 ghost use Rattle.race.specs.Loads.{weight, load};
 ghost use Rattle.planner.specs.Stretches.{levelsIn, Levelled, Loaded};
 

@@ -2,7 +2,7 @@
 use crate::cycle::plan_group;
 use crate::records::Group;
 use crate::records::WHOLE;
-use levels::level_sort;
+use sort::level_sort;
 ghost use mathlib.Core.Path.{_≡_};
 ghost use Prim.Native.Nat.{_≤_, _*_};
 ghost use lib.ListN.{length};

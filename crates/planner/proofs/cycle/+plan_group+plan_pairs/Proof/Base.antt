@@ -9,7 +9,7 @@ use Rattle.planner.proofs.cycle.+plan_group+plan_pairs.Lts-plan_group a
 use Rattle.planner.proofs.cycle.plan_pairs.Reads as plan-pairs
 use Rattle.planner.proofs.cycle.plan_pairs.Kinds as plan-pairs-kinds
 use Rattle.planner.proofs.cycle.+plan_group+plan_pairs.Lts-plan_pairs as plan-pairs-lts
-use Rattle.levels.proofs.level_sort.Reads as level-sort-reads
+use Rattle.sort.proofs.level_sort.Reads as level-sort-reads
 use Rattle.planner.proofs.cycle.next_pair.Reads as next-pair-reads
 use Rattle.planner.proofs.loads.level_loads.Reads as level-loads-reads
 use Rattle.planner.proofs.records.put.Reads as put-reads

@@ -6,7 +6,7 @@ use native.Mathlib.Omega.{arith}
 use lib.ListN.{length}
 use lib.Seq.{length-take-le}
 use Rattle.levels.specs.Rows.{adjOf}
-use Rattle.levels.specs.Sort.{maxLevels}
+use Rattle.sort.specs.Sort.{maxLevels}
 use Rattle.base.proofs.Lists.{getD-zeros}
 use Rattle.race.specs.Planner.{planGroup, leaf}
 use Rattle.planner.specs.Records.{groupOf, Holds}
