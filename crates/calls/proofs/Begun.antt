@@ -27,7 +27,7 @@ use Rattle.machine.specs.declared.state.State.{State}
 use Rattle.calls.proofs.JobChecked.{job-given}
 use Rattle.layout.proofs.AllWorkers.{blank-zeros}
 use Rattle.machine.proofs.TableWaits.{table-state}
-use Rattle.machine.proofs.GivenTables.{triangle-of}
+use Rattle.steps.proofs.GivenTables.{triangle-of}
 use Rattle.calls.proofs.Beginning.{begin-refused, begin-unfit, begin-taken, state-size}
 
 -- twice a worker's number of updates fits 32 bits

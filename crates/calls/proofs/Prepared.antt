@@ -14,7 +14,7 @@ use Rattle.plan.specs.declared.fields.Record.{Record}
 use Rattle.run.specs.Job.{Job, jobOf}
 use Rattle.run.specs.Machine.{workersOf, workers, over}
 use Rattle.machine.specs.Record.{allBelow, done}
-use Rattle.machine.specs.Steps.{StepTables}
+use Rattle.steps.specs.Steps.{StepTables}
 use Rattle.tables.specs.Laid.{Waits}
 use Rattle.waits.specs.Waits.{Recorded, Blocks}
 use Rattle.layout.specs.UpdateTable.{Given}
@@ -22,7 +22,7 @@ use Rattle.calls.specs.Begun.{Prepared}
 use Rattle.run.proofs.Accepted.{facts}
 use Rattle.machine.proofs.BlockedLeaves.{recorded-of, waits-of}
 use Rattle.machine.proofs.TableWaits.{table-over}
-use Rattle.machine.proofs.GivenTables.{step-tables}
+use Rattle.steps.proofs.GivenTables.{step-tables}
 
 -- the groups of a job in lent lists
 pub job-groups : (m : Matrix) (x : List ℤ) (order groups : List ℕ) (count : ℕ) → jobOf m x order groups count .plan .groups ≡ records count groups

@@ -16,7 +16,7 @@ use Rattle.run.specs.Job.{jobOf}
 use Rattle.run.specs.Machine as machine
 use Rattle.run.specs.Calls.{jobChecks, stateCheck}
 use Rattle.machine.specs.Record.{stateOf}
-use Rattle.machine.specs.Updates.{Triangle}
+use Rattle.steps.specs.Updates.{Triangle}
 use Rattle.tables.specs.Laid.{maxUpdates, Laid, Bounded}
 use Rattle.layout.specs.UpdateTable.{Given}
 use Rattle.machine.specs.declared.state.State.{State}

@@ -1,5 +1,5 @@
 // The ready set: the workers whose next step would be taken, by the tables of the job.
-use machine::steps::refusal;
+use steps::refusal;
 ghost use mathlib.Core.Path.{_≡_};
 ghost use mathlib.Core.List.{List};
 ghost use Prim.Native.Nat.{ℕ, _≤_};
@@ -7,7 +7,7 @@ ghost use Rattle.plan.specs.Sound.{maxWorkers};
 ghost use Rattle.run.specs.Job.{Job};
 ghost use Rattle.run.specs.Machine.{workers, ready, bits};
 ghost use Rattle.tables.specs.Laid.{Laid, Waits};
-ghost use Rattle.machine.specs.Steps.{Inside};
+ghost use Rattle.steps.specs.Steps.{Inside};
 
 // Sixteen bits, bit w for worker w.
 pub(crate) fn ready_bits(

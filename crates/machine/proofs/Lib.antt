@@ -1,9 +1,5 @@
-pub mod Products
 pub mod ScheduleLoop
 pub mod AllBelow
 pub mod TableWaits
 pub mod BlockedLeaves
-pub mod TableUpdates
-pub mod GivenTables
-pub mod TableSteps
 pub mod RunTurns

@@ -19,14 +19,14 @@ use Rattle.run.specs.Updates.{Update, count, accesses, next}
 use Rattle.run.specs.Machine.{State, workers, refusal, onward, stepIf, step, Stepped, steps}
 use Rattle.tables.specs.Laid.{Laid, Waits}
 use Rattle.waits.specs.Waits.{Recorded, Blocks, Ahead}
-use Rattle.machine.specs.declared.steps.Pick.{Pick}
-use Rattle.machine.specs.declared.steps.Pick.the-variants.{Taken, Refused}
-use Rattle.machine.specs.Updates.{updateIn, Triangle}
-use Rattle.machine.specs.Steps.{stateWith, rowNext, numberNext, reasonAt, stepTaken, outcomeOf, StepMade}
+use Rattle.steps.specs.declared.Pick.{Pick}
+use Rattle.steps.specs.declared.Pick.the-variants.{Taken, Refused}
+use Rattle.steps.specs.Updates.{updateIn, Triangle}
+use Rattle.steps.specs.Steps.{stateWith, rowNext, numberNext, reasonAt, stepTaken, outcomeOf, StepMade}
 use Rattle.machine.specs.Stepped.{comesTo}
 use Rattle.run.proofs.Able.{able}
 use Rattle.machine.proofs.TableWaits.{table-reason}
-use Rattle.machine.proofs.TableUpdates.{table-update}
+use Rattle.steps.proofs.TableUpdates.{table-update}
 use Rattle.machine.proofs.BlockedLeaves.{waits-of}
 use Rattle.machine.proofs.ScheduleLoop.{Left, left-start, left-step, left-halt, left-none}
 

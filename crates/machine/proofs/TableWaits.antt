@@ -14,7 +14,7 @@ use Rattle.run.specs.Updates.{count, accesses, next, waits}
 use Rattle.run.specs.Machine.{State, workers, reason, refusal, allMade, over, countsFine, isState}
 use Rattle.machine.specs.Record.{allBelow, fine, done}
 use Rattle.tables.specs.Laid.{Laid, Waits}
-use Rattle.machine.specs.Steps.{rowNext, reasonAt}
+use Rattle.steps.specs.Steps.{rowNext, reasonAt}
 use Rattle.run.proofs.Next.{next-at, next-row}
 use Rattle.machine.proofs.BlockedLeaves.{eqb-bit}
 

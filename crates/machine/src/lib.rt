@@ -1,5 +1,2 @@
-// The machine of a run: its state, and steps of one load or store each, by the tables of the job.
+// The machine of a run: its state, and picks taken one by one.
 pub mod state;
-pub mod steps;
-mod sum;
-mod updates;

@@ -1,6 +1,6 @@
 // A run's state: one record, handed in and handed back.
-use crate::steps::Pick;
-use crate::steps::step;
+use steps::Pick;
+use steps::step;
 use waits::blocked_groups;
 use waits::next_ends;
 ghost use mathlib.Core.Path.{_≡_};
@@ -16,8 +16,8 @@ ghost use Rattle.run.specs.Machine as machine;
 ghost use Rattle.machine.specs.Record.{stateOf, allBelow, fine, done, Halves};
 ghost use Rattle.tables.specs.Laid.{Laid, Waits};
 ghost use Rattle.waits.specs.Waits.{Recorded};
-ghost use Rattle.machine.specs.Updates.{Triangle};
-ghost use Rattle.machine.specs.Steps.{StepTables};
+ghost use Rattle.steps.specs.Updates.{Triangle};
+ghost use Rattle.steps.specs.Steps.{StepTables};
 ghost use Rattle.machine.specs.Stepped.{endedWith, steppedOf, comesTo};
 
 // Accesses made, and the number held, of each of 16 workers.

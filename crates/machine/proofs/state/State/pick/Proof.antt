@@ -4,7 +4,7 @@ use mir.Syntax.{w64}
 use mir.Val.{SFits}
 use mir.Facts.{toZ-ofZ}
 use borrow.Author.Needs.{needs}
-use Rattle.machine.proofs.TableSteps.{Bounds, step-bounds}
+use Rattle.steps.proofs.TableSteps.{Bounds, step-bounds}
 use Rattle.machine.proofs.RunTurns.{pick-refused, pick-taken}
 use Rattle.machine.proofs.state.State.pick.Statement.{statement}
 use Rattle.machine.proofs.state.State.pick.Tie as tie

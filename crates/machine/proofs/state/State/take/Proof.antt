@@ -9,7 +9,7 @@ use mir.Val.{SFits}
 use mir.Facts.{toZ-ofZ}
 use borrow.Author.Needs.{needs}
 use Rattle.machine.specs.Record.{stateOf}
-use Rattle.machine.proofs.TableSteps.{Bounds, step-bounds}
+use Rattle.steps.proofs.TableSteps.{Bounds, step-bounds}
 use Rattle.machine.proofs.RunTurns.{Running, running-start, running-none, running-halt, running-renewed, running-on}
 use Rattle.machine.proofs.state.State.take.Statement.{statement}
 use Rattle.machine.proofs.state.State.take.Tie as tie

@@ -1,0 +1,4 @@
+pub mod Products
+pub mod TableUpdates
+pub mod GivenTables
+pub mod TableSteps

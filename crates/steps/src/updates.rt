@@ -1,0 +1,70 @@
+// The updates of a row, found in the upper triangle of the matrix in plan order.
+use plan::fields::wide_at;
+ghost use mathlib.Core.Path.{_≡_};
+ghost use Prim.Native.Nat.{_<_};
+ghost use lib.IntN.{_*ℤ_};
+ghost use lib.ListN.{length, getD};
+ghost use Rattle.tables.specs.Laid.{maxUpdates};
+ghost use Rattle.steps.specs.Updates.{byTurns, entryPlace, targetIn, amountIn, Readable};
+
+// A number of 16 bits, widened.
+pub(crate) fn wide(x: u16) -> usize
+    ensures { λ r. ⌜ r ≡ x ⌝ }
+{
+    x as usize
+}
+
+// a at even numbers k, b at odd ones.
+fn by_turns(k: usize, a: usize, b: usize) -> usize
+    ensures { λ r. ⌜ r ≡ byTurns k a b ⌝ }
+{
+    if k % 2 == 0 { a } else { b }
+}
+
+// An entry times a displacement.
+fn product(entry: i32, displacement: i32) -> i64
+    ensures { λ r. ⌜ r ≡ entry *ℤ displacement ⌝ }
+{
+    entry as i64 * displacement as i64
+}
+
+// Where update number k of the row at position p has its entry, beside the other row's position.
+fn entry_place(starts: &[u32], order: &[u32], p: usize, k: usize) -> usize
+    requires { ⌜ (p < length (now order)) × (getD (now order) p 0 < length (now starts)) × (entryPlace (now starts) (now order) p k < maxUpdates) ⌝ }
+    ensures { λ r. ⌜ r ≡ entryPlace (now (starts .entry)) (now (order .entry)) p k ⌝ }
+{
+    let row = wide_at(order, p);
+    wide_at(starts, row) + row + (k + 1) / 2
+}
+
+// The position of its sum: the other row's, then the row's own.
+pub(crate) fn target_of(
+    starts: &[u32],
+    order: &[u32],
+    at: &[u16; 69632],
+    p: usize,
+    k: usize,
+) -> usize
+    requires { ⌜ (p < length (now order)) × (getD (now order) p 0 < length (now starts)) × (entryPlace (now starts) (now order) p k < maxUpdates) ⌝ }
+    ensures { λ r. ⌜ r ≡ targetIn (now (starts .entry)) (now (order .entry)) (now (at .entry)) p k ⌝ }
+{
+    by_turns(k, wide(at[entry_place(starts, order, p, k)]), p)
+}
+
+// What it adds: the entry times the displacement of the row whose sum it is not.
+pub(crate) fn amount_of(
+    starts: &[u32],
+    displacements: &[i32],
+    order: &[u32],
+    at: &[u16; 69632],
+    beside: &[i32; 69632],
+    p: usize,
+    k: usize,
+) -> i64
+    requires { ⌜ Readable (now starts) (now displacements) (now order) (now at) p k ⌝ }
+    ensures { λ r. ⌜ r ≡ amountIn (now (starts .entry)) (now (displacements .entry)) (now (order .entry)) (now (at .entry)) (now (beside .entry)) p k ⌝ }
+{
+    let place = entry_place(starts, order, p, k);
+    let row = by_turns(k, p, wide(at[place]));
+    product(beside[place], displacements[wide_at(order, row)])
+}
