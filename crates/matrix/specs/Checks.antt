@@ -1,4 +1,4 @@
--- The matrix in lent lists, and what its check goes through. `isMatrix` is the conjunction of these tests (proofs/Checks.antt).
+-- The matrix in lent lists, and the parts of its check. `isMatrix` says that it is shaped, its rows ordered and its entries mirrored, and that those on and below the diagonal are not too many (`matrix-parts` of proofs/Checks.antt).
 use mathlib.Core.Bool.{Bool, _&&_}
 use mathlib.Core.List.{List}
 use Prim.Native.Nat.{ℕ, suc, _+_, _≤_, _<_}
