@@ -1,4 +1,5 @@
 pub mod ScheduleLoop
+pub mod StopSteps
 pub mod AllBelow
 pub mod TableWaits
 pub mod BlockedLeaves

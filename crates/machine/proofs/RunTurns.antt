@@ -1,6 +1,7 @@
 -- One pick, and one turn of the loop over a schedule: the step is the machine's, and who is blocked is as before until a count reaches its stop.
 use mathlib.Core.Path.{_≡_, refl, sym, ap, _∙_, subst}
 use mathlib.Core.Logic.{_⊎_, inl, inr, _≢_}
+use mathlib.Core.Bool.{true, false}
 use mathlib.Core.List.{List}
 use Prim.Native.Nat.{ℕ, zero, suc, _+_, _/_, _≤_, _<_}
 use native.Mathlib.Numerals.{add-one}
@@ -16,19 +17,20 @@ use Rattle.plan.specs.Groups.{records}
 use Rattle.plan.specs.Checks.{recordAt}
 use Rattle.run.specs.Job.{Job, Accepted}
 use Rattle.run.specs.Updates.{Update, count, accesses, next}
-use Rattle.run.specs.Machine.{State, workers, refusal, onward, stepIf, step, Stepped, steps}
+use Rattle.run.specs.Machine.{State, workers, refusal, onward, stepIf, step}
 use Rattle.tables.specs.Laid.{Laid, Waits}
 use Rattle.waits.specs.Waits.{Recorded, Blocks, Ahead}
 use Rattle.steps.specs.declared.Pick.{Pick}
 use Rattle.steps.specs.declared.Pick.the-variants.{Taken, Refused}
 use Rattle.steps.specs.Updates.{updateIn, Triangle}
 use Rattle.steps.specs.Steps.{stateWith, rowNext, numberNext, reasonAt, stepTaken, outcomeOf, StepMade}
-use Rattle.machine.specs.Stepped.{comesTo}
+use Rattle.machine.specs.Stepped.{passesOver, walk, comesTo}
+use Rattle.machine.specs.declared.state.Rule.{Rule}
 use Rattle.run.proofs.Able.{able}
 use Rattle.machine.proofs.TableWaits.{table-reason}
 use Rattle.steps.proofs.TableUpdates.{table-update}
 use Rattle.machine.proofs.BlockedLeaves.{waits-of}
-use Rattle.machine.proofs.ScheduleLoop.{Left, left-start, left-step, left-halt, left-none}
+use Rattle.machine.proofs.ScheduleLoop.{Left, left-start, left-step, left-past, left-halt, left-none}
 
 -- ---- a step is the machine's
 
@@ -116,13 +118,6 @@ module _ (count : ℕ) (groups ends made new stops : List ℕ) (w : ℕ) (inside
 
 -- ---- the loop
 
-stepped-is : (x : Stepped) (s : State) (k number : ℕ) → (x .state ≡ s) × (x .taken ≡ k) × (x .number ≡ number) → record { state = s; taken = k; number = number } ≡ x
-stepped-is x s k number h =
-    ap (λ (y : State). the-stepped y k number) (sym (h .0)) ∙ ap (λ (y : ℕ). the-stepped (x .state) y number) (sym (h .1)) ∙ ap (λ (y : ℕ). the-stepped (x .state) (x .taken) y) (sym (h .2))
-  where
-    the-stepped : State → ℕ → ℕ → Stepped
-    the-stepped s k number = record { state = s; taken = k; number = number }
-
 -- the tables that the steps are taken by, and the lists that they are made of
 pub record Tables : Type 0 where
   pub crew : ℕ
@@ -151,22 +146,22 @@ module _ (T : Tables) where
   abbrev updateOf : (made : List ℕ) → ℕ → Update
   updateOf made w = updateIn (T .starts) (T .displacements) (T .order) (T .at) (T .beside) (rowNext (T .first) (T .row) made w) (numberNext (T .first) (T .row) (T .begins) made w)
 
-  -- k steps of the schedule are taken and led from s₀ to s; these groups are blocked now, and until a count reaches its stop
-  pub record Running (s₀ : State) (schedule : List ℕ) (k : ℕ) (s : State) (blocks stops : List ℕ) : Type 0 where
+  -- k picks of the schedule, n of them taken, led from s₀ to s; these groups are blocked now, and until a count reaches its stop
+  pub record Running (rule : Rule) (s₀ : State) (schedule : List ℕ) (n k : ℕ) (s : State) (blocks stops : List ℕ) : Type 0 where
     pub long : length (s .made) ≡ maxWorkers
     pub blocked : Blocks (T .count) (T .groups) (T .ends) (s .made) blocks
     pub ahead : Ahead (T .count) (T .groups) (T .ends) (s .made) stops
-    pub left : EachJob (λ j. Left j s₀ schedule k s)
+    pub left : EachJob (λ j. Left rule j s₀ schedule n k s)
 
-module _ {T : Tables} {s₀ : State} {schedule : List ℕ} where
+module _ {T : Tables} {rule : Rule} {s₀ : State} {schedule : List ℕ} where
   -- at first
-  pub running-start : {blocks stops : List ℕ} → length (s₀ .made) ≡ maxWorkers → Blocks (T .count) (T .groups) (T .ends) (s₀ .made) blocks → Ahead (T .count) (T .groups) (T .ends) (s₀ .made) stops → Running T s₀ schedule 0 s₀ blocks stops
-  running-start e b a = record { long = e; blocked = b; ahead = a; left = λ j ok e is laid t. left-start j s₀ schedule }
+  pub running-start : {blocks stops : List ℕ} → length (s₀ .made) ≡ maxWorkers → Blocks (T .count) (T .groups) (T .ends) (s₀ .made) blocks → Ahead (T .count) (T .groups) (T .ends) (s₀ .made) stops → Running T rule s₀ schedule 0 0 s₀ blocks stops
+  running-start e b a = record { long = e; blocked = b; ahead = a; left = λ j ok e is laid t. left-start rule j s₀ schedule }
 
-  module _ {k : ℕ} {s : State} {blocks stops : List ℕ} (r : Running T s₀ schedule k s blocks stops) where
-    -- all steps are taken
-    pub running-none : k ≡ length schedule → EachJob T (λ j. record { state = s; taken = k; number = 0 } ≡ steps j s₀ schedule)
-    running-none l j ok e is laid t = stepped-is (steps j s₀ schedule) s k 0 (left-none j s₀ schedule k s (r .left j ok e is laid t) l)
+  module _ {n k : ℕ} {s : State} {blocks stops : List ℕ} (r : Running T rule s₀ schedule n k s blocks stops) where
+    -- all picks are gone through
+    pub running-none : k ≡ length schedule → EachJob T (λ j. record { state = s; taken = n; past = k; number = 0 } ≡ walk rule j s₀ schedule)
+    running-none l j ok e is laid t = left-none rule j s₀ schedule n k s (r .left j ok e is laid t) l
 
     -- the next step
     module _ (few : T .crew ≤ maxWorkers) (R : Recorded (T .count) (T .groups)) (l : k < length schedule) {answer : Pick} {sums : List ℤ}
@@ -177,12 +172,32 @@ module _ {T : Tables} {s₀ : State} {schedule : List ℕ} where
       is-step : {given : Pick} → answer ≡ given → EachJob T (λ j. step j s w ≡ outcomeOf given s w sums)
       is-step q j ok e is laid t = step-answer j laid t e few (waits-of j ok (T .count) (T .groups) is laid (s .made) blocks (r .blocked) R) h q
 
-      -- it is refused
-      pub running-halt : {number : ℕ} → answer ≡ Refused number → EachJob T (λ j. record { state = stateWith (s .made) (s .held) sums; taken = k; number = number } ≡ steps j s₀ schedule)
-      unfolding outcomeOf
-      running-halt {number} q j ok e is laid t =
-          ap (λ (y : List ℤ). record { state = stateWith (s .made) (s .held) y; taken = k; number = number }) (h .kept number q)
-          ∙ stepped-is (steps j s₀ schedule) s k number (left-halt j s₀ schedule k s (r .left j ok e is laid t) l number (is-step q j ok e is laid t))
+      module _ {number : ℕ} (q : answer ≡ Refused number) where
+        abbrev old : State
+        old = stateWith (s .made) (s .held) sums
+
+        same-state : s ≡ old
+        same-state = ap (λ (y : List ℤ). stateWith (s .made) (s .held) y) (sym (h .kept number q))
+
+        -- it is refused, and ends the schedule
+        pub running-halt : passesOver rule number ≡ false → EachJob T (λ j. record { state = old; taken = n; past = k; number = number } ≡ walk rule j s₀ schedule)
+        unfolding outcomeOf
+        running-halt p j ok e is laid t =
+            ap (λ (y : State). record { state = y; taken = n; past = k; number = number }) (sym same-state)
+            ∙ left-halt rule j s₀ schedule n k s (r .left j ok e is laid t) l number (is-step q j ok e is laid t) p
+
+        -- .. or is passed over
+        pub running-past : passesOver rule number ≡ true → Running T rule s₀ schedule n (k + 1) old blocks stops
+        unfolding outcomeOf
+        running-past p = subst (λ (y : State). Running T rule s₀ schedule n (k + 1) y blocks stops) same-state (record {
+          long = r .long;
+          blocked = r .blocked;
+          ahead = r .ahead;
+          left = λ j ok e is laid t.
+              (let more : n + 0 ≡ n = omega arith in
+              subst (λ (y : ℕ). Left rule j s₀ schedule n y s) (sym (add-one k))
+              (subst (λ (y : ℕ). Left rule j s₀ schedule y (suc k) s) more (left-past rule j s₀ schedule n k s (r .left j ok e is laid t) l number (is-step q j ok e is laid t) p)));
+        })
 
       module _ {z : ℤ} (q : answer ≡ Taken z) where
         abbrev new : State
@@ -196,16 +211,16 @@ module _ {T : Tables} {s₀ : State} {schedule : List ℕ} where
         next-long : length (new .made) ≡ maxWorkers
         next-long = length-set (s .made) w (getD (s .made) w 0 + 1) ∙ r .long
 
-        next-left : EachJob T (λ j. Left j s₀ schedule (k + 1) new)
+        next-left : EachJob T (λ j. Left rule j s₀ schedule (n + 1) (k + 1) new)
         unfolding outcomeOf
-        next-left j ok e is laid t = subst (λ (y : ℕ). Left j s₀ schedule y new) (sym (add-one k)) (left-step j s₀ schedule k s (r .left j ok e is laid t) l new (is-step q j ok e is laid t))
+        next-left j ok e is laid t = subst (λ (y : ℕ). Left rule j s₀ schedule (n + 1) y new) (sym (add-one k)) (left-step rule j s₀ schedule n k s (r .left j ok e is laid t) l new (is-step q j ok e is laid t))
 
         -- the blocked groups are found anew
-        pub running-renewed : {blocks′ stops′ : List ℕ} → Blocks (T .count) (T .groups) (T .ends) (new .made) blocks′ → Ahead (T .count) (T .groups) (T .ends) (new .made) stops′ → Running T s₀ schedule (k + 1) new blocks′ stops′
+        pub running-renewed : {blocks′ stops′ : List ℕ} → Blocks (T .count) (T .groups) (T .ends) (new .made) blocks′ → Ahead (T .count) (T .groups) (T .ends) (new .made) stops′ → Running T rule s₀ schedule (n + 1) (k + 1) new blocks′ stops′
         running-renewed b a = record { long = next-long; blocked = b; ahead = a; left = next-left }
 
         -- .. or are as they were
-        pub running-on : w < length (s .made) → getD (new .made) w 0 < getD stops w 0 → Running T s₀ schedule (k + 1) new blocks stops
+        pub running-on : w < length (s .made) → getD (new .made) w 0 < getD stops w 0 → Running T rule s₀ schedule (n + 1) (k + 1) new blocks stops
         running-on inside below = record {
           long = next-long;
           blocked = blocks-kept (T .count) (T .groups) (T .ends) (s .made) (new .made) stops w inside one-more below (r .ahead) blocks (r .blocked);

@@ -1,4 +1,4 @@
--- `run::state::State::is_fine` meets its contract: the workers from w on are fine, so those below w decide.
+-- `machine::state::State::is_fine` meets its contract: the workers from w on are fine, so those below w decide.
 use mathlib.Core.Path.{_≡_, _∙_}
 use Prim.Native.Nat.{_-_, _≤_}
 use native.Mathlib.Omega.{arith}
@@ -30,17 +30,14 @@ array-read-if1 c = search needs
 mul-if1-2 : tie.Need-mul-if1-2 Inv-loop μ-loop
 mul-if1-2 c = omega (arith, c .before .before .pre (c .before .loop .w - 1))
 
-mul-if1-3 : tie.Need-mul-if1-3 Inv-loop μ-loop
-mul-if1-3 c = search needs
-
-element-copy-out-if1 : tie.Need-element-copy-out-if1 Inv-loop μ-loop
-element-copy-out-if1 c = search needs
+moves-requires : tie.Need-moves-requires Inv-loop μ-loop
+moves-requires c κs = search needs
 
 returns : tie.Need-returns Inv-loop μ-loop
 returns c =
     let l = c .before .before .before in
     let a = l .before .args in
-    below-fail (fine (a .t2) (a .t1 .made)) (l .loop .w) (search needs) (lt-leb _ _ (c .if1 .taken)) ∙ l .loop .inv .1
+    below-fail (fine (a .t2) (a .self .made)) (l .loop .w) (search needs) (lt-leb _ _ (rw (c .before .moves .ensures) at (c .if1 .taken))) ∙ l .loop .inv .1
 
 loop-less : tie.Need-loop-less Inv-loop μ-loop
 loop-less c = search needs
@@ -49,13 +46,13 @@ loop-again : tie.Need-loop-again Inv-loop μ-loop
 loop-again c =
     let l = c .before .before .before in
     let a = l .before .args in
-    (search needs, below-pass (fine (a .t2) (a .t1 .made)) (l .loop .w) (search needs) (le-leb _ _ (c .if1 .left)) ∙ l .loop .inv .1)
+    (search needs, below-pass (fine (a .t2) (a .self .made)) (l .loop .w) (search needs) (le-leb _ _ (rw (c .before .moves .ensures) at (c .if1 .left))) ∙ l .loop .inv .1)
 
 returns-2 : tie.Need-returns-2 Inv-loop μ-loop
 returns-2 c =
     let l = c .before in
     let a = l .before .args in
-    below-none (fine (a .t2) (a .t1 .made)) (l .loop .w) (search needs) ∙ l .loop .inv .1
+    below-none (fine (a .t2) (a .self .made)) (l .loop .w) (search needs) ∙ l .loop .inv .1
 
 pub is-fine-spec : {M : Type 1} → statement M
 is-fine-spec =
@@ -68,8 +65,7 @@ is-fine-spec =
     mul-if1
     array-read-if1
     mul-if1-2
-    mul-if1-3
-    element-copy-out-if1
+    moves-requires
     returns
     loop-less
     loop-again

@@ -1,4 +1,4 @@
--- `run::state::State::is_finished` meets its contract: the workers from w on are done, so those below w decide.
+-- `machine::state::State::is_finished` meets its contract: the workers from w on are done, so those below w decide.
 use mathlib.Core.Path.{_≡_, _∙_}
 use Prim.Native.Nat.{_-_, _≤_}
 use native.Mathlib.Omega.{arith}
@@ -10,10 +10,10 @@ use Rattle.machine.proofs.state.State.is_finished.Statement.{statement}
 use Rattle.machine.proofs.state.State.is_finished.Tie as tie
 
 abbrev Inv-loop : tie.InvT-loop
-Inv-loop workers self updates w₀ w = (w ≤ workers) × (allBelow (done updates (self .made)) w ≡ allBelow (done updates (self .made)) workers)
+Inv-loop self workers updates w₀ w = (w ≤ workers) × (allBelow (done updates (self .made)) w ≡ allBelow (done updates (self .made)) workers)
 
 abbrev μ-loop : tie.MeasureT-loop
-μ-loop workers self updates w₀ w = w
+μ-loop self workers updates w₀ w = w
 
 loop-holds : tie.Need-loop-holds Inv-loop μ-loop
 loop-holds c = search needs
@@ -21,26 +21,23 @@ loop-holds c = search needs
 sub-w : tie.Need-sub-w Inv-loop μ-loop
 sub-w c = search needs
 
+moves-requires : tie.Need-moves-requires Inv-loop μ-loop
+moves-requires c κs = search needs
+
 mul-if1 : tie.Need-mul-if1 Inv-loop μ-loop
 mul-if1 c = search needs
-
-element-copy-out-if1 : tie.Need-element-copy-out-if1 Inv-loop μ-loop
-element-copy-out-if1 c = search needs
-
-mul-if1-2 : tie.Need-mul-if1-2 Inv-loop μ-loop
-mul-if1-2 c = search needs
 
 array-read-if1 : tie.Need-array-read-if1 Inv-loop μ-loop
 array-read-if1 c = search needs
 
-mul-if1-3 : tie.Need-mul-if1-3 Inv-loop μ-loop
-mul-if1-3 c = omega (arith, c .before .before .before .pre .1 (c .before .before .loop .w - 1))
+mul-if1-2 : tie.Need-mul-if1-2 Inv-loop μ-loop
+mul-if1-2 c = omega (arith, c .before .before .before .pre .1 (c .before .before .loop .w - 1))
 
 returns : tie.Need-returns Inv-loop μ-loop
 returns c =
     let l = c .before .before .before in
     let a = l .before .args in
-    below-fail (done (a .t2) (a .t1 .made)) (l .loop .w) (search needs) (lt-leb _ _ (c .if1 .taken)) ∙ l .loop .inv .1
+    below-fail (done (a .t2) (a .self .made)) (l .loop .w) (search needs) (lt-leb _ _ (rw (c .before .moves .ensures) at (c .if1 .taken))) ∙ l .loop .inv .1
 
 loop-less : tie.Need-loop-less Inv-loop μ-loop
 loop-less c = search needs
@@ -49,13 +46,13 @@ loop-again : tie.Need-loop-again Inv-loop μ-loop
 loop-again c =
     let l = c .before .before .before in
     let a = l .before .args in
-    (search needs, below-pass (done (a .t2) (a .t1 .made)) (l .loop .w) (search needs) (le-leb _ _ (c .if1 .left)) ∙ l .loop .inv .1)
+    (search needs, below-pass (done (a .t2) (a .self .made)) (l .loop .w) (search needs) (le-leb _ _ (rw (c .before .moves .ensures) at (c .if1 .left))) ∙ l .loop .inv .1)
 
 returns-2 : tie.Need-returns-2 Inv-loop μ-loop
 returns-2 c =
     let l = c .before in
     let a = l .before .args in
-    below-none (done (a .t2) (a .t1 .made)) (l .loop .w) (search needs) ∙ l .loop .inv .1
+    below-none (done (a .t2) (a .self .made)) (l .loop .w) (search needs) ∙ l .loop .inv .1
 
 pub is-finished-spec : {M : Type 1} → statement M
 is-finished-spec =
@@ -65,11 +62,10 @@ is-finished-spec =
     μ-loop
     loop-holds
     sub-w
+    moves-requires
     mul-if1
-    element-copy-out-if1
-    mul-if1-2
     array-read-if1
-    mul-if1-3
+    mul-if1-2
     returns
     loop-less
     loop-again

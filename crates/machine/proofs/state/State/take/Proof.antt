@@ -1,4 +1,4 @@
--- `run::state::State::take` meets its contract: k picks are taken.
+-- `machine::state::State::take` meets its contract: k picks are gone through.
 use mathlib.Core.Path.{_≡_, refl, _∙_}
 use mathlib.Core.Logic.{⊎-elim}
 use Prim.Native.Nat.{_-_, _≤_}
@@ -8,15 +8,16 @@ use mir.Syntax.{w64}
 use mir.Val.{SFits}
 use mir.Facts.{toZ-ofZ}
 use borrow.Author.Needs.{needs}
+use Rattle.base.proofs.Booleans.{fails, holds}
 use Rattle.machine.specs.Record.{stateOf}
 use Rattle.steps.proofs.TableSteps.{Bounds, step-bounds}
-use Rattle.machine.proofs.RunTurns.{Running, running-start, running-none, running-halt, running-renewed, running-on}
+use Rattle.machine.proofs.RunTurns.{Running, running-start, running-none, running-halt, running-past, running-renewed, running-on}
 use Rattle.machine.proofs.state.State.take.Statement.{statement}
 use Rattle.machine.proofs.state.State.take.Tie as tie
 
 abbrev Inv-loop : tie.InvT-loop
-Inv-loop sums₀ schedule workers groups count counts first row begins leaves ends starts displacements order at beside self₀ blocks₀ stops₀ k₀ sums self blocks stops k =
-    (k ≤ length schedule) × (length sums ≡ length sums₀)
+Inv-loop sums₀ schedule rule workers groups count counts first row begins leaves ends starts displacements order at beside self₀ blocks₀ stops₀ taken₀ k₀ sums self blocks stops taken k =
+    (k ≤ length schedule) × (taken ≤ k) × (length sums ≡ length sums₀)
     × Running (record {
       crew = workers;
       count = count;
@@ -32,10 +33,10 @@ Inv-loop sums₀ schedule workers groups count counts first row begins leaves en
       order = order;
       at = at;
       beside = beside;
-    }) (stateOf self₀ sums₀) schedule k (stateOf self sums) blocks stops
+    }) rule (stateOf self₀ sums₀) schedule taken k (stateOf self sums) blocks stops
 
 abbrev μ-loop : tie.MeasureT-loop
-μ-loop sums₀ schedule workers groups count counts first row begins leaves ends starts displacements order at beside self₀ blocks₀ stops₀ k₀ sums self blocks stops k =
+μ-loop sums₀ schedule rule workers groups count counts first row begins leaves ends starts displacements order at beside self₀ blocks₀ stops₀ taken₀ k₀ sums self blocks stops taken k =
     length schedule - k
 
 -- from a turn back to the function's entry
@@ -53,7 +54,7 @@ next-ends-requires : tie.Need-next-ends-requires Inv-loop μ-loop
 next-ends-requires c κs = search needs
 
 loop-holds : tie.Need-loop-holds Inv-loop μ-loop
-loop-holds c = (search needs, refl, running-start (search needs) (c .before .before .before .blocked-groups .ensures) (c .next-ends .ensures))
+loop-holds c = (search needs, search needs, refl, running-start (search needs) (c .before .before .before .blocked-groups .ensures) (c .next-ends .ensures))
 
 shared-slice-read-w : tie.Need-shared-slice-read-w Inv-loop μ-loop
 shared-slice-read-w c = search needs
@@ -64,10 +65,13 @@ cast-w c = omega (arith, c .shared-slice-known5 .given (c .before .before .loop 
 step-requires : tie.Need-step-requires Inv-loop μ-loop
 step-requires c κs =
     let t = c .before .before .before .before .before .before in
-    (entry t .pre .0, rw (t .before .loop .inv .1) (entry t .pre .2))
+    (entry t .pre .0, rw (t .before .loop .inv .2) (entry t .pre .2))
 
 enum-known-answer : tie.Need-enum-known-answer Inv-loop μ-loop
 enum-known-answer c = search needs
+
+passes-requires : tie.Need-passes-requires Inv-loop μ-loop
+passes-requires c κs = search needs
 
 ended-requires : tie.Need-ended-requires Inv-loop μ-loop
 ended-requires c κs = search needs
@@ -75,13 +79,37 @@ ended-requires c κs = search needs
 same-length : tie.Need-same-length Inv-loop μ-loop
 same-length c = search needs
 
+-- from a pick that is refused back to its step, and to its turn
+abbrev stepped : tie.After-passes Inv-loop μ-loop → tie.After-step Inv-loop μ-loop
+stepped p = p .before .before .before .before .before
+
+abbrev refused : tie.After-passes Inv-loop μ-loop → tie.In-loop Inv-loop μ-loop
+refused p = stepped p .before .before .before .before .before .before .before
+
 returns : tie.Need-returns Inv-loop μ-loop
 returns c =
-    let o = c .before .before in
-    let x = o .before .before .before in
-    let t = x .before .before .before .before .before .before .before in
+    let p = c .before .before in
+    let t = refused p in
     let s = entry t in
-    rw (c .ended .ensures) (running-halt (t .before .loop .inv .2) (s .pre .0) (s .pre .1) (t .loop-test .taken) (x .step .ensures) (o .answer .given .1))
+    rw (c .ended .ensures) (running-halt (t .before .loop .inv .3) (s .pre .0) (s .pre .1) (t .loop-test .taken) (stepped p .step .ensures) (p .before .before .answer .given .1) (fails (p .passes .ensures) (c .before .if1 .taken)))
+
+add-k : tie.Need-add-k Inv-loop μ-loop
+add-k c = let t = refused (c .before) in omega (arith, t .loop-test .taken, entry t .good .1 .1 .0 .0)
+
+loop-less : tie.Need-loop-less Inv-loop μ-loop
+loop-less c = let t = refused (c .before) in omega (arith, t .loop-test .taken)
+
+loop-again : tie.Need-loop-again Inv-loop μ-loop
+loop-again c =
+    let p = c .before in
+    let t = refused p in
+    let l = t .before in
+    let s = entry t in (
+      omega (arith, t .loop-test .taken),
+      omega (arith, l .loop .inv .1),
+      stepped p .step .kept .1 .1 .0 ∙ l .loop .inv .2,
+      running-past (l .loop .inv .3) (s .pre .0) (s .pre .1) (t .loop-test .taken) (stepped p .step .ensures) (p .before .before .answer .given .1) (holds (p .passes .ensures) (c .if1 .left)),
+    )
 
 enum-known-answer-2 : tie.Need-enum-known-answer-2 Inv-loop μ-loop
 enum-known-answer-2 c = search needs
@@ -114,17 +142,20 @@ mul-held c = let b = bounds (c .before) in search needs
 element-set-from-held : tie.Need-element-set-from-held Inv-loop μ-loop
 element-set-from-held c = let b = bounds (c .before) in search needs
 
-mul-if1 : tie.Need-mul-if1 Inv-loop μ-loop
-mul-if1 c = let b = bounds (c .before) in search needs
+add-taken : tie.Need-add-taken Inv-loop μ-loop
+add-taken c = let t = turn (c .before) in omega (arith, t .loop-test .taken, t .before .loop .inv .1, entry t .good .1 .1 .0 .0)
 
-array-read-if1 : tie.Need-array-read-if1 Inv-loop μ-loop
-array-read-if1 c = let b = bounds (c .before) in search needs
+mul-if2 : tie.Need-mul-if2 Inv-loop μ-loop
+mul-if2 c = let b = bounds (c .before) in search needs
 
-mul-if1-2 : tie.Need-mul-if1-2 Inv-loop μ-loop
-mul-if1-2 c = let b = bounds (c .before) in search needs
+array-read-if2 : tie.Need-array-read-if2 Inv-loop μ-loop
+array-read-if2 c = let b = bounds (c .before) in search needs
 
-element-copy-out-if1 : tie.Need-element-copy-out-if1 Inv-loop μ-loop
-element-copy-out-if1 c = let b = bounds (c .before) in search needs
+mul-if2-2 : tie.Need-mul-if2-2 Inv-loop μ-loop
+mul-if2-2 c = let b = bounds (c .before) in search needs
+
+element-copy-out-if2 : tie.Need-element-copy-out-if2 Inv-loop μ-loop
+element-copy-out-if2 c = let b = bounds (c .before) in search needs
 
 blocked-groups-requires-2 : tie.Need-blocked-groups-requires-2 Inv-loop μ-loop
 blocked-groups-requires-2 c κs = entry (turn (c .before .before .before .before .before)) .pre .1
@@ -132,14 +163,14 @@ blocked-groups-requires-2 c κs = entry (turn (c .before .before .before .before
 next-ends-requires-2 : tie.Need-next-ends-requires-2 Inv-loop μ-loop
 next-ends-requires-2 c κs = entry (turn (c .before .before .before .before .before .before .before .before)) .pre .1
 
-add-k : tie.Need-add-k Inv-loop μ-loop
-add-k c = let t = turn (c .before .before .before) in omega (arith, t .loop-test .taken, entry t .good .1 .1 .0 .0)
+add-k-2 : tie.Need-add-k-2 Inv-loop μ-loop
+add-k-2 c = let t = turn (c .before .before .before) in omega (arith, t .loop-test .taken, entry t .good .1 .1 .0 .0)
 
-loop-less : tie.Need-loop-less Inv-loop μ-loop
-loop-less c = search needs
+loop-less-2 : tie.Need-loop-less-2 Inv-loop μ-loop
+loop-less-2 c = search needs
 
-loop-again : tie.Need-loop-again Inv-loop μ-loop
-loop-again c =
+loop-again-2 : tie.Need-loop-again-2 Inv-loop μ-loop
+loop-again-2 c =
     let o = c .before .before .before in
     let x = o .before .before .before .before in
     let t = turn o in
@@ -148,11 +179,12 @@ loop-again c =
     let b = bounds o in
     let held = toZ-ofZ (in-range o) in (
       omega (arith, t .loop-test .taken),
-      x .step .kept .1 .1 .0 ∙ l .loop .inv .1,
+      omega (arith, l .loop .inv .1),
+      x .step .kept .1 .1 .0 ∙ l .loop .inv .2,
       ⊎-elim
-          (λ r. rw (r .7, r .8, held) (running-renewed (l .loop .inv .2) (s .pre .0) (s .pre .1) (t .loop-test .taken) (x .step .ensures) (o .before .answer2 .given .1) (r .3 .ensures) (r .6 .ensures)))
-          (λ r. rw (r .1, r .2, held) (running-on (l .loop .inv .2) (s .pre .0) (s .pre .1) (t .loop-test .taken) (x .step .ensures) (o .before .answer2 .given .1) (omega (arith, l .loop .inv .2 .long)) (r .0 .left)))
-          (c .if1 .came),
+          (λ r. rw (r .7, r .8, held) (running-renewed (l .loop .inv .3) (s .pre .0) (s .pre .1) (t .loop-test .taken) (x .step .ensures) (o .before .answer2 .given .1) (r .3 .ensures) (r .6 .ensures)))
+          (λ r. rw (r .1, r .2, held) (running-on (l .loop .inv .3) (s .pre .0) (s .pre .1) (t .loop-test .taken) (x .step .ensures) (o .before .answer2 .given .1) (omega (arith, l .loop .inv .3 .long)) (r .0 .left)))
+          (c .if2 .came),
     )
 
 ended-requires-2 : tie.Need-ended-requires-2 Inv-loop μ-loop
@@ -162,7 +194,7 @@ same-length-2 : tie.Need-same-length-2 Inv-loop μ-loop
 same-length-2 c = search needs
 
 returns-2 : tie.Need-returns-2 Inv-loop μ-loop
-returns-2 c = rw (c .ended2 .ensures) (running-none (c .before .before .loop .inv .2) (search needs))
+returns-2 c = rw (c .ended2 .ensures) (running-none (c .before .before .loop .inv .3) (search needs))
 
 pub take-spec : {M : Type 1} → statement M
 take-spec =
@@ -177,9 +209,13 @@ take-spec =
     cast-w
     step-requires
     enum-known-answer
+    passes-requires
     ended-requires
     same-length
     returns
+    add-k
+    loop-less
+    loop-again
     enum-known-answer-2
     mul-self
     element-copy-out-self
@@ -187,15 +223,16 @@ take-spec =
     element-write-self
     mul-held
     element-set-from-held
-    mul-if1
-    array-read-if1
-    mul-if1-2
-    element-copy-out-if1
+    add-taken
+    mul-if2
+    array-read-if2
+    mul-if2-2
+    element-copy-out-if2
     blocked-groups-requires-2
     next-ends-requires-2
-    add-k
-    loop-less
-    loop-again
+    add-k-2
+    loop-less-2
+    loop-again-2
     ended-requires-2
     same-length-2
     returns-2)

@@ -1,0 +1,27 @@
+-- `machine::state::passes` meets its contract, case by case.
+use borrow.Author.Needs.{needs}
+use borrow.Author.Tests.{eq-eqb, ne-eqb}
+use Rattle.machine.specs.Stepped.{passesOver}
+use Rattle.machine.proofs.state.passes.Statement.{statement}
+use Rattle.machine.proofs.state.passes.Tie as tie
+
+enum-told : tie.Need-enum-told
+enum-told c = search needs
+
+enum-told-2 : tie.Need-enum-told-2
+enum-told-2 c = search needs
+
+returns : tie.Need-returns
+unfolding passesOver
+returns c = rw (c .enum-told .given .1)
+
+returns-2 : tie.Need-returns-2
+unfolding passesOver
+returns-2 c = rw (c .before .enum-told2 .given .1, eq-eqb _ _ (c .if1 .taken))
+
+returns-3 : tie.Need-returns-3
+unfolding passesOver
+returns-3 c = rw (c .before .enum-told2 .given .1, ne-eqb _ _ (c .if1 .left))
+
+pub passes-spec : {M : Type 1} → statement M
+passes-spec = tie.close (tie.spec enum-told enum-told-2 returns returns-2 returns-3)
