@@ -5,13 +5,12 @@ use mathlib.Core.Bool.{Bool, true, false, cond}
 use mathlib.Core.List.{List, [], _∷_}
 use Prim.Native.Nat.{ℕ, _*_, _≤_}
 use native.Mathlib.Omega.{arith}
-use lib.Dec.{leb}
+use lib.Dec.{eqb, leb}
 use lib.IntN.{ℤ}
 use lib.ListN.{length, take, drop}
 use lib.Seq.{take-all, length-take-le}
-use borrow.Author.Tests.{eq-eqb, ne-eqb, leb-true, leb-false}
+use borrow.Author.Tests.{eqb-true, ne-eqb, leb-true, leb-false}
 use Rattle.base.specs.Refusals as no
-use Rattle.base.specs.Replies as replies
 use Rattle.base.specs.Replies.{Check, inTurn}
 use Rattle.base.proofs.Booleans.{conj-at}
 use Rattle.base.proofs.Replies.{inTurn-same}
@@ -27,10 +26,11 @@ use Rattle.words.specs.LittleEndian.{unsigned, signed}
 use Rattle.run.specs.Job.{Job, jobOf}
 use Rattle.run.specs.Machine.{State, isState}
 use Rattle.run.specs.Calls.{Call, Answer, refused, stateCheck, answer, after, jobChecks, answerLent, afterLent}
-use Rattle.calls.proofs.InTurn.{turn-refused, turn-accepted}
+use Rattle.machine.specs.Record.{stateOf}
+use Rattle.machine.specs.declared.state.State as code
 use Rattle.lent.specs.Lists.{Loaded}
-use Rattle.lent.specs.Word.{word}
-use Rattle.cabinet.specs.Runs.{stateBytes, countBytes, stateIn, answerIn, replyTo}
+use Rattle.cabinet.specs.Runs.{stateBytes, countBytes, stateIn, answerIn}
+use Rattle.cabinet.specs.Ran.{StateIs}
 use Rattle.lent.proofs.Loads.{loaded-matrix}
 use Rattle.cabinet.proofs.PlanChecks.{plan-of-cut}
 use Rattle.cabinet.proofs.CutJobs.{answer-same, after-same}
@@ -123,32 +123,25 @@ module _ (m : Matrix) (x : List ℤ) (order groups : List ℕ) (count : ℕ) (c 
             no-sums (jobOf m x order groups count) (record { made = made; held = held; sums = sums }) c (λ q. omega arith),
           )
 
-  module _ (state sums : List ℕ) where
-    -- the state that a call decodes, with sums that are cut
-    pub decoded-state : length state ≡ stateBytes → {made : List ℕ} {held zs : List ℤ} → made ≡ unsigned 4 (take countBytes state) → held ≡ signed 8 (drop countBytes state)
-        → zs ≡ take mostStarts (signed 8 sums) → with made held zs ≡ answerIn m x order groups count state sums c
+  -- with no sums there is none
+  none-lent : (made : List ℕ) (held : List ℤ) → with made held [] ≡ inTurn refused (jobChecks m x order groups count) (refused no.state 0)
+  unfolding answerLent jobChecks matrixCheck jobOf
+  none-lent made held = inTurn-same refused (matrixCheck m) _ _ _ _ (λ ok.
+      let some = matrix-facts m ok .some in
+      rw (no-sums (jobOf m x order groups count) (record { made = made; held = held; sums = [] }) c (λ q. omega arith)))
+
+  -- the state that a call decodes, with sums that are cut; with none, where the bytes are no state
+  module _ (state sums : List ℕ) (r : code.State) {zs : List ℤ} (is : length state ≡ stateBytes → StateIs r state) (lent : zs ≡ cond (eqb (length state) stateBytes) (take mostStarts (signed 8 sums)) []) where
+    pub decoded : answerLent m x order groups count (stateOf r zs) c ≡ answerIn m x order groups count state sums c
     unfolding answerIn
-    decoded-state long em eh ez = rw (em, eh, ez, eq-eqb (length state) stateBytes long) (sums-cut (unsigned 4 (take countBytes state)) (signed 8 (drop countBytes state)) (signed 8 sums))
+    decoded = go (eqb (length state) stateBytes) refl lent
+      where
+        go : (b : Bool) → eqb (length state) stateBytes ≡ b → zs ≡ cond b (take mostStarts (signed 8 sums)) []
+            → with (r .made) (r .held) zs ≡ cond b (answerLent m x order groups count (stateIn state sums) c) (inTurn refused (jobChecks m x order groups count) (refused no.state 0))
+        go true e ez = let d = is (eqb-true (length state) stateBytes e) in rw (d .made, d .held, ez) (sums-cut (unsigned 4 (take countBytes state)) (signed 8 (drop countBytes state)) (signed 8 sums))
+        go false e ez = rw ez (none-lent (r .made) (r .held))
 
-    -- there is none of another length
-    pub no-state : length state ≢ stateBytes → inTurn refused (jobChecks m x order groups count) (refused no.state 0) ≡ answerIn m x order groups count state sums c
-    unfolding answerIn
-    no-state h = rw (ne-eqb (length state) stateBytes h)
-
--- ---- the word of a call without a state
-
-module _ (cs : List Check) where
-  -- a check fails
-  pub unstated-refused : {q p w : ℕ} → replies.refused q p ≡ inTurn replies.refused cs (replies.accepted 0) → w ≡ word (replies.refused q p) → w ≡ word (replyTo (inTurn refused cs (refused no.state 0)))
-  unfolding replyTo
-  unstated-refused {q} {p} e f = f ∙ sym (ap (λ (a : Answer). word (replyTo a)) (turn-refused refused (refused no.state 0) (replies.accepted 0) cs q p (λ u. cc) (sym e)))
-
-  -- all hold
-  pub unstated : {k w : ℕ} → replies.accepted k ≡ inTurn replies.refused cs (replies.accepted 0) → w ≡ word (replies.refused no.state 0) → w ≡ word (replyTo (inTurn refused cs (refused no.state 0)))
-  unfolding replyTo
-  unstated {k} e f = f ∙ sym (ap (λ (a : Answer). word (replyTo a)) (turn-accepted refused (refused no.state 0) (replies.accepted 0) cs k (sym e) .1))
-
--- it is refused in any case
+-- a call that ends in a refusal is refused in any case
 pub always-refused : (cs : List Check) (q p : ℕ) → (number : ℕ) × (place : ℕ) × (inTurn refused cs (refused q p) ≡ refused number place)
 unfolding inTurn
 always-refused [] q p = (q, p, refl)

@@ -1,33 +1,37 @@
 -- A force-list call, whose forces are made beside the lent list.
 use mathlib.Core.Path.{_≡_, refl, sym, ap, _∙_, subst}
+use mathlib.Core.Logic.{⊎-elim}
 use mathlib.Core.Bool.{Bool, true, false, cond}
 use mathlib.Core.List.{List, [], _∷_, _++_}
-use Prim.Native.Nat.{ℕ, _/_, _≤_, min}
+use Prim.Native.Nat.{ℕ, zero, suc, _/_, _≤_, min}
 use native.Mathlib.Nat.{min-comm}
 use native.Mathlib.Omega.{arith}
-use lib.Dec.{leb}
+use lib.Dec.{eqb, leb}
 use lib.IntN.{ℤ, pos}
-use lib.ListN.{length, take, getD}
-use lib.Seq.{length-take-le}
+use lib.ListN.{length, take, getD, length-append, length-take}
+use lib.Seq.{take-all, take-append-le, length-take-le}
+use types.Run.{OneOf}
+use denote.Enum.Declared.{tagOf}
 use borrow.Author.Tests.{leb-true}
 use Rattle.base.specs.Refusals as no
-use Rattle.base.specs.Replies as replies
 use Rattle.base.specs.Replies.{Check, inTurn, lent}
 use Rattle.base.proofs.Booleans.{leb-min}
 use Rattle.base.proofs.Fill.{length-made}
-use Rattle.base.proofs.Replies.{inTurn-same, lent-refused}
+use Rattle.base.proofs.Replies.{inTurn-same}
 use Rattle.matrix.specs.Limits.{maxRows}
 use Rattle.matrix.specs.Matrix.{Matrix, matrixCheck}
 use Rattle.matrix.proofs.Matrix.{matrix-facts}
 use Rattle.run.specs.Job.{jobOf}
 use Rattle.run.specs.Machine.{State, positionOf, over, original}
-use Rattle.run.specs.Calls.{Answer, forces, refused, forceList, forcesOf, answerOf, stateCheck, answer, jobChecks, answerLent, forcesLent}
-use Rattle.calls.specs.Answers.{forcesReply}
-use Rattle.words.specs.LittleEndian.{signedBytesOf, signedBytes, stored}
+use Rattle.run.specs.Calls.{Answer, forces, refused, forceList, forcesOf, answerOf, stateCheck, answer, jobChecks, answerLent}
+use Rattle.calls.specs.Performed.{asAnswer}
+use Rattle.calls.proofs.Response.{the-type}
+use Rattle.calls.specs.declared.Response.{Response}
+use Rattle.calls.specs.declared.Response.the-variants.{Picked, Ready, Forces, Refused}
+use Rattle.words.specs.LittleEndian.{signedBytes, stored}
 use Rattle.lent.specs.Word.{word}
-use Rattle.cabinet.specs.Runs.{replyTo, forceBytes, ForcesAnswered}
-use Rattle.lent.proofs.Answers.{Begins, begins, begins-stored}
-use Rattle.cabinet.proofs.RunCalls.{always-refused}
+use Rattle.cabinet.specs.Runs.{stateBytes, stateIn, answerIn, replyTo, forceBytes, ForcesAnswered}
+use Rattle.cabinet.specs.Ran.{ForcesFit}
 
 -- the answers of such a call on n rows, with room for so many forces
 pub data Given (n room : ℕ) : Answer → Type 0 where
@@ -68,45 +72,67 @@ module _ (m : Matrix) (x : List ℤ) (order groups : List ℕ) (count : ℕ) (s 
   pub room-lent : (made : List ℤ) (bytes : List ℕ) {i : ℕ} → maxRows ≤ length made → i ≡ min (length bytes / 8) (length made) → asked (length (take i made)) ≡ asked (length bytes / 8)
   room-lent made bytes {i} enough e = rw (length-take-le i made (omega arith), e) (room-cut (length made) (length bytes / 8) enough)
 
--- the reply of such an answer
-pub forces-reply : {n room : ℕ} {a : Answer} → Given n room a → forcesReply a ≡ replyTo a
-unfolding forcesReply replyTo
-forces-reply (none q p) = refl
-forces-reply (all zs l h) = refl
+-- .. and in bytes
+pub given-in : (m : Matrix) (x : List ℤ) (order groups : List ℕ) (count : ℕ) (state sums : List ℕ) (room : ℕ) → Given (m .n) room (answerIn m x order groups count state sums (forceList room))
+unfolding answerIn
+given-in m x order groups count state sums room = go (eqb (length state) stateBytes)
+  where
+    go : (b : Bool) → Given (m .n) room (cond b (answerLent m x order groups count (stateIn state sums) (forceList room)) (inTurn refused (jobChecks m x order groups count) (refused no.state 0)))
+    go true = given m x order groups count (stateIn state sums) room
+    go false = given-turn (m .n) room (jobChecks m x order groups count) _ (none no.state 0)
 
--- a refused call leaves the lent list
-pub forces-refused : {n room : ℕ} {a : Answer} → Given n room a → {q p w : ℕ} (old : List ℕ) → replies.refused q p ≡ forcesReply a → w ≡ word (replies.refused q p) → ForcesAnswered a old w old
-forces-refused g {q} {p} old e f =
-    let reply = sym (e ∙ forces-reply g) in
-    record { returns = f ∙ ap word (sym reply); leaves = sym (lent-refused _ old _ q p reply) }
+pub room-in : (m : Matrix) (x : List ℤ) (order groups : List ℕ) (count : ℕ) (state sums : List ℕ) (made : List ℤ) (bytes : List ℕ) {i : ℕ} → maxRows ≤ length made → i ≡ min (length bytes / 8) (length made)
+    → answerIn m x order groups count state sums (forceList (length (take i made))) ≡ answerIn m x order groups count state sums (forceList (length bytes / 8))
+unfolding answerIn
+room-in m x order groups count state sums made bytes enough e = rw (room-lent m x order groups count (stateIn state sums) made bytes enough e)
+
+-- forces that are made in the first part of an array, and are stored
+module _ {n room : ℕ} {a : Answer} (g : Given n room a) (answer : Response) (part : List ℤ) (e : asAnswer answer (take n part) ≡ a) where
+  -- there are n of them
+  enough : answer ≡ Forces → (n ≤ length part) × (n ≤ room)
+  enough f = go g (ap (λ (r : Response). asAnswer r (take n part)) (sym f) ∙ e)
+    where
+      go : {b : Answer} → Given n room b → forces (take n part) ≡ b → (n ≤ length part) × (n ≤ room)
+      go (none q p) h = absurd (let z : _≡_ {A = ℕ} 0 1 = cc in omega arith)
+      go (all zs l r) h = let same : take n part ≡ zs = cc in (omega (arith, l, ap length same, length-take n part), r)
+
+  -- what is asked before
+  pub forces-fit : (rest : List ℤ) (bytes : List ℕ) → room ≤ length bytes / 8 → ForcesFit n answer (part ++ rest) bytes
+  forces-fit rest bytes r f = let h = enough f in (omega (arith, h .0, length-append part rest), omega (arith, h .1))
+
+  answer-whole : (rest : List ℤ) → asAnswer answer (take n (part ++ rest)) ≡ a
+  answer-whole rest = go answer refl ∙ e
+    where
+      go : (r : Response) → answer ≡ r → asAnswer r (take n (part ++ rest)) ≡ asAnswer r (take n part)
+      go Forces f = ap forces (take-append-le n part rest (enough f .0))
+      go (Picked k q p) f = refl
+      go (Ready b k) f = refl
+      go (Refused q p) f = refl
+
+  pub forces-answered : {w : ℕ} → ((zs : List ℤ) → w ≡ word (replyTo (asAnswer answer zs))) → (rest : List ℤ) {bytes new : List ℕ}
+      → new ≡ lent (replyTo (asAnswer answer (take n (part ++ rest)))) (forceBytes (asAnswer answer (take n (part ++ rest)))) bytes → ForcesAnswered a bytes w new
+  forces-answered f rest {bytes} h = record {
+    returns = f (take n part) ∙ ap (λ (b : Answer). word (replyTo b)) e;
+    leaves = h ∙ ap (λ (b : Answer). lent (replyTo b) (forceBytes b) bytes) (answer-whole rest);
+  }
 
 -- one answer for another that is the same
 pub forces-same : {a b : Answer} {old : List ℕ} {w : ℕ} {new : List ℕ} → a ≡ b → ForcesAnswered a old w new → ForcesAnswered b old w new
 forces-same {old = old} {w} {new} e t = subst (λ (c : Answer). ForcesAnswered c old w new) e t
 
--- a call without a state
-pub forces-unstated : (cs : List Check) {a : Answer} {old : List ℕ} {w : ℕ} → inTurn refused cs (refused no.state 0) ≡ a → w ≡ word (replyTo (inTurn refused cs (refused no.state 0))) → ForcesAnswered a old w old
-unfolding replyTo lent
-forces-unstated cs e f =
-    let r = always-refused cs no.state 0 in
-    forces-same (sym (r .2) ∙ e) (record { returns = f ∙ ap (λ (b : Answer). word (replyTo b)) (r .2); leaves = refl })
+-- ---- the store
 
--- an array begins with the forces that such an answer has
-pub record Held (n room : ℕ) (a : Answer) (array : List ℤ) : Type 0 where
-  pub list : List ℤ
-  pub is : a ≡ forces list
-  pub begun : Begins array list n
-  pub fits : n ≤ room
+-- other answers leave the list
+pub forces-kept : (r : Response) → OneOf (0 ∷ 1 ∷ 3 ∷ []) (tagOf the-type r) → (zs : List ℤ) (bytes : List ℕ) → bytes ≡ lent (replyTo (asAnswer r zs)) (forceBytes (asAnswer r zs)) bytes
+unfolding replyTo forceBytes lent
+forces-kept (Picked k zero p) h zs bytes = refl
+forces-kept (Picked k (suc q) p) h zs bytes = refl
+forces-kept (Ready b k) h zs bytes = refl
+forces-kept Forces h zs bytes = absurd (⊎-elim (λ e. omega arith) (⊎-elim (λ e. omega arith) (λ e. omega arith)) h)
+forces-kept (Refused q p) h zs bytes = refl
 
--- .. where an accepted call made them in the first part of it
-pub forces-held : {n room : ℕ} {a : Answer} → Given n room a → {k : ℕ} → replies.accepted k ≡ forcesReply a → (old : List ℤ) {part : List ℤ} → part ≡ forcesLent a old → (rest : List ℤ) → Held n room a (part ++ rest)
-unfolding forcesReply forcesLent lent
-forces-held (none q p) e old f rest = absurd (let z : _≡_ {A = ℕ} 0 1 = cc in omega arith)
-forces-held (all zs l h) e old f rest = record { list = zs; is = refl; begun = begins {reply = replies.accepted 0} refl zs old f rest l; fits = h }
-
--- .. and stores them
-pub forces-stored : {n room : ℕ} {a : Answer} {array : List ℤ} → Held n room a array → {w : ℕ} {bytes new : List ℕ} → room ≤ length bytes / 8 → w ≡ word (forcesReply a)
-    → new ≡ stored (signedBytes 8 (take (length bytes / 8) (take n array))) bytes → ForcesAnswered a bytes w new
-unfolding forcesReply replyTo forceBytes
-forces-stored {n} {a = a} h {w} {bytes} {new} r f g = subst (λ (b : Answer). w ≡ word (forcesReply b) → ForcesAnswered b bytes w new) (sym (h .is))
-    (λ k. record { returns = k; leaves = begins-stored (h .begun) (signedBytesOf 8) 8 bytes refl (omega (arith, h .fits)) g }) f
+-- forces for which there is room
+pub forces-stored : (zs : List ℤ) (bytes : List ℕ) {new : List ℕ} → length zs ≤ length bytes / 8 → new ≡ stored (signedBytes 8 (take (length bytes / 8) zs)) bytes
+    → new ≡ lent (replyTo (forces zs)) (forceBytes (forces zs)) bytes
+unfolding replyTo forceBytes lent
+forces-stored zs bytes l e = e ∙ rw (take-all (length bytes / 8) zs l)

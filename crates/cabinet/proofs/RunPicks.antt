@@ -1,15 +1,17 @@
--- A call of picks, whose state and sums are decoded and stored.
+-- A call on a run whose state and sums are decoded; and picks, which are stored.
 use mathlib.Core.Path.{_≡_, refl, sym, ap, _∙_, subst}
-use mathlib.Core.Logic.{_≢_}
+use mathlib.Core.Logic.{_≢_, ⊎-elim}
 use mathlib.Core.Bool.{Bool, true, false, cond}
-use mathlib.Core.List.{List, [], _∷_}
+use mathlib.Core.List.{List, [], _∷_, _++_}
 use Prim.Native.Nat.{ℕ, zero, suc, _/_, _^_, _≤_, _<_}
 use native.Mathlib.Omega.{arith}
-use lib.Dec.{eqb}
+use lib.Dec.{eqb, leb}
 use lib.IntN.{ℤ}
-use lib.ListN.{length, take, drop, length-take}
-use lib.Seq.{take-all, length-take-le}
-use borrow.Author.Tests.{eqb-true}
+use lib.ListN.{length, take, length-append, length-take}
+use lib.Seq.{take-at, take-all, length-take-le}
+use types.Run.{OneOf}
+use denote.Enum.Declared.{tagOf}
+use borrow.Author.Tests.{eqb-true, eq-eqb}
 use Rattle.base.specs.Refusals as no
 use Rattle.base.specs.Replies as replies
 use Rattle.base.specs.Replies.{Check, inTurn}
@@ -20,14 +22,22 @@ use Rattle.matrix.proofs.Matrix.{matrix-facts}
 use Rattle.matrix.proofs.Cut.{mostStarts}
 use Rattle.plan.specs.Sound.{maxWorkers}
 use Rattle.run.specs.Job.{Job, jobOf, Accepted}
-use Rattle.run.specs.Machine.{State, steps, isState, countsFine}
-use Rattle.run.specs.Calls.{Answer, picked, isReady, forces, refused, picks, placeOf, pickedOf, answerOf, stateCheck, answer, jobChecks, answerLent, afterLent}
+use Rattle.run.specs.Machine.{State, steps, over, original, isState, countsFine}
+use Rattle.run.specs.Calls.{Call, picks, readySet, forceList, Answer, picked, refused, placeOf, pickedOf, readyOf, forcesOf, answerOf, stateCheck, answer, jobChecks, answerLent, afterLent, forcesLent}
+use Rattle.machine.specs.Record.{stateOf}
+use Rattle.machine.specs.declared.state.State as code
+use Rattle.calls.specs.Performed.{asAnswer, Performed}
+use Rattle.calls.proofs.Response.{the-type}
+use Rattle.calls.specs.declared.Response.{Response}
+use Rattle.calls.specs.declared.Response.the-variants.{Picked, Ready, Forces, Refused}
 use Rattle.calls.proofs.JobChecked.{job-given}
-use Rattle.words.specs.LittleEndian.{number, unsigned, signed, signedBytes, stored}
+use Rattle.words.specs.LittleEndian.{number, signedNumber, signed, signedBytes, stored}
 use Rattle.words.proofs.Blocks.{length-decoded}
+use Rattle.lent.specs.Lists.{Loaded}
 use Rattle.lent.specs.Word.{word}
 use Rattle.cabinet.specs.Runs.{stateBytes, countBytes, stateIn, answerIn, replyTo, bytesIn, leftBy, PicksAnswered}
-use Rattle.cabinet.proofs.RunCalls.{decoded-state, always-refused}
+use Rattle.cabinet.specs.Ran.{StateIs, Taken, Ran, LowPlace, PicksFit}
+use Rattle.cabinet.proofs.RunCalls.{decoded, always-refused}
 use Rattle.cabinet.proofs.TakenFew.{taken-few}
 
 -- ---- a call that took picks, or none, and was not refused
@@ -50,34 +60,44 @@ unfolding placeOf
 place-low zero taken = omega arith
 place-low (suc k) taken = omega arith
 
-module _ (m : Matrix) (x : List ℤ) (order groups : List ℕ) (count : ℕ) (s : State) (ws : List ℕ) {t q p : ℕ} (e : picked t q p ≡ answerLent m x order groups count s (picks ws)) where
+module _ (m : Matrix) (x : List ℤ) (order groups : List ℕ) (count : ℕ) (s : State) (c : Call) {t q p : ℕ} (e : picked t q p ≡ answerLent m x order groups count s c) where
   abbrev job : Job
   job = jobOf m x order groups count
 
-  checked : (inTurn replies.refused (jobChecks m x order groups count) (replies.accepted 0) ≡ replies.accepted 0) × (picked t q p ≡ answer job s (picks ws))
+  checked : (inTurn replies.refused (jobChecks m x order groups count) (replies.accepted 0) ≡ replies.accepted 0) × (picked t q p ≡ answer job s c)
   unfolding answerLent
-  checked = turn-picked (jobChecks m x order groups count) (answer job s (picks ws)) e
+  checked = turn-picked (jobChecks m x order groups count) (answer job s c) e
 
-  stated : (inTurn replies.refused (stateCheck job s) (replies.accepted 0) ≡ replies.accepted 0) × (picked t q p ≡ answerOf job s (picks ws))
+  stated : (inTurn replies.refused (stateCheck job s) (replies.accepted 0) ≡ replies.accepted 0) × (picked t q p ≡ answerOf job s c)
   unfolding answer
-  stated = turn-picked (stateCheck job s) (answerOf job s (picks ws)) (checked .1)
+  stated = turn-picked (stateCheck job s) (answerOf job s c) (checked .1)
 
   accepted : Accepted job
   accepted = job-given m x order groups count 0 (checked .0) .accepted
 
   -- there are n sums
-  enough : length (s .sums) ≡ m .n
+  pub enough : length (s .sums) ≡ m .n
   unfolding stateCheck isState jobOf
   enough = eqb-true (length (s .sums)) (m .n) (and-left (eqb (length (s .sums)) (m .n)) (countsFine job (s .made) maxWorkers) (accepted-all (stateCheck job s) (replies.accepted 0) 0 (stated .0) .0))
 
   -- the place fits a word's low half
   pub picked-low : length (s .made) ≡ maxWorkers → p < 2 ^ 32
-  unfolding answerOf pickedOf
-  picked-low long =
-      let r = steps job s ws in
-      let told : picked t q p ≡ picked (r .taken) (r .number) (placeOf (r .number) (r .taken)) = stated .1 in
-      let place : p ≡ placeOf (r .number) (r .taken) = cc in
-      omega (arith, place-low (r .number) (r .taken), taken-few job accepted s ws long)
+  unfolding answerOf pickedOf readyOf forcesOf jobOf
+  picked-low long = go c (stated .1)
+    where
+      other : (a b : Bool) (zs : List ℤ) → picked t q p ≡ forcesOf a b (m .n) zs → p < 2 ^ 32
+      other false b zs told = absurd (let z : _≡_ {A = ℕ} 0 1 = cc in omega arith)
+      other true false zs told = absurd (let z : _≡_ {A = ℕ} 0 1 = cc in omega arith)
+      other true true zs told = absurd (let z : _≡_ {A = ℕ} 0 1 = cc in omega arith)
+
+      go : (d : Call) → picked t q p ≡ answerOf job s d → p < 2 ^ 32
+      go (picks ws) told =
+          let r = steps job s ws in
+          let same : picked t q p ≡ picked (r .taken) (r .number) (placeOf (r .number) (r .taken)) = told in
+          let place : p ≡ placeOf (r .number) (r .taken) = cc in
+          omega (arith, place-low (r .number) (r .taken), taken-few job accepted s ws long)
+      go readySet told = absurd (let z : _≡_ {A = ℕ} 0 1 = cc in omega arith)
+      go (forceList room) told = other (over job (s .made)) (leb (m .n) room) (original job (s .sums)) told
 
   -- the sums were not cut
   pub picked-sums : {sums : List ℤ} → s .sums ≡ take mostStarts sums → take mostStarts sums ≡ sums
@@ -86,12 +106,82 @@ module _ (m : Matrix) (x : List ℤ) (order groups : List ℕ) (count : ℕ) (s 
 
 -- ---- what the call leaves
 
-left-same : (a : Answer) (f : State → List ℕ) {s t : State} (old : List ℕ) → ((k q p : ℕ) → a ≡ picked k q p → s ≡ t) → leftBy a (f s) old ≡ leftBy a (f t) old
-unfolding leftBy
-left-same (picked k q p) f old h = ap (λ (u : State). stored (f u) old) (h k q p refl)
-left-same (isReady b k) f old h = refl
-left-same (forces zs) f old h = refl
-left-same (refused q p) f old h = refl
+-- picks that a call in bytes took
+module _ (m : Matrix) (x : List ℤ) (order groups : List ℕ) (count : ℕ) (c : Call) (state sums : List ℕ) (r : code.State) {zs : List ℤ}
+    (is : length state ≡ stateBytes → StateIs r state) (lent : zs ≡ cond (eqb (length state) stateBytes) (take mostStarts (signed 8 sums)) [])
+    {k q p : ℕ} (e : answerIn m x order groups count state sums c ≡ picked k q p) where
+  told : picked k q p ≡ answerLent m x order groups count (stateOf r zs) c
+  told = sym (decoded m x order groups count c state sums r is lent ∙ e)
+
+  -- its bytes are a state: no other is taken
+  whole : length state ≡ stateBytes
+  unfolding answerIn
+  whole = go (eqb (length state) stateBytes) refl e
+    where
+      go : (b : Bool) → eqb (length state) stateBytes ≡ b
+          → cond b (answerLent m x order groups count (stateIn state sums) c) (inTurn refused (jobChecks m x order groups count) (refused no.state 0)) ≡ picked k q p → length state ≡ stateBytes
+      go true t f = eqb-true (length state) stateBytes t
+      go false t f = let a = always-refused (jobChecks m x order groups count) no.state 0 in absurd (let g = a .2 in let z : _≡_ {A = ℕ} 0 1 = cc in omega arith)
+
+  -- all its sums are lent on
+  all-lent : zs ≡ signed 8 sums
+  all-lent =
+      let cut : zs ≡ take mostStarts (signed 8 sums) = lent ∙ rw (eq-eqb (length state) stateBytes whole) in
+      cut ∙ picked-sums m x order groups count (stateOf r zs) c told cut
+
+  same-state : stateOf r zs ≡ stateIn state sums
+  same-state = let d = is whole in rw (d .made, d .held, all-lent)
+
+  -- what is stored of it
+  picks-taken : {after : code.State} {part : List ℤ} (rest : List ℤ) → length part ≡ length zs → stateOf after part ≡ afterLent m x order groups count (stateOf r zs) c
+      → Taken (m .n) (afterLent m x order groups count (stateIn state sums) c) p state sums after (part ++ rest)
+  picks-taken {after} {part} rest long f =
+      let rows : length zs ≡ m .n = enough m x order groups count (stateOf r zs) c told in
+      let room : length zs ≡ length sums / 8 = ap (λ (ys : List ℤ). length ys) all-lent ∙ length-decoded (signedNumber 8) 8 sums in
+      let counts : length (r .made) ≡ maxWorkers = rw (is whole .made, length-decoded number 4 (take countBytes state), length-take-le countBytes state (omega (arith, whole))) in
+      record {
+        left = ap (stateOf after) (take-at part rest (m .n) (long ∙ rows)) ∙ f ∙ ap (λ (s : State). afterLent m x order groups count s c) same-state;
+        whole = whole;
+        inside = omega (arith, long, rows, length-append part rest);
+        room = omega (arith, rows, room);
+        low = picked-low m x order groups count (stateOf r zs) c told counts;
+      }
+
+-- a call in bytes
+pub ran : (m : Matrix) (x : List ℤ) (order groups : List ℕ) (count : ℕ) (c : Call) (state sums : List ℕ) (r : code.State) {zs : List ℤ}
+    → (length state ≡ stateBytes → StateIs r state) → zs ≡ cond (eqb (length state) stateBytes) (take mostStarts (signed 8 sums)) []
+    → {old : List ℤ} {answer : Response} {after : code.State} {part : List ℤ} (rest : List ℤ) {forces : List ℤ} → length part ≡ length zs
+    → Performed m x order groups count (stateOf r zs) c old (asAnswer answer (take (m .n) forces)) (stateOf after part) forces
+    → Ran (m .n) (answerIn m x order groups count state sums c) (afterLent m x order groups count (stateIn state sums) c) state sums old answer after (part ++ rest) forces
+ran m x order groups count c state sums r is lent {old} rest long h = record {
+  answers = h .answers ∙ decoded m x order groups count c state sums r is lent;
+  lists = h .forces ∙ ap (λ (a : Answer). forcesLent a old) (decoded m x order groups count c state sums r is lent);
+  taken = λ k q p e. picks-taken m x order groups count c state sums r is lent e rest long (h .leaves);
+}
+
+-- the sums that are lent on, of those that were loaded
+module _ (b : Bool) {size kept : ℕ} (e : kept ≡ cond b size 0) {list array : List ℤ} (l : Loaded mostStarts list array size) where
+  pub kept-few : kept ≤ length array
+  kept-few = omega (arith, go b e, l .short, l .long)
+    where
+      go : (t : Bool) → kept ≡ cond t size 0 → kept ≤ size
+      go true f = omega arith
+      go false f = omega arith
+
+  pub kept-is : take kept array ≡ cond b (take mostStarts list) []
+  kept-is = go b e
+    where
+      go : (t : Bool) → kept ≡ cond t size 0 → take kept array ≡ cond t (take mostStarts list) []
+      go true f = rw f (l .is)
+      go false f = rw f
+
+-- one call for another with the same answer that leaves the same state
+pub ran-same : {n : ℕ} {a b : Answer} {s t : State} {state sums : List ℕ} {old : List ℤ} {answer : Response} {after : code.State} {new forces : List ℤ} → a ≡ b → s ≡ t
+    → Ran n a s state sums old answer after new forces → Ran n b t state sums old answer after new forces
+ran-same {n} {a} {b} {s} {t} {state} {sums} {old} {answer} {after} {new} {forces} e f h =
+    subst (λ (c : Answer). Ran n c t state sums old answer after new forces) e (subst (λ (u : State). Ran n a u state sums old answer after new forces) f h)
+
+-- ---- what is stored
 
 -- the reply of picks that one ended
 pub ended : (k q p : ℕ) → q ≢ 0 → replyTo (picked k q p) ≡ replies.refused q p
@@ -99,50 +189,46 @@ unfolding replyTo
 ended k zero p h = absurd (h refl)
 ended k (suc q) p h = refl
 
--- a call that stores state and sums
-pub picks-stored : {k q p : ℕ} {a : Answer} {s : State} {state sums : List ℕ} {w : ℕ} {newState newSums : List ℕ} → a ≡ picked k q p → w ≡ word (replyTo (picked k q p)) → newState ≡ stored (bytesIn s) state
-    → length (s .sums) ≤ length sums / 8 → newSums ≡ stored (signedBytes 8 (take (length sums / 8) (s .sums))) sums → PicksAnswered a s state sums w newState newSums
+-- other answers leave both lists
+pub picks-kept : (r : Response) → OneOf (1 ∷ 2 ∷ 3 ∷ []) (tagOf the-type r) → (zs : List ℤ) (new old : List ℕ) → old ≡ leftBy (asAnswer r zs) new old
 unfolding leftBy
-picks-stored {s = s} {state} {sums} {w} {newState} {newSums} e f g room h =
-    subst (λ (c : Answer). PicksAnswered c s state sums w newState newSums) (sym e) (record { returns = f; state-left = g; sums-left = h ∙ rw (take-all (length sums / 8) (s .sums) room) })
+picks-kept (Picked k q p) h zs new old = absurd (⊎-elim (λ e. omega arith) (⊎-elim (λ e. omega arith) (λ e. omega arith)) h)
+picks-kept (Ready b k) h zs new old = refl
+picks-kept Forces h zs new old = refl
+picks-kept (Refused q p) h zs new old = refl
 
--- .. and one that is refused
-pub picks-refused : {q p : ℕ} {a : Answer} {s : State} {state sums : List ℕ} {w : ℕ} → a ≡ refused q p → w ≡ word (replies.refused q p) → PicksAnswered a s state sums w state sums
-unfolding leftBy replyTo
-picks-refused {s = s} {state} {sums} {w} e f = subst (λ (c : Answer). PicksAnswered c s state sums w state sums) (sym e) (record { returns = f; state-left = refl; sums-left = refl })
+-- sums for which there is room
+pub sums-stored : (zs : List ℤ) (bytes : List ℕ) {new : List ℕ} → length zs ≤ length bytes / 8 → new ≡ stored (signedBytes 8 (take (length bytes / 8) zs)) bytes → new ≡ stored (signedBytes 8 zs) bytes
+sums-stored zs bytes l e = e ∙ rw (take-all (length bytes / 8) zs l)
 
--- one call for another with the same answer, and with the same state where that is of picks
-pub picks-same : {a b : Answer} {s t : State} {state sums : List ℕ} {w : ℕ} {newState newSums : List ℕ} → a ≡ b → ((k q p : ℕ) → a ≡ picked k q p → s ≡ t)
-    → PicksAnswered a s state sums w newState newSums → PicksAnswered b t state sums w newState newSums
-picks-same {a} {b} {s} {t} {state} {sums} {w} {newState} {newSums} e h r =
-    subst (λ (c : Answer). PicksAnswered c t state sums w newState newSums) e
-    (record { returns = r .returns; state-left = r .state-left ∙ left-same a bytesIn state h; sums-left = r .sums-left ∙ left-same a (λ (u : State). signedBytes 8 (u .sums)) sums h })
+module _ {n : ℕ} {a : Answer} {s : State} {state sums : List ℕ} {old : List ℤ} {answer : Response} {after : code.State} {new forces : List ℤ} (h : Ran n a s state sums old answer after new forces) where
+  picked-is : (k q p : ℕ) → answer ≡ Picked k q p → Taken n s p state sums after new
+  picked-is k q p e = h .taken k q p (sym (h .answers) ∙ ap (λ (r : Response). asAnswer r (take n forces)) e)
 
--- a call without a state
-pub picks-unstated : (cs : List Check) {a : Answer} {s : State} {state sums : List ℕ} {w : ℕ} → inTurn refused cs (refused no.state 0) ≡ a → w ≡ word (replyTo (inTurn refused cs (refused no.state 0)))
-    → PicksAnswered a s state sums w state sums
-unfolding leftBy
-picks-unstated cs {s = s} e f =
-    let r = always-refused cs no.state 0 in
-    picks-same {s = s} (sym (r .2) ∙ e) (λ k q p g. refl) (record { returns = f ∙ ap (λ (b : Answer). word (replyTo b)) (r .2); state-left = refl; sums-left = refl })
+  -- what is asked before
+  pub ran-low : LowPlace answer
+  ran-low k q p e = picked-is k q p e .low
 
--- the state that a call decodes, with sums that are cut
-module _ (m : Matrix) (x : List ℤ) (order groups : List ℕ) (count : ℕ) (ws state sums : List ℕ) (long : length state ≡ stateBytes) {made : List ℕ} {held zs : List ℤ}
-    (em : made ≡ unsigned 4 (take countBytes state)) (eh : held ≡ signed 8 (drop countBytes state)) (ez : zs ≡ take mostStarts (signed 8 sums)) where
-  abbrev decoded : State
-  decoded = record { made = made; held = held; sums = zs }
+  pub ran-fits : PicksFit n answer new state sums
+  ran-fits k q p e = let t = picked-is k q p e in (t .whole, t .inside, t .room)
 
-  pub picks-decoded : {a : Answer} {t : State} {w : ℕ} {newState newSums : List ℕ} → a ≡ answerLent m x order groups count decoded (picks ws) → t ≡ afterLent m x order groups count decoded (picks ws)
-      → PicksAnswered a t state sums w newState newSums
-      → PicksAnswered (answerIn m x order groups count state sums (picks ws)) (afterLent m x order groups count (stateIn state sums) (picks ws)) state sums w newState newSums
-  picks-decoded {a} {t} e f r =
-      picks-same (e ∙ decoded-state m x order groups count (picks ws) state sums long em eh ez)
-      (λ k q p g.
-      let whole : zs ≡ signed 8 sums = ez ∙ picked-sums m x order groups count decoded ws (sym g ∙ e) ez in
-      f ∙ rw (em, eh, whole)) r
+  -- whatever stands for forces that picks do not have
+  pub left-is : (zs : List ℤ) (f : State → List ℕ) (bytes : List ℕ) → leftBy (asAnswer answer zs) (f (stateOf after (take n new))) bytes ≡ leftBy a (f s) bytes
+  unfolding leftBy
+  left-is zs f bytes = go answer refl ∙ ap (λ (b : Answer). leftBy b (f s) bytes) (h .answers)
+    where
+      go : (r : Response) → answer ≡ r → leftBy (asAnswer r zs) (f (stateOf after (take n new))) bytes ≡ leftBy (asAnswer r (take n forces)) (f s) bytes
+      go (Picked k q p) e = ap (λ (u : State). stored (f u) bytes) (picked-is k q p e .left)
+      go (Ready b k) e = refl
+      go Forces e = refl
+      go (Refused q p) e = refl
 
-  -- what is asked before it is stored
-  pub picks-low : {a : Answer} → a ≡ answerLent m x order groups count decoded (picks ws) → (k q p : ℕ) → a ≡ picked k q p → p < 2 ^ 32
-  picks-low e k q p g =
-      picked-low m x order groups count decoded ws (sym g ∙ e)
-      (rw (em, length-decoded number 4 (take countBytes state), length-take-le countBytes state (omega arith)))
+  -- a call of picks
+  pub picks-answered : {w : ℕ} → ((zs : List ℤ) → w ≡ word (replyTo (asAnswer answer zs))) → (zs : List ℤ) {newState newSums : List ℕ}
+      → newState ≡ leftBy (asAnswer answer zs) (bytesIn (stateOf after (take n new))) state → newSums ≡ leftBy (asAnswer answer zs) (signedBytes 8 (take n new)) sums
+      → PicksAnswered a s state sums w newState newSums
+  picks-answered f zs g i = record {
+    returns = f (take n forces) ∙ ap (λ (b : Answer). word (replyTo b)) (h .answers);
+    state-left = g ∙ left-is zs bytesIn state;
+    sums-left = i ∙ left-is zs (λ (u : State). signedBytes 8 (u .sums)) sums;
+  }

@@ -1,10 +1,7 @@
 pub mod InTurn
 pub mod JobChecked
 pub mod Scattering
+pub mod ForceList
 pub mod ReadyBits
-pub mod Beginning
-pub mod Begun
-pub mod ForcesReply
 pub mod Prepared
-pub mod ReadyAnswer
-pub mod PicksAnswer
+pub mod Performing

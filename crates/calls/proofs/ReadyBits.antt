@@ -13,7 +13,8 @@ use lib.Bits.{bitOr, or-shifted-r}
 use lib.Count.{ones, ones-cat}
 use mir.Val.{boolByte}
 use Rattle.run.specs.Job.{Job}
-use Rattle.run.specs.Machine.{refusal, readyBelow, bits}
+use Rattle.run.specs.Machine.{workers, refusal, readyBelow, ready, bits}
+use Rattle.run.specs.Calls.{isReady, readyOf}
 
 -- a worker above those of a set joins it, if it is ready
 joined : (b : Bool) (w : ℕ) (ws : List ℕ) → bits (cond b (w ∷ ws) ws) ≡ boolByte b * 2 ^ w + bits ws
@@ -58,3 +59,8 @@ module _ (j : Job) (made : List ℕ) where
   unfolding readyBelow bits ones
   bits-count zero = refl
   bits-count (suc w) = counted (eqb (refusal j made w) 0) w (readyBelow j made w) (bits-below w) (bits-count w)
+
+-- the answer of the bits, and the count of those set
+pub ready-bits : (j : Job) (made : List ℕ) (b : ℕ) → b ≡ bits (ready j made) → isReady b (ones b) ≡ readyOf j made
+unfolding readyOf ready
+ready-bits j made b e = rw (e, bits-count j made (workers j))

@@ -1,3 +1,2 @@
 pub mod Scatter
-pub mod Begun
-pub mod Answers
+pub mod Performed

@@ -1,10 +1,7 @@
-// The checks that every call begins with, in turn.
+// The checks of a call's lists, in turn.
 use base::Answer;
 use base::MATRIX;
-use base::STATE;
 use base::UNSOUND;
-use layout::lay;
-use machine::state::State;
 use multiply::check_displacements;
 use plan::is_plan;
 use symmetric::is_matrix;
@@ -13,10 +10,9 @@ ghost use Rattle.base.specs.Replies.{accepted, refused, inTurn};
 ghost use Rattle.base.specs.Answers.{replyOf};
 ghost use Rattle.matrix.specs.Checks.{matrixOf};
 ghost use Rattle.run.specs.Calls.{jobChecks};
-ghost use Rattle.calls.specs.Begun.{Zeros, Begun};
 
 // 5, 6, 8: whether the lists hold a matrix, its displacements and a plan that is sound for it.
-pub fn check_job(
+pub(crate) fn check_job(
     n: u32,
     starts: &[u32],
     columns: &[u32],
@@ -37,70 +33,6 @@ pub fn check_job(
     }
     if !is_plan(n, starts, columns, order, groups, count) {
         return Answer::Refused(UNSOUND, 0);
-    }
-    Answer::Accepted(0)
-}
-
-// 5, 6, 8, 11, and the tables of an accepted job, made of zeros. There are `size` sums.
-pub(crate) fn begin(
-    n: u32,
-    starts: &[u32],
-    columns: &[u32],
-    values: &[i32],
-    displacements: &[i32],
-    order: &[u32],
-    groups: &[u32],
-    count: u32,
-    state: State,
-    size: usize,
-    counts: &mut [u32; 16],
-    first: &mut [u32; 16],
-    row: &mut [u16; 69632],
-    begins: &mut [u32; 4096],
-    leaves: &mut [u16; 4096],
-    ends: &mut [u32; 512],
-    at: &mut [u16; 69632],
-    beside: &mut [i32; 69632],
-) -> Answer
-    requires { ⌜ Zeros (now counts) (now first) (now row) (now begins) (now leaves) (now ends) (now at) (now beside) ⌝ }
-    ensures { λ r. ⌜ Begun n (now (starts .entry)) (now (columns .entry)) (now (values .entry)) (now (displacements .entry)) (now (order .entry)) (now (groups .entry)) count state size
-        (now (counts .exit)) (now (first .exit)) (now (row .exit)) (now (begins .exit)) (now (leaves .exit)) (now (ends .exit)) (now (at .exit)) (now (beside .exit)) r ⌝ }
-{
-    let checked = check_job(
-        n,
-        starts,
-        columns,
-        values,
-        displacements,
-        order,
-        groups,
-        count,
-    );
-    if let Answer::Refused(number, place) = checked {
-        return Answer::Refused(number, place);
-    }
-    if size != n as usize {
-        return Answer::Refused(STATE, 0);
-    }
-    lay(
-        n as usize,
-        starts,
-        columns,
-        values,
-        order,
-        groups,
-        count as usize,
-        counts,
-        first,
-        row,
-        begins,
-        leaves,
-        ends,
-        at,
-        beside,
-    );
-    if !state.is_fine(*counts) {
-        return Answer::Refused(STATE, 0);
     }
     Answer::Accepted(0)
 }

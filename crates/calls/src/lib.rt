@@ -1,46 +1,54 @@
-// The calls on a run: picks, ready set and force list, by the lists that a caller lends.
-pub mod checks;
+// A call on a run, by the lists that a caller lends: the checks, the tables of the job, then what is asked.
+mod checks;
+mod force_list;
 mod ready_set;
-mod scatter;
 
-use base::Answer;
-use base::EARLY;
-use base::SHORT;
-use checks::begin;
+use base::STATE;
+use checks::check_job;
+use force_list::force_list;
+use layout::lay;
+use machine::state::Rule;
 use machine::state::State;
 use plan::fields::record_at;
-use ready_set::ready_bits;
-use scatter::scatter;
-use waits::blocked_groups;
+use ready_set::ready_set;
 ghost use mathlib.Core.Path.{_≡_};
-ghost use lib.ListN.{length};
-ghost use Rattle.base.specs.Answers.{replyOf};
+ghost use lib.ListN.{length, take};
 ghost use Rattle.matrix.specs.Checks.{matrixOf};
-ghost use Rattle.run.specs.Calls.{picks, placeOf, readySet, forceList, answerLent, afterLent, forcesLent};
+ghost use Rattle.run.specs.Calls.{placeOf};
 ghost use Rattle.machine.specs.Record.{stateOf};
-ghost use Rattle.calls.specs.Answers.{picksAnswer, readyAnswer, forcesReply};
+ghost use Rattle.calls.specs.Performed.{asCall, asAnswer, Performed};
 
-// The end of a call of picks: how many it took, with the ending's number and place; or a refusal's number and place.
-pub enum Ending {
-    Ended(usize, u32, usize),
+// What is asked of a run: that it take the picks of a lent schedule, which workers are ready, its forces for a lent list.
+pub enum Call {
+    Picks,
+    ReadySet,
+    ForceList,
+}
+
+// The answer: picks taken, with the number and place of the one that ended them; sixteen bits, bit 0 for worker 0, and the count of those set;
+// forces, which stand in the lent list; or a refusal's number and place.
+pub enum Response {
+    Picked(usize, u32, usize),
+    Ready(u16, u32),
+    Forces,
     Refused(u32, u32),
 }
 
-// The state after a call of picks, and its end.
-pub struct Picked {
+// The state after a call, and its answer.
+pub struct Done {
     pub state: State,
-    pub ending: Ending,
+    pub answer: Response,
 }
 
-// The place of an ending: the pick's index; 0 if all were taken.
-fn place_of(number: u32, taken: usize) -> usize
-    ensures { λ r. ⌜ r ≡ placeOf number taken ⌝ }
+// The place of an ending: the pick's index; 0 if none ended the picks.
+fn place_of(number: u32, past: usize) -> usize
+    ensures { λ r. ⌜ r ≡ placeOf number past ⌝ }
 {
-    if number == 0 { 0 } else { taken }
+    if number == 0 { 0 } else { past }
 }
 
-// The schedule's workers step in turn, up to the first that is refused.
-pub fn picks(
+// One call. A call that takes no picks is lent an empty schedule, and one that asks for no forces an empty list.
+pub fn perform(
     n: u32,
     starts: &[u32],
     columns: &[u32],
@@ -52,21 +60,14 @@ pub fn picks(
     state: State,
     sums: &mut [i64],
     schedule: &[u8],
-) -> Picked
-    ensures answer { λ r. ⌜ picksAnswer (r .ending) ≡ answerLent (matrixOf n (now (starts .entry)) (now (columns .entry)) (now (values .entry))) (now (displacements .entry)) (now (order .entry)) (now (groups .entry)) count
-        (stateOf state (now (sums .entry))) (picks (now (schedule .entry))) ⌝ }
-    ensures after { λ r. ⌜ stateOf (r .state) (now (sums .exit)) ≡ afterLent (matrixOf n (now (starts .entry)) (now (columns .entry)) (now (values .entry))) (now (displacements .entry)) (now (order .entry)) (now (groups .entry)) count
-        (stateOf state (now (sums .entry))) (picks (now (schedule .entry))) ⌝ }
+    forces: &mut [i64],
+    call: Call,
+) -> Done
+    ensures { λ r. ⌜ Performed (matrixOf n (now (starts .entry)) (now (columns .entry)) (now (values .entry))) (now (displacements .entry)) (now (order .entry)) (now (groups .entry)) count
+        (stateOf state (now (sums .entry))) (asCall call (now (schedule .entry)) (length (now (forces .entry)))) (now (forces .entry))
+        (asAnswer (r .answer) (take n (now (forces .exit)))) (stateOf (r .state) (now (sums .exit))) (now (forces .exit)) ⌝ }
 {
-    let mut counts = [0u32; 16];
-    let mut first = [0u32; 16];
-    let mut row = [0u16; 69632];
-    let mut begins = [0u32; 4096];
-    let mut leaves = [0u16; 4096];
-    let mut ends = [0u32; 512];
-    let mut at = [0u16; 69632];
-    let mut beside = [0i32; 69632];
-    let begun = begin(
+    let checked = check_job(
         n,
         starts,
         columns,
@@ -75,8 +76,35 @@ pub fn picks(
         order,
         groups,
         count,
-        state,
-        sums.len(),
+    );
+    if let base::Answer::Refused(number, place) = checked {
+        return Done {
+            state: state,
+            answer: Response::Refused(number, place),
+        };
+    }
+    if sums.len() != n as usize {
+        return Done {
+            state: state,
+            answer: Response::Refused(STATE, 0),
+        };
+    }
+    let mut counts = [0u32; 16];
+    let mut first = [0u32; 16];
+    let mut row = [0u16; 69632];
+    let mut begins = [0u32; 4096];
+    let mut leaves = [0u16; 4096];
+    let mut ends = [0u32; 512];
+    let mut at = [0u16; 69632];
+    let mut beside = [0i32; 69632];
+    lay(
+        n as usize,
+        starts,
+        columns,
+        values,
+        order,
+        groups,
+        count as usize,
         &mut counts,
         &mut first,
         &mut row,
@@ -86,166 +114,67 @@ pub fn picks(
         &mut at,
         &mut beside,
     );
-    if let Answer::Refused(number, place) = begun {
-        return Picked {
+    if !state.is_fine(counts) {
+        return Done {
             state: state,
-            ending: Ending::Refused(number, place),
+            answer: Response::Refused(STATE, 0),
         };
     }
     let whole = record_at(groups, 0);
-    let stepped = state.take(
-        sums,
-        schedule,
-        whole.workers,
-        groups,
-        count as usize,
-        &counts,
-        &first,
-        &row,
-        &begins,
-        &leaves,
-        &ends,
-        starts,
-        displacements,
-        order,
-        &at,
-        &beside,
-    );
-    let after = stepped.state;
-    let taken = stepped.taken;
-    let number = stepped.number;
-    Picked {
-        state: after,
-        ending: Ending::Ended(taken, number, place_of(number, taken)),
+    match call {
+        Call::Picks => {
+            let walked = state.take(
+                sums,
+                schedule,
+                Rule::Stop,
+                whole.workers,
+                groups,
+                count as usize,
+                &counts,
+                &first,
+                &row,
+                &begins,
+                &leaves,
+                &ends,
+                starts,
+                displacements,
+                order,
+                &at,
+                &beside,
+            );
+            let after = walked.state;
+            let taken = walked.taken;
+            let number = walked.number;
+            let past = walked.past;
+            Done {
+                state: after,
+                answer: Response::Picked(taken, number, place_of(number, past)),
+            }
+        }
+        Call::ReadySet => {
+            let answer = ready_set(
+                state,
+                whole.workers,
+                groups,
+                count as usize,
+                &counts,
+                &first,
+                &row,
+                &leaves,
+                &ends,
+            );
+            Done {
+                state: state,
+                answer: answer,
+            }
+        }
+        Call::ForceList => {
+            let is_over = state.is_finished(counts, whole.workers);
+            let answer = force_list(n, is_over, order, sums, forces);
+            Done {
+                state: state,
+                answer: answer,
+            }
+        }
     }
-}
-
-// The answer to a ready-set call: sixteen bits, bit 0 for worker 0, and the count of those set; or a refusal's number and place.
-pub enum ReadySet {
-    Workers(u16, u32),
-    Refused(u32, u32),
-}
-
-// The workers whose next step would be taken.
-pub fn ready(
-    n: u32,
-    starts: &[u32],
-    columns: &[u32],
-    values: &[i32],
-    displacements: &[i32],
-    order: &[u32],
-    groups: &[u32],
-    count: u32,
-    state: State,
-    sums: &[i64],
-) -> ReadySet
-    ensures { λ r. ⌜ readyAnswer r ≡ answerLent (matrixOf n (now (starts .entry)) (now (columns .entry)) (now (values .entry))) (now (displacements .entry)) (now (order .entry)) (now (groups .entry)) count
-        (stateOf state (now (sums .entry))) readySet ⌝ }
-{
-    let mut counts = [0u32; 16];
-    let mut first = [0u32; 16];
-    let mut row = [0u16; 69632];
-    let mut begins = [0u32; 4096];
-    let mut leaves = [0u16; 4096];
-    let mut ends = [0u32; 512];
-    let mut at = [0u16; 69632];
-    let mut beside = [0i32; 69632];
-    let begun = begin(
-        n,
-        starts,
-        columns,
-        values,
-        displacements,
-        order,
-        groups,
-        count,
-        state,
-        sums.len(),
-        &mut counts,
-        &mut first,
-        &mut row,
-        &mut begins,
-        &mut leaves,
-        &mut ends,
-        &mut at,
-        &mut beside,
-    );
-    if let Answer::Refused(number, place) = begun {
-        return ReadySet::Refused(number, place);
-    }
-    let made = state.made;
-    let blocks = blocked_groups(groups, count as usize, &ends, &made);
-    let whole = record_at(groups, 0);
-    let bits = ready_bits(
-        &made,
-        whole.workers,
-        &counts,
-        &first,
-        &row,
-        &leaves,
-        &blocks,
-    );
-    ReadySet::Workers(bits, u32::count_ones(bits as u32))
-}
-
-// The forces of a finished run, in original order, into forces.
-pub fn forces(
-    n: u32,
-    starts: &[u32],
-    columns: &[u32],
-    values: &[i32],
-    displacements: &[i32],
-    order: &[u32],
-    groups: &[u32],
-    count: u32,
-    state: State,
-    sums: &[i64],
-    forces: &mut [i64],
-) -> Answer
-    ensures reply { λ r. ⌜ replyOf r ≡ forcesReply (answerLent (matrixOf n (now (starts .entry)) (now (columns .entry)) (now (values .entry))) (now (displacements .entry)) (now (order .entry)) (now (groups .entry)) count
-        (stateOf state (now (sums .entry))) (forceList (length (now (forces .entry))))) ⌝ }
-    ensures lent_forces { λ r. ⌜ now (forces .exit) ≡ forcesLent (answerLent (matrixOf n (now (starts .entry)) (now (columns .entry)) (now (values .entry))) (now (displacements .entry)) (now (order .entry)) (now (groups .entry)) count
-        (stateOf state (now (sums .entry))) (forceList (length (now (forces .entry))))) (now (forces .entry)) ⌝ }
-{
-    let mut counts = [0u32; 16];
-    let mut first = [0u32; 16];
-    let mut row = [0u16; 69632];
-    let mut begins = [0u32; 4096];
-    let mut leaves = [0u16; 4096];
-    let mut ends = [0u32; 512];
-    let mut at = [0u16; 69632];
-    let mut beside = [0i32; 69632];
-    let begun = begin(
-        n,
-        starts,
-        columns,
-        values,
-        displacements,
-        order,
-        groups,
-        count,
-        state,
-        sums.len(),
-        &mut counts,
-        &mut first,
-        &mut row,
-        &mut begins,
-        &mut leaves,
-        &mut ends,
-        &mut at,
-        &mut beside,
-    );
-    if let Answer::Refused(number, place) = begun {
-        return Answer::Refused(number, place);
-    }
-    let whole = record_at(groups, 0);
-    if !state.is_finished(counts, whole.workers) {
-        return Answer::Refused(EARLY, 0);
-    }
-    let rows = n as usize;
-    if forces.len() < rows {
-        return Answer::Refused(SHORT, n);
-    }
-    scatter(rows, order, sums, forces);
-    Answer::Accepted(0)
 }

@@ -42,24 +42,6 @@ module _ {A : Type 0} {size : ℕ} {list array : List A} {count : ℕ} (l : Load
   pub loaded-size : count ≡ length (take count array)
   loaded-size = sym (length-take-le count array loaded-short)
 
-  -- no more than the list has
-  loaded-few : count ≤ length list
-  loaded-few = omega (arith, loaded-size, ap length (l .is), length-take size list)
-
-  -- they are lent on, and back in the array as `part`
-  module _ (part : List A) (e : length part ≡ length (take count array)) (rest : List A) where
-    pub relent-is : take count (part ++ rest) ≡ part
-    relent-is = take-at part rest count (e ∙ sym loaded-size)
-
-    pub relent-size : count ≡ length (take count (part ++ rest))
-    relent-size = loaded-size ∙ sym e ∙ sym (ap length relent-is)
-
-    pub relent-short : count ≤ length (part ++ rest)
-    relent-short = omega (arith, e, loaded-size, length-append part rest)
-
-    pub relent-few : {room : ℕ} → length list ≡ room → length (take count (part ++ rest)) ≤ room
-    relent-few r = omega (arith, r, relent-size, loaded-few)
-
 -- the matrix whose lists were loaded: that of the whole lists, cut
 pub loaded-matrix : (n : ℕ) {starts columns : List ℕ} {values : List ℤ} {s c : List ℕ} {v : List ℤ} {i j k : ℕ}
     → Loaded mostStarts starts s i → Loaded mostEntries columns c j → Loaded mostEntries values v k

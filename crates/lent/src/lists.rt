@@ -1,6 +1,5 @@
 // Lists decoded from bytes into arrays that are long enough for every matrix and plan.
 use words::load::load_i32;
-use words::load::load_i64;
 use words::load::load_u32;
 ghost use Rattle.words.specs.LittleEndian.{unsigned, signed};
 ghost use Rattle.lent.specs.Lists.{Loaded};
@@ -27,12 +26,6 @@ pub fn load_displacements(bytes: &[u8], array: &mut [i32; 4097]) -> usize
     ensures { λ r. ⌜ Loaded 4097 (signed 4 (now (bytes .entry))) (now (array .exit)) r ⌝ }
 {
     load_i32(bytes, &mut array[..])
-}
-
-pub fn load_sums(bytes: &[u8], array: &mut [i64; 4097]) -> usize
-    ensures { λ r. ⌜ Loaded 4097 (signed 8 (now (bytes .entry))) (now (array .exit)) r ⌝ }
-{
-    load_i64(bytes, &mut array[..])
 }
 
 pub fn load_order(bytes: &[u8], array: &mut [u32; 4096]) -> usize

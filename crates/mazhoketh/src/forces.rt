@@ -1,11 +1,9 @@
 // mzk_forces: the forces of a finished run.
-use cabinet::forces::forces_in;
-use lent::lists::load_columns;
-use lent::lists::load_displacements;
-use lent::lists::load_groups;
-use lent::lists::load_order;
-use lent::lists::load_starts;
-use lent::lists::load_values;
+use cabinet::in_bytes::perform_in;
+use cabinet::stored::store_forces;
+use cabinet::word::word_of;
+use calls::Call;
+use words::least;
 ghost use Prim.Native.Nat.{_/_};
 ghost use lib.ListN.{length};
 ghost use Rattle.run.specs.Calls.{forceList};
@@ -30,29 +28,26 @@ pub extern "C" fn mzk_forces(
     ensures { λ r. ⌜ ForcesAnswered (answerIn (matrixIn n (now («row_starts» .entry)) (now (columns .entry)) (now (values .entry))) (signed 4 (now (movements .entry))) (unsigned 4 (now (order .entry))) (unsigned 4 (now (groups .entry))) «group_count»
         (now (state .entry)) (now (sums .entry)) (forceList (length (now (forces .entry)) / 8))) (now (forces .entry)) r (now (forces .exit)) ⌝ }
 {
-    let mut starts = [0u32; 4097];
-    let starts_len = load_starts(row_starts, &mut starts);
-    let mut column_list = [0u32; 65536];
-    let columns_len = load_columns(columns, &mut column_list);
-    let mut value_list = [0i32; 65536];
-    let values_len = load_values(values, &mut value_list);
-    let mut displacements = [0i32; 4097];
-    let displacements_len = load_displacements(movements, &mut displacements);
-    let mut order_list = [0u32; 4096];
-    let order_len = load_order(order, &mut order_list);
-    let mut group_list = [0u32; 3072];
-    let groups_len = load_groups(groups, &mut group_list);
-    forces_in(
+    let mut new = [0i64; 4097];
+    let mut made = [0i64; 4096];
+    let room = least(forces.len() / 8, 4096);
+    let done = perform_in(
         n,
-        &starts[..starts_len],
-        &column_list[..columns_len],
-        &value_list[..values_len],
-        &displacements[..displacements_len],
-        &order_list[..order_len],
-        &group_list[..groups_len],
+        row_starts,
+        columns,
+        values,
+        movements,
+        order,
+        groups,
         group_count,
         state,
         sums,
-        forces,
-    )
+        &mut new,
+        &[0u8; 0],
+        &mut made[..room],
+        Call::ForceList,
+    );
+    let answer = done.answer;
+    store_forces(n, answer, &made, forces);
+    word_of(answer)
 }

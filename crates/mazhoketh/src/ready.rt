@@ -1,11 +1,7 @@
 // mzk_ready: the workers whose next pick would be taken.
-use cabinet::ready::ready_in;
-use lent::lists::load_columns;
-use lent::lists::load_displacements;
-use lent::lists::load_groups;
-use lent::lists::load_order;
-use lent::lists::load_starts;
-use lent::lists::load_values;
+use cabinet::in_bytes::perform_in;
+use cabinet::word::word_of;
+use calls::Call;
 ghost use mathlib.Core.Path.{_≡_};
 ghost use Rattle.run.specs.Calls.{readySet};
 ghost use Rattle.words.specs.LittleEndian.{unsigned, signed};
@@ -28,28 +24,24 @@ pub extern "C" fn mzk_ready(
 ) -> u64
     ensures { λ r. ⌜ r ≡ word (replyTo (answerIn (matrixIn n (now («row_starts» .entry)) (now (columns .entry)) (now (values .entry))) (signed 4 (now (movements .entry))) (unsigned 4 (now (order .entry))) (unsigned 4 (now (groups .entry))) «group_count» (now (state .entry)) (now (sums .entry)) readySet)) ⌝ }
 {
-    let mut starts = [0u32; 4097];
-    let starts_len = load_starts(row_starts, &mut starts);
-    let mut column_list = [0u32; 65536];
-    let columns_len = load_columns(columns, &mut column_list);
-    let mut value_list = [0i32; 65536];
-    let values_len = load_values(values, &mut value_list);
-    let mut displacements = [0i32; 4097];
-    let displacements_len = load_displacements(movements, &mut displacements);
-    let mut order_list = [0u32; 4096];
-    let order_len = load_order(order, &mut order_list);
-    let mut group_list = [0u32; 3072];
-    let groups_len = load_groups(groups, &mut group_list);
-    ready_in(
+    let mut new = [0i64; 4097];
+    let mut none = [0i64; 0];
+    let done = perform_in(
         n,
-        &starts[..starts_len],
-        &column_list[..columns_len],
-        &value_list[..values_len],
-        &displacements[..displacements_len],
-        &order_list[..order_len],
-        &group_list[..groups_len],
+        row_starts,
+        columns,
+        values,
+        movements,
+        order,
+        groups,
         group_count,
         state,
         sums,
-    )
+        &mut new,
+        &[0u8; 0],
+        &mut none,
+        Call::ReadySet,
+    );
+    let answer = done.answer;
+    word_of(answer)
 }

@@ -1,5 +1,5 @@
 -- `place_of`: none, or the pick's index.
-use Rattle.calls.proofs.PicksAnswer.{place-none, place-some}
+use Rattle.calls.proofs.Performing.{place-none, place-some}
 use Rattle.calls.proofs.place_of.Statement.{statement}
 use Rattle.calls.proofs.place_of.Tie as tie
 

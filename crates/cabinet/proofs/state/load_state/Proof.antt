@@ -1,4 +1,4 @@
--- `load_state` meets its contract: both parts are loaded whole.
+-- `load_state` meets its contract: both parts of 192 bytes are loaded whole.
 use borrow.Author.Needs.{needs}
 use mathlib.Core.Path.{_≡_, sym, ap, _∙_}
 use Prim.Native.Nat.{_-_}
@@ -10,8 +10,14 @@ use Rattle.lent.proofs.Loads.{loaded-whole}
 use Rattle.cabinet.proofs.state.load_state.Statement.{statement}
 use Rattle.cabinet.proofs.state.load_state.Tie as tie
 
+fresh-requires : tie.Need-fresh-requires
+fresh-requires c κs = search needs
+
+returns : tie.Need-returns
+returns c whole = absurd (c .before .if1 .taken whole)
+
 slice-aggregate-load-u32 : tie.Need-slice-aggregate-load-u32
-slice-aggregate-load-u32 c = let s = c .before .before in sym (length-take-le 64 (s .args .bytes .now) (omega (arith, s .pre)))
+slice-aggregate-load-u32 c = sym (length-take-le 64 (c .before .before .before .args .bytes .now) (omega (arith, c .before .if1 .left)))
 
 slice-aggregate-load-u32-2 : tie.Need-slice-aggregate-load-u32-2
 slice-aggregate-load-u32-2 c = search needs
@@ -34,20 +40,24 @@ slice-aggregate-load-i64 c = search needs
 load-i64-requires : tie.Need-load-i64-requires
 load-i64-requires c κs = search needs
 
-returns : tie.Need-returns
-returns c =
+returns-2 : tie.Need-returns-2
+returns-2 c whole =
     let load = c .before .before .before .before .before in
-    let s = load .before .before .before .before in
-    let bytes = s .args .bytes .now in
-    let counts : length (take 64 bytes) ≡ 64 = length-take-le 64 bytes (omega (arith, s .pre)) in
+    let bytes = load .before .before .before .before .before .args .bytes .now in
+    let counts : length (take 64 bytes) ≡ 64 = length-take-le 64 bytes (omega (arith, whole)) in
     let held : take (length bytes - 64) (drop 64 bytes) ≡ drop 64 bytes = take-all (length bytes - 64) (drop 64 bytes) (rw length-drop (omega arith)) in
-    let numbers : length (take (length bytes - 64) (drop 64 bytes)) ≡ 128 = rw (held, length-drop) (omega (arith, s .pre)) in
-    (loaded-whole number 4 (take 64 bytes) _ (rw counts) (load .load-u32 .ensures .0) (load .load-u32 .ensures .1), loaded-whole (signedNumber 8) 8 (take (length bytes - 64) (drop 64 bytes)) _ (rw numbers) (c .before .load-i64 .ensures .0) (c .before .load-i64 .ensures .1) ∙ ap (signed 8) held)
+    let numbers : length (take (length bytes - 64) (drop 64 bytes)) ≡ 128 = rw (held, length-drop) (omega (arith, whole)) in
+    record {
+      made = loaded-whole number 4 (take 64 bytes) _ (rw counts) (load .load-u32 .ensures .0) (load .load-u32 .ensures .1);
+      held = loaded-whole (signedNumber 8) 8 (take (length bytes - 64) (drop 64 bytes)) _ (rw numbers) (c .before .load-i64 .ensures .0) (c .before .load-i64 .ensures .1) ∙ ap (signed 8) held;
+    }
 
 pub load-state-spec : {M : Type 1} → statement M
 load-state-spec =
     tie.close
     (tie.spec
+    fresh-requires
+    returns
     slice-aggregate-load-u32
     slice-aggregate-load-u32-2
     load-u32-requires
@@ -56,4 +66,4 @@ load-state-spec =
     part-load-i64-end
     slice-aggregate-load-i64
     load-i64-requires
-    returns)
+    returns-2)

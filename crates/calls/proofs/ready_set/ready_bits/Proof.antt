@@ -6,7 +6,8 @@ use native.Mathlib.Omega.{arith}
 use lib.Dec.{eqb}
 use borrow.Author.Needs.{needs}
 use Rattle.run.specs.Job.{Job}
-use Rattle.run.specs.Machine.{workers, refusal, readyBelow, ready, bits}
+use Rattle.run.specs.Machine as machine
+use Rattle.run.specs.Machine.{refusal, readyBelow, ready, bits}
 use Rattle.tables.specs.Laid.{Laid, Waits}
 use Rattle.machine.proofs.TableWaits.{table-reason}
 use Rattle.calls.proofs.ReadyBits.{bits-turn}
@@ -14,11 +15,11 @@ use Rattle.calls.proofs.ready_set.ready_bits.Statement.{statement}
 use Rattle.calls.proofs.ready_set.ready_bits.Tie as tie
 
 abbrev Inv-loop : tie.InvT-loop
-Inv-loop made crew counts first row leaves blocks set₀ w₀ set w =
-    (w ≤ crew) × ((j : Job) (begins ends : List ℕ) → crew ≡ workers j → Laid j counts first row begins leaves ends → Waits j made blocks → set ≡ bits (readyBelow j made w))
+Inv-loop made workers counts first row leaves blocks set₀ w₀ set w =
+    (w ≤ workers) × ((j : Job) (begins ends : List ℕ) → workers ≡ machine.workers j → Laid j counts first row begins leaves ends → Waits j made blocks → set ≡ bits (readyBelow j made w))
 
 abbrev μ-loop : tie.MeasureT-loop
-μ-loop made crew counts first row leaves blocks set₀ w₀ set w = crew - w
+μ-loop made workers counts first row leaves blocks set₀ w₀ set w = workers - w
 
 loop-holds : tie.Need-loop-holds Inv-loop μ-loop
 unfolding readyBelow bits
@@ -51,7 +52,7 @@ loop-again c =
       search needs,
       λ j begins ends e laid waits.
           (let free : eqb (c .refusal .result) 0 ≡ eqb (refusal j (a .made .now) w) 0 =
-          ap (λ (k : ℕ). eqb k 0) (c .refusal .ensures ∙ table-reason j laid (a .made .now) (a .blocks .now) waits (a .crew) e (s .pre .0) w) in
+          ap (λ (k : ℕ). eqb k 0) (c .refusal .ensures ∙ table-reason j laid (a .made .now) (a .blocks .now) waits (a .workers) e (s .pre .0) w) in
           rw (l .loop .inv .1 j begins ends e laid waits) (bits-turn j (a .made .now) w (eqb (c .refusal .result) 0) (omega arith) free)),
     )
 
@@ -61,7 +62,7 @@ returns c =
     let l = c .before in
     let a = l .before .args in
     λ j begins ends e laid waits.
-    (let all : l .loop .w ≡ workers j = omega arith in
+    (let all : l .loop .w ≡ machine.workers j = omega arith in
     l .loop .inv .1 j begins ends e laid waits ∙ ap (λ (k : ℕ). bits (readyBelow j (a .made .now) k)) all)
 
 pub ready-bits-spec : {M : Type 1} → statement M

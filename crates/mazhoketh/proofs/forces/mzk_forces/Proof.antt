@@ -1,111 +1,104 @@
--- `mzk_forces` meets its contract: the lists of the job are decoded as far as a job can reach.
+-- `mzk_forces` meets its contract: the call, with the forces made beside the lent list, then they are stored.
 use borrow.Author.Needs.{needs}
-use Prim.Native.Nat.{_/_}
-use lib.ListN.{length}
-use Rattle.run.specs.Calls.{forceList}
-use Rattle.lent.proofs.Loads.{loaded-size}
-use Rattle.cabinet.proofs.RunCalls.{answer-loaded}
-use Rattle.cabinet.proofs.RunForces.{forces-same}
+use mathlib.Core.Path.{_≡_, refl, sym}
+use mathlib.Core.List.{List}
+use Prim.Native.Nat.{_/_, _≤_}
+use native.Mathlib.Omega.{arith}
+use lib.IntN.{ℤ, pos}
+use lib.ListN.{length, take, drop, replicate, length-append, length-drop}
+use lib.Seq.{length-take-le}
+use Rattle.matrix.specs.Limits.{maxRows}
+use Rattle.words.specs.LittleEndian.{unsigned, signed}
+use Rattle.lent.specs.Bytes.{matrixIn}
+use Rattle.cabinet.proofs.RunPicks.{ran-low}
+use Rattle.cabinet.proofs.RunForces.{given-in, room-in, forces-fit, forces-answered, forces-same}
 use Rattle.mazhoketh.proofs.forces.mzk_forces.Statement.{statement}
 use Rattle.mazhoketh.proofs.forces.mzk_forces.Tie as tie
 
-load-starts-requires : tie.Need-load-starts-requires
-load-starts-requires c κs = search needs
+-- the array that the forces are made in: as many as any matrix has rows
+abbrev zeros : List ℤ
+zeros = replicate maxRows (pos 0)
 
-load-columns-requires : tie.Need-load-columns-requires
-load-columns-requires c κs = search needs
+zeros-long : length zeros ≡ maxRows
+zeros-long = refl
 
-load-values-requires : tie.Need-load-values-requires
-load-values-requires c κs = search needs
+least-requires : tie.Need-least-requires
+least-requires c κs = search needs
 
-load-displacements-requires : tie.Need-load-displacements-requires
-load-displacements-requires c κs = search needs
+-- the room that is lent on
+room-size : (l : tie.After-least) → length (take (l .least .result) zeros) ≡ l .least .result
+room-size l = let e = zeros-long in length-take-le (l .least .result) zeros (omega (arith, l .least .ensures))
 
-load-order-requires : tie.Need-load-order-requires
-load-order-requires c κs = search needs
+slice-aggregate-perform-in : tie.Need-slice-aggregate-perform-in
+slice-aggregate-perform-in c = search needs
 
-load-groups-requires : tie.Need-load-groups-requires
-load-groups-requires c κs = search needs
+slice-aggregate-perform-in-2 : tie.Need-slice-aggregate-perform-in-2
+slice-aggregate-perform-in-2 c = search needs
 
-array-share-prefix-starts : tie.Need-array-share-prefix-starts
-array-share-prefix-starts c = search needs
+array-borrow-prefix-made : tie.Need-array-borrow-prefix-made
+array-borrow-prefix-made c = search needs
 
-slice-aggregate-forces-in : tie.Need-slice-aggregate-forces-in
-slice-aggregate-forces-in c = loaded-size (c .before .before .before .before .before .before .before .before .before .before .before .load-starts .ensures)
+slice-aggregate-perform-in-3 : tie.Need-slice-aggregate-perform-in-3
+slice-aggregate-perform-in-3 c = sym (room-size (c .before .before .before))
 
-array-share-prefix-column-list : tie.Need-array-share-prefix-column-list
-array-share-prefix-column-list c = search needs
+perform-in-requires : tie.Need-perform-in-requires
+perform-in-requires c κs = search needs
 
-slice-aggregate-forces-in-2 : tie.Need-slice-aggregate-forces-in-2
-slice-aggregate-forces-in-2 c = loaded-size (c .before .before .before .before .before .before .before .before .before .before .load-columns .ensures)
+-- from the call back to the room, and to the function's entry
+abbrev room : tie.After-perform-in → tie.After-least
+room made = made .before .before .before .before
 
-array-share-prefix-value-list : tie.Need-array-share-prefix-value-list
-array-share-prefix-value-list c = search needs
+abbrev start : tie.After-perform-in → tie.Start
+start made = room made .before .before .before .before .before .before .before .before .before .before
 
-slice-aggregate-forces-in-3 : tie.Need-slice-aggregate-forces-in-3
-slice-aggregate-forces-in-3 c = loaded-size (c .before .before .before .before .before .before .before .before .before .load-values .ensures)
+-- the part of the array that was lent on, as the call left it
+abbrev part : tie.After-perform-in → List ℤ
+part made = made .perform-in .last .1 .1 .1 .1 .1 .1 .1 .1 .1 .1 .1 .1 .0
 
-array-share-prefix-displacements : tie.Need-array-share-prefix-displacements
-array-share-prefix-displacements c = search needs
+slice-aggregate-store-forces : tie.Need-slice-aggregate-store-forces
+slice-aggregate-store-forces c =
+    let made = c .before .before .before in
+    let k = room made .least .result in
+    let e = zeros-long in
+    omega (arith, length-append (part made) (drop k zeros), length-drop k zeros, room-size (room made), made .perform-in .kept .1 .1 .1 .1 .1 .1 .1 .1 .1 .1 .1 .1 .0, room made .least .ensures)
 
-slice-aggregate-forces-in-4 : tie.Need-slice-aggregate-forces-in-4
-slice-aggregate-forces-in-4 c = loaded-size (c .before .before .before .before .before .before .before .before .load-displacements .ensures)
+room-few : (l : tie.After-least) → length (take (l .least .result) zeros) ≤ length (l .before .before .before .before .before .before .before .before .before .before .args .forces .now) / 8
+room-few l = omega (arith, room-size l, l .least .ensures)
 
-array-share-prefix-order-list : tie.Need-array-share-prefix-order-list
-array-share-prefix-order-list c = search needs
+store-forces-requires : tie.Need-store-forces-requires
+store-forces-requires c κs =
+    let made = c .before .before .before .before in
+    let a = start made .args in
+    forces-fit (given-in (matrixIn (a .n) (a .row-starts .now) (a .columns .now) (a .values .now)) (signed 4 (a .movements .now)) (unsigned 4 (a .order .now)) (unsigned 4 (a .groups .now)) (a .group-count) (a .state .now) (a .sums .now) _)
+    (made .perform-in .result .answer) (part made) (made .perform-in .ensures .answers) _ (a .forces .now) (room-few (room made))
 
-slice-aggregate-forces-in-5 : tie.Need-slice-aggregate-forces-in-5
-slice-aggregate-forces-in-5 c = loaded-size (c .before .before .before .before .before .before .before .load-order .ensures)
-
-array-share-prefix-group-list : tie.Need-array-share-prefix-group-list
-array-share-prefix-group-list c = search needs
-
-slice-aggregate-forces-in-6 : tie.Need-slice-aggregate-forces-in-6
-slice-aggregate-forces-in-6 c = loaded-size (c .before .before .before .before .before .before .load-groups .ensures)
-
-forces-in-requires : tie.Need-forces-in-requires
-forces-in-requires c κs = search needs
+word-of-requires : tie.Need-word-of-requires
+word-of-requires c κs = ran-low (c .before .before .before .before .before .before .before .perform-in .ensures)
 
 same-length : tie.Need-same-length
 same-length c = search needs
 
 returns : tie.Need-returns
 returns c =
-    let made = c .before .before in
-    let groups = made .before .before .before .before .before .before .before .before in
-    let order = groups .before .before in
-    let displacements = order .before .before in
-    let values = displacements .before .before in
-    let columns = values .before .before in
-    let starts = columns .before .before in
-    let a = starts .before .before .before .before .before .before .before .before .before .before .before .args in
-    forces-same
-    (answer-loaded (a .n) (starts .load-starts .ensures) (columns .load-columns .ensures) (values .load-values .ensures) (displacements .load-displacements .ensures) (order .load-order .ensures) (groups .load-groups .ensures)
-    (a .group-count) (forceList (length (a .forces .now) / 8)) (a .state .now) (a .sums .now))
-    (made .forces-in .ensures)
+    let made = c .before .before .before .before .before .before .before .before in
+    let a = start made .args in
+    let m = matrixIn (a .n) (a .row-starts .now) (a .columns .now) (a .values .now) in
+    forces-same (room-in m (signed 4 (a .movements .now)) (unsigned 4 (a .order .now)) (unsigned 4 (a .groups .now)) (a .group-count) (a .state .now) (a .sums .now) zeros (a .forces .now) (omega (arith, zeros-long)) (room made .least .ensures))
+    (forces-answered (given-in m (signed 4 (a .movements .now)) (unsigned 4 (a .order .now)) (unsigned 4 (a .groups .now)) (a .group-count) (a .state .now) (a .sums .now) _)
+    (made .perform-in .result .answer) (part made) (made .perform-in .ensures .answers) (c .word-of .ensures) _ (c .before .before .before .store-forces .ensures))
 
 pub mzk-forces-spec : {M : Type 1} → statement M
 mzk-forces-spec =
     tie.close
     (tie.spec
-    load-starts-requires
-    load-columns-requires
-    load-values-requires
-    load-displacements-requires
-    load-order-requires
-    load-groups-requires
-    array-share-prefix-starts
-    slice-aggregate-forces-in
-    array-share-prefix-column-list
-    slice-aggregate-forces-in-2
-    array-share-prefix-value-list
-    slice-aggregate-forces-in-3
-    array-share-prefix-displacements
-    slice-aggregate-forces-in-4
-    array-share-prefix-order-list
-    slice-aggregate-forces-in-5
-    array-share-prefix-group-list
-    slice-aggregate-forces-in-6
-    forces-in-requires
+    least-requires
+    slice-aggregate-perform-in
+    slice-aggregate-perform-in-2
+    array-borrow-prefix-made
+    slice-aggregate-perform-in-3
+    perform-in-requires
+    slice-aggregate-store-forces
+    store-forces-requires
+    word-of-requires
     same-length
     returns)

@@ -1,69 +1,26 @@
--- `mzk_picks` meets its contract: the lists of the job are decoded as far as a job can reach.
+-- `mzk_picks` meets its contract: the call, then what it leaves is stored.
 use borrow.Author.Needs.{needs}
-use Rattle.run.specs.Calls.{picks}
-use Rattle.cabinet.specs.Runs.{stateIn}
-use Rattle.lent.proofs.Loads.{loaded-size}
-use Rattle.cabinet.proofs.RunCalls.{answer-loaded, after-loaded}
-use Rattle.cabinet.proofs.RunPicks.{picks-same}
+use Rattle.cabinet.proofs.RunPicks.{ran-low, ran-fits, picks-answered}
 use Rattle.mazhoketh.proofs.picks.mzk_picks.Statement.{statement}
 use Rattle.mazhoketh.proofs.picks.mzk_picks.Tie as tie
 
-load-starts-requires : tie.Need-load-starts-requires
-load-starts-requires c κs = search needs
+slice-aggregate-perform-in : tie.Need-slice-aggregate-perform-in
+slice-aggregate-perform-in c = search needs
 
-load-columns-requires : tie.Need-load-columns-requires
-load-columns-requires c κs = search needs
+slice-aggregate-perform-in-2 : tie.Need-slice-aggregate-perform-in-2
+slice-aggregate-perform-in-2 c = search needs
 
-load-values-requires : tie.Need-load-values-requires
-load-values-requires c κs = search needs
+perform-in-requires : tie.Need-perform-in-requires
+perform-in-requires c κs = search needs
 
-load-displacements-requires : tie.Need-load-displacements-requires
-load-displacements-requires c κs = search needs
+slice-aggregate-store-picks : tie.Need-slice-aggregate-store-picks
+slice-aggregate-store-picks c = search needs
 
-load-order-requires : tie.Need-load-order-requires
-load-order-requires c κs = search needs
+store-picks-requires : tie.Need-store-picks-requires
+store-picks-requires c κs = ran-fits (c .before .before .before .before .before .before .perform-in .ensures)
 
-load-groups-requires : tie.Need-load-groups-requires
-load-groups-requires c κs = search needs
-
-array-share-prefix-starts : tie.Need-array-share-prefix-starts
-array-share-prefix-starts c = search needs
-
-slice-aggregate-picks-in : tie.Need-slice-aggregate-picks-in
-slice-aggregate-picks-in c = loaded-size (c .before .before .before .before .before .before .before .before .before .before .before .load-starts .ensures)
-
-array-share-prefix-column-list : tie.Need-array-share-prefix-column-list
-array-share-prefix-column-list c = search needs
-
-slice-aggregate-picks-in-2 : tie.Need-slice-aggregate-picks-in-2
-slice-aggregate-picks-in-2 c = loaded-size (c .before .before .before .before .before .before .before .before .before .before .load-columns .ensures)
-
-array-share-prefix-value-list : tie.Need-array-share-prefix-value-list
-array-share-prefix-value-list c = search needs
-
-slice-aggregate-picks-in-3 : tie.Need-slice-aggregate-picks-in-3
-slice-aggregate-picks-in-3 c = loaded-size (c .before .before .before .before .before .before .before .before .before .load-values .ensures)
-
-array-share-prefix-displacements : tie.Need-array-share-prefix-displacements
-array-share-prefix-displacements c = search needs
-
-slice-aggregate-picks-in-4 : tie.Need-slice-aggregate-picks-in-4
-slice-aggregate-picks-in-4 c = loaded-size (c .before .before .before .before .before .before .before .before .load-displacements .ensures)
-
-array-share-prefix-order-list : tie.Need-array-share-prefix-order-list
-array-share-prefix-order-list c = search needs
-
-slice-aggregate-picks-in-5 : tie.Need-slice-aggregate-picks-in-5
-slice-aggregate-picks-in-5 c = loaded-size (c .before .before .before .before .before .before .before .load-order .ensures)
-
-array-share-prefix-group-list : tie.Need-array-share-prefix-group-list
-array-share-prefix-group-list c = search needs
-
-slice-aggregate-picks-in-6 : tie.Need-slice-aggregate-picks-in-6
-slice-aggregate-picks-in-6 c = loaded-size (c .before .before .before .before .before .before .load-groups .ensures)
-
-picks-in-requires : tie.Need-picks-in-requires
-picks-in-requires c κs = search needs
+word-of-requires : tie.Need-word-of-requires
+word-of-requires c κs = ran-low (c .before .before .before .before .before .before .before .before .before .before .before .perform-in .ensures)
 
 same-length : tie.Need-same-length
 same-length c = search needs
@@ -73,42 +30,19 @@ same-length-2 c = search needs
 
 returns : tie.Need-returns
 returns c =
-    let made = c .before .before .before .before in
-    let groups = made .before .before .before .before .before .before .before .before .before in
-    let order = groups .before .before in
-    let displacements = order .before .before in
-    let values = displacements .before .before in
-    let columns = values .before .before in
-    let starts = columns .before .before in
-    let a = starts .before .before .before .before .before .before .before .before .before .before .before .args in
-    picks-same
-    (answer-loaded (a .n) (starts .load-starts .ensures) (columns .load-columns .ensures) (values .load-values .ensures) (displacements .load-displacements .ensures) (order .load-order .ensures) (groups .load-groups .ensures) (a .group-count) (picks (a .picks .now)) (a .state .now) (a .sums .now))
-    (λ k q p e. after-loaded (a .n) (starts .load-starts .ensures) (columns .load-columns .ensures) (values .load-values .ensures) (displacements .load-displacements .ensures) (order .load-order .ensures) (groups .load-groups .ensures) (a .group-count) (picks (a .picks .now)) (stateIn (a .state .now) (a .sums .now)))
-    (made .picks-in .ensures)
+    let stored = c .before .before .before .before .before in
+    picks-answered (stored .before .before .before .before .before .before .before .perform-in .ensures) (c .word-of .ensures) _ (stored .store-picks .ensures .0) (stored .store-picks .ensures .1)
 
 pub mzk-picks-spec : {M : Type 1} → statement M
 mzk-picks-spec =
     tie.close
     (tie.spec
-    load-starts-requires
-    load-columns-requires
-    load-values-requires
-    load-displacements-requires
-    load-order-requires
-    load-groups-requires
-    array-share-prefix-starts
-    slice-aggregate-picks-in
-    array-share-prefix-column-list
-    slice-aggregate-picks-in-2
-    array-share-prefix-value-list
-    slice-aggregate-picks-in-3
-    array-share-prefix-displacements
-    slice-aggregate-picks-in-4
-    array-share-prefix-order-list
-    slice-aggregate-picks-in-5
-    array-share-prefix-group-list
-    slice-aggregate-picks-in-6
-    picks-in-requires
+    slice-aggregate-perform-in
+    slice-aggregate-perform-in-2
+    perform-in-requires
+    slice-aggregate-store-picks
+    store-picks-requires
+    word-of-requires
     same-length
     same-length-2
     returns)

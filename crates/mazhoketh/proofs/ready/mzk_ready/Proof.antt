@@ -1,106 +1,38 @@
--- `mzk_ready` meets its contract: the lists of the job are decoded as far as a job can reach.
+-- `mzk_ready` meets its contract: the call, then its word.
 use borrow.Author.Needs.{needs}
 use mathlib.Core.Path.{ap, _∙_}
-use Rattle.run.specs.Calls.{Answer, readySet}
+use Rattle.run.specs.Calls.{Answer}
 use Rattle.lent.specs.Word.{word}
 use Rattle.cabinet.specs.Runs.{replyTo}
-use Rattle.lent.proofs.Loads.{loaded-size}
-use Rattle.cabinet.proofs.RunCalls.{answer-loaded}
+use Rattle.cabinet.proofs.RunPicks.{ran-low}
 use Rattle.mazhoketh.proofs.ready.mzk_ready.Statement.{statement}
 use Rattle.mazhoketh.proofs.ready.mzk_ready.Tie as tie
 
-load-starts-requires : tie.Need-load-starts-requires
-load-starts-requires c κs = search needs
+slice-aggregate-perform-in : tie.Need-slice-aggregate-perform-in
+slice-aggregate-perform-in c = search needs
 
-load-columns-requires : tie.Need-load-columns-requires
-load-columns-requires c κs = search needs
+slice-aggregate-perform-in-2 : tie.Need-slice-aggregate-perform-in-2
+slice-aggregate-perform-in-2 c = search needs
 
-load-values-requires : tie.Need-load-values-requires
-load-values-requires c κs = search needs
+slice-aggregate-perform-in-3 : tie.Need-slice-aggregate-perform-in-3
+slice-aggregate-perform-in-3 c = search needs
 
-load-displacements-requires : tie.Need-load-displacements-requires
-load-displacements-requires c κs = search needs
+perform-in-requires : tie.Need-perform-in-requires
+perform-in-requires c κs = search needs
 
-load-order-requires : tie.Need-load-order-requires
-load-order-requires c κs = search needs
-
-load-groups-requires : tie.Need-load-groups-requires
-load-groups-requires c κs = search needs
-
-array-share-prefix-starts : tie.Need-array-share-prefix-starts
-array-share-prefix-starts c = search needs
-
-slice-aggregate-ready-in : tie.Need-slice-aggregate-ready-in
-slice-aggregate-ready-in c = loaded-size (c .before .before .before .before .before .before .before .before .before .before .before .load-starts .ensures)
-
-array-share-prefix-column-list : tie.Need-array-share-prefix-column-list
-array-share-prefix-column-list c = search needs
-
-slice-aggregate-ready-in-2 : tie.Need-slice-aggregate-ready-in-2
-slice-aggregate-ready-in-2 c = loaded-size (c .before .before .before .before .before .before .before .before .before .before .load-columns .ensures)
-
-array-share-prefix-value-list : tie.Need-array-share-prefix-value-list
-array-share-prefix-value-list c = search needs
-
-slice-aggregate-ready-in-3 : tie.Need-slice-aggregate-ready-in-3
-slice-aggregate-ready-in-3 c = loaded-size (c .before .before .before .before .before .before .before .before .before .load-values .ensures)
-
-array-share-prefix-displacements : tie.Need-array-share-prefix-displacements
-array-share-prefix-displacements c = search needs
-
-slice-aggregate-ready-in-4 : tie.Need-slice-aggregate-ready-in-4
-slice-aggregate-ready-in-4 c = loaded-size (c .before .before .before .before .before .before .before .before .load-displacements .ensures)
-
-array-share-prefix-order-list : tie.Need-array-share-prefix-order-list
-array-share-prefix-order-list c = search needs
-
-slice-aggregate-ready-in-5 : tie.Need-slice-aggregate-ready-in-5
-slice-aggregate-ready-in-5 c = loaded-size (c .before .before .before .before .before .before .before .load-order .ensures)
-
-array-share-prefix-group-list : tie.Need-array-share-prefix-group-list
-array-share-prefix-group-list c = search needs
-
-slice-aggregate-ready-in-6 : tie.Need-slice-aggregate-ready-in-6
-slice-aggregate-ready-in-6 c = loaded-size (c .before .before .before .before .before .before .load-groups .ensures)
-
-ready-in-requires : tie.Need-ready-in-requires
-ready-in-requires c κs = search needs
+word-of-requires : tie.Need-word-of-requires
+word-of-requires c κs = ran-low (c .before .before .perform-in .ensures)
 
 returns : tie.Need-returns
-returns c =
-    let groups = c .before .before .before .before .before .before .before in
-    let order = groups .before .before in
-    let displacements = order .before .before in
-    let values = displacements .before .before in
-    let columns = values .before .before in
-    let starts = columns .before .before in
-    let a = starts .before .before .before .before .before .before .before .before .before .before .args in
-    c .ready-in .ensures
-    ∙ ap (λ (r : Answer). word (replyTo r))
-    (answer-loaded (a .n) (starts .load-starts .ensures) (columns .load-columns .ensures) (values .load-values .ensures) (displacements .load-displacements .ensures) (order .load-order .ensures) (groups .load-groups .ensures)
-    (a .group-count) readySet (a .state .now) (a .sums .now))
+returns c = c .word-of .ensures _ ∙ ap (λ (a : Answer). word (replyTo a)) (c .before .before .before .perform-in .ensures .answers)
 
 pub mzk-ready-spec : {M : Type 1} → statement M
 mzk-ready-spec =
     tie.close
     (tie.spec
-    load-starts-requires
-    load-columns-requires
-    load-values-requires
-    load-displacements-requires
-    load-order-requires
-    load-groups-requires
-    array-share-prefix-starts
-    slice-aggregate-ready-in
-    array-share-prefix-column-list
-    slice-aggregate-ready-in-2
-    array-share-prefix-value-list
-    slice-aggregate-ready-in-3
-    array-share-prefix-displacements
-    slice-aggregate-ready-in-4
-    array-share-prefix-order-list
-    slice-aggregate-ready-in-5
-    array-share-prefix-group-list
-    slice-aggregate-ready-in-6
-    ready-in-requires
+    slice-aggregate-perform-in
+    slice-aggregate-perform-in-2
+    slice-aggregate-perform-in-3
+    perform-in-requires
+    word-of-requires
     returns)

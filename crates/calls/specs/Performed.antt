@@ -1,0 +1,41 @@
+-- A call of the code as the definition's, document 01's numbers and values for each case of its answer, and what it comes to.
+use mathlib.Core.Path.{_≡_}
+use mathlib.Core.Bool.{Bool}
+use mathlib.Core.List.{List}
+use Prim.Native.Nat.{ℕ}
+use lib.Dec.{leb}
+use lib.IntN.{ℤ}
+use lib.ListN.{length}
+use Rattle.matrix.specs.Matrix.{Matrix}
+use Rattle.run.specs.Job.{Job}
+use Rattle.run.specs.Machine.{State, original}
+use Rattle.run.specs.Calls as calls
+use Rattle.run.specs.Calls.{forcesOf, answerLent, afterLent, forcesLent}
+use Rattle.calls.specs.declared.Call.{Call}
+use Rattle.calls.specs.declared.Call.the-variants as call
+use Rattle.calls.specs.declared.Response.{Response}
+use Rattle.calls.specs.declared.Response.the-variants as response
+
+-- what is asked, with the lent schedule, or with the length of the lent list of forces
+abbrev pub asCall : Call → (schedule : List ℕ) (room : ℕ) → calls.Call
+asCall call.Picks schedule room = calls.picks schedule
+asCall call.ReadySet schedule room = calls.readySet
+asCall call.ForceList schedule room = calls.forceList room
+
+-- what is answered; forces are those that the call leaves in the lent list
+abbrev pub asAnswer : Response → (forces : List ℤ) → calls.Answer
+asAnswer (response.Picked taken number place) forces = calls.picked taken number place
+asAnswer (response.Ready bits count) forces = calls.isReady bits count
+asAnswer response.Forces forces = calls.forces forces
+asAnswer (response.Refused number place) forces = calls.refused number place
+
+-- A call c in state s on lent lists, with old in the list of forces: its answer, the state after it, and the list after it
+pub record Performed (m : Matrix) (x : List ℤ) (order groups : List ℕ) (count : ℕ) (s : State) (c : calls.Call) (old : List ℤ) (answer : calls.Answer) (after : State) (new : List ℤ) : Type 0 where
+  pub answers : answer ≡ answerLent m x order groups count s c
+  pub leaves : after ≡ afterLent m x order groups count s c
+  pub forces : new ≡ forcesLent (answerLent m x order groups count s c) old
+
+-- the force list of a job's sums, if its run is over: the answer, and the lent list after it
+pub record Listed (j : Job) (isOver : Bool) (sums old : List ℤ) (answer : calls.Answer) (new : List ℤ) : Type 0 where
+  pub answers : answer ≡ forcesOf isOver (leb (j .matrix .n) (length old)) (j .matrix .n) (original j sums)
+  pub forces : new ≡ forcesLent answer old
