@@ -10,19 +10,13 @@ use Rattle.base.proofs.Sums.{sum-below-more, sum-below-bound}
 use Rattle.plan.specs.Sound.{maxWorkers}
 use Rattle.run.specs.Job.{Job, Accepted}
 use Rattle.run.specs.Updates.{count, upTo, updates, accesses}
-use Rattle.run.specs.Machine.{State, workers, refusal, Outcome, moved, halted, onward, load, store, step, oneMore, steps}
-use Rattle.run.specs.EveryRun.{OneAccess, loads, stores}
+use Rattle.run.specs.Machine.{State, workers, refusal, Outcome, moved, halted, onward, step, oneMore, steps}
 use Rattle.tables.specs.Laid.{maxUpdates}
 use Rattle.layout.specs.UpdateTable.{before}
 use Rattle.run.proofs.Able.{able}
 use Rattle.run.proofs.Accepted.{facts}
-use Rattle.run.proofs.Schedule.{step-end, steps-on, steps-end, step-one}
+use Rattle.run.proofs.Schedule.{step-end, steps-on, steps-end, step-made}
 use Rattle.layout.proofs.UpdateRoom.{room}
-
-one-made : {j : Job} {s : State} {w : ℕ} {t : State} → OneAccess j s w t → t .made ≡ onward (s .made) w
-unfolding load store
-one-made (loads e) = refl
-one-made (stores e) = refl
 
 module _ (j : Job) (ok : Accepted j) where
   -- how many accesses of the plan's workers are left
@@ -48,7 +42,7 @@ module _ (j : Job) (ok : Accepted j) where
       go zero e (halted k) f ih = rw (steps-end j s w ws k f) (omega arith)
       go zero e (moved t) f ih =
           let a = able j (s .made) w e in
-          let made : t .made ≡ onward (s .made) w = one-made (step-one j s w t f) in
+          let made : t .made ≡ onward (s .made) w = step-made j s w t f in
           let long′ : length (t .made) ≡ maxWorkers = ap length made ∙ length-set (s .made) w (suc (count (s .made) w)) ∙ long in
           rw (steps-on j s w ws t f) (omega (arith, ih t long′, ap left made, one-less (s .made) w long (a .inPlan) (a .left)))
 

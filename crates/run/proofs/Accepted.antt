@@ -1,16 +1,18 @@
 -- An accepted job has the facts that a run asks of it.
 use mathlib.Core.Path.{_≡_, refl}
+use mathlib.Core.Logic.{_⊎_, inl, inr, _≢_}
 use Prim.Native.Nat.{ℕ, _<_, _^_}
 use native.Mathlib.Omega.{arith}
 use Rattle.base.specs.Lists.{sumBelow}
+use Rattle.base.proofs.Booleans.{same-or}
 use Rattle.matrix.specs.Matrix.{entry, displacement}
 use Rattle.matrix.specs.Product.{forceAt}
 use Rattle.matrix.proofs.Matrix.{matrix-facts, graph, small-entry, small-displacement}
 use Rattle.plan.specs.Sound.{maxWorkers, isSound}
-use Rattle.plan.proofs.Once.{Once, once}
+use Rattle.plan.proofs.Once.{Once, once, low-at, injective}
 use Rattle.run.specs.Job.{Job, Accepted, rowAt}
 use Rattle.run.specs.Updates.{updates, owner, accesses}
-use Rattle.run.specs.Machine.{workers}
+use Rattle.run.specs.Machine.{workers, positionOf}
 use Rattle.run.specs.EveryRun.{wholeRun, Plain}
 use Rattle.run.proofs.Facts.{Facts}
 use Rattle.run.proofs.Forest.{WholePlan, whole-of}
@@ -52,6 +54,22 @@ module _ (j : Job) (ok : Accepted j) where
     whole = λ t l. total (λ z. z) refl j (ok .matrix) order-of (workers j) t owners l;
     placed = λ i l. let p = position-at (j .plan .order) i (order-of .member i l) in (omega (arith, p .0, order-of .long), p .1);
   }
+
+  -- the row at a plan position, and its position
+  pub row-below : (p : ℕ) → p < j .matrix .n → rowAt j p < j .matrix .n
+  unfolding rowAt
+  row-below p l = low-at (j .matrix .n) (j .plan .order) p (order-of .low) (omega (arith, order-of .long))
+
+  pub position-row : (p : ℕ) → p < j .matrix .n → positionOf (j .plan .order) (rowAt j p) ≡ p
+  unfolding rowAt
+  position-row p l = go (facts .placed (rowAt j p) (row-below p l)) (same-or (positionOf (j .plan .order) (rowAt j p)) p)
+    where
+      q : ℕ
+      q = positionOf (j .plan .order) (rowAt j p)
+
+      go : (q < j .matrix .n) × (rowAt j q ≡ rowAt j p) → (q ≡ p) ⊎ (q ≢ p) → q ≡ p
+      go h (inl e) = e
+      go h (inr d) = absurd (injective (j .matrix .n) (j .plan .order) order-of q p (h .0) l d (h .1))
 
   -- all accesses of its workers are a whole run's
   pub accesses-of : sumBelow (accesses j) (workers j) ≡ wholeRun j

@@ -1,7 +1,7 @@
 -- The answers of all calls are the model's: 11 is never met.
 use mathlib.Core.Path.{_≡_, refl, ap}
 use mathlib.Core.Bool.{Bool, true, false}
-use mathlib.Core.List.{List, [], _∷_}
+use mathlib.Core.List.{List, [], _∷_, _++_}
 use Prim.Native.Nat.{ℕ, zero, suc, _≤_}
 use lib.ListN.{length}
 use lib.Dec.{leb}
@@ -13,11 +13,17 @@ use Rattle.run.specs.Job.{Job}
 use Rattle.run.specs.Updates.{count, accesses}
 use Rattle.run.specs.Machine.{State, over, original, countsFine, isState}
 use Rattle.run.specs.Calls.{Call, picks, readySet, forceList, Answer, forcesOf, stateCheck, answerOf, afterOf, answer, after, answers, afterAll}
-use Rattle.run.specs.Model.{modelAnswer, modelAfter, modelAnswers, modelCounts}
+use Rattle.run.specs.Model.{modelAnswer, modelAfter, modelAnswers, modelCounts, takenNow, takenPicks}
+use Rattle.run.specs.OneAccess.{Walk, stay, andThen}
 use Rattle.run.proofs.Facts.{Facts}
 use Rattle.run.proofs.Invariant.{Inv}
-use Rattle.run.proofs.Taken.{steps-model}
+use Rattle.run.proofs.Taken.{steps-model, walks}
 use Rattle.run.proofs.Finished.{forces-product}
+
+-- one walk after another
+walk-on : (j : Job) {s t e : State} {vs ws : List ℕ} → Walk j s vs t → Walk j t ws e → Walk j s (vs ++ ws) e
+walk-on j stay y = y
+walk-on j (andThen a x) y = andThen a (walk-on j x y)
 
 module _ (j : Job) (F : Facts j) where
   -- the answer to a force-list call
@@ -32,6 +38,7 @@ module _ (j : Job) (F : Facts j) where
     pub inv : Inv j (after j s c)
     pub made : after j s c .made ≡ modelAfter j (s .made) c
     pub same : answer j s c ≡ modelAnswer j (s .made) c
+    pub walked : Walk j s (takenNow j (s .made) c) (after j s c)
 
   -- no count passes its worker's accesses
   counts-fine : (made : List ℕ) → ((w : ℕ) → count made w ≤ accesses j w) → (k : ℕ) → countsFine j made k ≡ true
@@ -46,22 +53,28 @@ module _ (j : Job) (F : Facts j) where
 
   -- a call from a state with the invariant keeps it, and is answered as the model answers
   pub call-model : (s : State) → Inv j s → (c : Call) → Kept s c
-  unfolding answer after stateCheck inTurn answerOf afterOf modelAnswer modelAfter
-  call-model s I (picks ws) = let a = steps-model j F s I ws in record { inv = rw (fine s I) (a .inv); made = rw (fine s I) (a .made); same = rw (fine s I, a .count, a .number) refl }
-  call-model s I readySet = record { inv = rw (fine s I) I; made = rw (fine s I) refl; same = rw (fine s I) refl }
-  call-model s I (forceList room) = record { inv = rw (fine s I) I; made = rw (fine s I) refl; same = rw (fine s I) (forces-model s I room (over j (s .made)) refl) }
+  unfolding answer after stateCheck inTurn answerOf afterOf modelAnswer modelAfter takenNow
+  call-model s I (picks ws) = let a = steps-model j F s I ws in record { inv = rw (fine s I) (a .inv); made = rw (fine s I) (a .made); same = rw (fine s I, a .count, a .number) refl; walked = rw (fine s I) (walks j F s I ws) }
+  call-model s I readySet = record { inv = rw (fine s I) I; made = rw (fine s I) refl; same = rw (fine s I) refl; walked = rw (fine s I) stay }
+  call-model s I (forceList room) = record { inv = rw (fine s I) I; made = rw (fine s I) refl; same = rw (fine s I) (forces-model s I room (over j (s .made)) refl); walked = rw (fine s I) stay }
 
   -- a list of calls
   pub record AllKept (s : State) (cs : List Call) : Type 0 where
     pub inv : Inv j (afterAll j s cs)
     pub made : afterAll j s cs .made ≡ modelCounts j (s .made) cs
     pub same : answers j s cs ≡ modelAnswers j (s .made) cs
+    pub walked : Walk j s (takenPicks j (s .made) cs) (afterAll j s cs)
 
   -- .. and so all calls of a list
   pub calls-model : (s : State) → Inv j s → (cs : List Call) → AllKept s cs
-  unfolding answers afterAll modelAnswers modelCounts
-  calls-model s I [] = record { inv = I; made = refl; same = refl }
+  unfolding answers afterAll modelAnswers modelCounts takenPicks
+  calls-model s I [] = record { inv = I; made = refl; same = refl; walked = stay }
   calls-model s I (c ∷ cs) =
       let k = call-model s I c in
       let r = calls-model (after j s c) (k .inv) cs in
-      record { inv = r .inv; made = rw (← k .made) (r .made); same = rw (← k .made, k .same) (ap (λ (l : List Answer). modelAnswer j (s .made) c ∷ l) (r .same)) }
+      record {
+        inv = r .inv;
+        made = rw (← k .made) (r .made);
+        same = rw (← k .made, k .same) (ap (λ (l : List Answer). modelAnswer j (s .made) c ∷ l) (r .same));
+        walked = walk-on j (k .walked) (rw (← k .made) (r .walked));
+      }

@@ -1,31 +1,34 @@
 -- Demand 3 holds.
 use mathlib.Core.Path.{_≡_, refl, sym, ap, _∙_}
 use mathlib.Core.Bool.{true, false}
-use mathlib.Core.List.{List}
+use mathlib.Core.List.{List, [], _∷_}
 use Prim.Native.Nat.{ℕ, _<_}
 use native.Mathlib.Omega.{arith}
-use lib.ListN.{getD}
+use lib.ListN.{getD, length-map}
 use lib.IntN.{ℤ, pos}
 use borrow.Author.Tests.{le-leb}
+use Rattle.base.specs.Lists.{range}
 use Rattle.base.specs.Replies.{inTurn}
-use Rattle.base.proofs.Lists.{map-range-zero}
+use Rattle.base.proofs.Lists.{length-range, map-range-zero}
 use Rattle.base.proofs.Sums.{sum-below-same, sum-below-equal}
 use Rattle.matrix.specs.Product.{forceAt, product}
-use Rattle.run.specs.Job.{Job, Accepted}
+use Rattle.run.specs.Job.{Job, Accepted, rowAt}
 use Rattle.run.specs.Updates.{count, accesses}
-use Rattle.run.specs.Machine.{State, fresh, workers, moved, step, over}
-use Rattle.run.specs.Calls.{Call, forcesOf, stateCheck, answerOf, answer}
-use Rattle.run.specs.Model.{noCounts, modelAnswers, modelCounts}
+use Rattle.run.specs.Machine.{fresh, workers, oneMore, steps, positionOf, original}
+use Rattle.run.specs.Calls.{Call, picks, picked, placeOf, pickedOf, forcesOf, stateCheck, answerOf, answer}
+use Rattle.run.specs.Model.{noCounts, takenPicks, modelAnswers, modelCounts}
+use Rattle.run.specs.OneAccess.{Walk}
 use Rattle.run.specs.EveryRun.{takenIn, runState, runAnswers, finishedRun, runForces, EveryRun, EqualForces, Demand3}
 use Rattle.run.proofs.Invariant.{Inv, inv-fresh}
 use Rattle.run.proofs.Able.{able-refusal}
-use Rattle.run.proofs.Schedule.{walks}
+use Rattle.run.proofs.Schedule.{steps-on}
+use Rattle.run.proofs.OneAccess.{one-way}
 use Rattle.run.proofs.Taken.{taken}
 use Rattle.run.proofs.Finished.{over-made, made-over, forces-product}
 use Rattle.run.proofs.AsModel.{AllKept, calls-model, fine}
 use Rattle.run.proofs.Progress.{some-able, progress}
 use Rattle.run.proofs.Tally.{madeIn, taken-all}
-use Rattle.run.proofs.Accepted.{tree-of, facts, accesses-of, plain}
+use Rattle.run.proofs.Accepted.{tree-of, facts, row-below, position-row, accesses-of, plain}
 
 -- ---- one run: an accepted job and a list of calls
 
@@ -48,6 +51,11 @@ module _ (j : Job) (ok : Accepted j) (cs : List Call) where
   unfolding runAnswers fresh noCounts
   answered = kept .same
 
+  -- one access for each step that the model takes
+  walked : Walk j (fresh (j .matrix .n)) (takenPicks j noCounts cs) (runState j cs)
+  unfolding runState fresh noCounts
+  walked = kept .walked
+
   -- the counts together are the steps taken
   pub taken-is : madeIn j (facts j ok .few) (runState j cs .made) ≡ takenIn (runAnswers j cs)
   taken-is = rw (counted, answered) (taken-all j (facts j ok .few) cs)
@@ -56,14 +64,30 @@ module _ (j : Job) (ok : Accepted j) (cs : List Call) where
   unfolding finishedRun runForces
   whole o = forces-product j (facts j ok) (runState j cs) inv o
 
+  in-place : (p : ℕ) → p < j .matrix .n → getD (runForces j cs) (rowAt j p) (pos 0) ≡ getD (runState j cs .sums) p (pos 0)
+  unfolding runForces original
+  in-place p l =
+      map-range-zero (λ i. getD (runState j cs .sums) (positionOf (j .plan .order) i) (pos 0)) (j .matrix .n) (rowAt j p) (pos 0) (row-below j ok p l)
+      ∙ ap (λ (q : ℕ). getD (runState j cs .sums) q (pos 0)) (position-row j ok p l)
+
+  can-move : finishedRun j cs ≡ false → (w : ℕ) × (w < workers j) × (answer j (runState j cs) (picks (w ∷ [])) ≡ picked 1 0 0)
+  unfolding finishedRun answer stateCheck inTurn answerOf pickedOf placeOf steps oneMore
+  can-move o =
+      let s = runState j cs in
+      let (w, a) = some-able j (s .made) (tree-of j ok) o in
+      let t = taken j (facts j ok) s inv w (able-refusal j (s .made) w a) in
+      (w, a .inPlan, rw (fine j (facts j ok) s inv, steps-on j s w [] (t .state) (t .is)) refl)
+
   one-run : EveryRun j cs
-  unfolding finishedRun answer stateCheck inTurn answerOf forcesOf product runForces
+  unfolding finishedRun answer stateCheck inTurn answerOf forcesOf product runForces original
   one-run = record {
     answered = answered;
     counted = counted;
-    one-each = walks j (runState j cs);
+    walked = walked;
     enough = λ o. sym taken-is ∙ sum-below-same (count made) (accesses j) (workers j) (λ w l. omega (arith, over-made j made o w l, inv .bounded w)) ∙ accesses-of j ok;
     only-then = λ e. made-over j made (λ w l. omega (arith, sum-below-equal (count made) (accesses j) (workers j) (inv .bounded) (taken-is ∙ e ∙ sym (accesses-of j ok)) w l));
+    long = length-map (range 0 (j .matrix .n)) (λ i. getD (runState j cs .sums) (positionOf (j .plan .order) i) (pos 0)) ∙ length-range 0 (j .matrix .n);
+    in-place = in-place;
     forced = λ o room l. rw (fine j (facts j ok) (runState j cs) inv, o, le-leb (j .matrix .n) room l) refl;
     entries = λ o i l. ap (λ (zs : List ℤ). getD zs i (pos 0)) (whole o) ∙ map-range-zero (forceAt (j .matrix) (j .displacements)) (j .matrix .n) i (pos 0) l;
     whole = whole;
@@ -73,12 +97,6 @@ module _ (j : Job) (ok : Accepted j) (cs : List Call) where
     where
       made : List ℕ
       made = runState j cs .made
-
-      can-move : over j made ≡ false → (w : ℕ) × (w < workers j) × (t : State) × (step j (runState j cs) w ≡ moved t)
-      can-move o =
-          let (w, a) = some-able j made (tree-of j ok) o in
-          let t = taken j (facts j ok) (runState j cs) inv w (able-refusal j made w a) in
-          (w, a .inPlan, t .state, t .is)
 
 -- ---- two runs
 
@@ -90,4 +108,4 @@ equal-forces j k a b cs ds e o p = record {
 
 -- every list of calls on every accepted job
 pub every-run : Demand3
-every-run = record { plain = plain; every-run = one-run; equal-forces = equal-forces }
+every-run = record { plain = plain; every-run = one-run; one-way = one-way; equal-forces = equal-forces }

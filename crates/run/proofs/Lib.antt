@@ -4,6 +4,7 @@ pub mod Invariant
 pub mod Able
 pub mod Kept
 pub mod Schedule
+pub mod OneAccess
 pub mod Taken
 pub mod Finished
 pub mod AsModel

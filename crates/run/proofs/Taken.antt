@@ -5,17 +5,19 @@ use mathlib.Core.Bool.{Bool, true, false}
 use mathlib.Core.List.{List, [], _∷_}
 use Prim.Native.Nat.{ℕ, zero, suc, _%_}
 use native.Mathlib.Omega.{arith}
+use lib.ListN.{take}
 use lib.Dec.{eqb}
 use borrow.Author.Tests.{eqb-true, eqb-false}
 use Rattle.run.specs.Job.{Job}
 use Rattle.run.specs.Updates.{count, next}
 use Rattle.run.specs.Machine.{State, refusal, moved, halted, onward, load, store, access, move, stepIf, step, Stepped, oneMore, steps}
 use Rattle.run.specs.Model.{Noted, oneNoted, note}
-use Rattle.run.specs.EveryRun.{OneAccess, loads, stores}
+use Rattle.run.specs.OneAccess.{OneAccess, Walk, stay, andThen}
 use Rattle.run.proofs.Facts.{Facts}
 use Rattle.run.proofs.Invariant.{Inv}
 use Rattle.run.proofs.Able.{Able, able}
 use Rattle.run.proofs.Kept.{inv-load, inv-store, store-fits}
+use Rattle.run.proofs.OneAccess.{one-load, one-store}
 use Rattle.run.proofs.Schedule.{step-end, steps-on, steps-end, note-on, note-end}
 
 -- a step that is taken from s, to a state that has the invariant
@@ -38,11 +40,11 @@ module _ (j : Job) (F : Facts j) where
       go : (b : Bool) → eqb (count (s .made) w % 2) 0 ≡ b → Step j s w
       go true p =
           let z : count (s .made) w % 2 ≡ 0 = eqb-true (count (s .made) w % 2) 0 p in
-          record { state = load s w (next j (s .made) w); is = rw (e, p) refl; one = loads z; made = refl; inv = inv-load j F s I w a z }
+          record { state = load s w (next j (s .made) w); is = rw (e, p) refl; one = one-load j F s I w a z; made = refl; inv = inv-load j F s I w a z }
       go false p =
           let d : count (s .made) w % 2 ≢ 0 = eqb-false (count (s .made) w % 2) 0 p in
           let z : count (s .made) w % 2 ≡ 1 = omega arith in
-          record { state = store s w (next j (s .made) w); is = rw (e, p, store-fits j F s I w a z) refl; one = stores z; made = refl; inv = inv-store j F s I w a z }
+          record { state = store s w (next j (s .made) w); is = rw (e, p, store-fits j F s I w a z) refl; one = one-store j F s I w a z; made = refl; inv = inv-store j F s I w a z }
 
   -- a schedule, by the machine and by the model
   pub record Agree (r : Stepped) (b : Noted) : Type 0 where
@@ -67,3 +69,16 @@ module _ (j : Job) (F : Facts j) where
       go (suc k) e ih =
           let q : step j s w ≡ halted (suc k) = step-end j s w k e in
           rw (steps-end j s w ws (suc k) q, note-end j (s .made) w ws k e) (record { inv = I; made = refl; count = refl; number = refl })
+
+  -- .. by one access for each step that the model takes
+  pub walks : (s : State) → Inv j s → (ws : List ℕ) → Walk j s (take (note j (s .made) ws .taken) ws) (steps j s ws .state)
+  unfolding steps note oneMore oneNoted
+  walks s I [] = stay
+  walks s I (w ∷ ws) = go (refusal j (s .made) w) refl (λ t K. walks t K ws)
+    where
+      go : (k : ℕ) → refusal j (s .made) w ≡ k → ((t : State) → Inv j t → Walk j t (take (note j (t .made) ws .taken) ws) (steps j t ws .state))
+          → Walk j s (take (note j (s .made) (w ∷ ws) .taken) (w ∷ ws)) (steps j s (w ∷ ws) .state)
+      go zero e ih =
+          let t = taken s I w e in
+          rw (steps-on j s w ws (t .state) (t .is), note-on j (s .made) w ws e) (andThen (t .one) (subst (λ (m : List ℕ). Walk j (t .state) (take (note j m ws .taken) ws) (steps j (t .state) ws .state)) (t .made) (ih (t .state) (t .inv))))
+      go (suc k) e ih = rw (steps-end j s w ws (suc k) (step-end j s w k e), note-end j (s .made) w ws k e) stay

@@ -2,27 +2,18 @@
 use mathlib.Core.Path.{_≡_}
 use mathlib.Core.Bool.{Bool, true, false}
 use mathlib.Core.List.{List, [], _∷_}
-use Prim.Native.Nat.{ℕ, _+_, _*_, _%_, _≤_, _<_, _^_}
-use lib.ListN.{length, getD, take}
+use Prim.Native.Nat.{ℕ, _+_, _*_, _≤_, _<_, _^_}
+use lib.ListN.{length, getD}
 use lib.IntN.{ℤ, pos}
 use Rattle.matrix.specs.Matrix.{adjacentPairs}
 use Rattle.matrix.specs.Product.{forceAt, product}
-use Rattle.run.specs.Job.{Job, Accepted}
+use Rattle.run.specs.Job.{Job, Accepted, rowAt}
 use Rattle.run.specs.Tree.{tree, leaves}
-use Rattle.run.specs.Updates.{count, next, updates, accesses, leafByLeaf}
-use Rattle.run.specs.Machine.{State, fresh, workers, moved, load, store, step, steps, ready, over, original}
-use Rattle.run.specs.Calls.{Call, forceList, Answer, picked, isReady, forces, refused, answer, answers, afterAll}
-use Rattle.run.specs.Model.{noCounts, modelAnswers, modelCounts}
-
--- from s to t by the one load or store that document 01 gives worker w next, and nothing else
-pub data OneAccess (j : Job) (s : State) (w : ℕ) : State → Type 0 where
-  loads : count (s .made) w % 2 ≡ 0 → OneAccess j s w (load s w (next j (s .made) w))
-  stores : count (s .made) w % 2 ≡ 1 → OneAccess j s w (store s w (next j (s .made) w))
-
--- .. by one such access of each of these workers, in turn
-pub data Walk (j : Job) : State → List ℕ → State → Type 0 where
-  stay : {s : State} → Walk j s [] s
-  andThen : {s t e : State} {w : ℕ} {ws : List ℕ} → OneAccess j s w t → Walk j t ws e → Walk j s (w ∷ ws) e
+use Rattle.run.specs.Updates.{updates, accesses, leafByLeaf}
+use Rattle.run.specs.Machine.{State, fresh, workers, ready, over, original}
+use Rattle.run.specs.OneAccess.{Walk}
+use Rattle.run.specs.Calls.{Call, picks, forceList, Answer, picked, isReady, forces, refused, answer, answers, afterAll}
+use Rattle.run.specs.Model.{noCounts, takenPicks, modelAnswers, modelCounts}
 
 -- how many steps a call took, and a list of calls
 unfoldable pub takenOf : Answer → ℕ
@@ -58,17 +49,21 @@ pub record EveryRun (j : Job) (cs : List Call) : Type 0 where
   pub answered : runAnswers j cs ≡ modelAnswers j noCounts cs
   -- "and the count of moves that each worker has made after them"
   pub counted : runState j cs .made ≡ modelCounts j noCounts cs
-  -- "each pick taken makes just the one load or store on the sums that document 01 gives its worker next": a next call with picks ws
-  pub one-each : (ws : List ℕ) → Walk j (runState j cs) (take (steps j (runState j cs) ws .taken) ws) (steps j (runState j cs) ws .state)
+  -- "each pick taken makes just the one load or store on the sums that document 01 gives its worker next":
+  -- from all 0 the run came to its state by one access for each pick that the book takes, and by nothing else
+  pub walked : Walk j (fresh (j .matrix .n)) (takenPicks j noCounts cs) (runState j cs)
   -- "A run is finished exactly when the picks taken are two for each freedom and four for each joined pair"
   pub enough : finishedRun j cs ≡ true → takenIn (runAnswers j cs) ≡ wholeRun j
   pub only-then : takenIn (runAnswers j cs) ≡ wholeRun j → finishedRun j cs ≡ true
+  -- "its force list, which is its sums put in original order": the row at plan position p has the sum at p
+  pub long : length (runForces j cs) ≡ j .matrix .n
+  pub in-place : (p : ℕ) → p < j .matrix .n → getD (runForces j cs) (rowAt j p) (pos 0) ≡ getD (runState j cs .sums) p (pos 0)
   -- "its force list .. is then its own full product, entry by entry"
   pub forced : finishedRun j cs ≡ true → (room : ℕ) → j .matrix .n ≤ room → answer j (runState j cs) (forceList room) ≡ forces (runForces j cs)
   pub entries : finishedRun j cs ≡ true → (i : ℕ) → i < j .matrix .n → getD (runForces j cs) i (pos 0) ≡ forceAt (j .matrix) (j .displacements) i
   pub whole : finishedRun j cs ≡ true → runForces j cs ≡ product (j .matrix) (j .displacements)
-  -- "Until a run is finished some worker can move"
-  pub can-move : finishedRun j cs ≡ false → (w : ℕ) × (w < workers j) × (t : State) × (step j (runState j cs) w ≡ moved t)
+  -- "Until a run is finished some worker can move": a call with one pick of it takes it
+  pub can-move : finishedRun j cs ≡ false → (w : ℕ) × (w < workers j) × (answer j (runState j cs) (picks (w ∷ [])) ≡ picked 1 0 0)
   -- "it is empty only in a finished run, if begun fresh"
   pub ready-set : finishedRun j cs ≡ false → 1 ≤ length (ready j (runState j cs .made))
 
@@ -87,4 +82,6 @@ pub record Plain (j : Job) : Type 0 where
 pub record Demand3 : Type 0 where
   pub plain : (j : Job) → Accepted j → Plain j
   pub every-run : (j : Job) → Accepted j → (cs : List Call) → EveryRun j cs
+  -- walked leaves no choice: the picks taken give the state
+  pub one-way : (j : Job) (ws : List ℕ) (s t u : State) → Walk j s ws t → Walk j s ws u → t ≡ u
   pub equal-forces : (j k : Job) → Accepted j → Accepted k → (cs ds : List Call) → j .matrix .n ≡ k .matrix .n → finishedRun j cs ≡ true → finishedRun k ds ≡ true → EqualForces j k cs ds

@@ -2,6 +2,7 @@ pub mod Job
 pub mod Tree
 pub mod Updates
 pub mod Machine
+pub mod OneAccess
 pub mod InOrder
 pub mod Calls
 pub mod Model

@@ -1,7 +1,7 @@
 -- The model of a run (document 01's book): "fed the run's calls alone", it "keeps a count for each worker, at first 0".
-use mathlib.Core.List.{List, [], _∷_}
+use mathlib.Core.List.{List, [], _∷_, _++_}
 use Prim.Native.Nat.{ℕ, zero, suc}
-use lib.ListN.{replicate}
+use lib.ListN.{take, replicate}
 use lib.Dec.{leb}
 use Rattle.matrix.specs.Product.{product}
 use Rattle.plan.specs.Sound.{maxWorkers}
@@ -45,3 +45,13 @@ modelAnswers j made (c ∷ cs) = modelAnswer j made c ∷ modelAnswers j (modelA
 unfoldable pub modelCounts : Job → (made : List ℕ) → List Call → List ℕ
 modelCounts j made [] = made
 modelCounts j made (c ∷ cs) = modelCounts j (modelAfter j made c) cs
+
+-- the picks that are taken of a call, and of a list of calls, in their order
+unfoldable pub takenNow : Job → (made : List ℕ) → Call → List ℕ
+takenNow j made (picks ws) = take (note j made ws .taken) ws
+takenNow j made readySet = []
+takenNow j made (forceList room) = []
+
+unfoldable pub takenPicks : Job → (made : List ℕ) → List Call → List ℕ
+takenPicks j made [] = []
+takenPicks j made (c ∷ cs) = takenNow j made c ++ takenPicks j (modelAfter j made c) cs
