@@ -19,7 +19,7 @@ use Rattle.run.specs.Machine.{workers, reason, refusal, onward, readyBel
 use Rattle.run.specs.Calls.{Call, picks, readySet, forceList, isReady, pickedOf, readyOf, forcesOf, stateCheck, answerOf, answer}
 use Rattle.run.specs.Model.{noCounts, oneNoted, note, modelAnswer, modelAfter, modelAnswers}
 use Rattle.run.specs.EveryRun.{runState, finishedRun}
-use Rattle.run.specs.Consequences.{numberOf, Consequences}
+use Rattle.run.specs.Consequences.{numberOf, Consequence, Consequences}
 use Rattle.run.proofs.Schedule.{note-on, note-end}
 use Rattle.run.proofs.Finished.{over-made}
 use Rattle.run.proofs.AsModel.{fine}
@@ -94,11 +94,14 @@ module _ (j : Job) (ok : Accepted j) (cs : List Call) where
   unfolding finishedRun ready bits
   finished-empty o = ready-is ∙ ap (λ (ws : List ℕ). isReady (bits ws) (length ws)) (none-ready j made (workers j) (omega arith) (over-made j made o))
 
-  -- for every list of calls on an accepted job
-  pub consequences : Consequences j cs
-  consequences = record {
+  consequence : Consequence j cs
+  consequence = record {
     numbers = rw (answered j ok cs) (known-all j noCounts cs);
     at-most = omega (arith, taken-is j ok cs, sum-below-le (count made) (accesses j) (workers j) (λ w l. inv j ok cs .bounded w), accesses-of j ok);
     empty-finished = empty-finished;
     finished-empty = finished-empty;
   }
+
+-- for every list of calls on every accepted job
+pub consequences : Consequences
+consequences = record { every = consequence }

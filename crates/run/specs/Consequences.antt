@@ -5,7 +5,7 @@ use mathlib.Core.List.{List, [], _∷_, map}
 use Prim.Native.Nat.{ℕ, _≤_}
 use Rattle.base.specs.Lists.{all, isIn}
 use Rattle.base.specs.Refusals as no
-use Rattle.run.specs.Job.{Job}
+use Rattle.run.specs.Job.{Job, Accepted}
 use Rattle.run.specs.Calls.{Call, readySet, Answer, picked, isReady, forces, refused, answer}
 use Rattle.run.specs.EveryRun.{takenIn, runState, runAnswers, finishedRun, wholeRun}
 
@@ -16,7 +16,7 @@ numberOf (isReady bits count) = 0
 numberOf (forces zs) = 0
 numberOf (refused number place) = number
 
-pub record Consequences (j : Job) (cs : List Call) : Type 0 where
+pub record Consequence (j : Job) (cs : List Call) : Type 0 where
   -- the only numbers met: not 11, and not 14, "never met from a fresh state"
   pub numbers : all (isIn (0 ∷ no.short ∷ no.stranger ∷ no.done ∷ no.waiting ∷ no.early ∷ [])) (map numberOf (runAnswers j cs)) ≡ true
   -- no run takes more steps than a whole run has
@@ -24,3 +24,6 @@ pub record Consequences (j : Job) (cs : List Call) : Type 0 where
   -- the ready set "is empty only in a finished run", and in every finished run
   pub empty-finished : answer j (runState j cs) readySet ≡ isReady 0 0 → finishedRun j cs ≡ true
   pub finished-empty : finishedRun j cs ≡ true → answer j (runState j cs) readySet ≡ isReady 0 0
+
+pub record Consequences : Type 0 where
+  pub every : (j : Job) → Accepted j → (cs : List Call) → Consequence j cs
