@@ -1,6 +1,6 @@
 -- The two codes of one number, unsigned and in two's complement, and what follows for lists of them.
 use mathlib.Core.Path.{_≡_, ap, _∙_}
-use mathlib.Core.List.{List}
+use mathlib.Core.List.{List, _++_}
 use Prim.Native.Nat.{ℕ, zero, suc, _*_, _-_, _/_, _^_, _<_}
 use native.Mathlib.Nat.{pow-suc}
 use native.Mathlib.Omega.{arith}
@@ -10,7 +10,7 @@ use borrow.Author.Tests.{lt-ltb, le-ltb}
 use Rattle.base.proofs.Each.{Each}
 use Rattle.words.specs.LittleEndian.{number, bytesOf, toSigned, ofSigned, signedNumber, signedBytesOf, unsigned, signed, unsignedBytes, signedBytes}
 use Rattle.words.proofs.Digits.{length-bytesOf, length-signedBytesOf, number-bytesOf}
-use Rattle.words.proofs.RoundTrip.{Code, decoded-encoded}
+use Rattle.words.proofs.RoundTrip.{Code, decoded-append, decoded-encoded}
 
 -- ---- unsigned
 
@@ -66,3 +66,10 @@ module _ (width : ℕ) (some : 0 < width) where
   -- .. signed numbers
   pub signed-back : (zs : List ℤ) → Each (HoldsSigned width) zs → signed width (signedBytes width zs) ≡ zs
   signed-back = decoded-encoded (signedBytesOf width) (signedNumber width) width (HoldsSigned width) (signed-code width some)
+
+  -- .. with anything after them
+  pub unsigned-append : (vs : List ℕ) → Each (Holds width) vs → (rest : List ℕ) → unsigned width (unsignedBytes width vs ++ rest) ≡ vs ++ unsigned width rest
+  unsigned-append = decoded-append (bytesOf width) number width (Holds width) (unsigned-code width some)
+
+  pub signed-append : (zs : List ℤ) → Each (HoldsSigned width) zs → (rest : List ℕ) → signed width (signedBytes width zs ++ rest) ≡ zs ++ signed width rest
+  signed-append = decoded-append (signedBytesOf width) (signedNumber width) width (HoldsSigned width) (signed-code width some)

@@ -1,9 +1,9 @@
 -- Loading what was stored gives the numbers back, for any width and any code of one number.
 use mathlib.Core.Path.{_≡_, refl}
-use mathlib.Core.List.{List, [], _∷_, _++_, map, append-assoc, append-nil}
+use mathlib.Core.List.{List, [], _∷_, _++_, map, map-append, append-assoc, append-nil}
 use Prim.Native.Nat.{ℕ, _+_, _/_, _<_}
-use native.Mathlib.Nat.{add-zero, zero-add, suc-add, mul-div-cancel}
-use lib.ListN.{length}
+use native.Mathlib.Nat.{add-zero, zero-add, suc-add, mul-div-cancel, mul-add-div-right}
+use lib.ListN.{length, length-append}
 use lib.Seq.{take-at, drop-at}
 use Rattle.base.specs.Lists.{concat}
 use Rattle.base.proofs.Each.{Each}
@@ -33,6 +33,12 @@ module _ {A : Type 0} (f : A → List ℕ) (g : List ℕ → A) (width : ℕ) (P
   read-back : (xs : List A) → Each P xs → map g (map f xs) ≡ xs
   read-back [] h = refl
   read-back (x ∷ xs) h = rw (code .back x (h .0), read-back xs (h .1))
+
+  -- the numbers of numbers' bytes, with anything after them
+  pub decoded-append : (xs : List A) → Each P xs → (rest : List ℕ) → decoded g width (encoded f xs ++ rest) ≡ xs ++ decoded g width rest
+  decoded-append xs h rest =
+      let count : length (encoded f xs ++ rest) / width ≡ length xs + length rest / width = rw (length-append (encoded f xs) rest, length-encoded f width (code .size) xs) (mul-add-div-right (code .some) (length xs) (length rest)) in
+      rw (count, blocks-encoded xs (length rest / width) rest, map-append, read-back xs h)
 
   -- the numbers of numbers' bytes
   pub decoded-encoded : (xs : List A) → Each P xs → decoded g width (encoded f xs) ≡ xs

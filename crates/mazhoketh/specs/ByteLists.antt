@@ -1,0 +1,50 @@
+-- What a call leaves in bytes stands for what it made: the calls that come after take it.
+use mathlib.Core.Path.{_≡_}
+use mathlib.Core.Bool.{true}
+use mathlib.Core.List.{List}
+use Prim.Native.Nat.{ℕ, suc, _/_, _≤_}
+use lib.ListN.{length, take}
+use Rattle.base.specs.Replies.{accepted}
+use Rattle.matrix.specs.Matrix.{Matrix, isMatrix}
+use Rattle.market.specs.Parse.{parse}
+use Rattle.market.specs.FullRows.{readMatrix}
+use Rattle.market.specs.AcceptedText.{SameRows}
+use Rattle.market.specs.Text.{written, writeReply}
+use Rattle.market.specs.WriteThenRead.{size}
+use Rattle.plan.specs.Sound.{checkReply}
+use Rattle.words.specs.LittleEndian.{unsigned}
+use Rattle.lent.specs.Word.{Answered}
+use Rattle.lent.specs.Bytes.{matrixIn}
+use Rattle.office.specs.Lent.{readIn, ReadAnswered, planIn, PlanAnswered}
+
+-- a call that reads a text: what it is given, returns and leaves
+pub record Reading (text : List ℕ) : Type 0 where
+  pub starts : List ℕ
+  pub columns : List ℕ
+  pub values : List ℕ
+  pub returned : ℕ
+  pub newStarts : List ℕ
+  pub newColumns : List ℕ
+  pub newValues : List ℕ
+  -- as mzk_read promises
+  pub answered : ReadAnswered text starts columns values returned newStarts newColumns newValues
+
+-- the matrix of n rows that its lists stand for then
+unfoldable pub leftBy : (n : ℕ) {text : List ℕ} → Reading text → Matrix
+leftBy n r = matrixIn n (r .newStarts) (r .newColumns) (r .newValues)
+
+-- there is room in its lists for a matrix
+pub record RoomFor (m : Matrix) {text : List ℕ} (r : Reading text) : Type 0 where
+  pub starts : suc (m .n) ≤ length (r .starts) / 4
+  pub columns : size m ≤ length (r .columns) / 4
+  pub values : size m ≤ length (r .values) / 4
+
+pub record ByteLists : Type 0 where
+  -- a text that is read leaves its matrix, whatever stands past it: no later call refuses the bytes with 5
+  pub read : (text : List ℕ) (r : Reading text) (n : ℕ) → readIn text (r .starts) (r .columns) (r .values) ≡ accepted n → SameRows (leftBy n r) (readMatrix (parse text))
+  -- a matrix that is written, as mzk_write promises, and then read, if both lists have room: the second call returns its rows and leaves them
+  pub written-read : (m : Matrix) → isMatrix m ≡ true → (old : List ℕ) (returned : ℕ) (new : List ℕ) → length (written m) ≤ length old
+      → Answered (writeReply m (length old)) (written m) old returned new → (r : Reading (take returned new)) → RoomFor m r → (r .returned ≡ m .n) × SameRows (leftBy (m .n) r) m
+  -- a plan that is made, as mzk_plan promises, passes the check in the bytes where it is left, whatever stands past it: no later call refuses them with 8
+  pub planned : (m : Matrix) (workers p : ℕ) (order groups : List ℕ) (returned : ℕ) (newOrder newGroups : List ℕ) → PlanAnswered m workers p order groups returned newOrder newGroups
+      → (count : ℕ) → planIn m workers p order groups ≡ accepted count → checkReply m (unsigned 4 newOrder) (unsigned 4 newGroups) count ≡ accepted 0

@@ -1,0 +1,41 @@
+-- What the word that a call returns tells: every count and every place has 32 bits, and no refusal has number 0.
+use mathlib.Core.Path.{_≡_}
+use mathlib.Core.List.{List}
+use Prim.Native.Nat.{ℕ, _/_, _%_, _^_, _≤_}
+use lib.IntN.{ℤ}
+use Rattle.base.specs.Replies.{Reply, accepted, refused}
+use Rattle.matrix.specs.Matrix.{Matrix}
+use Rattle.matrix.specs.Product.{productReply}
+use Rattle.market.specs.Text.{writeReply}
+use Rattle.plan.specs.Sound.{checkReply}
+use Rattle.run.specs.Calls.{Call}
+use Rattle.lent.specs.Word.{word}
+use Rattle.office.specs.Lent.{readIn, planIn}
+use Rattle.cabinet.specs.Runs.{answerIn, replyTo}
+
+-- "an accepted call has number 0"
+unfoldable pub numberIn : Reply → ℕ
+numberIn (accepted count) = 0
+numberIn (refused number place) = number
+
+-- a refusal's place, an accepted call's count
+unfoldable pub placeIn : Reply → ℕ
+placeIn (accepted count) = count
+placeIn (refused number place) = place
+
+-- of one reply: its word has the number in the high 32 bits, and the place or the count in the low ones
+pub record Told (r : Reply) : Type 0 where
+  pub high : word r / 2 ^ 32 ≡ numberIn r
+  pub low : word r % 2 ^ 32 ≡ placeIn r
+  pub some : (number place : ℕ) → r ≡ refused number place → 1 ≤ number
+
+-- of every reply of every call; picks, ready set and force list are calls of a run
+pub record Words : Type 0 where
+  pub read : (text starts columns values : List ℕ) → Told (readIn text starts columns values)
+  pub write : (m : Matrix) (room : ℕ) → Told (writeReply m room)
+  pub product : (m : Matrix) (x : List ℤ) (room : ℕ) → Told (productReply m x room)
+  pub plan : (m : Matrix) (workers p : ℕ) (order groups : List ℕ) → Told (planIn m workers p order groups)
+  pub check : (m : Matrix) (order groups : List ℕ) (count : ℕ) → Told (checkReply m order groups count)
+  pub run : (m : Matrix) (x : List ℤ) (order groups : List ℕ) (count : ℕ) (state sums : List ℕ) (c : Call) → Told (replyTo (answerIn m x order groups count state sums c))
+  -- so two replies with the same word are the same
+  pub one : (r s : Reply) → Told r → Told s → word r ≡ word s → r ≡ s
