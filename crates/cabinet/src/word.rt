@@ -3,7 +3,7 @@ use base::Answer;
 use calls::Response;
 ghost use mathlib.Core.Path.{_≡_};
 ghost use mathlib.Core.List.{List};
-ghost use Prim.Native.Nat.{ℕ, _^_, _<_};
+ghost use Prim.Native.Nat.{_^_, _<_};
 ghost use lib.IntN.{ℤ};
 ghost use Rattle.run.specs.Calls.{picked};
 ghost use Rattle.calls.specs.Performed.{asAnswer};

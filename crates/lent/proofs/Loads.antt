@@ -1,10 +1,10 @@
 -- Numbers loaded into an array.
 use mathlib.Core.Path.{_≡_, sym, ap, _∙_}
-use mathlib.Core.List.{List, _++_, append-nil}
+use mathlib.Core.List.{List, append-nil}
 use Prim.Native.Nat.{ℕ, _/_, _≤_, min}
 use native.Mathlib.Omega.{arith}
 use lib.IntN.{ℤ}
-use lib.ListN.{length, take, drop, length-append, length-take, length-drop}
+use lib.ListN.{length, take, drop, length-append, length-drop}
 use lib.Seq.{take-at, take-all, length-take-le, drop-length}
 use Rattle.matrix.specs.Checks.{matrixOf}
 use Rattle.matrix.proofs.Cut.{mostStarts, mostEntries, cut}

@@ -7,8 +7,7 @@ use lib.Seq.{length-take-le}
 use Rattle.matrix.specs.Checks.{matrixOf}
 use Rattle.matrix.proofs.Cut.{mostStarts}
 use Rattle.calls.specs.Performed.{asCall}
-use Rattle.words.specs.LittleEndian.{signed, signedNumber}
-use Rattle.lent.specs.Lists.{Loaded}
+use Rattle.words.specs.LittleEndian.{signedNumber}
 use Rattle.lent.proofs.Loads.{loaded}
 use Rattle.cabinet.specs.Runs.{stateBytes}
 use Rattle.cabinet.proofs.RunPicks.{kept-few, kept-is, ran}

@@ -1,5 +1,4 @@
 -- `ready_set`: the blocked groups, then one bit a worker.
-use mathlib.Core.Path.{refl}
 use borrow.Author.Needs.{needs}
 use Rattle.machine.proofs.BlockedLeaves.{waits-of}
 use Rattle.calls.proofs.ReadyBits.{ready-bits}
