@@ -1,5 +1,5 @@
 // The force list: the sums, from plan order into original order.
-use plan::fields::wide_at;
+use base::slices::wide_at;
 ghost use mathlib.Core.Path.{_≡_};
 ghost use mathlib.Core.Bool.{true};
 ghost use Prim.Native.Nat.{_≤_};
