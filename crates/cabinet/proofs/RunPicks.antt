@@ -17,7 +17,6 @@ use Rattle.base.proofs.Booleans.{and-left}
 use Rattle.base.proofs.Replies.{accepted-all}
 use Rattle.matrix.specs.Matrix.{Matrix}
 use Rattle.matrix.proofs.Matrix.{matrix-facts}
-use Rattle.matrix.proofs.Cut.{mostStarts}
 use Rattle.plan.specs.Sound.{maxWorkers}
 use Rattle.run.specs.Job.{Job, jobOf, Accepted}
 use Rattle.run.specs.Machine.{State, steps, isState, countsFine}
@@ -25,6 +24,7 @@ use Rattle.run.specs.Calls.{Answer, picked, isReady, forces, refused, picks, pl
 use Rattle.calls.proofs.JobChecked.{job-given}
 use Rattle.words.specs.LittleEndian.{number, unsigned, signed, signedBytes, stored}
 use Rattle.words.proofs.Blocks.{length-decoded}
+use Rattle.matrix.specs.Limits.{maxStarts}
 use Rattle.lent.specs.Word.{word}
 use Rattle.cabinet.specs.Runs.{stateBytes, countBytes, stateIn, answerIn, replyTo, bytesIn, leftBy, PicksAnswered}
 use Rattle.cabinet.proofs.RunCalls.{decoded-state, always-refused}
@@ -80,9 +80,9 @@ module _ (m : Matrix) (x : List ℤ) (order groups : List ℕ) (count : ℕ) (s 
       omega (arith, place-low (r .number) (r .taken), taken-few job accepted s ws long)
 
   -- the sums were not cut
-  pub picked-sums : {sums : List ℤ} → s .sums ≡ take mostStarts sums → take mostStarts sums ≡ sums
+  pub picked-sums : {sums : List ℤ} → s .sums ≡ take maxStarts sums → take maxStarts sums ≡ sums
   unfolding jobOf
-  picked-sums {sums} f = take-all mostStarts sums (omega (arith, ap length f, enough, length-take mostStarts sums, matrix-facts m (accepted .matrix) .few))
+  picked-sums {sums} f = take-all maxStarts sums (omega (arith, ap length f, enough, length-take maxStarts sums, matrix-facts m (accepted .matrix) .few))
 
 -- ---- what the call leaves
 
@@ -128,7 +128,7 @@ picks-unstated cs {s = s} e f =
 
 -- the state that a call decodes, with sums that are cut
 module _ (m : Matrix) (x : List ℤ) (order groups : List ℕ) (count : ℕ) (ws state sums : List ℕ) (long : length state ≡ stateBytes) {made : List ℕ} {held zs : List ℤ}
-    (em : made ≡ unsigned 4 (take countBytes state)) (eh : held ≡ signed 8 (drop countBytes state)) (ez : zs ≡ take mostStarts (signed 8 sums)) where
+    (em : made ≡ unsigned 4 (take countBytes state)) (eh : held ≡ signed 8 (drop countBytes state)) (ez : zs ≡ take maxStarts (signed 8 sums)) where
   abbrev decoded : State
   decoded = record { made = made; held = held; sums = zs }
 

@@ -1,11 +1,14 @@
 // forces: the forces of a finished run.
+use crate::state::STATE_BYTES;
 use crate::state::load_state;
 use crate::state::no_state;
 use base::Answer;
+use base::numbers::least;
 use lent::lists::load_sums;
 use lent::word::word_of;
 use machine::state::State;
-use words::least;
+use matrix::limits::MAX_ROWS;
+use matrix::limits::MAX_STARTS;
 use words::store::store_i64;
 ghost use Prim.Native.Nat.{_/_, _≤_};
 ghost use lib.ListN.{length};
@@ -13,6 +16,7 @@ ghost use Rattle.matrix.specs.Checks.{matrixOf};
 ghost use Rattle.run.specs.Calls.{forceList, answerLent};
 ghost use Rattle.machine.specs.Record.{stateOf};
 ghost use Rattle.cabinet.specs.Runs.{answerIn, ForcesAnswered};
+ghost use Rattle.matrix.specs.Limits.{maxRows};
 
 // Job, state and sums are decoded; the forces are made in `made`, as far as the lent list has room, and then stored.
 fn forces_of(
@@ -29,7 +33,7 @@ fn forces_of(
     made: &mut [i64],
     forces: &mut [u8],
 ) -> u64
-    requires { ⌜ 4096 ≤ length (now made) ⌝ }
+    requires { ⌜ maxRows ≤ length (now made) ⌝ }
     ensures { λ r. ⌜ ForcesAnswered (answerLent (matrixOf n (now (starts .entry)) (now (columns .entry)) (now (values .entry))) (now (displacements .entry)) (now (order .entry)) (now (groups .entry)) count
         (stateOf state (now (sums .entry))) (forceList (length (now (forces .entry)) / 8))) (now (forces .entry)) r (now (forces .exit)) ⌝ }
 {
@@ -72,7 +76,7 @@ pub fn forces_in(
     ensures { λ r. ⌜ ForcesAnswered (answerIn (matrixOf n (now (starts .entry)) (now (columns .entry)) (now (values .entry))) (now (displacements .entry)) (now (order .entry)) (now (groups .entry)) count
         (now (state .entry)) (now (sums .entry)) (forceList (length (now (forces .entry)) / 8))) (now (forces .entry)) r (now (forces .exit)) ⌝ }
 {
-    if state.len() != 192 {
+    if state.len() != STATE_BYTES {
         return no_state(
             n,
             starts,
@@ -84,9 +88,9 @@ pub fn forces_in(
             count,
         );
     }
-    let mut sum_list = [0i64; 4097];
+    let mut sum_list = [0i64; MAX_STARTS];
     let sums_len = load_sums(sums, &mut sum_list);
-    let mut made = [0i64; 4096];
+    let mut made = [0i64; MAX_ROWS];
     forces_of(
         n,
         starts,

@@ -1,4 +1,5 @@
 // picks: a list of picks, made one load or store at a time.
+use crate::state::STATE_BYTES;
 use crate::state::load_state;
 use crate::state::no_state;
 use crate::state::store_state;
@@ -7,6 +8,7 @@ use calls::Ending;
 use lent::lists::load_sums;
 use lent::word::word_of;
 use machine::state::State;
+use matrix::limits::MAX_STARTS;
 use words::store::store_i64;
 ghost use mathlib.Core.Path.{_≡_};
 ghost use Prim.Native.Nat.{ℕ, _/_, _^_, _≤_, _<_};
@@ -66,7 +68,7 @@ pub fn picks_in(
         (stateIn (now (state .entry)) (now (sums .entry))) (calls.picks (now (schedule .entry))))
         (now (state .entry)) (now (sums .entry)) r (now (state .exit)) (now (sums .exit)) ⌝ }
 {
-    if state.len() != 192 {
+    if state.len() != STATE_BYTES {
         return no_state(
             n,
             starts,
@@ -78,7 +80,7 @@ pub fn picks_in(
             count,
         );
     }
-    let mut sum_list = [0i64; 4097];
+    let mut sum_list = [0i64; MAX_STARTS];
     let sums_len = load_sums(sums, &mut sum_list);
     let picked = calls::picks(
         n,

@@ -1,4 +1,5 @@
 // ready: the workers whose next pick would be taken.
+use crate::state::STATE_BYTES;
 use crate::state::load_state;
 use crate::state::no_state;
 use base::Answer;
@@ -6,6 +7,7 @@ use calls::ReadySet;
 use calls::ready;
 use lent::lists::load_sums;
 use lent::word::word_of;
+use matrix::limits::MAX_STARTS;
 ghost use mathlib.Core.Path.{_≡_};
 ghost use Rattle.matrix.specs.Checks.{matrixOf};
 ghost use Rattle.run.specs.Calls.{readySet};
@@ -38,7 +40,7 @@ pub fn ready_in(
 ) -> u64
     ensures { λ r. ⌜ r ≡ word (replyTo (answerIn (matrixOf n (now (starts .entry)) (now (columns .entry)) (now (values .entry))) (now (displacements .entry)) (now (order .entry)) (now (groups .entry)) count (now (state .entry)) (now (sums .entry)) readySet)) ⌝ }
 {
-    if state.len() != 192 {
+    if state.len() != STATE_BYTES {
         return no_state(
             n,
             starts,
@@ -50,7 +52,7 @@ pub fn ready_in(
             count,
         );
     }
-    let mut sum_list = [0i64; 4097];
+    let mut sum_list = [0i64; MAX_STARTS];
     let sums_len = load_sums(sums, &mut sum_list);
     let answer = ready(
         n,

@@ -4,6 +4,7 @@ use base::STATE;
 use calls::checks::check_job;
 use lent::word::word_of;
 use machine::state::State;
+use plan::MAX_WORKERS;
 use words::load::load_i64;
 use words::load::load_u32;
 use words::store::store_i64;
@@ -19,14 +20,19 @@ ghost use Rattle.words.specs.LittleEndian.{unsigned, signed, unsignedBytes, sig
 ghost use Rattle.cabinet.specs.Runs.{stateBytes, countBytes, replyTo};
 ghost use Rattle.lent.specs.Word.{word};
 
+// "a state is 192 bytes": each worker's count, then what it holds.
+const COUNT_BYTES: usize = 4 * MAX_WORKERS;
+
+pub(crate) const STATE_BYTES: usize = COUNT_BYTES + 8 * MAX_WORKERS;
+
 pub(crate) fn load_state(bytes: &[u8]) -> State
     requires { ⌜ length (now bytes) ≡ stateBytes ⌝ }
     ensures { λ r. ⌜ (r .made ≡ unsigned 4 (take countBytes (now (bytes .entry)))) × (r .held ≡ signed 8 (drop countBytes (now (bytes .entry)))) ⌝ }
 {
-    let mut made = [0u32; 16];
-    load_u32(&bytes[..64], &mut made);
-    let mut held = [0i64; 16];
-    load_i64(&bytes[64..], &mut held);
+    let mut made = [0u32; MAX_WORKERS];
+    load_u32(&bytes[..COUNT_BYTES], &mut made);
+    let mut held = [0i64; MAX_WORKERS];
+    load_i64(&bytes[COUNT_BYTES..], &mut held);
     State {
         made: made,
         held: held,
@@ -38,9 +44,9 @@ pub(crate) fn store_state(state: State, bytes: &mut [u8])
     ensures { λ _. ⌜ now (bytes .exit) ≡ stored (unsignedBytes 4 (state .made) ++ signedBytes 8 (state .held)) (now (bytes .entry)) ⌝ }
 {
     let made = state.made;
-    store_u32(&made, &mut bytes[..64]);
+    store_u32(&made, &mut bytes[..COUNT_BYTES]);
     let held = state.held;
-    store_i64(&held, &mut bytes[64..]);
+    store_i64(&held, &mut bytes[COUNT_BYTES..]);
 }
 
 // The word of a call whose state has not 192 bytes: 5, 6, 8, then 11.

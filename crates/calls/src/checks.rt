@@ -5,9 +5,13 @@ use base::STATE;
 use base::UNSOUND;
 use layout::lay;
 use machine::state::State;
+use matrix::limits::MAX_ROWS;
 use multiply::check_displacements;
+use plan::MAX_GROUPS;
+use plan::MAX_WORKERS;
 use plan::is_plan;
 use symmetric::is_matrix;
+use tables::MAX_UPDATES;
 ghost use mathlib.Core.Path.{_≡_};
 ghost use Rattle.base.specs.Replies.{accepted, refused, inTurn};
 ghost use Rattle.base.specs.Answers.{replyOf};
@@ -53,14 +57,14 @@ pub(crate) fn begin(
     count: u32,
     state: State,
     size: usize,
-    counts: &mut [u32; 16],
-    first: &mut [u32; 16],
-    row: &mut [u16; 69632],
-    begins: &mut [u32; 4096],
-    leaves: &mut [u16; 4096],
-    ends: &mut [u32; 512],
-    at: &mut [u16; 69632],
-    beside: &mut [i32; 69632],
+    counts: &mut [u32; MAX_WORKERS],
+    first: &mut [u32; MAX_WORKERS],
+    row: &mut [u16; MAX_UPDATES],
+    begins: &mut [u32; MAX_ROWS],
+    leaves: &mut [u16; MAX_ROWS],
+    ends: &mut [u32; MAX_GROUPS],
+    at: &mut [u16; MAX_UPDATES],
+    beside: &mut [i32; MAX_UPDATES],
 ) -> Answer
     requires { ⌜ Zeros (now counts) (now first) (now row) (now begins) (now leaves) (now ends) (now at) (now beside) ⌝ }
     ensures { λ r. ⌜ Begun n (now (starts .entry)) (now (columns .entry)) (now (values .entry)) (now (displacements .entry)) (now (order .entry)) (now (groups .entry)) count state size

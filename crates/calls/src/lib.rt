@@ -8,9 +8,13 @@ use base::EARLY;
 use base::SHORT;
 use checks::begin;
 use machine::state::State;
+use matrix::limits::MAX_ROWS;
+use plan::MAX_GROUPS;
+use plan::MAX_WORKERS;
 use plan::fields::record_at;
 use ready_set::ready_bits;
 use scatter::scatter;
+use tables::MAX_UPDATES;
 use waits::blocked_groups;
 ghost use mathlib.Core.Path.{_≡_};
 ghost use lib.ListN.{length};
@@ -58,14 +62,14 @@ pub fn picks(
     ensures after { λ r. ⌜ stateOf (r .state) (now (sums .exit)) ≡ afterLent (matrixOf n (now (starts .entry)) (now (columns .entry)) (now (values .entry))) (now (displacements .entry)) (now (order .entry)) (now (groups .entry)) count
         (stateOf state (now (sums .entry))) (picks (now (schedule .entry))) ⌝ }
 {
-    let mut counts = [0u32; 16];
-    let mut first = [0u32; 16];
-    let mut row = [0u16; 69632];
-    let mut begins = [0u32; 4096];
-    let mut leaves = [0u16; 4096];
-    let mut ends = [0u32; 512];
-    let mut at = [0u16; 69632];
-    let mut beside = [0i32; 69632];
+    let mut counts = [0u32; MAX_WORKERS];
+    let mut first = [0u32; MAX_WORKERS];
+    let mut row = [0u16; MAX_UPDATES];
+    let mut begins = [0u32; MAX_ROWS];
+    let mut leaves = [0u16; MAX_ROWS];
+    let mut ends = [0u32; MAX_GROUPS];
+    let mut at = [0u16; MAX_UPDATES];
+    let mut beside = [0i32; MAX_UPDATES];
     let begun = begin(
         n,
         starts,
@@ -142,14 +146,14 @@ pub fn ready(
     ensures { λ r. ⌜ readyAnswer r ≡ answerLent (matrixOf n (now (starts .entry)) (now (columns .entry)) (now (values .entry))) (now (displacements .entry)) (now (order .entry)) (now (groups .entry)) count
         (stateOf state (now (sums .entry))) readySet ⌝ }
 {
-    let mut counts = [0u32; 16];
-    let mut first = [0u32; 16];
-    let mut row = [0u16; 69632];
-    let mut begins = [0u32; 4096];
-    let mut leaves = [0u16; 4096];
-    let mut ends = [0u32; 512];
-    let mut at = [0u16; 69632];
-    let mut beside = [0i32; 69632];
+    let mut counts = [0u32; MAX_WORKERS];
+    let mut first = [0u32; MAX_WORKERS];
+    let mut row = [0u16; MAX_UPDATES];
+    let mut begins = [0u32; MAX_ROWS];
+    let mut leaves = [0u16; MAX_ROWS];
+    let mut ends = [0u32; MAX_GROUPS];
+    let mut at = [0u16; MAX_UPDATES];
+    let mut beside = [0i32; MAX_UPDATES];
     let begun = begin(
         n,
         starts,
@@ -207,14 +211,14 @@ pub fn forces(
     ensures lent_forces { λ r. ⌜ now (forces .exit) ≡ forcesLent (answerLent (matrixOf n (now (starts .entry)) (now (columns .entry)) (now (values .entry))) (now (displacements .entry)) (now (order .entry)) (now (groups .entry)) count
         (stateOf state (now (sums .entry))) (forceList (length (now (forces .entry))))) (now (forces .entry)) ⌝ }
 {
-    let mut counts = [0u32; 16];
-    let mut first = [0u32; 16];
-    let mut row = [0u16; 69632];
-    let mut begins = [0u32; 4096];
-    let mut leaves = [0u16; 4096];
-    let mut ends = [0u32; 512];
-    let mut at = [0u16; 69632];
-    let mut beside = [0i32; 69632];
+    let mut counts = [0u32; MAX_WORKERS];
+    let mut first = [0u32; MAX_WORKERS];
+    let mut row = [0u16; MAX_UPDATES];
+    let mut begins = [0u32; MAX_ROWS];
+    let mut leaves = [0u16; MAX_ROWS];
+    let mut ends = [0u32; MAX_GROUPS];
+    let mut at = [0u16; MAX_UPDATES];
+    let mut beside = [0i32; MAX_UPDATES];
     let begun = begin(
         n,
         starts,

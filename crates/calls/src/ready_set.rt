@@ -1,5 +1,9 @@
 // The ready set: the workers whose next step would be taken, by the tables of the job.
+use matrix::limits::MAX_ROWS;
+use plan::MAX_GROUPS;
+use plan::MAX_WORKERS;
 use steps::refusal;
+use tables::MAX_UPDATES;
 ghost use mathlib.Core.Path.{_≡_};
 ghost use mathlib.Core.List.{List};
 ghost use Prim.Native.Nat.{ℕ, _≤_};
@@ -11,13 +15,13 @@ ghost use Rattle.steps.specs.Steps.{Inside};
 
 // Sixteen bits, bit w for worker w.
 pub(crate) fn ready_bits(
-    made: &[u32; 16],
+    made: &[u32; MAX_WORKERS],
     crew: usize,
-    counts: &[u32; 16],
-    first: &[u32; 16],
-    row: &[u16; 69632],
-    leaves: &[u16; 4096],
-    blocks: &[u8; 512],
+    counts: &[u32; MAX_WORKERS],
+    first: &[u32; MAX_WORKERS],
+    row: &[u16; MAX_UPDATES],
+    leaves: &[u16; MAX_ROWS],
+    blocks: &[u8; MAX_GROUPS],
 ) -> u16
     requires { ⌜ (crew ≤ maxWorkers) × Inside (now counts) (now first) (now row) (now leaves) ⌝ }
     ensures { λ r. ⌜ ((j : Job) (begins ends : List ℕ) → crew ≡ workers j → Laid j (now (counts .entry)) (now (first .entry)) (now (row .entry)) begins (now (leaves .entry)) ends

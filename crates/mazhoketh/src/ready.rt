@@ -6,6 +6,10 @@ use lent::lists::load_groups;
 use lent::lists::load_order;
 use lent::lists::load_starts;
 use lent::lists::load_values;
+use matrix::limits::MAX_CELLS;
+use matrix::limits::MAX_ROWS;
+use matrix::limits::MAX_STARTS;
+use plan::fields::MAX_FIELDS;
 ghost use mathlib.Core.Path.{_≡_};
 ghost use Rattle.run.specs.Calls.{readySet};
 ghost use Rattle.words.specs.LittleEndian.{unsigned, signed};
@@ -28,17 +32,17 @@ pub extern "C" fn mzk_ready(
 ) -> u64
     ensures { λ r. ⌜ r ≡ word (replyTo (answerIn (matrixIn n (now («row_starts» .entry)) (now (columns .entry)) (now (values .entry))) (signed 4 (now (movements .entry))) (unsigned 4 (now (order .entry))) (unsigned 4 (now (groups .entry))) «group_count» (now (state .entry)) (now (sums .entry)) readySet)) ⌝ }
 {
-    let mut starts = [0u32; 4097];
+    let mut starts = [0u32; MAX_STARTS];
     let starts_len = load_starts(row_starts, &mut starts);
-    let mut column_list = [0u32; 65536];
+    let mut column_list = [0u32; MAX_CELLS];
     let columns_len = load_columns(columns, &mut column_list);
-    let mut value_list = [0i32; 65536];
+    let mut value_list = [0i32; MAX_CELLS];
     let values_len = load_values(values, &mut value_list);
-    let mut displacements = [0i32; 4097];
+    let mut displacements = [0i32; MAX_STARTS];
     let displacements_len = load_displacements(movements, &mut displacements);
-    let mut order_list = [0u32; 4096];
+    let mut order_list = [0u32; MAX_ROWS];
     let order_len = load_order(order, &mut order_list);
-    let mut group_list = [0u32; 3072];
+    let mut group_list = [0u32; MAX_FIELDS];
     let groups_len = load_groups(groups, &mut group_list);
     ready_in(
         n,
