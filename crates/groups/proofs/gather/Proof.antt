@@ -45,10 +45,10 @@ use denote.Triple.Table.{entered, cited}
 use denote.Triple.Walked.{says, needs, Stays, stay-dropped, stay-slice, walkOf, goes-dropped, goes-slice, Walks, ends-at, walked, walk-meets}
 use denote.Exit.{yes}
 use Rattle.plan.specs.Checks.{recordAt}
-use Rattle.plan.specs.Sound.{maxGroups}
-use Rattle.planner.specs.declared.records.Group.{Group}
-use Rattle.planner.proofs.records.Group as T
-use Rattle.planner.proofs.records.Group.Laws as T′
+use Rattle.plan.specs.Sound.{maxGroups, maxFields}
+use Rattle.plan.specs.declared.fields.Group.{Group}
+use Rattle.plan.proofs.fields.Group as T
+use Rattle.plan.proofs.fields.Group.Laws as T′
 use Rattle.groups.specs.Structs.{ofGroup, gathered}
 use Rattle.groups.proofs.Gathering.{gathered-none, length-gathered, gathered-next}
 use Rattle.groups.proofs.Walking.{numbersTy, hears, Nearer, nearer-wf, Flat, none, group-vals, group-tells, group-lawful, flat-makes, flat-lawful, after}
@@ -247,7 +247,7 @@ module _ {M : Type 1} (𝓤 : URA M) (H : Heap 𝓤) (A : Atoms 𝓤) (W : Given
 module _ {M : Type 1} (𝓤 : URA M) (H : Heap 𝓤) (A : Atoms 𝓤) (W : Given 𝓤 H A) (memory : Memory → SProp 𝓤) (run : Routine → Fun 𝓤) (𝓣 : Tables 𝓤 H) (known : Triple 𝓤 (𝓣 .C #groups·get) (Get 𝓤 H A memory run)) where
   gather-walks : Walks 𝓤 H A gather.ended stayed (WpFn 𝓤 H (𝓣 .C) (𝓣 .Λ) code.function) (gather.clauses 𝓤 H A memory run)
   gather-walks = walked 𝓤 H A gather.ended stayed (gather.clauses 𝓤 H A memory run) (WpFn 𝓤 H (𝓣 .C) (𝓣 .Λ) code.function)
-      (λ κs. (array-vals (uint-vals w32), (uint-vals w64, (slice-vals, tt)))) (λ κs. (array-tells u32 (uint-vals w32) (uint-tells w32) 3072, (uint-tells w64, (mut-slice-tells (named 0) (κs .0) T.the-row, tt))))
+      (λ κs. (array-vals (uint-vals w32), (uint-vals w64, (slice-vals, tt)))) (λ κs. (array-tells u32 (uint-vals w32) (uint-tells w32) maxFields, (uint-tells w64, (mut-slice-tells (named 0) (κs .0) T.the-row, tt))))
       (λ κs qs bounds a g are. needs 𝓤 ((a .1 .0 ≤ maxGroups) × (a .1 .0 ≤ length (a .1 .1 .0 .now))) _ (λ fits.
       walk 𝓤 H A W memory run (κs .0) (qs .0) (a .1 .1 .0 .ptr .0) (a .1 .1 .0 .ptr .1) (a .1 .1 .0 .name) (a .1 .1 .0 .now) (a .0) _ (are .0) (a .1 .0) (fits .0) (fits .1) (are .1 .1 .0 .0 .1) 𝓣 known))
 
