@@ -52,7 +52,7 @@ use Rattle.plan.proofs.fields.Group as T
 use Rattle.plan.proofs.fields.Group.Laws as T′
 use Rattle.groups.specs.Structs.{few, Flattened}
 use Rattle.groups.proofs.Flattening.{Begun, begin, next, all-begun}
-use Rattle.groups.proofs.Walking.{numbersTy, slice-dropped, hears, Nearer, nearer-wf, Flat, none, group-vals, group-tells, group-copy, group-makes, group-lawful, flat-lawful, after}
+use Rattle.groups.proofs.Walking.{groupBytes, numbersTy, slice-dropped, hears, Nearer, nearer-wf, Flat, none, group-vals, group-tells, group-copy, group-makes, group-lawful, flat-lawful, after}
 use Rattle.groups.proofs.put as put
 use Rattle.groups.proofs.put.Symbol as put-def
 use Rattle.groups.proofs.put.Symbol.{name as #groups·put}
@@ -167,7 +167,7 @@ module _ {M : Type 1} (𝓤 : URA M) (H : Heap 𝓤) (A : Atoms 𝓤) (W : Given
           assigns ! (addr ! (from ! (stop !))) (from ! (stop !)) (init ! 4 refl (tt, tt)) $
           assigns ! (bin ! (load ! (from ! (stop !)) (look ! 14 refl)) (lit ! tt) (record { fits = small })) (from ! (stop !)) (init ! 10 refl (tt, record { fits = small })) $
           assigns ! (bin ! (load ! (from ! (fld ! refl (stop !))) (look-in ! 18 (sub ! 0 refl (whole !)))) (load ! (from ! (stop !)) (look ! 10 refl)) tt) (from ! (stop !)) (init ! 2 refl (tt, tt)) $
-          rewrite ! 2 (λ (p : ℕ). ‵ (fat fullShare tyPtr l₉ 0 (vptr b p))) (sym (place-is 24 o (t .k))) refl $
+          rewrite ! 2 (λ (p : ℕ). ‵ (fat fullShare tyPtr l₉ 0 (vptr b p))) (sym (place-is groupBytes o (t .k))) refl $
           move ! (23 ∷ 22 ∷ []) $ looks-slice ! tt T.the-row (Is T.the-row) (shows 𝓤 H A T.the-row) group-vals group-tells (group-copy 𝓤 H A W) gs b o (λ q′.
           elem-out ! T.the-row (Is T.the-row) (shows 𝓤 H A T.the-row) group-vals group-tells q′ gs (t .k) none b o within (λ is.
           -- [groups[k]; what it owns; the others; what shuts; the borrow; _10; …; _9; …; _8; …; _7; …; _6; …; _5; …; _4; …; _3; …; _2; …; _1; …; _0; …]
@@ -190,7 +190,7 @@ module _ {M : Type 1} (𝓤 : URA M) (H : Heap 𝓤) (A : Atoms 𝓤) (W : Given
           keep ! (5 ∷ 6 ∷ 7 ∷ 8 ∷ 9 ∷ 10 ∷ 11 ∷ 12 ∷ 13 ∷ 14 ∷ 15 ∷ 16 ∷ 17 ∷ 18 ∷ 19 ∷ 20 ∷ 0 ∷ 21 ∷ 22 ∷ 23 ∷ 24 ∷ 25 ∷ 3 ∷ 4 ∷ []) $
           again ! (Nearer left) At t (next t none within in-plan (zs .0) e) (omega arith))))))))
         where
-          small : t .k * 24 < 2 ^ 64
+          small : t .k * groupBytes < 2 ^ 64
           small = omega arith
 
           next-small : t .k + 1 < 2 ^ 64

@@ -51,7 +51,7 @@ use Rattle.plan.proofs.fields.Group as T
 use Rattle.plan.proofs.fields.Group.Laws as T′
 use Rattle.groups.specs.Structs.{ofGroup, gathered}
 use Rattle.groups.proofs.Gathering.{gathered-none, length-gathered, gathered-next}
-use Rattle.groups.proofs.Walking.{numbersTy, hears, Nearer, nearer-wf, Flat, none, group-vals, group-tells, group-lawful, flat-makes, flat-lawful, after}
+use Rattle.groups.proofs.Walking.{groupBytes, numbersTy, hears, Nearer, nearer-wf, Flat, none, group-vals, group-tells, group-lawful, flat-makes, flat-lawful, after}
 use Rattle.groups.proofs.get as get
 use Rattle.groups.proofs.get.Symbol as get-def
 use Rattle.groups.proofs.get.Symbol.{name as #groups·get}
@@ -194,7 +194,7 @@ module _ {M : Type 1} (𝓤 : URA M) (H : Heap 𝓤) (A : Atoms 𝓤) (W : Given
           -- [_4; …; what the group owns; _10; …; _9; …; _8; …; _7; …; _6; …; _5; …; …; _3; …; _2; …; _1; …; _0; …; the groups; …]
           assigns ! (bin ! (load ! (from ! (stop !)) (look ! 13 refl)) (lit ! tt) (record { fits = small })) (from ! (stop !)) (init ! 5 refl (tt, record { fits = small })) $
           assigns ! (bin ! (load ! (from ! (fld ! refl (stop !))) (look-in ! 16 (sub ! 0 refl (whole !)))) (load ! (from ! (stop !)) (look ! 5 refl)) tt) (from ! (stop !)) (init ! 3 refl (tt, tt)) $
-          rewrite ! 3 (λ (p : ℕ). ‵ (fat fullShare tyPtr l₁₀ 0 (vptr b p))) (sym (place-is 24 o (t .0))) refl $
+          rewrite ! 3 (λ (p : ℕ). ‵ (fat fullShare tyPtr l₁₀ 0 (vptr b p))) (sym (place-is groupBytes o (t .0))) refl $
           move ! (24 ∷ []) $ elem-out ! T.the-row (Is T.the-row) (shows 𝓤 H A T.the-row) group-vals group-tells fullShare (gathered (t .0) ns gs) (t .0) none b o in-row (λ _.
           -- [groups[k]; what it owns; the others; _4; …; what the group owns; _10; …; _9; …; _8; …; _7; …; _6; …; _5; …]
           assigns ! (of-opd ! (load ! (from ! (stop !)) (look ! 12 refl))) (from ! (hop ! (look ! 6 refl) (stop !))) (store-raw ! 0 refl (group-lawful 𝓤 H A W .typed r _ is .0)) $
@@ -206,7 +206,7 @@ module _ {M : Type 1} (𝓤 : URA M) (H : Heap 𝓤) (A : Atoms 𝓤) (W : Given
           keep ! (4 ∷ 5 ∷ 6 ∷ 7 ∷ 8 ∷ 9 ∷ 10 ∷ 11 ∷ 12 ∷ 13 ∷ 14 ∷ 15 ∷ 2 ∷ 16 ∷ 17 ∷ 18 ∷ 19 ∷ 20 ∷ 21 ∷ 22 ∷ 23 ∷ 24 ∷ 0 ∷ 25 ∷ 26 ∷ 27 ∷ []) $
           again ! (Nearer left) At t (t .0 + 1, omega arith) (omega arith)))))))
         where
-          small : t .0 * 24 < 2 ^ 64
+          small : t .0 * groupBytes < 2 ^ 64
           small = omega arith
 
           next-small : t .0 + 1 < 2 ^ 64
