@@ -18,12 +18,12 @@
 #include "net.h"
 
 /* A call judges all its lists anew, so bursts are long. */
-enum { WORKERS = 16, CLOSENESS = 60, GROUPS = 512, STATE = 192, BURST = 1000, STACK = 4 << 20 };
+enum { WORKERS = 16, CLOSENESS = 60, GROUPS = 512, FIELDS = 6, STATE = 192, BURST = 1000, STACK = 4 << 20 };
 
 static struct net net;
 
 static struct {
-    uint8_t order[4 * ROWS], groups[24 * GROUPS];
+    uint8_t order[4 * ROWS], groups[4 * FIELDS * GROUPS];
     uint32_t count;
 } plan;
 

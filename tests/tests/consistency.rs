@@ -7,7 +7,7 @@ use mazhoketh_tests::oracle::matrix::{Matrix, Rows};
 use mazhoketh_tests::oracle::nets::Roof;
 use mazhoketh_tests::oracle::planner::{self, Plan};
 use mazhoketh_tests::oracle::prng::Prng;
-use mazhoketh_tests::oracle::{damage, nets, plans, text, Refusal};
+use mazhoketh_tests::oracle::{damage, nets, plans, text, Refusal, FIELDS};
 
 /// A run beside its book.
 struct Run {
@@ -176,14 +176,14 @@ fn capacities_of_plans() {
         let kept = |order, groups| (vec![9; order], vec![9; groups]);
         assert_eq!(into(n - 1, 0), (short(n), kept(n - 1, 0)));
         assert_eq!(
-            into(n, 6 * count - 1),
-            (short(count), kept(n, 6 * count - 1))
+            into(n, FIELDS * count - 1),
+            (short(count), kept(n, FIELDS * count - 1))
         );
         let filled = (
             [&plan.order[..], &[9]].concat(),
             [&plan.flat()[..], &[9; 7]].concat(),
         );
-        assert_eq!(into(n + 1, 6 * count + 7), (Ok(count as u32), filled));
+        assert_eq!(into(n + 1, FIELDS * count + 7), (Ok(count as u32), filled));
     }
 }
 

@@ -6,7 +6,7 @@ use mazhoketh_tests::oracle::machine::{self, Lent, State};
 use mazhoketh_tests::oracle::matrix::{Matrix, Rows};
 use mazhoketh_tests::oracle::planner::{self, Plan};
 use mazhoketh_tests::oracle::prng::Prng;
-use mazhoketh_tests::oracle::{damage, nets, plans, soundness, text, Refusal};
+use mazhoketh_tests::oracle::{damage, nets, plans, soundness, text, Fields, Refusal, FIELDS};
 
 /// Whether two freedoms are joined.
 fn joined(matrix: &Matrix, one: u32, two: u32) -> bool {
@@ -47,7 +47,7 @@ fn plan(matrix: &Matrix, workers: u32, p: u32) -> Plan {
 }
 
 /// Plans one group.
-fn plan_group(matrix: &Matrix, p: u32, plan: &mut Plan, record: [u32; 6], depth: u32) {
+fn plan_group(matrix: &Matrix, p: u32, plan: &mut Plan, record: Fields, depth: u32) {
     let index = plan.groups.len() as u32;
     plan.groups.push(record);
     let [start, length, _, workers, ..] = record;
@@ -74,10 +74,10 @@ fn plan_group(matrix: &Matrix, p: u32, plan: &mut Plan, record: [u32; 6], depth:
 fn pairs(
     load: &dyn Fn(u32, u32) -> u32,
     m: u32,
-    record: [u32; 6],
+    record: Fields,
     index: u32,
     p: u32,
-) -> Vec<[u32; 6]> {
+) -> Vec<Fields> {
     let [start, length, first, workers, ..] = record;
     let mut children = Vec::new();
     let (mut level, mut worker, mut place) = (0, first, start);
@@ -162,12 +162,12 @@ fn plans_agree() {
 /// Whether a plan is sound, sentence by sentence.
 fn is_sound(matrix: &Matrix, order: &[u32], groups: &[u32], count: u32) -> bool {
     let (n, count) = (matrix.n as usize, count as usize);
-    if order.len() < n || !(1..=512).contains(&count) || groups.len() / 6 < count {
+    if order.len() < n || !(1..=512).contains(&count) || groups.len() / FIELDS < count {
         return false;
     }
     let order = &order[..n];
     let names: BTreeSet<u32> = order.iter().copied().collect();
-    let records: Vec<[u64; 6]> = groups.chunks(6).take(count).map(wide).collect();
+    let records: Vec<[u64; FIELDS]> = groups.chunks(FIELDS).take(count).map(wide).collect();
     let [start, length, first, workers, colour, parent] = records[0];
     let whole = (start, length, first, colour, parent) == (0, n as u64, 0, 0, 0);
     names.len() == n
@@ -183,19 +183,19 @@ fn is_sound(matrix: &Matrix, order: &[u32], groups: &[u32], count: u32) -> bool 
         && (0..count).all(|parent| children_apart(matrix, order, &records, parent))
 }
 
-/// Six numbers, widened.
-fn wide(record: &[u32]) -> [u64; 6] {
-    [0, 1, 2, 3, 4, 5].map(|field| u64::from(record[field]))
+/// A record, widened.
+fn wide(record: &[u32]) -> [u64; FIELDS] {
+    std::array::from_fn(|field| u64::from(record[field]))
 }
 
 /// The indices of a group's children.
-fn children(records: &[[u64; 6]], parent: usize) -> Vec<usize> {
+fn children(records: &[[u64; FIELDS]], parent: usize) -> Vec<usize> {
     let is_child = |&child: &usize| records[child][5] == parent as u64;
     (1..records.len()).filter(is_child).collect()
 }
 
 /// Whether the records from `next` on are a group and all below it depth first, and, from the whole, all records.
-fn reads_in(records: &[[u64; 6]], group: usize, depth: u32, next: &mut usize) -> bool {
+fn reads_in(records: &[[u64; FIELDS]], group: usize, depth: u32, next: &mut usize) -> bool {
     if *next != group || depth > 4 {
         return false;
     }
@@ -206,7 +206,7 @@ fn reads_in(records: &[[u64; 6]], group: usize, depth: u32, next: &mut usize) ->
 }
 
 /// Whether children tile, alternate, pair and share workers as they must.
-fn children_fit(records: &[[u64; 6]], parent: usize) -> bool {
+fn children_fit(records: &[[u64; FIELDS]], parent: usize) -> bool {
     let children = children(records, parent);
     let (mut place, mut worker) = (records[parent][0], records[parent][2]);
     for pair in children.chunks(2) {
@@ -229,7 +229,7 @@ fn children_fit(records: &[[u64; 6]], parent: usize) -> bool {
 }
 
 /// Whether like-coloured children of a parent are apart; their records tile it.
-fn children_apart(matrix: &Matrix, order: &[u32], records: &[[u64; 6]], parent: usize) -> bool {
+fn children_apart(matrix: &Matrix, order: &[u32], records: &[[u64; FIELDS]], parent: usize) -> bool {
     let children = children(records, parent);
     let stretch = |child: usize| {
         let [start, length, ..] = records[child];

@@ -5,6 +5,7 @@ use mazhoketh_tests::oracle::matrix::{Matrix, MOST_ENTRIES};
 use mazhoketh_tests::oracle::nets::{self, Roof};
 use mazhoketh_tests::oracle::planner;
 use mazhoketh_tests::oracle::prng::Prng;
+use mazhoketh_tests::oracle::FIELDS;
 use mazhoketh_tests::{both, cases};
 
 /// The workers and the p that large nets are planned for.
@@ -18,7 +19,7 @@ fn plan_for_all(rng: &mut Prng, matrix: &Matrix) {
         for p in P {
             let count = planner::plan(matrix.rows(), workers, p).groups.len();
             let plan_into = |order: usize, groups: usize| {
-                let mut lent = [Twin::blank(4 * order), Twin::blank(24 * groups)];
+                let mut lent = [Twin::blank(4 * order), Twin::blank(4 * FIELDS * groups)];
                 both::plan(&lists, workers, p, &mut lent)
             };
             let n = matrix.n as usize;

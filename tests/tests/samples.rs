@@ -7,7 +7,7 @@ use mazhoketh_tests::oracle::matrix::{judge_movements, Matrix, Rows};
 use mazhoketh_tests::oracle::netplan::netplan;
 use mazhoketh_tests::oracle::planner::{self, Plan};
 use mazhoketh_tests::oracle::text::{self, LINE_1};
-use mazhoketh_tests::oracle::{calls, nets, soundness, Refusal};
+use mazhoketh_tests::oracle::{calls, nets, soundness, Fields, Refusal, FIELDS};
 
 /// The text of line 1 and more.
 fn after_line_1(more: &str) -> Vec<u8> {
@@ -26,7 +26,7 @@ fn refusal_after_line_1(more: &str) -> (u32, u32) {
 }
 
 /// The plan's records for eight freedoms at `2 60`.
-const CHAIN_GROUPS: [[u32; 6]; 5] = [
+const CHAIN_GROUPS: [Fields; 5] = [
     [0, 8, 0, 2, 0, 0],
     [0, 2, 0, 1, 1, 0],
     [2, 2, 0, 1, 2, 0],
@@ -373,7 +373,7 @@ fn movements() {
 }
 
 /// Whether a plan on the order 0, 1, .. is sound for a matrix.
-fn is_sound(matrix: &Matrix, records: &[[u32; 6]]) -> bool {
+fn is_sound(matrix: &Matrix, records: &[Fields]) -> bool {
     let order: Vec<u32> = (0..matrix.n).collect();
     let flat = records.as_flattened();
     soundness::check(matrix.rows(), &order, flat, records.len() as u32).is_ok()
@@ -447,7 +447,7 @@ fn depths_and_empty_crews() {
 }
 
 /// Reds each in the one before, and after them their empty blues, the deepest first.
-fn nest(reds: &[[u32; 6]]) -> Vec<[u32; 6]> {
+fn nest(reds: &[Fields]) -> Vec<Fields> {
     let blues = reds.iter().skip(1).rev();
     let blues = blues.map(|red| [4, 0, red[2], red[3], 2, red[5]]);
     reds.iter().copied().chain(blues).collect()
@@ -460,13 +460,13 @@ fn sound_lists() {
         soundness::check(matrix.rows(), order, groups, count).is_ok()
     };
     let whole = [0, 3, 0, 1, 0, 0];
-    assert!(check(&[2, 0, 1, 9], &[whole, [7; 6]].concat(), 1));
+    assert!(check(&[2, 0, 1, 9], &[whole, [7; FIELDS]].concat(), 1));
     assert!(!check(&[2, 0], &whole, 1));
     assert!(!check(&[2, 0, 2], &whole, 1));
     assert!(!check(&[2, 0, 3], &whole, 1));
     assert!(!check(&[2, 0, 1], &whole[..5], 1));
     assert!(!check(&[2, 0, 1], &whole, 2));
-    assert!(!check(&[2, 0, 1], &vec![0; 6 * 600], 513));
+    assert!(!check(&[2, 0, 1], &vec![0; FIELDS * 600], 513));
 }
 
 #[test]
@@ -657,13 +657,14 @@ impl ChainBytes {
 #[test]
 fn words_of_plan_and_check() {
     let chain = ChainBytes::new();
-    let (mut order, mut groups) = (vec![0; 32], vec![1; 4 * 30 + 3]);
-    let word = calls::plan(chain.matrix(), 2, 60, &mut order, &mut groups[..119]);
+    let size = 4 * FIELDS * 5;
+    let (mut order, mut groups) = (vec![0; 32], vec![1; size + 3]);
+    let word = calls::plan(chain.matrix(), 2, 60, &mut order, &mut groups[..size - 1]);
     assert_eq!(word, 9 << 32 | 5);
     let word = calls::plan(chain.matrix(), 2, 60, &mut order, &mut groups);
     assert_eq!(word, 5);
-    assert_eq!((&order, &groups[..120]), (&chain.order, &chain.groups[..]));
-    assert_eq!(groups[120..], [1; 3]);
+    assert_eq!((&order, &groups[..size]), (&chain.order, &chain.groups[..]));
+    assert_eq!(groups[size..], [1; 3]);
     assert_eq!(
         chain.groups,
         bytes(CHAIN_GROUPS.as_flattened(), u32::to_le_bytes)

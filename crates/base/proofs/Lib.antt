@@ -9,3 +9,4 @@ pub mod Left
 pub mod Found
 pub mod Replies
 pub mod Fill
+pub mod Stored

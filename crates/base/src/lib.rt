@@ -1,4 +1,8 @@
 // Lists, whole numbers and replies that every layer speaks of.
+pub mod bytes;
+pub mod numbers;
+pub mod shorts;
+pub mod slices;
 
 // What a call replies: accepted, with its count; or refused, with a number and a place. `replyOf` of specs/Answers.antt says it in document 01's words.
 pub enum Answer {

@@ -11,8 +11,8 @@ use Rattle.matrix.specs.Matrix.{Matrix, isMatrix, matrixCheck}
 use Rattle.matrix.proofs.Matrix.{matrix-facts}
 use Rattle.matrix.proofs.Cut.{cut, cut-matrix}
 use Rattle.plan.specs.Groups.{planOf}
-use Rattle.plan.specs.Sound.{isPlan, planCheck, checkReply}
-use Rattle.plan.proofs.Cut.{mostFields, cut-plan, cut-sound}
+use Rattle.plan.specs.Sound.{isPlan, planCheck, checkReply, maxFields}
+use Rattle.plan.proofs.Cut.{cut-plan, cut-sound}
 
 module _ (m : Matrix) (order groups : List ℕ) (count : ℕ) where
   -- .. of a matrix whose lists are cut
@@ -24,7 +24,7 @@ module _ (m : Matrix) (order groups : List ℕ) (count : ℕ) where
   unfolding checkReply matrixCheck planCheck
   matrix-cut = rw (cut-matrix m) (inTurn-same refused (matrixCheck m) _ _ _ _ (λ ok. rw (plan-of-cut ok)))
 
-  plan-cut : checkReply m (take maxRows order) (take mostFields groups) count ≡ checkReply m order groups count
+  plan-cut : checkReply m (take maxRows order) (take maxFields groups) count ≡ checkReply m order groups count
   unfolding checkReply matrixCheck planCheck
   plan-cut = inTurn-same refused (matrixCheck m) _ _ _ _ (λ ok. rw (cut-plan m order groups count (matrix-facts m ok .few)))
 
@@ -32,6 +32,6 @@ module _ (m : Matrix) (order groups : List ℕ) (count : ℕ) where
 pub decoded-matrix : (m : Matrix) (order groups : List ℕ) (count : ℕ) {c : Matrix} → c ≡ cut m → checkReply c order groups count ≡ checkReply m order groups count
 decoded-matrix m order groups count e = rw e (matrix-cut m order groups count)
 
-pub decoded-plan : (m : Matrix) (order groups : List ℕ) (count : ℕ) {o g : List ℕ} → o ≡ take maxRows order → g ≡ take mostFields groups
+pub decoded-plan : (m : Matrix) (order groups : List ℕ) (count : ℕ) {o g : List ℕ} → o ≡ take maxRows order → g ≡ take maxFields groups
     → checkReply m o g count ≡ checkReply m order groups count
 decoded-plan m order groups count eo eg = rw (eo, eg) (plan-cut m order groups count)

@@ -14,14 +14,14 @@ use Rattle.base.specs.Refusals as no
 use Rattle.base.specs.Replies.{Check, inTurn}
 use Rattle.base.proofs.Booleans.{conj-at}
 use Rattle.base.proofs.Replies.{inTurn-same}
-use Rattle.matrix.specs.Limits.{maxRows}
+use Rattle.matrix.specs.Limits.{maxRows, maxStarts, maxCells}
 use Rattle.matrix.specs.Matrix.{Matrix, isMatrix, matrixCheck, areDisplacements, displacementCheck}
 use Rattle.matrix.specs.Checks.{matrixOf}
 use Rattle.matrix.proofs.Matrix.{matrix-facts}
-use Rattle.matrix.proofs.Cut.{mostStarts, mostEntries, cut, cut-matrix, cut-displacements, displacements-kept}
+use Rattle.matrix.proofs.Cut.{cut, cut-matrix, cut-displacements, displacements-kept}
 use Rattle.plan.specs.Groups.{Plan, width, planOf}
-use Rattle.plan.specs.Sound.{maxGroups, isSound, isPlan, planCheck}
-use Rattle.plan.proofs.Cut.{mostFields, cut-plan, plan-kept}
+use Rattle.plan.specs.Sound.{maxGroups, isSound, isPlan, planCheck, maxFields}
+use Rattle.plan.proofs.Cut.{cut-plan, plan-kept}
 use Rattle.words.specs.LittleEndian.{unsigned, signed}
 use Rattle.run.specs.Job.{Job, jobOf}
 use Rattle.run.specs.Machine.{State, isState}
@@ -38,7 +38,7 @@ use Rattle.cabinet.proofs.CutJobs.{answer-same, after-same}
 -- ---- the lists of the job
 
 -- the records of a plan are no more than 512
-records-fit : (m : Matrix) (order groups : List ℕ) (count : ℕ) → isPlan m order groups count ≡ true → width * count ≤ mostFields
+records-fit : (m : Matrix) (order groups : List ℕ) (count : ℕ) → isPlan m order groups count ≡ true → width * count ≤ maxFields
 unfolding isPlan
 records-fit m order groups count h =
     let bs : List Bool = leb count maxGroups ∷ leb (width * count) (length groups) ∷ isSound m (planOf (m .n) order groups count) ∷ [] in
@@ -56,7 +56,7 @@ module _ {A : Type 0} (refuse : (number place : ℕ) → A) (f : Job → A)
   abbrev made : Matrix → List ℤ → (order groups : List ℕ) → A
   made m x order groups = inTurn refuse (jobChecks m x order groups count) (f (jobOf m x order groups count))
 
-  job-cut : made (cut m) (take mostStarts x) (take maxRows order) (take mostFields groups) ≡ made m x order groups
+  job-cut : made (cut m) (take maxStarts x) (take maxRows order) (take maxFields groups) ≡ made m x order groups
   unfolding jobChecks matrixCheck planCheck jobOf
   job-cut =
       rw (cut-matrix m)
@@ -64,29 +64,29 @@ module _ {A : Type 0} (refuse : (number place : ℕ) → A) (f : Job → A)
       let few = matrix-facts m ok .few in
       rw (cut-displacements (m .n) x few)
       (inTurn-same refuse (displacementCheck (m .n) x) _ _ _ _ (λ are.
-      rw (displacements-kept (m .n) x few (displaced (m .n) x are), plan-of-cut m (take maxRows order) (take mostFields groups) count ok, cut-plan m order groups count few)
+      rw (displacements-kept (m .n) x few (displaced (m .n) x are), plan-of-cut m (take maxRows order) (take maxFields groups) count ok, cut-plan m order groups count few)
       (inTurn-same refuse (planCheck m order groups count) _ _ _ _ (λ is.
       rw (plan-kept m order groups count few (records-fit m order groups count is)) (ap (λ (a : A). inTurn refuse [] a) (same m ok x (planOf (m .n) order groups count)))))))))
 
 module _ (m : Matrix) (x : List ℤ) (order groups : List ℕ) (count : ℕ) (c : Call) where
   -- cut, the lists give the same answer
-  lent-cut : (s : State) → answerLent (cut m) (take mostStarts x) (take maxRows order) (take mostFields groups) count s c ≡ answerLent m x order groups count s c
+  lent-cut : (s : State) → answerLent (cut m) (take maxStarts x) (take maxRows order) (take maxFields groups) count s c ≡ answerLent m x order groups count s c
   unfolding answerLent
   lent-cut s = job-cut refused (λ j. answer j s c) (λ m ok x p. answer-same m ok x p s c) m x order groups count
 
-  in-cut : (state sums : List ℕ) → answerIn (cut m) (take mostStarts x) (take maxRows order) (take mostFields groups) count state sums c ≡ answerIn m x order groups count state sums c
+  in-cut : (state sums : List ℕ) → answerIn (cut m) (take maxStarts x) (take maxRows order) (take maxFields groups) count state sums c ≡ answerIn m x order groups count state sums c
   unfolding answerIn
   in-cut state sums = rw (lent-cut (stateIn state sums), job-cut refused (λ j. refused no.state 0) (λ m ok x p. refl) m x order groups count)
 
   -- .. and leave the same state
-  left-cut : (s : State) → afterLent (cut m) (take mostStarts x) (take maxRows order) (take mostFields groups) count s c ≡ afterLent m x order groups count s c
+  left-cut : (s : State) → afterLent (cut m) (take maxStarts x) (take maxRows order) (take maxFields groups) count s c ≡ afterLent m x order groups count s c
   unfolding afterLent
   left-cut s = job-cut (λ number place. s) (λ j. after j s c) (λ m ok x p. after-same m ok x p s c) m x order groups count
 
 -- the lists that a call decodes for the whole ones
 module _ (n : ℕ) {starts columns : List ℕ} {values x : List ℤ} {order groups s c : List ℕ} {v d : List ℤ} {o g : List ℕ} {i j k l p q : ℕ}
-    (ls : Loaded mostStarts starts s i) (lc : Loaded mostEntries columns c j) (lv : Loaded mostEntries values v k)
-    (ld : Loaded mostStarts x d l) (lo : Loaded maxRows order o p) (lg : Loaded mostFields groups g q) (count : ℕ) (call : Call) where
+    (ls : Loaded maxStarts starts s i) (lc : Loaded maxCells columns c j) (lv : Loaded maxCells values v k)
+    (ld : Loaded maxStarts x d l) (lo : Loaded maxRows order o p) (lg : Loaded maxFields groups g q) (count : ℕ) (call : Call) where
   pub answer-loaded : (state sums : List ℕ)
       → answerIn (matrixOf n (take i s) (take j c) (take k v)) (take l d) (take p o) (take q g) count state sums call ≡ answerIn (matrixOf n starts columns values) x order groups count state sums call
   answer-loaded state sums = rw (loaded-matrix n ls lc lv, ld .is, lo .is, lg .is) (in-cut (matrixOf n starts columns values) x order groups count call state sums)
@@ -107,19 +107,19 @@ module _ (m : Matrix) (x : List ℤ) (order groups : List ℕ) (count : ℕ) (c 
   with made held sums = answerLent m x order groups count (record { made = made; held = held; sums = sums }) c
 
   -- sums that are cut to one more than any matrix has rows stay too many
-  sums-cut : (made : List ℕ) (held sums : List ℤ) → with made held (take mostStarts sums) ≡ with made held sums
+  sums-cut : (made : List ℕ) (held sums : List ℤ) → with made held (take maxStarts sums) ≡ with made held sums
   unfolding answerLent jobChecks matrixCheck jobOf
-  sums-cut made held sums = inTurn-same refused (matrixCheck m) _ _ _ _ (λ ok. go (matrix-facts m ok .few) (leb (length sums) mostStarts) refl)
+  sums-cut made held sums = inTurn-same refused (matrixCheck m) _ _ _ _ (λ ok. go (matrix-facts m ok .few) (leb (length sums) maxStarts) refl)
     where
-      go : m .n ≤ maxRows → (b : Bool) → leb (length sums) mostStarts ≡ b
-          → inTurn refused (displacementCheck (m .n) x ∷ planCheck m order groups count ∷ []) (answer (jobOf m x order groups count) (record { made = made; held = held; sums = take mostStarts sums }) c)
+      go : m .n ≤ maxRows → (b : Bool) → leb (length sums) maxStarts ≡ b
+          → inTurn refused (displacementCheck (m .n) x ∷ planCheck m order groups count ∷ []) (answer (jobOf m x order groups count) (record { made = made; held = held; sums = take maxStarts sums }) c)
           ≡ inTurn refused (displacementCheck (m .n) x ∷ planCheck m order groups count ∷ []) (answer (jobOf m x order groups count) (record { made = made; held = held; sums = sums }) c)
-      go few true e = rw (take-all mostStarts sums (leb-true (length sums) mostStarts e))
+      go few true e = rw (take-all maxStarts sums (leb-true (length sums) maxStarts e))
       go few false e =
-          let long = leb-false (length sums) mostStarts e in
-          let size : length (take mostStarts sums) ≡ mostStarts = length-take-le mostStarts sums (omega arith) in
+          let long = leb-false (length sums) maxStarts e in
+          let size : length (take maxStarts sums) ≡ maxStarts = length-take-le maxStarts sums (omega arith) in
           rw (
-            no-sums (jobOf m x order groups count) (record { made = made; held = held; sums = take mostStarts sums }) c (λ q. omega arith),
+            no-sums (jobOf m x order groups count) (record { made = made; held = held; sums = take maxStarts sums }) c (λ q. omega arith),
             no-sums (jobOf m x order groups count) (record { made = made; held = held; sums = sums }) c (λ q. omega arith),
           )
 
@@ -131,12 +131,12 @@ module _ (m : Matrix) (x : List ℤ) (order groups : List ℕ) (count : ℕ) (c 
       rw (no-sums (jobOf m x order groups count) (record { made = made; held = held; sums = [] }) c (λ q. omega arith)))
 
   -- the state that a call decodes, with sums that are cut; with none, where the bytes are no state
-  module _ (state sums : List ℕ) (r : code.State) {zs : List ℤ} (is : length state ≡ stateBytes → StateIs r state) (lent : zs ≡ cond (eqb (length state) stateBytes) (take mostStarts (signed 8 sums)) []) where
+  module _ (state sums : List ℕ) (r : code.State) {zs : List ℤ} (is : length state ≡ stateBytes → StateIs r state) (lent : zs ≡ cond (eqb (length state) stateBytes) (take maxStarts (signed 8 sums)) []) where
     pub decoded : answerLent m x order groups count (stateOf r zs) c ≡ answerIn m x order groups count state sums c
     unfolding answerIn
     decoded = go (eqb (length state) stateBytes) refl lent
       where
-        go : (b : Bool) → eqb (length state) stateBytes ≡ b → zs ≡ cond b (take mostStarts (signed 8 sums)) []
+        go : (b : Bool) → eqb (length state) stateBytes ≡ b → zs ≡ cond b (take maxStarts (signed 8 sums)) []
             → with (r .made) (r .held) zs ≡ cond b (answerLent m x order groups count (stateIn state sums) c) (inTurn refused (jobChecks m x order groups count) (refused no.state 0))
         go true e ez = let d = is (eqb-true (length state) stateBytes e) in rw (d .made, d .held, ez) (sums-cut (unsigned 4 (take countBytes state)) (signed 8 (drop countBytes state)) (signed 8 sums))
         go false e ez = rw ez (none-lent (r .made) (r .held))

@@ -18,8 +18,8 @@ use Rattle.base.specs.Replies.{Check, inTurn}
 use Rattle.base.proofs.Booleans.{and-left}
 use Rattle.base.proofs.Replies.{accepted-all}
 use Rattle.matrix.specs.Matrix.{Matrix}
+use Rattle.matrix.specs.Limits.{maxStarts}
 use Rattle.matrix.proofs.Matrix.{matrix-facts}
-use Rattle.matrix.proofs.Cut.{mostStarts}
 use Rattle.plan.specs.Sound.{maxWorkers}
 use Rattle.run.specs.Job.{Job, jobOf, Accepted}
 use Rattle.run.specs.Machine.{State, steps, over, original, isState, countsFine}
@@ -100,15 +100,15 @@ module _ (m : Matrix) (x : List ℤ) (order groups : List ℕ) (count : ℕ) (s 
       go (forceList room) told = other (over job (s .made)) (leb (m .n) room) (original job (s .sums)) told
 
   -- the sums were not cut
-  pub picked-sums : {sums : List ℤ} → s .sums ≡ take mostStarts sums → take mostStarts sums ≡ sums
+  pub picked-sums : {sums : List ℤ} → s .sums ≡ take maxStarts sums → take maxStarts sums ≡ sums
   unfolding jobOf
-  picked-sums {sums} f = take-all mostStarts sums (omega (arith, ap length f, enough, length-take mostStarts sums, matrix-facts m (accepted .matrix) .few))
+  picked-sums {sums} f = take-all maxStarts sums (omega (arith, ap length f, enough, length-take maxStarts sums, matrix-facts m (accepted .matrix) .few))
 
 -- ---- what the call leaves
 
 -- picks that a call in bytes took
 module _ (m : Matrix) (x : List ℤ) (order groups : List ℕ) (count : ℕ) (c : Call) (state sums : List ℕ) (r : code.State) {zs : List ℤ}
-    (is : length state ≡ stateBytes → StateIs r state) (lent : zs ≡ cond (eqb (length state) stateBytes) (take mostStarts (signed 8 sums)) [])
+    (is : length state ≡ stateBytes → StateIs r state) (lent : zs ≡ cond (eqb (length state) stateBytes) (take maxStarts (signed 8 sums)) [])
     {k q p : ℕ} (e : answerIn m x order groups count state sums c ≡ picked k q p) where
   told : picked k q p ≡ answerLent m x order groups count (stateOf r zs) c
   told = sym (decoded m x order groups count c state sums r is lent ∙ e)
@@ -126,7 +126,7 @@ module _ (m : Matrix) (x : List ℤ) (order groups : List ℕ) (count : ℕ) (c 
   -- all its sums are lent on
   all-lent : zs ≡ signed 8 sums
   all-lent =
-      let cut : zs ≡ take mostStarts (signed 8 sums) = lent ∙ rw (eq-eqb (length state) stateBytes whole) in
+      let cut : zs ≡ take maxStarts (signed 8 sums) = lent ∙ rw (eq-eqb (length state) stateBytes whole) in
       cut ∙ picked-sums m x order groups count (stateOf r zs) c told cut
 
   same-state : stateOf r zs ≡ stateIn state sums
@@ -149,7 +149,7 @@ module _ (m : Matrix) (x : List ℤ) (order groups : List ℕ) (count : ℕ) (c 
 
 -- a call in bytes
 pub ran : (m : Matrix) (x : List ℤ) (order groups : List ℕ) (count : ℕ) (c : Call) (state sums : List ℕ) (r : code.State) {zs : List ℤ}
-    → (length state ≡ stateBytes → StateIs r state) → zs ≡ cond (eqb (length state) stateBytes) (take mostStarts (signed 8 sums)) []
+    → (length state ≡ stateBytes → StateIs r state) → zs ≡ cond (eqb (length state) stateBytes) (take maxStarts (signed 8 sums)) []
     → {old : List ℤ} {answer : Response} {after : code.State} {part : List ℤ} (rest : List ℤ) {forces : List ℤ} → length part ≡ length zs
     → Performed m x order groups count (stateOf r zs) c old (asAnswer answer (take (m .n) forces)) (stateOf after part) forces
     → Ran (m .n) (answerIn m x order groups count state sums c) (afterLent m x order groups count (stateIn state sums) c) state sums old answer after (part ++ rest) forces
@@ -160,7 +160,7 @@ ran m x order groups count c state sums r is lent {old} rest long h = record {
 }
 
 -- the sums that are lent on, of those that were loaded
-module _ (b : Bool) {size kept : ℕ} (e : kept ≡ cond b size 0) {list array : List ℤ} (l : Loaded mostStarts list array size) where
+module _ (b : Bool) {size kept : ℕ} (e : kept ≡ cond b size 0) {list array : List ℤ} (l : Loaded maxStarts list array size) where
   pub kept-few : kept ≤ length array
   kept-few = omega (arith, go b e, l .short, l .long)
     where
@@ -168,10 +168,10 @@ module _ (b : Bool) {size kept : ℕ} (e : kept ≡ cond b size 0) {list array :
       go true f = omega arith
       go false f = omega arith
 
-  pub kept-is : take kept array ≡ cond b (take mostStarts list) []
+  pub kept-is : take kept array ≡ cond b (take maxStarts list) []
   kept-is = go b e
     where
-      go : (t : Bool) → kept ≡ cond t size 0 → take kept array ≡ cond t (take mostStarts list) []
+      go : (t : Bool) → kept ≡ cond t size 0 → take kept array ≡ cond t (take maxStarts list) []
       go true f = rw f (l .is)
       go false f = rw f
 

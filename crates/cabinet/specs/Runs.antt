@@ -10,17 +10,18 @@ use Rattle.base.specs.Refusals as no
 use Rattle.base.specs.Replies as replies
 use Rattle.base.specs.Replies.{Reply, inTurn}
 use Rattle.matrix.specs.Matrix.{Matrix}
+use Rattle.plan.specs.Sound.{maxWorkers}
 use Rattle.run.specs.Machine.{State}
 use Rattle.run.specs.Calls.{Call, Answer, picked, isReady, forces, refused, jobChecks, answerLent}
 use Rattle.words.specs.LittleEndian.{unsigned, signed, unsignedBytes, signedBytes, stored}
 use Rattle.lent.specs.Word.{word, Answered}
 
 -- how many bytes a state has: sixteen counts of four bytes each, then sixteen held numbers of eight
-abbrev pub stateBytes : ℕ
-stateBytes = 192
-
 abbrev pub countBytes : ℕ
-countBytes = 64
+countBytes = 4 * maxWorkers
+
+abbrev pub stateBytes : ℕ
+stateBytes = countBytes + 8 * maxWorkers
 
 -- the state that bytes stand for, beside sums of eight bytes each
 abbrev pub stateIn : (state sums : List ℕ) → State

@@ -2,6 +2,8 @@
 use lent::lists::load_groups;
 use lent::lists::load_order;
 use lent::word::word_of;
+use matrix::limits::MAX_ROWS;
+use plan::fields::MAX_FIELDS;
 ghost use mathlib.Core.Path.{_≡_};
 ghost use Rattle.matrix.specs.Checks.{matrixOf};
 ghost use Rattle.plan.specs.Sound.{checkReply};
@@ -20,9 +22,9 @@ pub fn check_of(
 ) -> u64
     ensures { λ r. ⌜ r ≡ word (checkReply (matrixOf n (now (starts .entry)) (now (columns .entry)) (now (values .entry))) (unsigned 4 (now (order .entry))) (unsigned 4 (now (groups .entry))) «group_count») ⌝ }
 {
-    let mut order_list = [0u32; 4096];
+    let mut order_list = [0u32; MAX_ROWS];
     let order_len = load_order(order, &mut order_list);
-    let mut group_list = [0u32; 3072];
+    let mut group_list = [0u32; MAX_FIELDS];
     let groups_len = load_groups(groups, &mut group_list);
     let answer = plan::check(
         n,

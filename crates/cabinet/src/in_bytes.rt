@@ -1,4 +1,5 @@
 // A call on a run whose lists stand in bytes.
+use crate::state::STATE_BYTES;
 use crate::state::load_state;
 use calls::Call;
 use calls::Done;
@@ -9,12 +10,17 @@ use lent::lists::load_groups;
 use lent::lists::load_order;
 use lent::lists::load_starts;
 use lent::lists::load_values;
+use matrix::limits::MAX_CELLS;
+use matrix::limits::MAX_ROWS;
+use matrix::limits::MAX_STARTS;
+use plan::fields::MAX_FIELDS;
 use words::load::load_i64;
 ghost use mathlib.Core.Path.{_≡_};
 ghost use mathlib.Core.Bool.{cond};
 ghost use lib.Dec.{eqb};
 ghost use lib.ListN.{length};
 ghost use Rattle.matrix.specs.Checks.{matrixOf};
+ghost use Rattle.matrix.specs.Limits.{maxStarts};
 ghost use Rattle.run.specs.Calls.{afterLent};
 ghost use Rattle.calls.specs.Performed.{asCall};
 ghost use Rattle.words.specs.LittleEndian.{unsigned, signed};
@@ -26,7 +32,7 @@ ghost use Rattle.cabinet.specs.Ran.{Ran};
 fn lent_sums(state: &[u8], size: usize) -> usize
     ensures { λ r. ⌜ r ≡ cond (eqb (length (now (state .entry))) stateBytes) size 0 ⌝ }
 {
-    if state.len() == 192 { size } else { 0 }
+    if state.len() == STATE_BYTES { size } else { 0 }
 }
 
 // State and sums are decoded, the sums into `new`, where the call leaves them.
@@ -46,7 +52,7 @@ fn perform_of(
     forces: &mut [i64],
     call: Call,
 ) -> Done
-    requires { ⌜ length (now new) ≡ 4097 ⌝ }
+    requires { ⌜ length (now new) ≡ maxStarts ⌝ }
     ensures { λ r. ⌜ Ran n
         (answerIn (matrixOf n (now (starts .entry)) (now (columns .entry)) (now (values .entry))) (now (displacements .entry)) (now (order .entry)) (now (groups .entry)) count
         (now (state .entry)) (now (sums .entry)) (asCall call (now (schedule .entry)) (length (now (forces .entry)))))
@@ -90,7 +96,7 @@ pub fn perform_in(
     forces: &mut [i64],
     call: Call,
 ) -> Done
-    requires { ⌜ length (now new) ≡ 4097 ⌝ }
+    requires { ⌜ length (now new) ≡ maxStarts ⌝ }
     ensures { λ r. ⌜ Ran n
         (answerIn (matrixIn n (now («row_starts» .entry)) (now (columns .entry)) (now (values .entry))) (signed 4 (now (movements .entry))) (unsigned 4 (now (order .entry))) (unsigned 4 (now (groups .entry))) «group_count»
         (now (state .entry)) (now (sums .entry)) (asCall call (now (schedule .entry)) (length (now (forces .entry)))))
@@ -98,17 +104,17 @@ pub fn perform_in(
         (stateIn (now (state .entry)) (now (sums .entry))) (asCall call (now (schedule .entry)) (length (now (forces .entry)))))
         (now (state .entry)) (now (sums .entry)) (now (forces .entry)) (r .answer) (r .state) (now (new .exit)) (now (forces .exit)) ⌝ }
 {
-    let mut starts = [0u32; 4097];
+    let mut starts = [0u32; MAX_STARTS];
     let starts_len = load_starts(row_starts, &mut starts);
-    let mut column_list = [0u32; 65536];
+    let mut column_list = [0u32; MAX_CELLS];
     let columns_len = load_columns(columns, &mut column_list);
-    let mut value_list = [0i32; 65536];
+    let mut value_list = [0i32; MAX_CELLS];
     let values_len = load_values(values, &mut value_list);
-    let mut displacements = [0i32; 4097];
+    let mut displacements = [0i32; MAX_STARTS];
     let displacements_len = load_displacements(movements, &mut displacements);
-    let mut order_list = [0u32; 4096];
+    let mut order_list = [0u32; MAX_ROWS];
     let order_len = load_order(order, &mut order_list);
-    let mut group_list = [0u32; 3072];
+    let mut group_list = [0u32; MAX_FIELDS];
     let groups_len = load_groups(groups, &mut group_list);
     perform_of(
         n,

@@ -1,5 +1,6 @@
 // A run's state in bytes.
 use machine::state::State;
+use plan::MAX_WORKERS;
 use words::load::load_i64;
 use words::load::load_u32;
 use words::store::store_i64;
@@ -11,17 +12,22 @@ ghost use Rattle.words.specs.LittleEndian.{unsignedBytes, signedBytes, stored};
 ghost use Rattle.cabinet.specs.Runs.{stateBytes};
 ghost use Rattle.cabinet.specs.Ran.{StateIs};
 
+// "a state is 192 bytes": each worker's count, then what it holds.
+const COUNT_BYTES: usize = 4 * MAX_WORKERS;
+
+pub(crate) const STATE_BYTES: usize = COUNT_BYTES + 8 * MAX_WORKERS;
+
 // Bytes of another length are no state; for those a fresh one stands in.
 pub(crate) fn load_state(bytes: &[u8]) -> State
     ensures { λ r. ⌜ (length (now (bytes .entry)) ≡ stateBytes → StateIs r (now (bytes .entry))) ⌝ }
 {
-    if bytes.len() != 192 {
+    if bytes.len() != STATE_BYTES {
         return State::fresh();
     }
-    let mut made = [0u32; 16];
-    load_u32(&bytes[..64], &mut made);
-    let mut held = [0i64; 16];
-    load_i64(&bytes[64..], &mut held);
+    let mut made = [0u32; MAX_WORKERS];
+    load_u32(&bytes[..COUNT_BYTES], &mut made);
+    let mut held = [0i64; MAX_WORKERS];
+    load_i64(&bytes[COUNT_BYTES..], &mut held);
     State {
         made: made,
         held: held,
@@ -33,7 +39,7 @@ pub(crate) fn store_state(state: State, bytes: &mut [u8])
     ensures { λ _. ⌜ now (bytes .exit) ≡ stored (unsignedBytes 4 (state .made) ++ signedBytes 8 (state .held)) (now (bytes .entry)) ⌝ }
 {
     let made = state.made;
-    store_u32(&made, &mut bytes[..64]);
+    store_u32(&made, &mut bytes[..COUNT_BYTES]);
     let held = state.held;
-    store_i64(&held, &mut bytes[64..]);
+    store_i64(&held, &mut bytes[COUNT_BYTES..]);
 }

@@ -9,8 +9,12 @@ use force_list::force_list;
 use layout::lay;
 use machine::state::Rule;
 use machine::state::State;
+use matrix::limits::MAX_ROWS;
+use plan::MAX_GROUPS;
+use plan::MAX_WORKERS;
 use plan::fields::record_at;
 use ready_set::ready_set;
+use tables::MAX_UPDATES;
 ghost use mathlib.Core.Path.{_≡_};
 ghost use lib.ListN.{length, take};
 ghost use Rattle.matrix.specs.Checks.{matrixOf};
@@ -89,14 +93,14 @@ pub fn perform(
             answer: Response::Refused(STATE, 0),
         };
     }
-    let mut counts = [0u32; 16];
-    let mut first = [0u32; 16];
-    let mut row = [0u16; 69632];
-    let mut begins = [0u32; 4096];
-    let mut leaves = [0u16; 4096];
-    let mut ends = [0u32; 512];
-    let mut at = [0u16; 69632];
-    let mut beside = [0i32; 69632];
+    let mut counts = [0u32; MAX_WORKERS];
+    let mut first = [0u32; MAX_WORKERS];
+    let mut row = [0u16; MAX_UPDATES];
+    let mut begins = [0u32; MAX_ROWS];
+    let mut leaves = [0u16; MAX_ROWS];
+    let mut ends = [0u32; MAX_GROUPS];
+    let mut at = [0u16; MAX_UPDATES];
+    let mut beside = [0i32; MAX_UPDATES];
     lay(
         n as usize,
         starts,

@@ -1,7 +1,11 @@
 // The ready set: the workers whose next step would be taken, by the tables of the job.
 use crate::Response;
 use machine::state::State;
+use matrix::limits::MAX_ROWS;
+use plan::MAX_GROUPS;
+use plan::MAX_WORKERS;
 use steps::refusal;
+use tables::MAX_UPDATES;
 use waits::blocked_groups;
 ghost use mathlib.Core.Path.{_≡_};
 ghost use mathlib.Core.List.{List};
@@ -20,13 +24,13 @@ ghost use Rattle.calls.specs.Performed.{asAnswer};
 
 // Sixteen bits, bit w for worker w.
 fn ready_bits(
-    made: &[u32; 16],
+    made: &[u32; MAX_WORKERS],
     workers: usize,
-    counts: &[u32; 16],
-    first: &[u32; 16],
-    row: &[u16; 69632],
-    leaves: &[u16; 4096],
-    blocks: &[u8; 512],
+    counts: &[u32; MAX_WORKERS],
+    first: &[u32; MAX_WORKERS],
+    row: &[u16; MAX_UPDATES],
+    leaves: &[u16; MAX_ROWS],
+    blocks: &[u8; MAX_GROUPS],
 ) -> u16
     requires { ⌜ (workers ≤ maxWorkers) × Inside (now counts) (now first) (now row) (now leaves) ⌝ }
     ensures { λ r. ⌜ ((j : Job) (begins ends : List ℕ) → workers ≡ machine.workers j → Laid j (now (counts .entry)) (now (first .entry)) (now (row .entry)) begins (now (leaves .entry)) ends
@@ -48,11 +52,11 @@ pub(crate) fn ready_set(
     workers: usize,
     groups: &[u32],
     count: usize,
-    counts: &[u32; 16],
-    first: &[u32; 16],
-    row: &[u16; 69632],
-    leaves: &[u16; 4096],
-    ends: &[u32; 512],
+    counts: &[u32; MAX_WORKERS],
+    first: &[u32; MAX_WORKERS],
+    row: &[u16; MAX_UPDATES],
+    leaves: &[u16; MAX_ROWS],
+    ends: &[u32; MAX_GROUPS],
 ) -> Response
     requires { ⌜ (workers ≤ maxWorkers) × Recorded count (now groups) × Inside (now counts) (now first) (now row) (now leaves) ⌝ }
     ensures { λ r. ⌜ ((j : Job) (begins : List ℕ) (zs : List ℤ) → Accepted j → workers ≡ machine.workers j → j .plan .groups ≡ records count (now (groups .entry))

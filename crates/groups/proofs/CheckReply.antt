@@ -14,8 +14,8 @@ use Rattle.plan.specs.Groups as plan
 use Rattle.plan.specs.Groups.{width, flat, planOf}
 use Rattle.plan.specs.Sound.{maxGroups, isPlan, planCheck, checkReply}
 use Rattle.plan.proofs.FlatRecords.{records-flat, length-flat}
-use Rattle.planner.specs.Records.{groupOf}
-use Rattle.planner.specs.declared.records.Group.{Group}
+use Rattle.plan.specs.Checks.{groupOf}
+use Rattle.plan.specs.declared.fields.Group.{Group}
 use Rattle.groups.specs.Structs.{few, Flattened}
 
 module _ (m : Matrix) (order : List ℕ) where

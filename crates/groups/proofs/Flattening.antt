@@ -8,8 +8,8 @@ use lib.ListN.{length, take, getD}
 use lib.Seq.{take-suc}
 use Rattle.plan.specs.Groups.{width, fields, flat}
 use Rattle.plan.specs.Sound.{maxGroups}
-use Rattle.planner.specs.Records.{groupOf}
-use Rattle.planner.specs.declared.records.Group.{Group}
+use Rattle.plan.specs.Checks.{groupOf}
+use Rattle.plan.specs.declared.fields.Group.{Group}
 use Rattle.planner.proofs.Holding.{flat-append}
 use Rattle.groups.specs.Structs.{few, Flattened}
 

@@ -9,7 +9,7 @@ use lib.Seq.{drop-cons, drop-drop, set-at}
 use Rattle.plan.specs.Groups.{width, ofFields, records}
 use Rattle.plan.specs.Checks.{recordAt}
 use Rattle.plan.proofs.FlatRecords.{length-records}
-use Rattle.planner.specs.declared.records.Group.{Group}
+use Rattle.plan.specs.declared.fields.Group.{Group}
 use Rattle.groups.specs.Structs.{ofGroup, gathered}
 
 records-snoc : (k : ℕ) (ns : List ℕ) → records (suc k) ns ≡ records k ns ++ (recordAt ns k ∷ [])

@@ -11,11 +11,10 @@ use Rattle.base.specs.declared.Answer.{Answer}
 use Rattle.matrix.specs.Limits.{maxRows}
 use Rattle.matrix.specs.Matrix.{Matrix}
 use Rattle.plan.specs.Groups.{width, flat}
-use Rattle.plan.specs.Sound.{maxGroups}
-use Rattle.plan.proofs.Cut.{mostFields}
+use Rattle.plan.specs.Sound.{maxGroups, maxFields}
 use Rattle.plan.proofs.FlatRecords.{records-flat, length-flat}
 use Rattle.race.specs.Planner.{plan, planReply}
-use Rattle.planner.specs.declared.records.Group.{Group}
+use Rattle.plan.specs.declared.fields.Group.{Group}
 use Rattle.race.proofs.Rooms.{rooms-cut, planned}
 use Rattle.groups.specs.Structs.{ofGroup, gathered, countOf, Planned}
 use Rattle.groups.proofs.Gathering.{gathered-none}
@@ -26,10 +25,10 @@ module _ (m : Matrix) (w p : ℕ) (a room : ℕ) where
   reply = planReply m w p a (width * room)
 
   -- it is the same with no more room than a plan can need
-  pub same-reply : planReply m w p a (min (width * room) mostFields) ≡ reply
+  pub same-reply : planReply m w p a (min (width * room) maxFields) ≡ reply
   same-reply =
       let all : min a (a + maxRows) ≡ a = omega arith in
-      rw all at (rooms-cut m w p a (width * room) (a + maxRows) mostFields (omega arith) (omega arith))
+      rw all at (rooms-cut m w p a (width * room) (a + maxRows) maxFields (omega arith) (omega arith))
 
   -- so many records fit a plan and the slice
   pub reply-fits : (countOf reply ≤ maxGroups) × (countOf reply ≤ room)
@@ -38,7 +37,7 @@ module _ (m : Matrix) (w p : ℕ) (a room : ℕ) where
       go : (r : Reply) → reply ≡ r → (countOf r ≤ maxGroups) × (countOf r ≤ room)
       go (accepted k) e =
           let fits = planned m w p a (width * room) k e .groups-room in
-          let few = planned m w p a (min (width * room) mostFields) k (same-reply ∙ e) .groups-room in
+          let few = planned m w p a (min (width * room) maxFields) k (same-reply ∙ e) .groups-room in
           (omega arith, omega arith)
       go (refused q s) e = (omega arith, omega arith)
 
@@ -55,14 +54,14 @@ module _ (m : Matrix) (w p : ℕ) (a room : ℕ) where
       go (refused q s) e = gathered-none (old ++ rest) gs
 
 -- the planner's call with the first numbers of an array
-pub made-planned : (m : Matrix) (w p : ℕ) (order left zeros part : List ℕ) (room size count : ℕ) (answer : Answer) → length zeros ≡ mostFields → size ≡ min (width * room) mostFields
+pub made-planned : (m : Matrix) (w p : ℕ) (order left zeros part : List ℕ) (room size count : ℕ) (answer : Answer) → length zeros ≡ maxFields → size ≡ min (width * room) maxFields
     → replyOf answer ≡ planReply m w p (length order) (length (take size zeros))
     → left ≡ lent (planReply m w p (length order) (length (take size zeros))) (plan m w p .order) order
     → part ≡ lent (planReply m w p (length order) (length (take size zeros))) (flat (plan m w p .groups)) (take size zeros)
     → count ≡ countOf (replyOf answer)
     → Planned m w p order room (record { numbers = part ++ drop size zeros; count = count; answer = answer }) left
 made-planned m w p order left zeros part room size count answer z s told o g c =
-    let long : length (take size zeros) ≡ min (width * room) mostFields = length-take-le size zeros (omega arith) ∙ s in
+    let long : length (take size zeros) ≡ min (width * room) maxFields = length-take-le size zeros (omega arith) ∙ s in
     let same : planReply m w p (length order) (length (take size zeros)) ≡ planReply m w p (length order) (width * room) = rw long (same-reply m w p (length order) room) in
     let reply-is : replyOf answer ≡ planReply m w p (length order) (width * room) = told ∙ same in
     let count-is : count ≡ countOf (planReply m w p (length order) (width * room)) = c ∙ ap countOf reply-is in

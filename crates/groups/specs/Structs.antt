@@ -10,8 +10,8 @@ use Rattle.plan.specs.Groups as defined
 use Rattle.plan.specs.Groups.{width, flat, records}
 use Rattle.plan.specs.Sound.{maxGroups}
 use Rattle.race.specs.Planner.{plan, planReply}
-use Rattle.planner.specs.Records.{groupOf}
-use Rattle.planner.specs.declared.records.Group.{Group}
+use Rattle.plan.specs.Checks.{groupOf}
+use Rattle.plan.specs.declared.fields.Group.{Group}
 use Rattle.groups.specs.declared.Made.{Made}
 
 -- the struct of a group; `groupOf` is the way back

@@ -2,8 +2,10 @@
 // slice, so there are four, and thin: each is proved by a walk of its own. The work is done on flat lists, by covered functions.
 use base::Answer;
 use plan::MAX_GROUPS;
-use planner::records;
-use planner::records::Group;
+use plan::fields;
+use plan::fields::Group;
+use plan::fields::MAX_FIELDS;
+use plan::fields::WIDTH;
 ghost use mathlib.Core.Path.{_≡_};
 ghost use mathlib.Core.List.{List, _++_, map};
 ghost use Prim.Native.Nat.{_+_, _*_, _≤_, _<_, min};
@@ -12,41 +14,35 @@ ghost use Rattle.base.specs.Replies.{lent};
 ghost use Rattle.base.specs.Answers.{replyOf};
 ghost use Rattle.matrix.specs.Checks.{matrixOf};
 ghost use Rattle.plan.specs.Groups.{width, fields, flat};
-ghost use Rattle.plan.specs.Sound.{maxGroups, checkReply};
-ghost use Rattle.plan.specs.Checks.{recordAt};
+ghost use Rattle.plan.specs.Sound.{maxGroups, checkReply, maxFields};
+ghost use Rattle.plan.specs.Checks.{recordAt, groupOf};
 ghost use Rattle.race.specs.Planner.{plan, planReply};
-ghost use Rattle.planner.specs.Records.{groupOf};
 ghost use Rattle.groups.specs.Structs.{ofGroup, Flattened, gathered, countOf, Planned};
 
+// No plan has so many.
+const TOO_MANY: u32 = MAX_GROUPS as u32 + 1;
+
 // Writes a group's record at an index of a flat list.
-fn put(numbers: &mut [u32; 3072], k: usize, g: Group)
+fn put(numbers: &mut [u32; MAX_FIELDS], k: usize, g: Group)
     requires { ⌜ k < maxGroups ⌝ }
     ensures { λ _. ⌜ take (width * (k + 1)) (now (numbers .exit)) ≡ take (width * k) (now (numbers .entry)) ++ fields (groupOf g) ⌝ }
 {
-    records::put(numbers, k as u32, g);
+    fields::put(numbers, k, g);
 }
 
 // The group at an index of a flat list.
-fn get(numbers: &[u32; 3072], k: usize) -> Group
+fn get(numbers: &[u32; MAX_FIELDS], k: usize) -> Group
     requires { ⌜ k < maxGroups ⌝ }
     ensures { λ r. ⌜ r ≡ ofGroup (recordAt (now (numbers .entry)) k) ⌝ }
 {
-    let at = 6 * k;
-    Group {
-        start: numbers[at],
-        length: numbers[at + 1],
-        first: numbers[at + 2],
-        workers: numbers[at + 3],
-        colour: numbers[at + 4],
-        parent: numbers[at + 5],
-    }
+    fields::get(numbers, k)
 }
 
-// The flat list of the groups, of the first 512 if there are more.
-fn flatten(groups: &[Group]) -> [u32; 3072]
+// The flat list of the groups, of the first of them if a plan may not have as many.
+fn flatten(groups: &[Group]) -> [u32; MAX_FIELDS]
     ensures { λ r. ⌜ Flattened (now (groups .entry)) r ⌝ }
 {
-    let mut numbers = [0u32; 3072];
+    let mut numbers = [0u32; MAX_FIELDS];
     let mut k = 0usize;
     while k < groups.len() && k < MAX_GROUPS {
         put(&mut numbers, k, groups[k]);
@@ -56,7 +52,7 @@ fn flatten(groups: &[Group]) -> [u32; 3072]
 }
 
 // Writes the first `count` groups of a flat list to the front of a slice.
-fn gather(numbers: [u32; 3072], count: usize, groups: &mut [Group])
+fn gather(numbers: [u32; MAX_FIELDS], count: usize, groups: &mut [Group])
     requires { ⌜ (count ≤ maxGroups) × (count ≤ length (now groups)) ⌝ }
     ensures { λ _. ⌜ now (groups .exit) ≡ gathered count numbers (now (groups .entry)) ⌝ }
 {
@@ -67,20 +63,20 @@ fn gather(numbers: [u32; 3072], count: usize, groups: &mut [Group])
     }
 }
 
-// The check of a plan whose groups stand in a flat list. No plan has more than 512: 513 stands for every count past them.
+// The check of a plan whose groups stand in a flat list. One too many stands for every count past the limit.
 fn check_flat(
     n: u32,
     starts: &[u32],
     columns: &[u32],
     values: &[i32],
     order: &[u32],
-    numbers: [u32; 3072],
+    numbers: [u32; MAX_FIELDS],
     count: usize,
 ) -> Answer
     ensures { λ r. ⌜ replyOf r ≡ checkReply (matrixOf n (now (starts .entry)) (now (columns .entry)) (now (values .entry))) (now (order .entry)) numbers count ⌝ }
 {
     if MAX_GROUPS < count {
-        return plan::check(n, starts, columns, values, order, &numbers, 513);
+        return plan::check(n, starts, columns, values, order, &numbers, TOO_MANY);
     }
     plan::check(n, starts, columns, values, order, &numbers, count as u32)
 }
@@ -119,19 +115,23 @@ fn count_of(answer: Answer) -> usize
 
 // How many numbers of a flat list are lent to the planner, for a slice with room for so many groups.
 fn size_for(room: usize) -> usize
-    ensures { λ r. ⌜ r ≡ min (width * room) 3072 ⌝ }
+    ensures { λ r. ⌜ r ≡ min (width * room) maxFields ⌝ }
 {
-    if room < MAX_GROUPS { 6 * room } else { 3072 }
+    if room < MAX_GROUPS {
+        WIDTH * room
+    } else {
+        MAX_FIELDS
+    }
 }
 
 // What the planner made: groups in a flat list, how many, and the answer.
 struct Made {
-    numbers: [u32; 3072],
+    numbers: [u32; MAX_FIELDS],
     count: usize,
     answer: Answer,
 }
 
-// The plan of a matrix, for a slice with room for so many groups: none is needed past 512.
+// The plan of a matrix, for a slice with room for so many groups: none is needed past the limit.
 fn plan_flat(
     n: u32,
     starts: &[u32],
@@ -144,7 +144,7 @@ fn plan_flat(
 ) -> Made
     ensures { λ r. ⌜ Planned (matrixOf n (now (starts .entry)) (now (columns .entry)) (now (values .entry))) workers p (now (order .entry)) room r (now (order .exit)) ⌝ }
 {
-    let mut numbers = [0u32; 3072];
+    let mut numbers = [0u32; MAX_FIELDS];
     let size = size_for(room);
     let answer = planner::plan(
         n,

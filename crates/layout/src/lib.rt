@@ -1,9 +1,13 @@
 // The row of every worker's updates in one table: each worker's after those of the workers before it, leaf by leaf, row by row.
 mod leaf;
 
+use base::slices::wide_at;
 use leaf::is_leaf;
+use matrix::limits::MAX_ROWS;
+use plan::MAX_GROUPS;
+use plan::MAX_WORKERS;
 use plan::fields::record_at;
-use plan::fields::wide_at;
+use tables::MAX_UPDATES;
 use upper::positions;
 use upper::upper;
 ghost use mathlib.Core.Path.{_≡_};
@@ -21,7 +25,7 @@ ghost use Rattle.upper.specs.Upper.{Upper};
 ghost use Rattle.layout.specs.UpdateTable.{Given, Sized, Put, Blank, Filled, Walked, reached};
 
 // Position p at the places of its row's updates, from a place on: one for the diagonal, two for each other entry of the row in the upper triangle. The place after them.
-fn put_row(p: usize, size: usize, place: usize, row: &mut [u16; 69632]) -> usize
+fn put_row(p: usize, size: usize, place: usize, row: &mut [u16; MAX_UPDATES]) -> usize
     requires { ⌜ (p < maxRows) × (1 ≤ size) × (place + 2 * size ≤ maxUpdates + 1) × (length (now row) ≡ maxUpdates) ⌝ }
     ensures { λ r. ⌜ (r + 1 ≡ place + 2 * size) × Put p place r (now (row .entry)) (now (row .exit)) ⌝ }
 {
@@ -39,13 +43,13 @@ fn put_leaf(
     order: &[u32],
     groups: &[u32],
     count: usize,
-    sizes: &[u32; 4096],
+    sizes: &[u32; MAX_ROWS],
     i: usize,
     first: usize,
     place: usize,
-    row: &mut [u16; 69632],
-    begins: &mut [u32; 4096],
-    leaves: &mut [u16; 4096],
+    row: &mut [u16; MAX_UPDATES],
+    begins: &mut [u32; MAX_ROWS],
+    leaves: &mut [u16; MAX_ROWS],
 ) -> usize
     requires { ⌜ (i < count) × ((j : Job) × Sized j (now order) (now groups) count (now sizes)
         × Filled j (recordAt (now groups) i .first) first (reached count (now groups) i) place (now row) (now begins) (now leaves)) ⌝ }
@@ -74,13 +78,13 @@ fn put_worker(
     order: &[u32],
     groups: &[u32],
     count: usize,
-    sizes: &[u32; 4096],
+    sizes: &[u32; MAX_ROWS],
     w: usize,
     place: usize,
-    row: &mut [u16; 69632],
-    begins: &mut [u32; 4096],
-    leaves: &mut [u16; 4096],
-    ends: &mut [u32; 512],
+    row: &mut [u16; MAX_UPDATES],
+    begins: &mut [u32; MAX_ROWS],
+    leaves: &mut [u16; MAX_ROWS],
+    ends: &mut [u32; MAX_GROUPS],
 ) -> usize
     requires { ⌜ (w < maxWorkers) × ((j : Job) × Sized j (now order) (now groups) count (now sizes)
         × Walked j w place 0 0 place (now row) (now begins) (now leaves) (now ends)) ⌝ }
@@ -117,13 +121,13 @@ fn put_workers(
     order: &[u32],
     groups: &[u32],
     count: usize,
-    sizes: &[u32; 4096],
-    counts: &mut [u32; 16],
-    first: &mut [u32; 16],
-    row: &mut [u16; 69632],
-    begins: &mut [u32; 4096],
-    leaves: &mut [u16; 4096],
-    ends: &mut [u32; 512],
+    sizes: &[u32; MAX_ROWS],
+    counts: &mut [u32; MAX_WORKERS],
+    first: &mut [u32; MAX_WORKERS],
+    row: &mut [u16; MAX_UPDATES],
+    begins: &mut [u32; MAX_ROWS],
+    leaves: &mut [u16; MAX_ROWS],
+    ends: &mut [u32; MAX_GROUPS],
 )
     requires { ⌜ (length (now counts) ≡ maxWorkers) × (length (now first) ≡ maxWorkers)
         × ((j : Job) × Sized j (now order) (now groups) count (now sizes) × Blank (j .matrix .n) (now row) (now begins) (now leaves) (now ends)) ⌝ }
@@ -134,7 +138,7 @@ fn put_workers(
 {
     let mut place = 0;
     let mut w = 0;
-    while w < 16 {
+    while w < MAX_WORKERS {
         let next = put_worker(
             order,
             groups,
@@ -163,14 +167,14 @@ pub fn lay(
     order: &[u32],
     groups: &[u32],
     count: usize,
-    counts: &mut [u32; 16],
-    first: &mut [u32; 16],
-    row: &mut [u16; 69632],
-    begins: &mut [u32; 4096],
-    leaves: &mut [u16; 4096],
-    ends: &mut [u32; 512],
-    at: &mut [u16; 69632],
-    beside: &mut [i32; 69632],
+    counts: &mut [u32; MAX_WORKERS],
+    first: &mut [u32; MAX_WORKERS],
+    row: &mut [u16; MAX_UPDATES],
+    begins: &mut [u32; MAX_ROWS],
+    leaves: &mut [u16; MAX_ROWS],
+    ends: &mut [u32; MAX_GROUPS],
+    at: &mut [u16; MAX_UPDATES],
+    beside: &mut [i32; MAX_UPDATES],
 )
     requires { ⌜ ((x : List ℤ) × Given n (now starts) (now columns) (now values) x (now order) (now groups) count) × (length (now counts) ≡ maxWorkers) × (length (now first) ≡ maxWorkers)
         × Blank n (now row) (now begins) (now leaves) (now ends) × (now at ≡ replicate maxUpdates 0) × (length (now beside) ≡ maxUpdates) ⌝ }
@@ -180,8 +184,8 @@ pub fn lay(
         × Bounded n (now (counts .exit)) (now (first .exit)) (now (row .exit)) (now (begins .exit)) (now (leaves .exit)) (now (ends .exit))
         × ((sizes : List ℕ) × Upper (matrixOf n (now (starts .entry)) (now (columns .entry)) (now (values .entry))) (take n (now (order .entry))) n sizes (now (at .exit)) (now (beside .exit))) ⌝ }
 {
-    let mut position = [0u32; 4096];
-    let mut sizes = [0u32; 4096];
+    let mut position = [0u32; MAX_ROWS];
+    let mut sizes = [0u32; MAX_ROWS];
     positions(order, n, &mut position);
     upper(
         n,

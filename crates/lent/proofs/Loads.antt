@@ -7,10 +7,11 @@ use lib.IntN.{ℤ}
 use lib.ListN.{length, take, drop, length-append, length-drop}
 use lib.Seq.{take-at, take-all, length-take-le, drop-length}
 use Rattle.matrix.specs.Checks.{matrixOf}
-use Rattle.matrix.proofs.Cut.{mostStarts, mostEntries, cut}
+use Rattle.matrix.proofs.Cut.{cut}
 use Rattle.words.specs.LittleEndian.{stored}
 use Rattle.words.proofs.Copies.{take-min}
 use Rattle.words.proofs.Blocks.{decoded, length-decoded}
+use Rattle.matrix.specs.Limits.{maxStarts, maxCells}
 use Rattle.lent.specs.Lists.{Loaded}
 
 -- what a load from bytes leaves; f reads one number of a width
@@ -44,6 +45,6 @@ module _ {A : Type 0} {size : ℕ} {list array : List A} {count : ℕ} (l : Load
 
 -- the matrix whose lists were loaded: that of the whole lists, cut
 pub loaded-matrix : (n : ℕ) {starts columns : List ℕ} {values : List ℤ} {s c : List ℕ} {v : List ℤ} {i j k : ℕ}
-    → Loaded mostStarts starts s i → Loaded mostEntries columns c j → Loaded mostEntries values v k
+    → Loaded maxStarts starts s i → Loaded maxCells columns c j → Loaded maxCells values v k
     → matrixOf n (take i s) (take j c) (take k v) ≡ cut (matrixOf n starts columns values)
 loaded-matrix n ls lc lv = rw (ls .is, lc .is, lv .is)

@@ -15,6 +15,7 @@ use Rattle.base.specs.Replies.{Reply, accepted, refused, inTurn, lent}
 use Rattle.base.proofs.Booleans.{is-false}
 use Rattle.matrix.specs.Matrix.{Matrix, isMatrix, neighbours}
 use Rattle.matrix.specs.Checks.{matrixOf}
+use Rattle.matrix.specs.Limits.{maxStarts, maxCells}
 use Rattle.market.specs.Parse.{Triplet, triplet, Parsed, matrixText, rejected, parse}
 use Rattle.market.specs.FullRows.{full, ofTriplets, readMatrix, readReply}
 use Rattle.market.specs.AcceptedText.{leftIn, SameRows}
@@ -79,7 +80,7 @@ pub record Held (text : List ℕ) (m : Matrix) : Type 0 where
   pub matrix : isMatrix m ≡ true
   pub planned-is : (ps : Parameters) → judged (parse text) ps ≡ planned m ps
 
-module _ (text : List ℕ) (ss cs : List ℕ) (vs : List ℤ) (rows : length ss ≡ 4097) (columns : length cs ≡ 65536) (values : length vs ≡ 65536) where
+module _ (text : List ℕ) (ss cs : List ℕ) (vs : List ℤ) (rows : length ss ≡ maxStarts) (columns : length cs ≡ maxCells) (values : length vs ≡ maxCells) where
   abbrev reply : Reply
   reply = readReply (parse text) (length ss) (length cs) (length vs)
 
@@ -88,8 +89,8 @@ module _ (text : List ℕ) (ss cs : List ℕ) (vs : List ℤ) (rows : length ss 
   unfolding readReply inTurn
   reads n es e =
       let a = parse-accepted text n es e in
-      let f : length (full es) ≤ 65536 = omega (arith, a .count, full-few es) in
-      rw (e, rows, columns, values, le-leb (n + 1) 4097 (omega (arith, a .rows)), le-leb (length (full es)) 65536 f)
+      let f : length (full es) ≤ maxCells = omega (arith, a .count, full-few es) in
+      rw (e, rows, columns, values, le-leb (n + 1) maxStarts (omega (arith, a .rows)), le-leb (length (full es)) maxCells f)
 
   pub judged-refused : (q k : ℕ) → refused q k ≡ reply → (ps : Parameters) → judged (parse text) ps ≡ refusedLine q k
   unfolding judged readReply

@@ -10,6 +10,8 @@ use Rattle.base.specs.Refusals as no
 use Rattle.base.proofs.Replies.{lent-accepted}
 use Rattle.matrix.specs.Matrix.{Matrix, isMatrix, matrixCheck}
 use Rattle.matrix.proofs.Matrix.{matrix-facts}
+use Rattle.matrix.specs.Limits.{maxRows}
+use Rattle.plan.specs.Sound.{maxFields}
 use Rattle.plan.specs.Groups.{Plan, flat, planOf}
 use Rattle.plan.proofs.FlatRecords.{plan-flat}
 use Rattle.race.specs.Planner.{plan, areParameters, planReply}
@@ -21,7 +23,7 @@ pub record Left (m : Matrix) (w p k : ℕ) (order groups : List ℕ) : Type 0 wh
   pub few : k ≤ 481
   pub listed : planned m (parameters w p) ≡ planListing (planOf (m .n) order groups k)
 
-module _ (m : Matrix) (w p : ℕ) (is : isMatrix m ≡ true) (order groups : List ℕ) (rows : length order ≡ 4096) (room : length groups ≡ 3072) where
+module _ (m : Matrix) (w p : ℕ) (is : isMatrix m ≡ true) (order groups : List ℕ) (rows : length order ≡ maxRows) (room : length groups ≡ maxFields) where
   abbrev made : Plan
   made = plan m w p
 

@@ -11,10 +11,10 @@ use Rattle.market.specs.Text.{natural}
 use Rattle.writer.specs.Puts.{Put}
 use Rattle.writer.proofs.puts.Digits.{natural-few}
 use Rattle.writer.proofs.puts.Putting.{Next}
-use Rattle.plan.specs.Groups.{Group, fields, ofFields, records}
+use Rattle.plan.specs.Groups.{Group, width, fields, ofFields, records}
 use Rattle.plan.specs.Checks.{recordAt}
-use Rattle.plan.proofs.FlatRecords.{records-at, records-none}
-use Rattle.listing.specs.Listing.{spaced, orderLine, titleLine, groupLines}
+use Rattle.plan.proofs.FlatRecords.{fields-read, records-at, records-none}
+use Rattle.listing.specs.Listing.{maxNumber, maxLine, titles, spaced, orderLine, titleLine, groupLines}
 
 -- the next byte
 pub bytes-next : (bs : List ℕ) (i : ℕ) → i < length bs → Next (drop i bs) (getD bs i 0 ∷ []) (drop (i + 1) bs)
@@ -33,32 +33,21 @@ pub fields-last : (ns : List ℕ) (i : ℕ) → length ns ≤ i → Next (fields
 unfolding spaced
 fields-last ns i l = record { is = rw (drop-of-length-le ns {i = i} l) }
 
--- at most 11 bytes a number
-pub spaced-few : (ns : List ℕ) → length (spaced ns) ≤ 11 * length ns
+-- at most so many bytes a number
+pub spaced-few : (ns : List ℕ) → length (spaced ns) ≤ maxNumber * length ns
 unfolding spaced
 spaced-few [] = omega arith
 spaced-few (n ∷ ns) = let h = spaced-few ns in rw length-append (omega (arith, natural-few n))
 
-pub fields-few : (ns : List ℕ) → length (fieldsLine ns) ≤ 11 * length ns + 1
+pub fields-few : (ns : List ℕ) → length (fieldsLine ns) ≤ maxNumber * length ns + 1
 fields-few ns = rw length-append (omega (arith, spaced-few ns))
 
--- the six numbers of a record
-six-fields : (ns : List ℕ) → 6 ≤ length ns → take 6 ns ≡ fields (ofFields ns)
-unfolding fields ofFields
-six-fields (a ∷ b ∷ c ∷ d ∷ e ∷ f ∷ ns) l = refl
-six-fields [] l = absurd (omega arith)
-six-fields (a ∷ []) l = absurd (omega arith)
-six-fields (a ∷ b ∷ []) l = absurd (omega arith)
-six-fields (a ∷ b ∷ c ∷ []) l = absurd (omega arith)
-six-fields (a ∷ b ∷ c ∷ d ∷ []) l = absurd (omega arith)
-six-fields (a ∷ b ∷ c ∷ d ∷ e ∷ []) l = absurd (omega arith)
-
 -- the record at an index is a part of the flat list
-pub record-part : (ns : List ℕ) (i from : ℕ) → from ≡ 6 * i → from + 6 ≤ length ns → take (from + 6 - from) (drop from ns) ≡ fields (recordAt ns i)
+pub record-part : (ns : List ℕ) (i from : ℕ) → from ≡ width * i → from + width ≤ length ns → take (from + width - from) (drop from ns) ≡ fields (recordAt ns i)
 unfolding recordAt
 record-part ns i from e l =
-    let z : from + 6 - from ≡ 6 = omega arith in
-    rw z (six-fields (drop from ns) (rw length-drop (omega arith)) ∙ ap (λ (k : ℕ). fields (ofFields (drop k ns))) e)
+    let z : from + width - from ≡ width = omega arith in
+    rw z (fields-read (drop from ns) (rw length-drop (omega arith)) ∙ ap (λ (k : ℕ). fields (ofFields (drop k ns))) e)
 
 -- the next record's line
 pub groups-next : (ns : List ℕ) (count i : ℕ) → i < count
@@ -70,8 +59,8 @@ pub groups-end : (ns : List ℕ) (count i : ℕ) → count ≤ i → groupLines 
 unfolding groupLines
 groups-end ns count i l = rw (records-none count i ns l)
 
--- at most 77 bytes a record
-pub groups-few : (i : ℕ) (gs : List Group) → length (groupLines i gs) ≤ 77 * length gs
+-- at most so many bytes a record
+pub groups-few : (i : ℕ) (gs : List Group) → length (groupLines i gs) ≤ maxLine * length gs
 unfolding groupLines fields
 groups-few i [] = omega arith
 groups-few i (g ∷ gs) =
@@ -79,7 +68,7 @@ groups-few i (g ∷ gs) =
     simp length-append (omega (arith, natural-few i, spaced-few (fields g)))
 
 -- the order's line and the title line
-pub order-few : (order : List ℕ) → length (orderLine order ++ titleLine) ≤ 53 + 11 * length order
+pub order-few : (order : List ℕ) → length (orderLine order ++ titleLine) ≤ titles + maxNumber * length order
 unfolding orderLine titleLine
 order-few order = simp length-append (omega (arith, spaced-few order))
 

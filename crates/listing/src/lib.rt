@@ -11,6 +11,12 @@ use crate::lines::put_refusal;
 use base::Answer;
 use base::FORM;
 use base::PARAMETER;
+use matrix::limits::MAX_CELLS;
+use matrix::limits::MAX_ROWS;
+use matrix::limits::MAX_STARTS;
+use plan::MAX_GROUPS;
+use plan::fields::MAX_FIELDS;
+use plan::fields::WIDTH;
 use planner::plan;
 use reader::read;
 ghost use mathlib.Core.Path.{_≡_};
@@ -23,6 +29,18 @@ ghost use Rattle.matrix.specs.Checks.{matrixOf};
 ghost use Rattle.market.specs.Parse.{parse};
 ghost use Rattle.writer.specs.Puts.{Put};
 ghost use Rattle.listing.specs.Listing.{maxOutput, parameters, parametersOf, planned, judged, listing};
+
+// "24,576 bytes together at most"
+pub const MAX_INPUT: usize = 24576;
+
+// A number and the space or line feed beside it; the order's first word and the title; a record's line, after its index; all.
+const NUMBER: usize = 11;
+
+const TITLES: usize = 53;
+
+const LINE: usize = NUMBER * (WIDTH + 1);
+
+pub const MAX_OUTPUT: usize = TITLES + NUMBER * MAX_ROWS + LINE * MAX_GROUPS;
 
 // What is written for a matrix and two parameters, and the place after it.
 fn put_planned(
@@ -37,8 +55,8 @@ fn put_planned(
     requires { ⌜ (isMatrix (matrixOf n (now starts) (now columns) (now values)) ≡ true) × (maxOutput ≤ length (now output)) ⌝ }
     ensures { λ r. ⌜ Put (planned (matrixOf n (now (starts .entry)) (now (columns .entry)) (now (values .entry))) (parameters workers p)) 0 r (now (output .entry)) (now (output .exit)) ⌝ }
 {
-    let mut order = [0u32; 4096];
-    let mut groups = [0u32; 3072];
+    let mut order = [0u32; MAX_ROWS];
+    let mut groups = [0u32; MAX_FIELDS];
     let made = plan(
         n,
         starts,
@@ -60,9 +78,9 @@ fn put_judged(output: &mut [u8], line: &[u8], text: &[u8]) -> usize
     requires { ⌜ maxOutput ≤ length (now output) ⌝ }
     ensures { λ r. ⌜ Put (judged (parse (now (text .entry))) (parametersOf (now (line .entry)))) 0 r (now (output .entry)) (now (output .exit)) ⌝ }
 {
-    let mut starts = [0u32; 4097];
-    let mut columns = [0u32; 65536];
-    let mut values = [0i32; 65536];
+    let mut starts = [0u32; MAX_STARTS];
+    let mut columns = [0u32; MAX_CELLS];
+    let mut values = [0i32; MAX_CELLS];
     let found = read(text, &mut starts, &mut columns, &mut values);
     let n = match found {
         Answer::Refused(number, place) => return put_refusal(output, number, place),
@@ -84,11 +102,11 @@ fn put_judged(output: &mut [u8], line: &[u8], text: &[u8]) -> usize
 }
 
 // What netplan writes for what it reads, and how many bytes that is; the rest of the output is as it was.
-pub fn listing(input: &[u8], output: &mut [u8; 84533]) -> usize
+pub fn listing(input: &[u8], output: &mut [u8; MAX_OUTPUT]) -> usize
     ensures { λ r. ⌜ r ≡ length (listing (now (input .entry))) ⌝ }
     ensures { λ _. ⌜ now (output .exit) ≡ listing (now (input .entry)) ++ drop (length (listing (now (input .entry)))) (now (output .entry)) ⌝ }
 {
-    if 24576 < input.len() {
+    if MAX_INPUT < input.len() {
         return put_refusal(output, FORM, 0);
     }
     let end = line_length(input);

@@ -1,5 +1,6 @@
 // The lines that netplan writes, put into a lent output.
 
+use plan::fields::WIDTH;
 use writer::puts::put_byte;
 use writer::puts::put_number;
 ghost use mathlib.Core.List.{[], _∷_, _++_};
@@ -7,8 +8,8 @@ ghost use Prim.Native.Nat.{_+_, _*_, _≤_};
 ghost use lib.ListN.{length};
 ghost use Rattle.market.specs.Bytes.{lineFeed};
 ghost use Rattle.writer.specs.Puts.{Put};
-ghost use Rattle.plan.specs.Groups.{records, planOf};
-ghost use Rattle.listing.specs.Listing.{spaced, refusedLine, orderLine, titleLine, groupLines, planListing};
+ghost use Rattle.plan.specs.Groups.{width, records, planOf};
+ghost use Rattle.listing.specs.Listing.{maxNumber, maxRefusal, maxLine, titles, spaced, refusedLine, orderLine, titleLine, groupLines, planListing};
 
 // Bytes, and the place after them.
 fn put_bytes(output: &mut [u8], at: usize, bytes: &[u8]) -> usize
@@ -41,7 +42,7 @@ fn put_fields(output: &mut [u8], at: usize, numbers: &[u32]) -> usize
 
 // The line of a refusal, and the place after it.
 pub(crate) fn put_refusal(output: &mut [u8], number: u32, place: u32) -> usize
-    requires { ⌜ 30 ≤ length (now output) ⌝ }
+    requires { ⌜ maxRefusal ≤ length (now output) ⌝ }
     ensures { λ r. ⌜ Put (refusedLine number place) 0 r (now (output .entry)) (now (output .exit)) ⌝ }
 {
     let word = put_bytes(output, 0, b"refused");
@@ -50,7 +51,7 @@ pub(crate) fn put_refusal(output: &mut [u8], number: u32, place: u32) -> usize
 
 // The order's line and the title line, and the place after them.
 fn put_order(output: &mut [u8], order: &[u32]) -> usize
-    requires { ⌜ 53 + 11 * length (now order) ≤ length (now output) ⌝ }
+    requires { ⌜ titles + maxNumber * length (now order) ≤ length (now output) ⌝ }
     ensures { λ r. ⌜ Put (orderLine (now (order .entry)) ++ titleLine) 0 r (now (output .entry)) (now (output .exit)) ⌝ }
 {
     let word = put_bytes(output, 0, b"order");
@@ -64,7 +65,7 @@ fn put_order(output: &mut [u8], order: &[u32]) -> usize
 
 // The lines of the first records of a flat list, and the place after them.
 fn put_groups(output: &mut [u8], at: usize, groups: &[u32], count: u32) -> usize
-    requires { ⌜ (6 * count ≤ length (now groups)) × (at + 77 * count ≤ length (now output)) ⌝ }
+    requires { ⌜ (width * count ≤ length (now groups)) × (at + maxLine * count ≤ length (now output)) ⌝ }
     ensures { λ r. ⌜ Put (groupLines 0 (records count (now (groups .entry)))) at r (now (output .entry)) (now (output .exit)) ⌝ }
 {
     let mut p = at;
@@ -72,7 +73,7 @@ fn put_groups(output: &mut [u8], at: usize, groups: &[u32], count: u32) -> usize
     let mut i: u32 = 0;
     while i < count {
         let index = put_number(output, p, i);
-        let to = from + 6;
+        let to = from + WIDTH;
         p = put_fields(output, index, &groups[from..to]);
         from = to;
         i += 1;
@@ -88,7 +89,7 @@ pub(crate) fn put_plan(
     groups: &[u32],
     count: u32,
 ) -> usize
-    requires { ⌜ (n ≤ length (now order)) × (6 * count ≤ length (now groups)) × (53 + 11 * n + 77 * count ≤ length (now output)) ⌝ }
+    requires { ⌜ (n ≤ length (now order)) × (width * count ≤ length (now groups)) × (titles + maxNumber * n + maxLine * count ≤ length (now output)) ⌝ }
     ensures { λ r. ⌜ Put (planListing (planOf n (now (order .entry)) (now (groups .entry)) count)) 0 r (now (output .entry)) (now (output .exit)) ⌝ }
 {
     let rows = put_order(output, &order[..n]);

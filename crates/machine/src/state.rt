@@ -1,8 +1,12 @@
 // A run's state: one record, handed in and handed back.
 use base::DONE;
 use base::WAITING;
+use matrix::limits::MAX_ROWS;
+use plan::MAX_GROUPS;
+use plan::MAX_WORKERS;
 use steps::Pick;
 use steps::step;
+use tables::MAX_UPDATES;
 use waits::blocked_groups;
 use waits::next_ends;
 ghost use mathlib.Core.Path.{_≡_};
@@ -24,8 +28,8 @@ ghost use Rattle.machine.specs.Stepped.{passesOver, walk, endedWith, wal
 
 // Accesses made, and the number held, of each of 16 workers.
 pub struct State {
-    pub made: [u32; 16],
-    pub held: [i64; 16],
+    pub made: [u32; MAX_WORKERS],
+    pub held: [i64; MAX_WORKERS],
 }
 
 // What becomes of a schedule at a pick that its worker cannot make, for it is done or waits: it ends there, or passes over it. Any other refusal ends it.
@@ -64,8 +68,8 @@ impl State {
         ensures { λ r. ⌜ ((n : ℕ) → stateOf r (replicate n (pos 0)) ≡ machine.fresh n) ⌝ }
     {
         State {
-            made: [0u32; 16],
-            held: [0i64; 16],
+            made: [0u32; MAX_WORKERS],
+            held: [0i64; MAX_WORKERS],
         }
     }
 
@@ -87,17 +91,17 @@ impl State {
         sums: &mut [i64],
         w: usize,
         workers: usize,
-        counts: &[u32; 16],
-        first: &[u32; 16],
-        row: &[u16; 69632],
-        begins: &[u32; 4096],
-        leaves: &[u16; 4096],
-        blocks: &[u8; 512],
+        counts: &[u32; MAX_WORKERS],
+        first: &[u32; MAX_WORKERS],
+        row: &[u16; MAX_UPDATES],
+        begins: &[u32; MAX_ROWS],
+        leaves: &[u16; MAX_ROWS],
+        blocks: &[u8; MAX_GROUPS],
         starts: &[u32],
         displacements: &[i32],
         order: &[u32],
-        at: &[u16; 69632],
-        beside: &[i32; 69632],
+        at: &[u16; MAX_UPDATES],
+        beside: &[i32; MAX_UPDATES],
     ) -> Outcome
         requires { ⌜ (workers ≤ maxWorkers)
             × StepTables (length (now sums)) (now counts) (now first) (now row) (now begins) (now leaves) (now starts) (now displacements) (now order) (now at) ⌝ }
@@ -152,17 +156,17 @@ impl State {
         workers: usize,
         groups: &[u32],
         count: usize,
-        counts: &[u32; 16],
-        first: &[u32; 16],
-        row: &[u16; 69632],
-        begins: &[u32; 4096],
-        leaves: &[u16; 4096],
-        ends: &[u32; 512],
+        counts: &[u32; MAX_WORKERS],
+        first: &[u32; MAX_WORKERS],
+        row: &[u16; MAX_UPDATES],
+        begins: &[u32; MAX_ROWS],
+        leaves: &[u16; MAX_ROWS],
+        ends: &[u32; MAX_GROUPS],
         starts: &[u32],
         displacements: &[i32],
         order: &[u32],
-        at: &[u16; 69632],
-        beside: &[i32; 69632],
+        at: &[u16; MAX_UPDATES],
+        beside: &[i32; MAX_UPDATES],
     ) -> Walked
         requires { ⌜ (workers ≤ maxWorkers) × Recorded count (now groups)
             × StepTables (length (now sums)) (now counts) (now first) (now row) (now begins) (now leaves) (now starts) (now displacements) (now order) (now at) ⌝ }
@@ -219,18 +223,18 @@ impl State {
 
     // How many accesses worker w has made.
     pub fn moves(self, w: usize) -> u32
-        requires { ⌜ w < 16 ⌝ }
+        requires { ⌜ w < maxWorkers ⌝ }
         ensures { λ r. ⌜ r ≡ count (self .made) w ⌝ }
     {
         self.made[w]
     }
 
     // No worker has made more than its accesses, two for each of its updates.
-    pub fn is_fine(self, updates: [u32; 16]) -> bool
+    pub fn is_fine(self, updates: [u32; MAX_WORKERS]) -> bool
         requires { ⌜ Halves updates ⌝ }
-        ensures { λ r. ⌜ r ≡ allBelow (fine updates (self .made)) 16 ⌝ }
+        ensures { λ r. ⌜ r ≡ allBelow (fine updates (self .made)) maxWorkers ⌝ }
     {
-        let mut w = 16;
+        let mut w = MAX_WORKERS;
         while 0 < w {
             w -= 1;
             if 2 * updates[w] < self.moves(w) {
@@ -241,8 +245,8 @@ impl State {
     }
 
     // Every worker of the plan has made all its accesses.
-    pub fn is_finished(self, updates: [u32; 16], workers: usize) -> bool
-        requires { ⌜ (workers ≤ 16) × Halves updates ⌝ }
+    pub fn is_finished(self, updates: [u32; MAX_WORKERS], workers: usize) -> bool
+        requires { ⌜ (workers ≤ maxWorkers) × Halves updates ⌝ }
         ensures { λ r. ⌜ r ≡ allBelow (done updates (self .made)) workers ⌝ }
     {
         let mut w = workers;

@@ -14,7 +14,7 @@ use Rattle.base.specs.Lists.{filter, all, isIn, range, sumBelow}
 use Rattle.base.specs.Integers.{sumℤ, same}
 use Rattle.base.proofs.Booleans.{both-ways}
 use Rattle.base.proofs.Lists.{all-range, range-all}
-use Rattle.matrix.specs.Limits.{maxRows, maxEntries}
+use Rattle.matrix.specs.Limits.{maxRows, maxEntries, maxStarts, maxCells}
 use Rattle.matrix.specs.Matrix.{Matrix, partOf, columnsOf, valuesOf, lookup, entry, neighbours, mirrored, lowerEntries, isMatrix, displacement, areDisplacements, displacementCheck}
 use Rattle.matrix.specs.Checks.{matrixOf, rises, shaped, isOrdered, symmetric}
 use Rattle.matrix.specs.Product.{forceAt, product}
@@ -23,21 +23,14 @@ use Rattle.matrix.proofs.Checks.{ordered, Shape, shape, shape-rises, ma
 use Rattle.matrix.proofs.Rows.{row-in}
 use Rattle.matrix.proofs.Entries.{few-entries}
 
--- how many row starts, columns and values a matrix has at most
-abbrev pub mostStarts : ℕ
-mostStarts = 4097
-
-abbrev pub mostEntries : ℕ
-mostEntries = 65536
-
 -- the first of them
 abbrev pub cut : Matrix → Matrix
-cut m = matrixOf (m .n) (take mostStarts (m .starts)) (take mostEntries (m .columns)) (take mostEntries (m .values))
+cut m = matrixOf (m .n) (take maxStarts (m .starts)) (take maxCells (m .columns)) (take maxCells (m .values))
 
 -- ---- row starts
 
 start-same : (m : Matrix) → m .n ≤ maxRows → (i : ℕ) → i ≤ m .n → getD (cut m .starts) i 0 ≡ getD (m .starts) i 0
-start-same m few i l = getD-take mostStarts (m .starts) i 0 (omega arith)
+start-same m few i l = getD-take maxStarts (m .starts) i 0 (omega arith)
 
 rises-same : (m : Matrix) → m .n ≤ maxRows → (i : ℕ) → i < m .n → rises (cut m .starts) i ≡ rises (m .starts) i
 rises-same m few i l = rw (start-same m few i (omega arith), start-same m few (suc i) l)
@@ -48,7 +41,7 @@ shape-made m s = sym (shape-rises m (s .some) (s .few) (s .starts-long) (s .star
 
 module _ (m : Matrix) where
   -- cut, the lists keep their shape if the last row ends in what is left
-  cut-shaped : shaped m ≡ true → getD (m .starts) (m .n) 0 ≤ mostEntries → shaped (cut m) ≡ true
+  cut-shaped : shaped m ≡ true → getD (m .starts) (m .n) 0 ≤ maxCells → shaped (cut m) ≡ true
   cut-shaped h last =
       let s = shape m h in
       let end = start-same m (s .few) (m .n) (omega arith) in
@@ -67,8 +60,8 @@ module _ (m : Matrix) where
     cut-shape = shape (cut m) h
 
     -- the last row ends in what is left
-    cut-end : getD (m .starts) (m .n) 0 ≤ mostEntries
-    cut-end = omega (arith, start-same m (cut-shape .few) (m .n) (omega arith), cut-shape .columns-long, length-take mostEntries (m .columns))
+    cut-end : getD (m .starts) (m .n) 0 ≤ maxCells
+    cut-end = omega (arith, start-same m (cut-shape .few) (m .n) (omega arith), cut-shape .columns-long, length-take maxCells (m .columns))
 
     -- .. and the whole lists have the shape
     uncut-shaped : shaped m ≡ true
@@ -78,26 +71,26 @@ module _ (m : Matrix) where
         shape-made m (record {
           some = s .some;
           few = s .few;
-          starts-long = omega (arith, s .starts-long, length-take mostStarts (m .starts));
+          starts-long = omega (arith, s .starts-long, length-take maxStarts (m .starts));
           starts-first = sym (start-same m (s .few) 0 (omega arith)) ∙ s .starts-first;
-          columns-long = omega (arith, end, s .columns-long, length-take mostEntries (m .columns));
-          values-long = omega (arith, end, s .values-long, length-take mostEntries (m .values));
+          columns-long = omega (arith, end, s .columns-long, length-take maxCells (m .columns));
+          values-long = omega (arith, end, s .values-long, length-take maxCells (m .values));
           rising = range-all (rises (m .starts)) (m .n) (λ i l. sym (rises-same m (s .few) i l) ∙ all-range (rises (cut m .starts)) (m .n) i (s .rising) l);
         })
 
 -- ---- rows
 
 -- the part of a list that belongs to row i
-part-same : {A : Type 0} (m : Matrix) (xs : List A) → shaped m ≡ true → getD (m .starts) (m .n) 0 ≤ mostEntries → (i : ℕ) → partOf (cut m) (take mostEntries xs) i ≡ partOf m xs i
+part-same : {A : Type 0} (m : Matrix) (xs : List A) → shaped m ≡ true → getD (m .starts) (m .n) 0 ≤ maxCells → (i : ℕ) → partOf (cut m) (take maxCells xs) i ≡ partOf m xs i
 unfolding partOf
 part-same m xs h last i = go (ltb i (m .n)) refl
   where
-    go : (b : Bool) → ltb i (m .n) ≡ b → partOf (cut m) (take mostEntries xs) i ≡ partOf m xs i
+    go : (b : Bool) → ltb i (m .n) ≡ b → partOf (cut m) (take maxCells xs) i ≡ partOf m xs i
     go true e =
         let l = ltb-true i (m .n) e in
         let few = shape m h .few in
-        let end : getD (m .starts) (suc i) 0 ≤ mostEntries = rw (add-one i) at (row-in m h i l mostEntries last .ends) in
-        rw (e, start-same m few i (omega arith), start-same m few (suc i) l, take-take (getD (m .starts) (suc i) 0) mostEntries xs end)
+        let end : getD (m .starts) (suc i) 0 ≤ maxCells = rw (add-one i) at (row-in m h i l maxCells last .ends) in
+        rw (e, start-same m few i (omega arith), start-same m few (suc i) l, take-take (getD (m .starts) (suc i) 0) maxCells xs end)
     go false e = rw e
 
 -- what a matrix is asked of its rows, besides its shape
@@ -108,7 +101,7 @@ abbrev mirrors : ℕ → (ℕ → List ℕ) → (ℕ → List ℤ) → Bool
 mirrors n columns values =
     all (λ i. all (λ j. isIn (columns j) i && same (lookup j (columns i) (values i)) (lookup i (columns j) (values j))) (columns i)) (range 0 n)
 
-module _ (m : Matrix) (h : shaped m ≡ true) (last : getD (m .starts) (m .n) 0 ≤ mostEntries) where
+module _ (m : Matrix) (h : shaped m ≡ true) (last : getD (m .starts) (m .n) 0 ≤ maxCells) where
   columns-kept : columnsOf (cut m) ≡ columnsOf m
   unfolding columnsOf
   columns-kept = fun-ext (part-same m (m .columns) h last)
@@ -165,17 +158,17 @@ module _ (m : Matrix) (ok : isMatrix m ≡ true) where
 
 -- ---- displacements: a list that is cut to one more than any matrix has rows stays too long
 
-pub cut-displacements : (n : ℕ) (x : List ℤ) → n ≤ maxRows → displacementCheck n (take mostStarts x) ≡ displacementCheck n x
+pub cut-displacements : (n : ℕ) (x : List ℤ) → n ≤ maxRows → displacementCheck n (take maxStarts x) ≡ displacementCheck n x
 unfolding displacementCheck areDisplacements
-cut-displacements n x few = go (leb (length x) mostStarts) refl
+cut-displacements n x few = go (leb (length x) maxStarts) refl
   where
-    go : (b : Bool) → leb (length x) mostStarts ≡ b → displacementCheck n (take mostStarts x) ≡ displacementCheck n x
-    go true e = ap (displacementCheck n) (take-all mostStarts x (leb-true (length x) mostStarts e))
+    go : (b : Bool) → leb (length x) maxStarts ≡ b → displacementCheck n (take maxStarts x) ≡ displacementCheck n x
+    go true e = ap (displacementCheck n) (take-all maxStarts x (leb-true (length x) maxStarts e))
     go false e =
-        let long = leb-false (length x) mostStarts e in
-        let size : length (take mostStarts x) ≡ mostStarts = length-take-le mostStarts x (omega arith) in
-        rw (size, ne-eqb mostStarts n (λ q. omega arith), ne-eqb (length x) n (λ q. omega arith))
+        let long = leb-false (length x) maxStarts e in
+        let size : length (take maxStarts x) ≡ maxStarts = length-take-le maxStarts x (omega arith) in
+        rw (size, ne-eqb maxStarts n (λ q. omega arith), ne-eqb (length x) n (λ q. omega arith))
 
 -- n displacements are not cut
-pub displacements-kept : (n : ℕ) (x : List ℤ) → n ≤ maxRows → areDisplacements n x ≡ true → take mostStarts x ≡ x
-displacements-kept n x few h = take-all mostStarts x (omega (arith, displacements-many n x h))
+pub displacements-kept : (n : ℕ) (x : List ℤ) → n ≤ maxRows → areDisplacements n x ≡ true → take maxStarts x ≡ x
+displacements-kept n x few h = take-all maxStarts x (omega (arith, displacements-many n x h))

@@ -3,6 +3,8 @@ use cabinet::check::check_of;
 use lent::lists::load_columns;
 use lent::lists::load_starts;
 use lent::lists::load_values;
+use matrix::limits::MAX_CELLS;
+use matrix::limits::MAX_STARTS;
 ghost use mathlib.Core.Path.{_≡_};
 ghost use Rattle.plan.specs.Sound.{checkReply};
 ghost use Rattle.words.specs.LittleEndian.{unsigned};
@@ -21,11 +23,11 @@ pub extern "C" fn mzk_check(
 ) -> u64
     ensures { λ r. ⌜ r ≡ word (checkReply (matrixIn n (now («row_starts» .entry)) (now (columns .entry)) (now (values .entry))) (unsigned 4 (now (order .entry))) (unsigned 4 (now (groups .entry))) «group_count») ⌝ }
 {
-    let mut starts = [0u32; 4097];
+    let mut starts = [0u32; MAX_STARTS];
     let starts_len = load_starts(row_starts, &mut starts);
-    let mut column_list = [0u32; 65536];
+    let mut column_list = [0u32; MAX_CELLS];
     let columns_len = load_columns(columns, &mut column_list);
-    let mut value_list = [0i32; 65536];
+    let mut value_list = [0i32; MAX_CELLS];
     let values_len = load_values(values, &mut value_list);
     check_of(
         n,

@@ -1,9 +1,11 @@
 // mzk_forces: the forces of a finished run.
+use base::numbers::least;
 use cabinet::in_bytes::perform_in;
 use cabinet::stored::store_forces;
 use cabinet::word::word_of;
 use calls::Call;
-use words::least;
+use matrix::limits::MAX_ROWS;
+use matrix::limits::MAX_STARTS;
 ghost use Prim.Native.Nat.{_/_};
 ghost use lib.ListN.{length};
 ghost use Rattle.run.specs.Calls.{forceList};
@@ -28,9 +30,9 @@ pub extern "C" fn mzk_forces(
     ensures { λ r. ⌜ ForcesAnswered (answerIn (matrixIn n (now («row_starts» .entry)) (now (columns .entry)) (now (values .entry))) (signed 4 (now (movements .entry))) (unsigned 4 (now (order .entry))) (unsigned 4 (now (groups .entry))) «group_count»
         (now (state .entry)) (now (sums .entry)) (forceList (length (now (forces .entry)) / 8))) (now (forces .entry)) r (now (forces .exit)) ⌝ }
 {
-    let mut new = [0i64; 4097];
-    let mut made = [0i64; 4096];
-    let room = least(forces.len() / 8, 4096);
+    let mut new = [0i64; MAX_STARTS];
+    let mut made = [0i64; MAX_ROWS];
+    let room = least(forces.len() / 8, MAX_ROWS);
     let done = perform_in(
         n,
         row_starts,

@@ -3,6 +3,7 @@ use cabinet::in_bytes::perform_in;
 use cabinet::stored::store_picks;
 use cabinet::word::word_of;
 use calls::Call;
+use matrix::limits::MAX_STARTS;
 ghost use Prim.Native.Nat.{_/_};
 ghost use Rattle.run.specs.Calls.{afterLent};
 ghost use Rattle.run.specs.Calls as calls;
@@ -31,7 +32,7 @@ pub extern "C" fn mzk_picks(
         (stateIn (now (state .entry)) (now (sums .entry))) (calls.picks (now (picks .entry))))
         (now (state .entry)) (now (sums .entry)) r (now (state .exit)) (now (sums .exit)) ⌝ }
 {
-    let mut new = [0i64; 4097];
+    let mut new = [0i64; MAX_STARTS];
     let mut none = [0i64; 0];
     let done = perform_in(
         n,

@@ -2,6 +2,8 @@
 use lent::lists::load_columns;
 use lent::lists::load_starts;
 use lent::lists::load_values;
+use matrix::limits::MAX_CELLS;
+use matrix::limits::MAX_STARTS;
 use office::product::product_of;
 ghost use Prim.Native.Nat.{_/_};
 ghost use lib.ListN.{length};
@@ -21,11 +23,11 @@ pub extern "C" fn mzk_product(
 ) -> u64
     ensures { λ r. ⌜ Answered (productReply (matrixIn n (now («row_starts» .entry)) (now (columns .entry)) (now (values .entry))) (signed 4 (now (movements .entry))) (length (now (forces .entry)) / 8)) (signedBytes 8 (product (matrixIn n (now («row_starts» .entry)) (now (columns .entry)) (now (values .entry))) (signed 4 (now (movements .entry))))) (now (forces .entry)) r (now (forces .exit)) ⌝ }
 {
-    let mut starts = [0u32; 4097];
+    let mut starts = [0u32; MAX_STARTS];
     let starts_len = load_starts(row_starts, &mut starts);
-    let mut column_list = [0u32; 65536];
+    let mut column_list = [0u32; MAX_CELLS];
     let columns_len = load_columns(columns, &mut column_list);
-    let mut value_list = [0i32; 65536];
+    let mut value_list = [0i32; MAX_CELLS];
     let values_len = load_values(values, &mut value_list);
     product_of(
         n,

@@ -2,6 +2,7 @@
 use cabinet::in_bytes::perform_in;
 use cabinet::word::word_of;
 use calls::Call;
+use matrix::limits::MAX_STARTS;
 ghost use mathlib.Core.Path.{_≡_};
 ghost use Rattle.run.specs.Calls.{readySet};
 ghost use Rattle.words.specs.LittleEndian.{unsigned, signed};
@@ -24,7 +25,7 @@ pub extern "C" fn mzk_ready(
 ) -> u64
     ensures { λ r. ⌜ r ≡ word (replyTo (answerIn (matrixIn n (now («row_starts» .entry)) (now (columns .entry)) (now (values .entry))) (signed 4 (now (movements .entry))) (unsigned 4 (now (order .entry))) (unsigned 4 (now (groups .entry))) «group_count» (now (state .entry)) (now (sums .entry)) readySet)) ⌝ }
 {
-    let mut new = [0i64; 4097];
+    let mut new = [0i64; MAX_STARTS];
     let mut none = [0i64; 0];
     let done = perform_in(
         n,

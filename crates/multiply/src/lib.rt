@@ -7,6 +7,7 @@ use base::DISPLACEMENT;
 use base::MATRIX;
 use base::SHORT;
 use limits::first_past;
+use matrix::limits::MAX_DISPLACEMENT;
 use matrix::limits::all_within;
 use matrix::row::columns_of;
 use matrix::row::values_of;
@@ -21,9 +22,6 @@ ghost use Rattle.matrix.specs.Matrix.{isMatrix, entry, displacementCheck};
 ghost use Rattle.matrix.specs.Checks.{matrixOf};
 ghost use Rattle.matrix.specs.Product.{product, productReply};
 ghost use Rattle.multiply.specs.Loaded.{Loaded};
-
-// "Movement is whole µm, at most 1,000,000 either side of 0"
-const MAX_DISPLACEMENT: u32 = 1000000;
 
 // Entry (i, j) of a matrix, 0 if there is none.
 pub fn entry_at(n: u32, starts: &[u32], columns: &[u32], values: &[i32], i: u32, j: u32) -> i64

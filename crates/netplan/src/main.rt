@@ -1,13 +1,15 @@
 // netplan: reads workers, p and a matrix text from standard input, and writes the plan or the refusal to standard output.
 use libc::STDIN_FILENO;
 use libc::STDOUT_FILENO;
+use listing::MAX_INPUT;
+use listing::MAX_OUTPUT;
 use listing::listing;
 
 // One byte more than the longest input is read, so that a longer one is told from it. An input that cannot be read further has ended.
 fn main() {
-    let mut input = [0u8; 24577];
+    let mut input = [0u8; MAX_INPUT + 1];
     let size = io::read_full(STDIN_FILENO, &mut input);
-    let mut output = [0u8; 84533];
+    let mut output = [0u8; MAX_OUTPUT];
     let written = listing(&input[..size], &mut output);
     io::write_all(STDOUT_FILENO, &output[..written]);
 }

@@ -11,11 +11,11 @@ use Rattle.base.proofs.Replies.{inTurn-same, lent-same, lent-refused}
 use Rattle.matrix.specs.Limits.{maxRows}
 use Rattle.matrix.specs.Matrix.{Matrix, isMatrix, matrixCheck}
 use Rattle.matrix.proofs.Cut.{cut, cut-matrix, cut-neighbours}
-use Rattle.plan.specs.Groups.{Plan, flat}
-use Rattle.plan.proofs.Cut.{mostFields}
+use Rattle.plan.specs.Groups.{Plan, flat, width}
 use Rattle.race.specs.Planner.{planRows, plan, planReply}
 use Rattle.race.proofs.Rooms.{rooms-cut, planned}
 use Rattle.words.specs.LittleEndian.{bytesOf, unsignedBytes, stored}
+use Rattle.plan.specs.Sound.{maxFields}
 use Rattle.lent.specs.Word.{word}
 use Rattle.office.specs.Lent.{planIn, PlanAnswered}
 use Rattle.lent.proofs.Answers.{Begins, begins, begins-stored}
@@ -48,7 +48,7 @@ decoded-matrix m w p {order = order} {groups = groups} e t =
 -- ---- a plan made in arrays
 
 -- the reply of a call to which the first i and j numbers of two arrays are lent on
-pub same-reply : (m : Matrix) (w p : ℕ) (order groups orderBytes groupBytes : List ℕ) {i j : ℕ} → (maxRows ≤ length order) × (mostFields ≤ length groups)
+pub same-reply : (m : Matrix) (w p : ℕ) (order groups orderBytes groupBytes : List ℕ) {i j : ℕ} → (maxRows ≤ length order) × (maxFields ≤ length groups)
     → i ≡ min (length orderBytes / 4) (length order) → j ≡ min (length groupBytes / 4) (length groups)
     → planReply m w p (length (take i order)) (length (take j groups)) ≡ planIn m w p orderBytes groupBytes
 same-reply m w p order groups orderBytes groupBytes {i} {j} enough ei ej =
@@ -59,9 +59,9 @@ same-reply m w p order groups orderBytes groupBytes {i} {j} enough ei ej =
 pub record Held (m : Matrix) (w p : ℕ) (orderBytes groupBytes : List ℕ) (k : ℕ) (order groups : List ℕ) : Type 0 where
   pub reply : accepted k ≡ planIn m w p orderBytes groupBytes
   pub order-begins : Begins order (plan m w p .order) (m .n)
-  pub groups-begin : Begins groups (flat (plan m w p .groups)) (6 * k)
+  pub groups-begin : Begins groups (flat (plan m w p .groups)) (width * k)
   pub order-room : m .n ≤ length orderBytes / 4
-  pub groups-room : 6 * k ≤ length groupBytes / 4
+  pub groups-room : width * k ≤ length groupBytes / 4
 
 module _ {m : Matrix} {w p : ℕ} {orderBytes groupBytes : List ℕ} {r : Reply} (same : r ≡ planIn m w p orderBytes groupBytes) where
   -- a refused call leaves the lent lists
@@ -88,7 +88,7 @@ module _ {m : Matrix} {w p : ℕ} {orderBytes groupBytes : List ℕ} {r : Reply}
 pub plan-stored : {m : Matrix} {w p : ℕ} {orderBytes groupBytes : List ℕ} {k : ℕ} {order groups : List ℕ} → Held m w p orderBytes groupBytes k order groups
     → {v : ℕ} {newOrder newGroups : List ℕ} → v ≡ word (accepted k)
     → newOrder ≡ stored (unsignedBytes 4 (take (length orderBytes / 4) (take (m .n) order))) orderBytes
-    → newGroups ≡ stored (unsignedBytes 4 (take (length groupBytes / 4) (take (6 * k) groups))) groupBytes
+    → newGroups ≡ stored (unsignedBytes 4 (take (length groupBytes / 4) (take (width * k) groups))) groupBytes
     → PlanAnswered m w p orderBytes groupBytes v newOrder newGroups
 plan-stored {orderBytes = orderBytes} {groupBytes = groupBytes} h f go gg = record {
   returns = f ∙ ap word (h .reply);

@@ -12,11 +12,11 @@ use Rattle.base.specs.Replies.{accepted, refused, Check, roomFor, lent}
 use Rattle.base.proofs.Booleans.{leb-min}
 use Rattle.base.proofs.Replies.{inTurn-same, accepted-all, lent-refused}
 use Rattle.base.proofs.Fill.{length-made}
-use Rattle.matrix.specs.Limits.{maxRows}
+use Rattle.matrix.specs.Limits.{maxRows, maxStarts}
 use Rattle.matrix.specs.Matrix.{Matrix, isMatrix, matrixCheck, displacementCheck, areDisplacements}
 use Rattle.matrix.specs.Product.{forceAt, product, productReply}
 use Rattle.matrix.proofs.Matrix.{matrix-facts}
-use Rattle.matrix.proofs.Cut.{mostStarts, cut, cut-matrix, cut-product, cut-displacements, displacements-kept}
+use Rattle.matrix.proofs.Cut.{cut, cut-matrix, cut-product, cut-displacements, displacements-kept}
 use Rattle.words.specs.LittleEndian.{signedBytesOf, signedBytes, stored}
 use Rattle.lent.specs.Word.{word, Answered}
 use Rattle.lent.proofs.Answers.{answered-same, Begins, begins, begins-stored}
@@ -48,15 +48,15 @@ module _ (m : Matrix) (x : List ℤ) (room : ℕ) where
       → Answered (productReply m x room) (signedBytes 8 (product m x)) old w new
   matrix-cut t = answered-same matrix-cut-reply (λ k e. ap (signedBytes 8) (cut-product m (product-made k e .matrix) x)) t
 
-  displacements-cut-reply : productReply m (take mostStarts x) room ≡ productReply m x room
+  displacements-cut-reply : productReply m (take maxStarts x) room ≡ productReply m x room
   unfolding productReply matrixCheck
   displacements-cut-reply = inTurn-same refused (matrixCheck m) _ _ _ _ (λ h. rw (cut-displacements (m .n) x (matrix-facts m h .few)))
 
-  uncut : (k : ℕ) → productReply m x room ≡ accepted k → take mostStarts x ≡ x
+  uncut : (k : ℕ) → productReply m x room ≡ accepted k → take maxStarts x ≡ x
   uncut k e = let made = product-made k e in displacements-kept (m .n) x (matrix-facts m (made .matrix) .few) (made .moved)
 
   -- .. and so do the displacements
-  pub displacements-cut : {old : List ℕ} {w : ℕ} {new : List ℕ} → Answered (productReply m (take mostStarts x) room) (signedBytes 8 (product m (take mostStarts x))) old w new
+  pub displacements-cut : {old : List ℕ} {w : ℕ} {new : List ℕ} → Answered (productReply m (take maxStarts x) room) (signedBytes 8 (product m (take maxStarts x))) old w new
       → Answered (productReply m x room) (signedBytes 8 (product m x)) old w new
   displacements-cut t = answered-same displacements-cut-reply (λ k e. ap (λ (l : List ℤ). signedBytes 8 (product m l)) (uncut k e)) t
 
@@ -70,7 +70,7 @@ pub decoded-matrix : (m : Matrix) (x : List ℤ) (room : ℕ) {c : Matrix} {old 
     → Answered (productReply c x room) (signedBytes 8 (product c x)) old w new → Answered (productReply m x room) (signedBytes 8 (product m x)) old w new
 decoded-matrix m x room e t = matrix-cut m x room (rw e at t)
 
-pub decoded-displacements : (m : Matrix) (X : List ℤ) (room : ℕ) {x : List ℤ} {old : List ℕ} {w : ℕ} {new : List ℕ} → x ≡ take mostStarts X
+pub decoded-displacements : (m : Matrix) (X : List ℤ) (room : ℕ) {x : List ℤ} {old : List ℕ} {w : ℕ} {new : List ℕ} → x ≡ take maxStarts X
     → Answered (productReply m x room) (signedBytes 8 (product m x)) old w new → Answered (productReply m X room) (signedBytes 8 (product m X)) old w new
 decoded-displacements m X room e t = displacements-cut m X room (rw e at t)
 

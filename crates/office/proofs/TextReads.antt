@@ -12,7 +12,6 @@ use Rattle.base.specs.Replies.{Reply, accepted, refused, Check, roomFor, inTurn
 use Rattle.base.proofs.Booleans.{leb-min}
 use Rattle.base.proofs.Replies.{accepted-all, lent-accepted, lent-refused}
 use Rattle.matrix.proofs.Entries.{few-entries}
-use Rattle.matrix.proofs.Cut.{mostStarts, mostEntries}
 use Rattle.market.specs.Parse.{Triplet, Parsed, matrixText, rejected, parse}
 use Rattle.market.specs.FullRows.{full, rowsOf, rowStarts, columns, values, ofTriplets, readMatrix, readReply}
 use Rattle.market.proofs.Accepted.{parse-accepted}
@@ -20,20 +19,21 @@ use Rattle.market.proofs.AcceptedText.{accepted-text}
 use Rattle.market.proofs.FullCount.{length-rows}
 use Rattle.market.proofs.FullRows.{length-row-starts, rows-end}
 use Rattle.words.specs.LittleEndian.{bytesOf, signedBytesOf, unsignedBytes, signedBytes, stored}
+use Rattle.matrix.specs.Limits.{maxStarts, maxCells}
 use Rattle.lent.specs.Word.{word}
 use Rattle.office.specs.Lent.{readIn, ReadAnswered}
 use Rattle.lent.proofs.Answers.{Begins, begins, begins-at, begins-stored}
 
 -- the matrix of an accepted text
 module _ (text : List ℕ) (n : ℕ) (es : List Triplet) (e : parse text ≡ matrixText n es) where
-  full-few : length (full es) ≤ mostEntries
+  full-few : length (full es) ≤ maxCells
   unfolding ofTriplets
   full-few =
       let end : getD (rowStarts n es) n 0 ≡ length (rowsOf n es) = rw (append-nil (rowStarts n es)) at (rows-end n es []) in
       omega (arith, end, length-rows n es (parse-accepted text n es e .inner), few-entries (ofTriplets n es) (accepted-text .matrix text n es e))
 
 -- rooms that are cut to no less than a matrix can need give the same reply
-module _ (text : List ℕ) (a b c x y z : ℕ) (hx : mostStarts ≤ x) (hy : mostEntries ≤ y) (hz : mostEntries ≤ z) where
+module _ (text : List ℕ) (a b c x y z : ℕ) (hx : maxStarts ≤ x) (hy : maxCells ≤ y) (hz : maxCells ≤ z) where
   room-cut : (n : ℕ) (es : List Triplet) → parse text ≡ matrixText n es → readReply (matrixText n es) (min a x) (min b y) (min c z) ≡ readReply (matrixText n es) a b c
   unfolding readReply
   room-cut n es e =
@@ -94,7 +94,7 @@ module _ (text : List ℕ) (a b c k : ℕ) where
 
 -- the reply of a call to which the first i, j and k numbers of three arrays are lent on
 pub same-reply : (text starts columns : List ℕ) (values : List ℤ) (startBytes columnBytes valueBytes : List ℕ) {i j k : ℕ}
-    → (mostStarts ≤ length starts) × (mostEntries ≤ length columns) × (mostEntries ≤ length values)
+    → (maxStarts ≤ length starts) × (maxCells ≤ length columns) × (maxCells ≤ length values)
     → i ≡ min (length startBytes / 4) (length starts) → j ≡ min (length columnBytes / 4) (length columns) → k ≡ min (length valueBytes / 4) (length values)
     → readReply (parse text) (length (take i starts)) (length (take j columns)) (length (take k values)) ≡ readIn text startBytes columnBytes valueBytes
 same-reply text starts columns values startBytes columnBytes valueBytes {i} {j} {k} enough ei ej ek =

@@ -1,12 +1,15 @@
 // plan: the plan of a matrix.
 use base::Answer;
+use base::numbers::least;
 use lent::word::word_of;
-use words::least;
+use plan::fields::WIDTH;
 use words::store::store_u32;
 ghost use Prim.Native.Nat.{_≤_};
 ghost use lib.ListN.{length};
 ghost use Rattle.matrix.specs.Checks.{matrixOf};
 ghost use Rattle.office.specs.Lent.{PlanAnswered};
+ghost use Rattle.plan.specs.Sound.{maxFields};
+ghost use Rattle.matrix.specs.Limits.{maxRows};
 
 // The matrix is decoded. The plan is made in order and groups, as far as the lent lists have room; then it is stored.
 pub fn plan_in(
@@ -21,7 +24,7 @@ pub fn plan_in(
     order_bytes: &mut [u8],
     group_bytes: &mut [u8],
 ) -> u64
-    requires { ⌜ (4096 ≤ length (now order)) × (3072 ≤ length (now groups)) ⌝ }
+    requires { ⌜ (maxRows ≤ length (now order)) × (maxFields ≤ length (now groups)) ⌝ }
     ensures { λ r. ⌜ PlanAnswered (matrixOf n (now (starts .entry)) (now (columns .entry)) (now (values .entry))) workers p (now («order_bytes» .entry)) (now («group_bytes» .entry)) r (now («order_bytes» .exit)) (now («group_bytes» .exit)) ⌝ }
 {
     let order_room = least(order_bytes.len() / 4, order.len());
@@ -40,7 +43,7 @@ pub fn plan_in(
         return word_of(answer);
     };
     let rows = n as usize;
-    let fields = 6 * (count as usize);
+    let fields = WIDTH * (count as usize);
     store_u32(&order[..rows], order_bytes);
     store_u32(&groups[..fields], group_bytes);
     word_of(answer)

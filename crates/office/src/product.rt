@@ -1,8 +1,10 @@
 // product: the forces of a matrix and movements.
 use base::Answer;
+use base::numbers::least;
 use lent::lists::load_displacements;
 use lent::word::word_of;
-use words::least;
+use matrix::limits::MAX_ROWS;
+use matrix::limits::MAX_STARTS;
 use words::store::store_i64;
 ghost use Prim.Native.Nat.{_/_, _≤_};
 ghost use lib.ListN.{length};
@@ -10,6 +12,7 @@ ghost use Rattle.matrix.specs.Checks.{matrixOf};
 ghost use Rattle.matrix.specs.Product.{product, productReply};
 ghost use Rattle.words.specs.LittleEndian.{signed, signedBytes};
 ghost use Rattle.lent.specs.Word.{Answered};
+ghost use Rattle.matrix.specs.Limits.{maxRows};
 
 // The matrix and the displacements are decoded; the product is made in sums.
 fn product_in(
@@ -21,7 +24,7 @@ fn product_in(
     sums: &mut [i64],
     forces: &mut [u8],
 ) -> u64
-    requires { ⌜ 4096 ≤ length (now sums) ⌝ }
+    requires { ⌜ maxRows ≤ length (now sums) ⌝ }
     ensures { λ r. ⌜ Answered (productReply (matrixOf n (now (starts .entry)) (now (columns .entry)) (now (values .entry))) (now (displacements .entry)) (length (now (forces .entry)) / 8)) (signedBytes 8 (product (matrixOf n (now (starts .entry)) (now (columns .entry)) (now (values .entry))) (now (displacements .entry)))) (now (forces .entry)) r (now (forces .exit)) ⌝ }
 {
     let room = least(forces.len() / 8, sums.len());
@@ -45,9 +48,9 @@ pub fn product_of(
 ) -> u64
     ensures { λ r. ⌜ Answered (productReply (matrixOf n (now (starts .entry)) (now (columns .entry)) (now (values .entry))) (signed 4 (now (movements .entry))) (length (now (forces .entry)) / 8)) (signedBytes 8 (product (matrixOf n (now (starts .entry)) (now (columns .entry)) (now (values .entry))) (signed 4 (now (movements .entry))))) (now (forces .entry)) r (now (forces .exit)) ⌝ }
 {
-    let mut displacements = [0i32; 4097];
+    let mut displacements = [0i32; MAX_STARTS];
     let count = load_displacements(movements, &mut displacements);
-    let mut sums = [0i64; 4096];
+    let mut sums = [0i64; MAX_ROWS];
     product_in(
         n,
         starts,

@@ -1,20 +1,16 @@
 // read: the matrix of a text.
 use base::Answer;
+use base::numbers::least;
+use base::numbers::wide;
 use lent::word::word_of;
 use reader::read;
-use words::least;
 use words::store::store_i32;
 use words::store::store_u32;
 ghost use mathlib.Core.Path.{_≡_};
 ghost use Prim.Native.Nat.{_≤_};
 ghost use lib.ListN.{length};
 ghost use Rattle.office.specs.Lent.{ReadAnswered};
-
-fn wide(v: u32) -> usize
-    ensures { λ r. ⌜ r ≡ v ⌝ }
-{
-    v as usize
-}
+ghost use Rattle.matrix.specs.Limits.{maxCells, maxStarts};
 
 // The matrix is made in starts, columns and values, as far as the lent lists have room; then it is stored.
 pub fn read_in(
@@ -26,7 +22,7 @@ pub fn read_in(
     column_bytes: &mut [u8],
     value_bytes: &mut [u8],
 ) -> u64
-    requires { ⌜ (4097 ≤ length (now starts)) × (65536 ≤ length (now columns)) × (65536 ≤ length (now values)) ⌝ }
+    requires { ⌜ (maxStarts ≤ length (now starts)) × (maxCells ≤ length (now columns)) × (maxCells ≤ length (now values)) ⌝ }
     ensures { λ r. ⌜ ReadAnswered (now (text .entry)) (now («start_bytes» .entry)) (now («column_bytes» .entry)) (now («value_bytes» .entry)) r (now («start_bytes» .exit)) (now («column_bytes» .exit)) (now («value_bytes» .exit)) ⌝ }
 {
     let starts_room = least(start_bytes.len() / 4, starts.len());

@@ -7,7 +7,7 @@ use lib.ListN.{drop}
 use Rattle.plan.specs.Groups.{Group, records}
 use Rattle.plan.specs.Sound.{children, tiled}
 use Rattle.plan.specs.declared.fields.Record.{Record}
-use Rattle.plan.specs.Checks.{recordAt, groupOf, Reads, belowWhole, standsDepthFirst, NextChild, fitting, pending, complete, laid, tiles}
+use Rattle.plan.specs.Checks.{recordAt, ofRecord, Reads, belowWhole, standsDepthFirst, NextChild, fitting, pending, complete, laid, tiles}
 use Rattle.plan.proofs.Nested.{children-later, children-at, children-over}
 use Rattle.plan.proofs.Laid.{tiled-laid}
 
@@ -31,7 +31,7 @@ module _ (count k : ℕ) (ns : List ℕ) where
 
   pub next-tiles : (i s f w : ℕ) (g : Group) (h : Record) → i < count → recordAt ns i .parent ≡ k → Reads h (recordAt ns i)
       → laid g s f w (children k (drop i (records count ns)))
-      ≡ fitting s f w (groupOf h) && laid g (s + h .length) (f + w) (pending w (groupOf h)) (children k (drop (i + 1) (records count ns)))
+      ≡ fitting s f w (ofRecord h) && laid g (s + h .length) (f + w) (pending w (ofRecord h)) (children k (drop (i + 1) (records count ns)))
   unfolding laid
   next-tiles i s f w g h l e read =
       ap (laid g s f w) (children-at count k i ns l e ∙ ap (λ (x : Group). x ∷ children k (drop (i + 1) (records count ns))) (sym (read .is)))

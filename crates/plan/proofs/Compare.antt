@@ -8,10 +8,11 @@ use lib.ListN.{length, getD, take, drop}
 use Rattle.base.specs.Lists.{all, isIn}
 use Rattle.base.proofs.Each.{Pairwise, each-map}
 use Rattle.matrix.specs.Matrix.{pattern, neighbours}
+use Rattle.matrix.specs.Limits.{maxRows}
 use Rattle.plan.specs.Groups.{Group, records}
 use Rattle.plan.specs.Sound.{maxGroups, children, rowsOf, likeApart}
 use Rattle.plan.specs.declared.fields.Record.{Record}
-use Rattle.plan.specs.Checks.{recordAt, groupOf, Reads, belowWhole, NextChild, tiles, InOrder}
+use Rattle.plan.specs.Checks.{recordAt, ofRecord, Reads, belowWhole, NextChild, tiles, InOrder}
 use Rattle.plan.specs.Marks.{OfMatrix, touchedBy, ofColour, touchedLike, Stamped, Touched, UpTo}
 use Rattle.plan.proofs.Once.{once}
 use Rattle.plan.proofs.Nested.{children-at, children-over}
@@ -41,7 +42,7 @@ module _ (n : ℕ) (starts columns order groups : List ℕ) (count k colour low 
     pub past : k < i
     pub within : i ≤ count
     pub child : i < count → recordAt groups i .parent ≡ k
-    pub long : length marks ≡ 4096
+    pub long : length marks ≡ maxRows
     pub most : (v : ℕ) → getD marks v 0 < low + i
     pub same : answer ≡ leftApart adj (take n order) touched low marks (ofColour colour (from i))
     pub in-turn : Pairwise After (from i)
@@ -72,19 +73,19 @@ module _ (n : ℕ) (starts columns order groups : List ℕ) (count k colour low 
       next-is = children-at count k i groups here (c .child here)
 
       -- the call's answer on the child at i
-      free : (r : Bool) → Touched low mine (touchedLike n starts columns (take n order) colour (groupOf h)) marks marks′ r → clear low marks (touchedLike n starts columns (take n order) colour (recordAt groups i)) ≡ r
+      free : (r : Bool) → Touched low mine (touchedLike n starts columns (take n order) colour (ofRecord h)) marks marks′ r → clear low marks (touchedLike n starts columns (take n order) colour (recordAt groups i)) ≡ r
       free r t =
           sym (t .free
-          ∙ clash-above low mine marks (touchedLike n starts columns (take n order) colour (groupOf h)) (λ v. omega (arith, c .most v))
+          ∙ clash-above low mine marks (touchedLike n starts columns (take n order) colour (ofRecord h)) (λ v. omega (arith, c .most v))
           ∙ ap (λ (g : Group). clear low marks (touchedLike n starts columns (take n order) colour g)) (read .is))
 
-      pub comparing-stops : Touched low mine (touchedLike n starts columns (take n order) colour (groupOf h)) marks marks′ false → answer ≡ false
+      pub comparing-stops : Touched low mine (touchedLike n starts columns (take n order) colour (ofRecord h)) marks marks′ false → answer ≡ false
       unfolding touchedLike
       comparing-stops t =
           c .same ∙ ap (λ (ks : List Group). leftApart adj (take n order) touched low marks (ofColour colour ks)) next-is
           ∙ colour-stops adj (take n order) touched low mine (omega (arith, c .past)) colour (recordAt groups i) (from (i + 1)) marks (free false t)
 
-      pub comparing-next : (r : ℕ) → Touched low mine (touchedLike n starts columns (take n order) colour (groupOf h)) marks marks′ true → NextChild count groups k (i + 1) r → Comparing marks′ r
+      pub comparing-next : (r : ℕ) → Touched low mine (touchedLike n starts columns (take n order) colour (ofRecord h)) marks marks′ true → NextChild count groups k (i + 1) r → Comparing marks′ r
       unfolding touchedLike
       comparing-next r t next =
           let g = recordAt groups i in

@@ -1,4 +1,4 @@
--- Lent lists of a plan cut to what a plan can need: 4,096 places of the order and 512 records. They are a plan if the whole lists are.
+-- Lent lists of a plan cut to what a plan can need: places of the order and records. They are a plan if the whole lists are.
 use mathlib.Core.Path.{_≡_, refl, ap}
 use mathlib.Core.Bool.{Bool, true, false, _&&_}
 use mathlib.Core.List.{List}
@@ -14,11 +14,7 @@ use Rattle.matrix.specs.Limits.{maxRows}
 use Rattle.matrix.specs.Matrix.{Matrix, isMatrix}
 use Rattle.matrix.proofs.Cut.{cut, cut-neighbours}
 use Rattle.plan.specs.Groups.{Plan, width, ofFields, records, planOf}
-use Rattle.plan.specs.Sound.{maxGroups, sound, isSound, isPlan}
-
--- how many numbers the records of a plan have at most
-abbrev pub mostFields : ℕ
-mostFields = 3072
+use Rattle.plan.specs.Sound.{maxGroups, sound, isSound, isPlan, maxFields}
 
 -- ---- records
 
@@ -41,24 +37,24 @@ records-cut (suc k) most ns h =
 
 module _ (m : Matrix) (order groups : List ℕ) (count : ℕ) (few : m .n ≤ maxRows) where
   -- cut, the lists hold the same plan if its records fit
-  pub plan-kept : width * count ≤ mostFields → planOf (m .n) (take maxRows order) (take mostFields groups) count ≡ planOf (m .n) order groups count
+  pub plan-kept : width * count ≤ maxFields → planOf (m .n) (take maxRows order) (take maxFields groups) count ≡ planOf (m .n) order groups count
   unfolding planOf
-  plan-kept h = rw (take-take (m .n) maxRows order few, records-cut count mostFields groups h)
+  plan-kept h = rw (take-take (m .n) maxRows order few, records-cut count maxFields groups h)
 
   -- cut, the lists are a plan if and only if they were
-  pub cut-plan : isPlan m (take maxRows order) (take mostFields groups) count ≡ isPlan m order groups count
+  pub cut-plan : isPlan m (take maxRows order) (take maxFields groups) count ≡ isPlan m order groups count
   unfolding isPlan
-  cut-plan = rw (length-take maxRows order, length-take mostFields groups, leb-min (m .n) maxRows (length order) few) (go (leb count maxGroups) refl)
+  cut-plan = rw (length-take maxRows order, length-take maxFields groups, leb-min (m .n) maxRows (length order) few) (go (leb count maxGroups) refl)
     where
       before : Bool
       before = leb (m .n) (length order)
 
       go : (b : Bool) → leb count maxGroups ≡ b
-          → before && leb count maxGroups && leb (width * count) (min mostFields (length groups)) && isSound m (planOf (m .n) (take maxRows order) (take mostFields groups) count)
+          → before && leb count maxGroups && leb (width * count) (min maxFields (length groups)) && isSound m (planOf (m .n) (take maxRows order) (take maxFields groups) count)
           ≡ before && leb count maxGroups && leb (width * count) (length groups) && isSound m (planOf (m .n) order groups count)
       go true e =
-          let fits : width * count ≤ mostFields = omega (arith, leb-true count maxGroups e) in
-          rw (leb-min (width * count) mostFields (length groups) fits, plan-kept fits)
+          let fits : width * count ≤ maxFields = omega (arith, leb-true count maxGroups e) in
+          rw (leb-min (width * count) maxFields (length groups) fits, plan-kept fits)
       go false e = rw (e, and-false before)
 
 -- a matrix whose lists are cut has the same sound plans

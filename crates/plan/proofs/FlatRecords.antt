@@ -3,8 +3,8 @@ use mathlib.Core.Path.{_≡_, refl, ap, _∙_}
 use mathlib.Core.List.{List, [], _∷_, _++_}
 use Prim.Native.Nat.{ℕ, zero, suc, _+_, _*_, _≤_, _<_}
 use native.Mathlib.Omega.{arith}
-use lib.ListN.{length, getD, drop, drop-of-length-le}
-use lib.Seq.{drop-drop, getD-drop, take-at}
+use lib.ListN.{length, getD, take, drop, drop-of-length-le}
+use lib.Seq.{drop-drop, drop-cons, getD-drop, take-at}
 use Rattle.plan.specs.Groups.{Group, Plan, width, fields, ofFields, flat, records, planOf}
 use Rattle.plan.specs.Checks.{recordAt}
 
@@ -26,19 +26,39 @@ records-at (suc k) (suc i) ns l =
 pub records-none : (count i : ℕ) (ns : List ℕ) → count ≤ i → drop i (records count ns) ≡ []
 records-none count i ns l = drop-of-length-le (records count ns) {i = i} (omega (arith, length-records count ns))
 
--- a record of the list's six numbers from 6 i on
-pub record-fields : (ns : List ℕ) (i a b c d e f : ℕ) → a ≡ getD ns (width * i) 0 → b ≡ getD ns (width * i + 1) 0 → c ≡ getD ns (width * i + 2) 0
-    → d ≡ getD ns (width * i + 3) 0 → e ≡ getD ns (width * i + 4) 0 → f ≡ getD ns (width * i + 5) 0
-    → record { start = a; length = b; first = c; workers = d; colour = e; parent = f } ≡ recordAt ns i
+-- the numbers of the list from a record's place on
+pub record-fields : (ns : List ℕ) (i : ℕ) →
+    record {
+      start = getD ns (width * i) 0;
+      length = getD ns (width * i + 1) 0;
+      first = getD ns (width * i + 2) 0;
+      workers = getD ns (width * i + 3) 0;
+      colour = getD ns (width * i + 4) 0;
+      parent = getD ns (width * i + 5) 0;
+    }
+    ≡ recordAt ns i
 unfolding recordAt ofFields
-record-fields ns i a b c d e f pa pb pc pd pe pf =
-    rw (field 0 ∙ ap (λ (k : ℕ). getD ns k 0) none, field 1, field 2, field 3, field 4, field 5, pa, pb, pc, pd, pe, pf)
+record-fields ns i = rw (field 0 ∙ ap (λ (k : ℕ). getD ns k 0) none, field 1, field 2, field 3, field 4, field 5)
   where
     none : width * i + 0 ≡ width * i
     none = omega arith
 
     field : (k : ℕ) → getD (drop (width * i) ns) k 0 ≡ getD ns (width * i + k) 0
     field k = getD-drop (width * i) ns k 0
+
+-- numbers of a list from a place on, one by one
+abbrev reads : List ℕ → (i k : ℕ) → List ℕ
+reads ns i zero = []
+reads ns i (suc k) = getD ns i 0 ∷ reads ns (suc i) k
+
+part-reads : (ns : List ℕ) (i k : ℕ) → i + k ≤ length ns → take k (drop i ns) ≡ reads ns i k
+part-reads ns i zero l = refl
+part-reads ns i (suc k) l = rw (drop-cons ns i 0 (omega arith)) (ap (λ (xs : List ℕ). getD ns i 0 ∷ xs) (part-reads ns (suc i) k (omega arith)))
+
+-- the numbers in front of a list are the fields of the record that is read there
+pub fields-read : (ns : List ℕ) → width ≤ length ns → take width ns ≡ fields (ofFields ns)
+unfolding fields ofFields
+fields-read ns l = part-reads ns 0 width (omega arith)
 
 -- ---- records that were flattened
 

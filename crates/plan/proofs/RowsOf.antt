@@ -12,6 +12,7 @@ use Rattle.matrix.specs.Checks.{matrixOf, RowIn}
 use Rattle.matrix.proofs.Matrix.{matrix-facts, column-low, graph}
 use Rattle.matrix.proofs.Checks.{matrix-tidy}
 use Rattle.matrix.proofs.Rows.{columns-in, columns-part}
+use Rattle.matrix.specs.Limits.{maxRows}
 use Rattle.plan.specs.Marks.{OfMatrix}
 
 -- adjacency does not look at values
@@ -23,7 +24,7 @@ module _ {n : ℕ} {starts columns : List ℕ} (of : OfMatrix n starts columns) 
   abbrev m : Matrix
   m = matrixOf n starts columns (of .values)
 
-  pub rows-few : n ≤ 4096
+  pub rows-few : n ≤ maxRows
   rows-few = matrix-facts m (of .is) .few
 
   pub rows-graph : Graph (neighbours (pattern n starts columns)) n

@@ -12,15 +12,16 @@ use borrow.Author.Tests.{eqb-true, eqb-false, eq-eqb, ne-eqb}
 use Rattle.base.specs.Lists.{all, isIn, range, bit}
 use Rattle.base.proofs.Booleans.{or-true, or-false}
 use Rattle.base.proofs.Lists.{isIn-append}
+use Rattle.matrix.specs.Limits.{maxRows}
 use Rattle.plan.specs.Sound.{eachOnce}
 use Rattle.plan.specs.Checks.{Seen}
 
 -- no row is marked at first
-pub seen-none : (n k : ℕ) → k ≡ 4096 → n ≤ k → Seen n [] (replicate k 0)
+pub seen-none : (n k : ℕ) → k ≡ maxRows → n ≤ k → Seen n [] (replicate k 0)
 seen-none n k e l = record { long = length-replicate k 0 ∙ e; is = λ v h. getD-replicate k v 0 0 (omega arith) }
 
 -- a row more
-in-row : (n v : ℕ) (xs marks : List ℕ) → Seen n xs marks → v < n → n ≤ 4096 → Seen n (xs ++ (v ∷ [])) (set marks v 1)
+in-row : (n v : ℕ) (xs marks : List ℕ) → Seen n xs marks → v < n → n ≤ maxRows → Seen n (xs ++ (v ∷ [])) (set marks v 1)
 in-row n v xs marks s l few = record { long = length-set marks v 1 ∙ s .long; is = λ u k. isIn-append′ u (go u k (eqb u v) refl) }
   where
     isIn-append′ : (u : ℕ) → getD (set marks v 1) u 0 ≡ bit (isIn xs u || (eqb u v || false)) → getD (set marks v 1) u 0 ≡ bit (isIn (xs ++ (v ∷ [])) u)
@@ -47,7 +48,7 @@ module _ (n i : ℕ) (order marks : List ℕ) (seen : Seen n (take i order) mark
   next : (marks′ : List ℕ) → Seen n (take i order ++ (getD order i 0 ∷ [])) marks′ → Seen n (take (i + 1) order) marks′
   next marks′ s = rw (add-one i, take-suc order i 0 here) s
 
-  pub seen-row : getD order i 0 < n → n ≤ 4096 → Seen n (take (i + 1) order) (set marks (getD order i 0) 1)
+  pub seen-row : getD order i 0 < n → n ≤ maxRows → Seen n (take (i + 1) order) (set marks (getD order i 0) 1)
   seen-row l few = next (set marks (getD order i 0) 1) (in-row n (getD order i 0) (take i order) marks seen l few)
 
   pub seen-other : n ≤ getD order i 0 → Seen n (take (i + 1) order) marks

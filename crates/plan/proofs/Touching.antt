@@ -13,6 +13,7 @@ use borrow.Author.Tests.{eqb-true, eqb-false, eq-eqb, ne-eqb, ltb-true, ltb-fals
 use Rattle.base.specs.Lists.{any, isIn, concat}
 use Rattle.base.proofs.Booleans.{and-false, clash, is-false}
 use Rattle.base.proofs.Lists.{isIn-append, any-of, any-ext}
+use Rattle.matrix.specs.Limits.{maxRows}
 use Rattle.plan.specs.Marks.{clashes, Stamped, Touched, UpTo}
 
 -- ---- lists
@@ -28,7 +29,7 @@ any-append p (x ∷ xs) ys = go (p x) (any-append p xs ys)
 -- ---- touched
 
 -- no row is marked at first
-pub unmarked : (k : ℕ) → k ≡ 4096 → UpTo 0 (replicate k 0)
+pub unmarked : (k : ℕ) → k ≡ maxRows → UpTo 0 (replicate k 0)
 unmarked k e = record { long = length-replicate k 0 ∙ e; most = λ v. zeros v (ltb v k) refl }
   where
     zeros : (v : ℕ) (b : Bool) → ltb v k ≡ b → getD (replicate k 0) v 0 ≤ 0

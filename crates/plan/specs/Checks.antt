@@ -1,4 +1,4 @@
--- What the check of a plan goes through, pass by pass. `isPlan` is the conjunction of the passes (proofs/Check.antt).
+-- What the check of a plan goes through, pass by pass. `isPlan` is the conjunction of the passes (proofs/PlanTests.antt).
 use mathlib.Core.Path.{_≡_}
 use mathlib.Core.Bool.{Bool, true, _&&_, cond}
 use mathlib.Core.List.{List, [], _∷_}
@@ -6,15 +6,17 @@ use Prim.Native.Nat.{ℕ, zero, suc, _+_, _*_, _^_, _≤_, _<_}
 use lib.Dec.{eqb, leb}
 use lib.ListN.{length, getD, take, drop}
 use Rattle.base.specs.Lists.{isIn, bit}
+use Rattle.matrix.specs.Limits.{maxRows}
 use Rattle.plan.specs.Groups.{Group, whole, red, blue, width, ofFields, records}
 use Rattle.plan.specs.Sound.{maxWorkers, maxGroups, eachOnce, depthFirst, children, tiled}
+use Rattle.plan.specs.declared.fields.Group as code
 use Rattle.plan.specs.declared.fields.Record.{Record}
 
 -- ---- the order
 
 -- the marks of n rows say which of them are in the list
 pub record Seen (n : ℕ) (xs marks : List ℕ) : Type 0 where
-  pub long : length marks ≡ 4096
+  pub long : length marks ≡ maxRows
   pub is : (v : ℕ) → v < n → getD marks v 0 ≡ bit (isIn xs v)
 
 -- ---- the records
@@ -23,8 +25,13 @@ pub record Seen (n : ℕ) (xs marks : List ℕ) : Type 0 where
 unfoldable pub recordAt : List ℕ → ℕ → Group
 recordAt ns i = ofFields (drop (width * i) ns)
 
-abbrev pub groupOf : Record → Group
-groupOf r = record { start = r .start; length = r .length; first = r .first; workers = r .workers; colour = r .colour; parent = r .parent }
+-- the group that a struct stands for
+abbrev pub groupOf : code.Group → Group
+groupOf g = record { start = g .start; length = g .length; first = g .first; workers = g .workers; colour = g .colour; parent = g .parent }
+
+-- .. and one with wide numbers
+abbrev pub ofRecord : Record → Group
+ofRecord r = record { start = r .start; length = r .length; first = r .first; workers = r .workers; colour = r .colour; parent = r .parent }
 
 -- sums of two numbers of a record fit 64 bits
 pub record Small (r : Record) : Type 0 where
@@ -35,7 +42,7 @@ pub record Small (r : Record) : Type 0 where
 
 -- what the code reads of a record is the group g
 pub record Reads (r : Record) (g : Group) : Type 0 where
-  pub is : groupOf r ≡ g
+  pub is : ofRecord r ≡ g
   pub small : Small r
 
 -- ---- depth first

@@ -7,6 +7,7 @@ use lib.Dec.{eqb, ltb}
 use lib.IntN.{ℤ}
 use lib.ListN.{length, getD}
 use Rattle.base.specs.Lists.{filter, any, isIn, concat}
+use Rattle.matrix.specs.Limits.{maxRows}
 use Rattle.matrix.specs.Matrix.{isMatrix, pattern, columnsOf}
 use Rattle.matrix.specs.Checks.{matrixOf}
 use Rattle.plan.specs.Groups.{Group}
@@ -47,9 +48,9 @@ pub record Touched (low mine : ℕ) (zs marks marks′ : List ℕ) (r : Bool) : 
   pub free : r ≡ not (any (clashes low mine marks) zs)
   pub stamped : r ≡ true → Stamped mine zs marks marks′
 
--- one mark for each of 4,096 rows, none above top
+-- one mark for each row that there may be, none above top
 pub record UpTo (top : ℕ) (marks : List ℕ) : Type 0 where
-  pub long : length marks ≡ 4096
+  pub long : length marks ≡ maxRows
   pub most : (v : ℕ) → getD marks v 0 ≤ top
 
 -- the answer r is what the test says; if it holds, no mark is above top

@@ -1,4 +1,5 @@
 // Like-coloured children of a group are apart.
+use crate::MAX_GROUPS;
 use crate::fields::BLUE;
 use crate::fields::RED;
 use crate::fields::Record;
@@ -6,6 +7,8 @@ use crate::fields::record_at;
 use crate::marks::touch_rows;
 use crate::tiling::next_child;
 use crate::tiling::tiled_below;
+use base::numbers::least;
+use matrix::limits::MAX_ROWS;
 ghost use mathlib.Core.Path.{_≡_};
 ghost use mathlib.Core.Bool.{true};
 ghost use Prim.Native.Nat.{ℕ, _+_, _^_, _≤_, _<_, min};
@@ -13,19 +16,14 @@ ghost use lib.ListN.{length, getD, take};
 ghost use Rattle.matrix.specs.Matrix.{pattern, neighbours};
 ghost use Rattle.plan.specs.Groups.{records};
 ghost use Rattle.plan.specs.Sound.{maxGroups, children, likeApart, childrenSound, allSound};
-ghost use Rattle.plan.specs.Checks.{recordAt, groupOf, Small, belowWhole, tiles, InOrder};
+ghost use Rattle.plan.specs.Checks.{recordAt, ofRecord, Small, belowWhole, tiles, InOrder};
 ghost use Rattle.plan.specs.Marks.{OfMatrix, touchedLike, Touched, ofColour, UpTo, Judged};
+ghost use Rattle.matrix.specs.Limits.{maxRows};
 
 // As many marks as the children of one colour may need, one for each record, and those of both.
-const MARKS: u32 = 512;
+const MARKS: u32 = MAX_GROUPS as u32;
 
-const MARKS_OF_BOTH: u32 = 1024;
-
-fn least(a: usize, b: usize) -> usize
-    ensures { λ r. ⌜ r ≡ min a b ⌝ }
-{
-    if a < b { a } else { b }
-}
+const MARKS_OF_BOTH: u32 = 2 * MARKS;
 
 // The group's rows touch theirs, if it has the colour: its stretch of the first n places of the order.
 fn touch_like(
@@ -33,14 +31,14 @@ fn touch_like(
     starts: &[u32],
     columns: &[u32],
     order: &[u32],
-    marks: &mut [u32; 4096],
+    marks: &mut [u32; MAX_ROWS],
     g: Record,
-    colour: usize,
+    colour: u32,
     low: u32,
     mine: u32,
 ) -> bool
-    requires { ⌜ OfMatrix n (now starts) (now columns) × (length (now marks) ≡ 4096) × Small g × (n ≤ length (now order)) × ((j : ℕ) → j < n → getD (now order) j 0 < n) ⌝ }
-    ensures { λ r. ⌜ Touched low mine (touchedLike n (now (starts .entry)) (now (columns .entry)) (take n (now (order .entry))) colour (groupOf g)) (now (marks .entry)) (now (marks .exit)) r ⌝ }
+    requires { ⌜ OfMatrix n (now starts) (now columns) × (length (now marks) ≡ maxRows) × Small g × (n ≤ length (now order)) × ((j : ℕ) → j < n → getD (now order) j 0 < n) ⌝ }
+    ensures { λ r. ⌜ Touched low mine (touchedLike n (now (starts .entry)) (now (columns .entry)) (take n (now (order .entry))) colour (ofRecord g)) (now (marks .entry)) (now (marks .exit)) r ⌝ }
 {
     if g.colour != colour {
         return true;
@@ -58,9 +56,9 @@ pub fn apart_below(
     order: &[u32],
     groups: &[u32],
     count: usize,
-    marks: &mut [u32; 4096],
+    marks: &mut [u32; MAX_ROWS],
     k: usize,
-    colour: usize,
+    colour: u32,
     low: u32,
 ) -> bool
     requires { ⌜ OfMatrix n (now starts) (now columns) × InOrder n (now order) (now groups) count × (k < count)
@@ -97,7 +95,7 @@ fn sound_below(
     order: &[u32],
     groups: &[u32],
     count: usize,
-    marks: &mut [u32; 4096],
+    marks: &mut [u32; MAX_ROWS],
     k: usize,
     low: u32,
 ) -> bool
@@ -138,7 +136,7 @@ pub fn all_sound(
     ensures { λ r. ⌜ r ≡ allSound (neighbours (pattern n (now (starts .entry)) (now (columns .entry)))) (take n (now (order .entry)))
         (belowWhole count (now (groups .entry))) 0 (records count (now (groups .entry))) ⌝ }
 {
-    let mut marks = [0u32; 4096];
+    let mut marks = [0u32; MAX_ROWS];
     let mut k = 0;
     while k < count {
         if !sound_below(

@@ -1,50 +1,87 @@
-// The records of a plan's groups, six numbers each in a flat list.
+// A plan's groups are records in a flat list: what a record is, and how it is read and written.
+use crate::MAX_GROUPS;
+use base::numbers::wide;
 ghost use mathlib.Core.Path.{_≡_};
-ghost use Prim.Native.Nat.{_+_, _*_, _^_, _≤_, _<_};
-ghost use lib.ListN.{length, getD};
-ghost use Rattle.plan.specs.Groups.{width};
-ghost use Rattle.plan.specs.Checks.{recordAt, Reads};
+ghost use mathlib.Core.List.{_++_};
+ghost use Prim.Native.Nat.{_+_, _*_, _≤_};
+ghost use lib.ListN.{length, take};
+ghost use Rattle.plan.specs.Groups.{width, fields};
+ghost use Rattle.plan.specs.Checks.{recordAt, groupOf, Reads};
 
-// How many numbers a record has.
+// How many numbers a record has, and a list of all that a plan may have.
 pub const WIDTH: usize = 6;
 
+pub const MAX_FIELDS: usize = MAX_GROUPS * WIDTH;
+
 // The colours.
-pub const WHOLE: usize = 0;
+pub const WHOLE: u32 = 0;
 
-pub const RED: usize = 1;
+pub const RED: u32 = 1;
 
-pub const BLUE: usize = 2;
+pub const BLUE: u32 = 2;
 
-// A record's fields, wide enough that the sum of two does not wrap.
+// A group's record.
+pub struct Group {
+    pub start: u32,
+    pub length: u32,
+    pub first: u32,
+    pub workers: u32,
+    pub colour: u32,
+    pub parent: u32,
+}
+
+// .. with numbers so wide that the sum of two does not wrap.
 pub struct Record {
     pub start: usize,
     pub length: usize,
     pub first: usize,
     pub workers: usize,
-    pub colour: usize,
+    pub colour: u32,
     pub parent: usize,
 }
 
-// A number of a list, widened.
-pub fn wide_at(numbers: &[u32], at: usize) -> usize
-    requires { ⌜ at < length (now numbers) ⌝ }
-    ensures { λ r. ⌜ (r ≡ getD (now (numbers .entry)) at 0) × (r < 2 ^ 32) ⌝ }
+// Reads the record at an index.
+pub fn get(numbers: &[u32], i: usize) -> Group
+    requires { ⌜ width * (i + 1) ≤ length (now numbers) ⌝ }
+    ensures { λ r. ⌜ groupOf r ≡ recordAt (now (numbers .entry)) i ⌝ }
 {
-    numbers[at] as usize
+    let at = WIDTH * i;
+    Group {
+        start: numbers[at],
+        length: numbers[at + 1],
+        first: numbers[at + 2],
+        workers: numbers[at + 3],
+        colour: numbers[at + 4],
+        parent: numbers[at + 5],
+    }
 }
 
-// The record at an index.
+// Writes a record at an index.
+pub fn put(numbers: &mut [u32], i: usize, g: Group)
+    requires { ⌜ width * (i + 1) ≤ length (now numbers) ⌝ }
+    ensures { λ _. ⌜ take (width * (i + 1)) (now (numbers .exit)) ≡ take (width * i) (now (numbers .entry)) ++ fields (groupOf g) ⌝ }
+{
+    let at = WIDTH * i;
+    numbers[at] = g.start;
+    numbers[at + 1] = g.length;
+    numbers[at + 2] = g.first;
+    numbers[at + 3] = g.workers;
+    numbers[at + 4] = g.colour;
+    numbers[at + 5] = g.parent;
+}
+
+// Reads the record at an index, and widens it.
 pub fn record_at(groups: &[u32], i: usize) -> Record
     requires { ⌜ width * (i + 1) ≤ length (now groups) ⌝ }
     ensures { λ r. ⌜ Reads r (recordAt (now (groups .entry)) i) ⌝ }
 {
-    let at = WIDTH * i;
+    let g = get(groups, i);
     Record {
-        start: wide_at(groups, at),
-        length: wide_at(groups, at + 1),
-        first: wide_at(groups, at + 2),
-        workers: wide_at(groups, at + 3),
-        colour: wide_at(groups, at + 4),
-        parent: wide_at(groups, at + 5),
+        start: wide(g.start),
+        length: wide(g.length),
+        first: wide(g.first),
+        workers: wide(g.workers),
+        colour: g.colour,
+        parent: wide(g.parent),
     }
 }

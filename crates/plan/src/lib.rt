@@ -20,7 +20,7 @@ ghost use lib.IntN.{ℤ};
 ghost use Rattle.base.specs.Answers.{replyOf};
 ghost use Rattle.matrix.specs.Checks.{matrixOf};
 ghost use Rattle.plan.specs.Sound.{isPlan, checkReply};
-ghost use Rattle.plan.specs.Checks.{groupOf, isWhole};
+ghost use Rattle.plan.specs.Checks.{ofRecord, isWhole};
 ghost use Rattle.plan.specs.Marks.{OfMatrix};
 
 // "all workers, 1 to 16"
@@ -31,7 +31,7 @@ pub const MAX_GROUPS: usize = 512;
 
 // The record is the whole of n rows.
 fn is_whole(g: Record, n: usize) -> bool
-    ensures { λ r. ⌜ r ≡ isWhole n (groupOf g) ⌝ }
+    ensures { λ r. ⌜ r ≡ isWhole n (ofRecord g) ⌝ }
 {
     if g.start != 0 {
         return false;

@@ -1,15 +1,17 @@
 // Marks on the rows that a group touches: its rows and the rows adjacent to them.
-use crate::fields::wide_at;
+use base::slices::wide_at;
+use matrix::limits::MAX_ROWS;
 use matrix::row::columns_of;
 ghost use mathlib.Core.Path.{_≡_};
 ghost use mathlib.Core.List.{[], _∷_};
 ghost use Prim.Native.Nat.{ℕ, _<_};
 ghost use lib.ListN.{length, getD};
 ghost use Rattle.plan.specs.Marks.{OfMatrix, closed, touchedBy, Touched};
+ghost use Rattle.matrix.specs.Limits.{maxRows};
 
 // Row z gets the mark mine, unless it has another child's mark.
-fn touch(marks: &mut [u32; 4096], z: usize, low: u32, mine: u32) -> bool
-    requires { ⌜ (length (now marks) ≡ 4096) × (z < 4096) ⌝ }
+fn touch(marks: &mut [u32; MAX_ROWS], z: usize, low: u32, mine: u32) -> bool
+    requires { ⌜ (length (now marks) ≡ maxRows) × (z < maxRows) ⌝ }
     ensures { λ r. ⌜ Touched low mine (z ∷ []) (now (marks .entry)) (now (marks .exit)) r ⌝ }
 {
     let m = marks[z];
@@ -23,8 +25,8 @@ fn touch(marks: &mut [u32; 4096], z: usize, low: u32, mine: u32) -> bool
 }
 
 // So do the rows of a list.
-fn touch_all(marks: &mut [u32; 4096], rows: &[u32], low: u32, mine: u32) -> bool
-    requires { ⌜ (length (now marks) ≡ 4096) × ((j : ℕ) → j < length (now rows) → getD (now rows) j 0 < 4096) ⌝ }
+fn touch_all(marks: &mut [u32; MAX_ROWS], rows: &[u32], low: u32, mine: u32) -> bool
+    requires { ⌜ (length (now marks) ≡ maxRows) × ((j : ℕ) → j < length (now rows) → getD (now rows) j 0 < maxRows) ⌝ }
     ensures { λ r. ⌜ Touched low mine (now (rows .entry)) (now (marks .entry)) (now (marks .exit)) r ⌝ }
 {
     let mut j = 0;
@@ -43,12 +45,12 @@ fn touch_row(
     n: usize,
     starts: &[u32],
     columns: &[u32],
-    marks: &mut [u32; 4096],
+    marks: &mut [u32; MAX_ROWS],
     u: usize,
     low: u32,
     mine: u32,
 ) -> bool
-    requires { ⌜ OfMatrix n (now starts) (now columns) × (length (now marks) ≡ 4096) × (u < n) ⌝ }
+    requires { ⌜ OfMatrix n (now starts) (now columns) × (length (now marks) ≡ maxRows) × (u < n) ⌝ }
     ensures { λ r. ⌜ Touched low mine (closed n (now (starts .entry)) (now (columns .entry)) u) (now (marks .entry)) (now (marks .exit)) r ⌝ }
 {
     if !touch(marks, u, low, mine) {
@@ -62,12 +64,12 @@ pub fn touch_rows(
     n: usize,
     starts: &[u32],
     columns: &[u32],
-    marks: &mut [u32; 4096],
+    marks: &mut [u32; MAX_ROWS],
     rows: &[u32],
     low: u32,
     mine: u32,
 ) -> bool
-    requires { ⌜ OfMatrix n (now starts) (now columns) × (length (now marks) ≡ 4096) × ((j : ℕ) → j < length (now rows) → getD (now rows) j 0 < n) ⌝ }
+    requires { ⌜ OfMatrix n (now starts) (now columns) × (length (now marks) ≡ maxRows) × ((j : ℕ) → j < length (now rows) → getD (now rows) j 0 < n) ⌝ }
     ensures { λ r. ⌜ Touched low mine (touchedBy n (now (starts .entry)) (now (columns .entry)) (now (rows .entry))) (now (marks .entry)) (now (marks .exit)) r ⌝ }
 {
     let mut j = 0;

@@ -1,4 +1,5 @@
 // The order of a plan has each row once.
+use matrix::limits::MAX_ROWS;
 ghost use mathlib.Core.Path.{_≡_};
 ghost use mathlib.Core.List.{[]};
 ghost use Prim.Native.Nat.{_≤_};
@@ -7,10 +8,11 @@ ghost use lib.ListN.{length, getD, take};
 ghost use Rattle.base.specs.Lists.{all, range};
 ghost use Rattle.plan.specs.Sound.{eachOnce};
 ghost use Rattle.plan.specs.Checks.{Seen};
+ghost use Rattle.matrix.specs.Limits.{maxRows};
 
 // The rows among the first n of the order get the mark 1; what is no row gets none.
-fn mark_rows(order: &[u32], n: usize, marks: &mut [u32; 4096])
-    requires { ⌜ (n ≤ length (now order)) × (n ≤ 4096) × Seen n [] (now marks) ⌝ }
+fn mark_rows(order: &[u32], n: usize, marks: &mut [u32; MAX_ROWS])
+    requires { ⌜ (n ≤ length (now order)) × (n ≤ maxRows) × Seen n [] (now marks) ⌝ }
     ensures { λ _. ⌜ Seen n (take n (now (order .entry))) (now (marks .exit)) ⌝ }
 {
     let mut i = 0;
@@ -24,8 +26,8 @@ fn mark_rows(order: &[u32], n: usize, marks: &mut [u32; 4096])
 }
 
 // Every row has the mark 1.
-fn all_marked(marks: &[u32; 4096], n: usize) -> bool
-    requires { ⌜ n ≤ 4096 ⌝ }
+fn all_marked(marks: &[u32; MAX_ROWS], n: usize) -> bool
+    requires { ⌜ n ≤ maxRows ⌝ }
     ensures { λ r. ⌜ r ≡ all (λ v. eqb (getD (now (marks .entry)) v 0) 1) (range 0 n) ⌝ }
 {
     let mut v = 0;
@@ -40,10 +42,10 @@ fn all_marked(marks: &[u32; 4096], n: usize) -> bool
 
 // The first n of the order are each row once.
 pub fn each_once(order: &[u32], n: usize) -> bool
-    requires { ⌜ (n ≤ length (now order)) × (n ≤ 4096) ⌝ }
+    requires { ⌜ (n ≤ length (now order)) × (n ≤ maxRows) ⌝ }
     ensures { λ r. ⌜ r ≡ eachOnce n (take n (now (order .entry))) ⌝ }
 {
-    let mut marks = [0u32; 4096];
+    let mut marks = [0u32; MAX_ROWS];
     mark_rows(order, n, &mut marks);
     all_marked(&marks, n)
 }

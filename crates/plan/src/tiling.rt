@@ -5,7 +5,7 @@ ghost use Prim.Native.Nat.{_*_, _≤_, _<_};
 ghost use lib.ListN.{length};
 ghost use Rattle.plan.specs.Groups.{width};
 ghost use Rattle.plan.specs.Sound.{children};
-ghost use Rattle.plan.specs.Checks.{recordAt, groupOf, belowWhole, standsDepthFirst, Small, NextChild, fitting, pending, complete, tiles};
+ghost use Rattle.plan.specs.Checks.{recordAt, ofRecord, belowWhole, standsDepthFirst, Small, NextChild, fitting, pending, complete, tiles};
 use crate::fields::BLUE;
 use crate::fields::RED;
 use crate::fields::Record;
@@ -32,7 +32,7 @@ pub fn next_child(groups: &[u32], count: usize, k: usize, from: usize) -> usize
 
 // The record is the next child at position s from worker f on; w is the workers of a red whose blue is next, 0 where a red is next.
 fn fits(h: Record, s: usize, f: usize, w: usize) -> bool
-    ensures { λ r. ⌜ r ≡ fitting s f w (groupOf h) ⌝ }
+    ensures { λ r. ⌜ r ≡ fitting s f w (ofRecord h) ⌝ }
 {
     if h.start != s {
         return false;
@@ -49,7 +49,7 @@ fn fits(h: Record, s: usize, f: usize, w: usize) -> bool
 
 // After the record, the workers of a red whose blue is next.
 fn next_pending(h: Record, w: usize) -> usize
-    ensures { λ r. ⌜ r ≡ pending w (groupOf h) ⌝ }
+    ensures { λ r. ⌜ r ≡ pending w (ofRecord h) ⌝ }
 {
     if w == 0 { h.workers } else { 0 }
 }
@@ -57,7 +57,7 @@ fn next_pending(h: Record, w: usize) -> usize
 // The children that end at position s and worker f are all of the group's.
 fn ends(g: Record, s: usize, f: usize, w: usize) -> bool
     requires { ⌜ Small g ⌝ }
-    ensures { λ r. ⌜ r ≡ complete s f w (groupOf g) ⌝ }
+    ensures { λ r. ⌜ r ≡ complete s f w (ofRecord g) ⌝ }
 {
     if w != 0 {
         return false;

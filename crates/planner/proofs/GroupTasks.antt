@@ -19,9 +19,10 @@ use Rattle.plan.specs.Groups.{width, fields}
 use Rattle.race.specs.Loads.{load}
 use Rattle.race.specs.Planner.{planGroup}
 use Rattle.planner.specs.Stretches.{levelsIn, Levelled, Loaded}
-use Rattle.planner.specs.Records.{groupOf, Holds}
+use Rattle.plan.specs.Checks.{groupOf}
+use Rattle.planner.specs.Records.{Holds}
 use Rattle.planner.specs.Cycle.{GroupTask, PairsTask, pairsPlan}
-use Rattle.planner.specs.declared.records.Group.{Group}
+use Rattle.plan.specs.declared.fields.Group.{Group}
 use Rattle.planner.specs.declared.cycle.Parent.{Parent}
 use Rattle.planner.specs.declared.cycle.Left.{Left}
 use Rattle.planner.proofs.Weights.{load-concat, load-some, load-few}

@@ -1,7 +1,6 @@
 pub mod Weights
 pub mod Stretches
 pub mod LevelLoads
-pub mod Flat
 pub mod Thirds
 pub mod Holding
 pub mod PairPlans

@@ -12,33 +12,15 @@ use Rattle.plan.specs.Groups.{Plan, red, blue}
 use Rattle.race.specs.Loads.{load}
 use Rattle.extents.specs.Extents.{Extent, extent, cut}
 use Rattle.race.specs.Planner as planner
-use Rattle.race.specs.Planner.{Planner, pairs, planPairs, _then_, planGroup}
-use Rattle.planner.specs.Records.{groupOf}
-use Rattle.planner.specs.Cycle.{PairsTask, pairsPlan}
-use Rattle.planner.specs.declared.records.Group.{Group}
+use Rattle.race.specs.Planner.{Planner, childOf, pairs, planPairs, _then_, planGroup}
+use Rattle.plan.specs.Checks.{groupOf}
+use Rattle.planner.specs.Cycle.{redGroup, blueGroup, leftAfter, PairsTask, pairsPlan}
 use Rattle.planner.specs.declared.cycle.Parent.{Parent}
 use Rattle.planner.specs.declared.cycle.Left.{Left}
 use Rattle.planner.specs.declared.cycle.Pair.{Pair}
 use Rattle.extents.proofs.Extents.{Taken}
 use Rattle.planner.proofs.Stretches.{rowsIn, ends-at, rows-split}
 use Rattle.planner.proofs.PairPlans.{extentOf, cutOf, extent-of, taken-most, Bounds, pair-bounds, pairs-next}
-
--- the pair's groups, and what is left after it, with the next record's index
-abbrev pub redGroup : Parent → Left → Pair → Group
-redGroup up left pair = record { start = up .start + left .done; length = pair .reds; first = left .first; workers = pair .workers; colour = red; parent = up .index }
-
-abbrev pub blueGroup : Parent → Left → Pair → Group
-blueGroup up left pair = record {
-  start = up .start + left .done + pair .reds;
-  length = pair .rows - pair .reds;
-  first = left .first;
-  workers = pair .workers;
-  colour = blue;
-  parent = up .index;
-}
-
-abbrev pub leftAfter : Left → Pair → (index : ℕ) → Left
-leftAfter left pair index = record { done = left .done + pair .rows; first = left .first + pair .workers; free = left .free - pair .workers; index = index }
 
 -- what the code finds of the next pair
 abbrev pub Found : (p : ℕ) (up : Parent) (left : Left) (ends loads : List ℕ) → Pair → Type 0
@@ -50,9 +32,9 @@ Found p up left ends loads pair =
 
 -- the plan of a pair and those after it, its sizes known
 pairs-cons : (child : Planner) (up start first index : ℕ) (rs bs : List ℕ) (v : ℕ) (cs : List planner.Pair) (a b : ℕ) → length rs ≡ a → length bs ≡ b
-    → let r = child index (record { start = start; length = a; first = first; workers = v; colour = red; parent = up }) rs in
+    → let r = child index (childOf up start a first v red) rs in
     let i = index + length (r .groups) in
-    let s = child i (record { start = start + a; length = b; first = first; workers = v; colour = blue; parent = up }) bs in
+    let s = child i (childOf up (start + a) b first v blue) bs in
     planPairs child up start first index (record { reds = rs; blues = bs; workers = v } ∷ cs)
     ≡ (r then (s then planPairs child up (start + a + b) (first + v) (i + length (s .groups)) cs))
 unfolding planPairs

@@ -16,8 +16,9 @@ use Rattle.race.specs.Loads.{load}
 use Rattle.race.specs.Planner.{pairs, planPairs, _then_, planGroup}
 use Rattle.extents.specs.Scans.{Scale}
 use Rattle.planner.specs.Stretches.{levelsIn, endsOf, Levelled}
-use Rattle.planner.specs.Records.{groupOf, Holds}
-use Rattle.planner.specs.Cycle.{GroupTask, PairsTask, pairsPlan}
+use Rattle.plan.specs.Checks.{groupOf}
+use Rattle.planner.specs.Records.{Holds}
+use Rattle.planner.specs.Cycle.{redGroup, blueGroup, leftAfter, Fits, GroupTask, PairsTask, pairsPlan}
 use Rattle.planner.specs.declared.cycle.Parent.{Parent}
 use Rattle.planner.specs.declared.cycle.Left.{Left}
 use Rattle.planner.specs.declared.cycle.Pair.{Pair}
@@ -25,7 +26,7 @@ use Rattle.extents.proofs.Ends.{sum-split}
 use Rattle.planner.proofs.Thirds.{fronted, part, patched, first-part, first-back, second-part, second-back, third-part, third-back, three-length}
 use Rattle.planner.proofs.Stretches.{length-ends, ends-at, ends-drop, levels-in}
 use Rattle.planner.proofs.Holding.{holds-nothing, holds-then}
-use Rattle.planner.proofs.NextPair.{Found, redGroup, blueGroup, leftAfter, bounds, reds, blues, later, reds-length, rows-is, rows-length, blues-length, stretch-parts, redPlan, bluePlan, restPlan, blueIndex, restIndex, plan-next, count-next, workers-most, left-over}
+use Rattle.planner.proofs.NextPair.{Found, bounds, reds, blues, later, reds-length, rows-is, rows-length, blues-length, stretch-parts, redPlan, bluePlan, restPlan, blueIndex, restIndex, plan-next, count-next, workers-most, left-over}
 
 -- what is lent of a list from a place on
 pub part-to-end : (xs : List ℕ) (a : ℕ) → part xs a (length xs) ≡ drop a xs
@@ -93,9 +94,9 @@ module _ {n p stages : ℕ} {starts columns stretch ends loads records : List �
   pub levels-in-ends : (4 ≤ pair .levels) × (pair .levels ≤ length ends) × (pair .levels ≤ length loads)
   levels-in-ends = let k = bounds task found in (k .some, omega (arith, ends-count task), omega (arith, loads-count task))
 
-  -- the stretch lies in the order, and its workers among the workers
-  pub numbers-few : (up .start + left .done + length stretch ≤ maxRows) × (left .first + left .free ≤ maxWorkers)
-  numbers-few = (task .inside, task .workers)
+  -- its numbers are small
+  pub pair-fits : Fits up left pair
+  pair-fits = record { parts = parts-in .0; inside = omega (arith, parts-in, task .inside); some = workers-most task found; workers = task .workers }
 
   pub red-task : GroupTask n p stages (left .index) starts columns (take a stretch) records (redGroup up left pair)
   red-task = rw red-part (record {

@@ -19,9 +19,10 @@ use Rattle.levels.proofs.Rows.{rows-graph}
 use Rattle.plan.specs.Groups.{Plan, width, whole, flat}
 use Rattle.plan.specs.Sound.{maxWorkers, maxGroups}
 use Rattle.race.specs.Planner.{leaf, planGroup, planRows}
-use Rattle.planner.specs.Records.{groupOf, Holds}
+use Rattle.plan.specs.Checks.{groupOf}
+use Rattle.planner.specs.Records.{Holds}
 use Rattle.planner.specs.Cycle.{GroupTask}
-use Rattle.planner.specs.declared.records.Group.{Group}
+use Rattle.plan.specs.declared.fields.Group.{Group}
 use Rattle.race.proofs.Planned.{rows-few}
 use Rattle.planner.proofs.GroupPlans.{two-orders}
 

@@ -1,22 +1,47 @@
 -- What the two planners require of each other: for the contracts of src/cycle.rt. `adj v` lists the rows adjacent to row v, and there are n rows.
 use mathlib.Core.Path.{_≡_}
 use mathlib.Core.List.{List, map}
-use Prim.Native.Nat.{ℕ, _+_, _*_, _≤_}
+use Prim.Native.Nat.{ℕ, _+_, _-_, _*_, _≤_}
 use lib.ListN.{length}
 use Rattle.base.specs.Lists.{sum}
 use Rattle.matrix.specs.Limits.{maxRows}
 use Rattle.levels.specs.Group.{Proper}
 use Rattle.levels.specs.Rows.{Rows, adjOf}
-use Rattle.plan.specs.Groups.{Plan, width}
+use Rattle.plan.specs.Groups.{Plan, red, blue, width}
 use Rattle.plan.specs.Sound.{maxWorkers, maxGroups}
 use Rattle.race.specs.Loads.{load}
 use Rattle.race.specs.Planner.{pairs, planPairs, planGroup}
 use Rattle.extents.specs.Scans.{Scale}
 use Rattle.planner.specs.Stretches.{Levelled}
-use Rattle.planner.specs.Records.{groupOf}
-use Rattle.planner.specs.declared.records.Group.{Group}
+use Rattle.plan.specs.Checks.{groupOf}
+use Rattle.plan.specs.declared.fields.Group.{Group}
 use Rattle.planner.specs.declared.cycle.Parent.{Parent}
 use Rattle.planner.specs.declared.cycle.Left.{Left}
+use Rattle.planner.specs.declared.cycle.Pair.{Pair}
+
+-- the pair's groups, and what is left after it, with the next record's index
+abbrev pub redGroup : Parent → Left → Pair → Group
+redGroup up left pair = record { start = up .start + left .done; length = pair .reds; first = left .first; workers = pair .workers; colour = red; parent = up .index }
+
+abbrev pub blueGroup : Parent → Left → Pair → Group
+blueGroup up left pair = record {
+  start = up .start + left .done + pair .reds;
+  length = pair .rows - pair .reds;
+  first = left .first;
+  workers = pair .workers;
+  colour = blue;
+  parent = up .index;
+}
+
+abbrev pub leftAfter : Left → Pair → (index : ℕ) → Left
+leftAfter left pair index = record { done = left .done + pair .rows; first = left .first + pair .workers; free = left .free - pair .workers; index = index }
+
+-- the numbers of a pair are small: its rows lie in the order, its workers are free, and among the plan's
+pub record Fits (up : Parent) (left : Left) (pair : Pair) : Type 0 where
+  pub parts : pair .reds ≤ pair .rows
+  pub inside : up .start + left .done + pair .rows ≤ maxRows
+  pub some : pair .workers ≤ left .free
+  pub workers : left .first + left .free ≤ maxWorkers
 
 -- the plan of the pairs that are left: levels ls and the workers that are free
 abbrev pub pairsPlan : (adj : ℕ → List ℕ) (n p stages : ℕ) (up : Parent) (left : Left) → List (List ℕ) → Plan

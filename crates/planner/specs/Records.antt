@@ -3,13 +3,7 @@ use mathlib.Core.Path.{_≡_}
 use mathlib.Core.List.{List, _++_}
 use Prim.Native.Nat.{ℕ, _+_, _*_}
 use lib.ListN.{length, take}
-use Rattle.plan.specs.Groups as plan
 use Rattle.plan.specs.Groups.{Plan, width, flat}
-use Rattle.planner.specs.declared.records.Group.{Group}
-
--- the group that a struct stands for
-abbrev pub groupOf : Group → plan.Group
-groupOf g = record { start = g .start; length = g .length; first = g .first; workers = g .workers; colour = g .colour; parent = g .parent }
 
 -- A stretch and the records after a planner: the plan's order, and its groups from an index on, after the records before it. count: the index past them
 pub record Holds (o : Plan) (index : ℕ) (before order records : List ℕ) (count : ℕ) : Type 0 where

@@ -1,12 +1,13 @@
 // The group planner and the pair planner, which call each other.
 use crate::loads::level_loads;
-use crate::records::BLUE;
-use crate::records::Group;
-use crate::records::RED;
-use crate::records::put;
 use extents::REACH;
 use extents::cut;
 use extents::next_extent;
+use plan::fields::BLUE;
+use plan::fields::Group;
+use plan::fields::RED;
+use plan::fields::put;
+use sort::MAX_LEVELS;
 use sort::level_sort;
 ghost use mathlib.Core.Path.{_≡_};
 ghost use Prim.Native.Nat.{ℕ, _+_, _-_, _*_, _<_, _≤_};
@@ -18,8 +19,9 @@ ghost use Rattle.extents.specs.Extents.{extent, cut};
 ghost use Rattle.race.specs.Planner.{planGroup};
 ghost use Rattle.extents.specs.Scans.{Scale};
 ghost use Rattle.planner.specs.Stretches.{levelsIn};
-ghost use Rattle.planner.specs.Records.{groupOf, Holds};
-ghost use Rattle.planner.specs.Cycle.{GroupTask, PairsTask, pairsPlan};
+ghost use Rattle.plan.specs.Checks.{groupOf};
+ghost use Rattle.planner.specs.Records.{Holds};
+ghost use Rattle.planner.specs.Cycle.{redGroup, blueGroup, leftAfter, Fits, GroupTask, PairsTask, pairsPlan};
 
 // A group that is split: its record's index, where it starts, its workers and its load.
 pub struct Parent {
@@ -67,6 +69,49 @@ fn next_pair(ends: &[u32], loads: &[u32], p: u32, up: Parent, left: Left) -> Pai
     }
 }
 
+// The pair's red group.
+fn red_of(up: Parent, left: Left, pair: Pair) -> Group
+    requires { ⌜ Fits up left pair ⌝ }
+    ensures { λ r. ⌜ r ≡ redGroup up left pair ⌝ }
+{
+    Group {
+        start: up.start + left.done,
+        length: pair.reds,
+        first: left.first,
+        workers: pair.workers,
+        colour: RED,
+        parent: up.index,
+    }
+}
+
+// .. and its blue group.
+fn blue_of(up: Parent, left: Left, pair: Pair) -> Group
+    requires { ⌜ Fits up left pair ⌝ }
+    ensures { λ r. ⌜ r ≡ blueGroup up left pair ⌝ }
+{
+    Group {
+        start: up.start + left.done + pair.reds,
+        length: pair.rows - pair.reds,
+        first: left.first,
+        workers: pair.workers,
+        colour: BLUE,
+        parent: up.index,
+    }
+}
+
+// What is left after the pair, with the next record's index.
+fn after(up: Parent, left: Left, pair: Pair, index: u32) -> Left
+    requires { ⌜ Fits up left pair ⌝ }
+    ensures { λ r. ⌜ r ≡ leftAfter left pair index ⌝ }
+{
+    Left {
+        done: left.done + pair.rows,
+        first: left.first + pair.workers,
+        free: left.free - pair.workers,
+        index,
+    }
+}
+
 // A group's record, then its pairs, if it is split; the answer is the index past its records.
 pub fn plan_group(
     starts: &[u32],
@@ -83,19 +128,19 @@ pub fn plan_group(
     ensures { λ r. ⌜ Holds (planGroup (adjOf n (now (starts .entry)) (now (columns .entry))) n p stages index (groupOf g) (now (order .entry)))
         index (now (records .entry)) (now (order .exit)) (now (records .exit)) r ⌝ }
 {
-    put(records, index, g);
+    put(records, index as usize, g);
     if stages == 0 {
         return index + 1;
     }
     if g.workers < 2 {
         return index + 1;
     }
-    let mut ends = [0u32; 8192];
+    let mut ends = [0u32; MAX_LEVELS];
     let m = level_sort(starts, columns, order, &mut ends, n, 2 * REACH);
     if m < 2 * REACH {
         return index + 1;
     }
-    let mut loads = [0u32; 8192];
+    let mut loads = [0u32; MAX_LEVELS];
     let load = level_loads(starts, columns, n, order, &ends[..m], &mut loads);
     let up = Parent {
         index,
@@ -143,18 +188,11 @@ fn plan_pairs(
         (left .index) (now (records .entry)) (now (order .exit)) (now (records .exit)) r ⌝ }
 {
     let pair = next_pair(ends, loads, p, up, left);
+    let red = red_of(up, left, pair);
+    let blue = blue_of(up, left, pair);
     let levels = pair.levels;
     let a = pair.reds as usize;
     let b = pair.rows as usize;
-    let start = up.start + left.done;
-    let red = Group {
-        start,
-        length: pair.reds,
-        first: left.first,
-        workers: pair.workers,
-        colour: RED,
-        parent: up.index,
-    };
     let i = plan_group(
         starts,
         columns,
@@ -166,14 +204,6 @@ fn plan_pairs(
         left.index,
         red,
     );
-    let blue = Group {
-        start: start + pair.reds,
-        length: pair.rows - pair.reds,
-        first: left.first,
-        workers: pair.workers,
-        colour: BLUE,
-        parent: up.index,
-    };
     let j = plan_group(
         starts,
         columns,
@@ -188,12 +218,7 @@ fn plan_pairs(
     if levels == ends.len() {
         return j;
     }
-    let rest = Left {
-        done: left.done + pair.rows,
-        first: left.first + pair.workers,
-        free: left.free - pair.workers,
-        index: j,
-    };
+    let rest = after(up, left, pair, j);
     plan_pairs(
         starts,
         columns,

@@ -1,15 +1,18 @@
 // The planner: RACE's recursive distance-2 colouring.
-use crate::records::copy;
 use crate::whole::plan_rows;
 use base::Answer;
 use base::MATRIX;
 use base::PARAMETER;
 use base::SHORT;
+use base::slices::copy;
+use matrix::limits::MAX_ROWS;
+use plan::MAX_WORKERS;
+use plan::fields::MAX_FIELDS;
+use plan::fields::WIDTH;
 use symmetric::is_matrix;
 
 mod cycle;
 mod loads;
-pub mod records;
 mod whole;
 
 ghost use mathlib.Core.Path.{_≡_};
@@ -20,6 +23,9 @@ ghost use Rattle.matrix.specs.Checks.{matrixOf};
 ghost use Rattle.plan.specs.Groups.{flat};
 ghost use Rattle.race.specs.Planner.{plan, areParameters, planReply};
 
+// "all workers, 1 to 16"
+const MOST_WORKERS: u32 = MAX_WORKERS as u32;
+
 // Whether there may be so many workers and this share.
 fn are_parameters(workers: u32, p: u32) -> bool
     ensures { λ r. ⌜ r ≡ areParameters workers p ⌝ }
@@ -27,7 +33,7 @@ fn are_parameters(workers: u32, p: u32) -> bool
     if workers < 1 {
         return false;
     }
-    if 16 < workers {
+    if MOST_WORKERS < workers {
         return false;
     }
     if p < 50 {
@@ -36,7 +42,7 @@ fn are_parameters(workers: u32, p: u32) -> bool
     p <= 99
 }
 
-// The plan of a matrix: its order, and its groups, six numbers each.
+// The plan of a matrix: its order, and its groups in a flat list.
 pub fn plan(
     n: u32,
     starts: &[u32],
@@ -63,8 +69,8 @@ pub fn plan(
     if order.len() < rows {
         return Answer::Refused(SHORT, n);
     }
-    let mut list = [0u32; 4096];
-    let mut records = [0u32; 3072];
+    let mut list = [0u32; MAX_ROWS];
+    let mut records = [0u32; MAX_FIELDS];
     let count = plan_rows(
         starts,
         columns,
@@ -74,12 +80,12 @@ pub fn plan(
         p,
         workers,
     );
-    let room = groups.len() / 6;
+    let room = groups.len() / WIDTH;
     let made = count as usize;
     if room < made {
         return Answer::Refused(SHORT, count);
     }
-    let size = 6 * made;
+    let size = WIDTH * made;
     copy(&list[..rows], order);
     copy(&records[..size], groups);
     Answer::Accepted(count)

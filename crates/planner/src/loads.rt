@@ -1,4 +1,5 @@
 // What rows and levels add to their group's load.
+use sort::MAX_LEVELS;
 ghost use mathlib.Core.Path.{_≡_};
 ghost use Prim.Native.Nat.{_<_, _≤_};
 ghost use lib.ListN.{length};
@@ -37,7 +38,7 @@ pub fn level_loads(
     n: usize,
     stretch: &[u32],
     ends: &[u32],
-    loads: &mut [u32; 8192],
+    loads: &mut [u32; MAX_LEVELS],
 ) -> u32
     requires { ⌜ Rows n (now starts) (now columns) × Proper n (now stretch) × Levelled 0 (now ends) (now stretch) (levelsIn 0 (now ends) (now stretch))
         × (length (now ends) ≤ maxLevels) × (length (now loads) ≡ maxLevels) ⌝ }

@@ -1,7 +1,8 @@
 // The whole: all rows, sorted by level, and their plan.
 use crate::cycle::plan_group;
-use crate::records::Group;
-use crate::records::WHOLE;
+use plan::fields::Group;
+use plan::fields::WHOLE;
+use sort::MAX_LEVELS;
 use sort::level_sort;
 ghost use mathlib.Core.Path.{_≡_};
 ghost use Prim.Native.Nat.{_≤_, _*_};
@@ -13,10 +14,11 @@ ghost use Rattle.plan.specs.Groups.{width};
 ghost use Rattle.plan.specs.Sound.{maxWorkers, maxGroups};
 ghost use Rattle.race.specs.Planner.{planRows};
 ghost use Rattle.planner.specs.Records.{Holds};
+ghost use Rattle.matrix.specs.Limits.{maxRows};
 
 // The rows by their numbers.
 fn number(order: &mut [u32])
-    requires { ⌜ length (now order) ≤ 4096 ⌝ }
+    requires { ⌜ length (now order) ≤ maxRows ⌝ }
     ensures { λ _. ⌜ now (order .exit) ≡ range 0 (length (now (order .entry))) ⌝ }
 {
     let mut i = 0;
@@ -31,7 +33,7 @@ fn sort_rows(starts: &[u32], columns: &[u32], order: &mut [u32], n: usize)
     requires { ⌜ Rows n (now starts) (now columns) × (now order ≡ range 0 n) ⌝ }
     ensures { λ _. ⌜ now (order .exit) ≡ concat (ownLevels (adjOf n (now (starts .entry)) (now (columns .entry))) n (range 0 n)) ⌝ }
 {
-    let mut ends = [0u32; 8192];
+    let mut ends = [0u32; MAX_LEVELS];
     level_sort(starts, columns, order, &mut ends, n, 0);
 }
 

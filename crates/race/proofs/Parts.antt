@@ -10,7 +10,7 @@ use Rattle.base.specs.Lists.{concat}
 use Rattle.base.proofs.Lists.{concat-append}
 use Rattle.plan.specs.Groups.{Group, Plan, red, blue}
 use Rattle.plan.specs.Sound.{tiled}
-use Rattle.race.specs.Planner.{Pair, Planner, nothing, _then_, planPairs}
+use Rattle.race.specs.Planner.{Pair, Planner, nothing, _then_, planPairs, childOf}
 use Rattle.race.proofs.Tiles.{Tiles, done, more}
 
 -- a child's rows, colour and workers
@@ -35,7 +35,7 @@ allRows (x ∷ xs) = x .rows ++ allRows xs
 
 -- the record of a child of the group at index up
 abbrev pub recordOf : (up start : ℕ) → Part → Group
-recordOf up start x = record { start = start; length = length (x .rows); first = x .first; workers = x .workers; colour = x .colour; parent = up }
+recordOf up start x = childOf up start (length (x .rows)) (x .first) (x .workers) (x .colour)
 
 -- .. and of all its children
 abbrev pub recordsOf : (up start : ℕ) → List Part → List Group
@@ -54,10 +54,10 @@ pub planPairs-parts : (child : Planner) (up start first index : ℕ) (cs : List 
 unfolding planPairs
 planPairs-parts child up start first index [] = refl
 planPairs-parts child up start first index (c ∷ cs) =
-    let a = child index (record { start = start; length = length (c .reds); first = first; workers = c .workers; colour = red; parent = up }) (c .reds) in
+    let a = child index (childOf up start (length (c .reds)) first (c .workers) red) (c .reds) in
     let mid = start + length (c .reds) in
     let index₁ = index + length (a .groups) in
-    let b = child index₁ (record { start = mid; length = length (c .blues); first = first; workers = c .workers; colour = blue; parent = up }) (c .blues) in
+    let b = child index₁ (childOf up mid (length (c .blues)) first (c .workers) blue) (c .blues) in
     ap (λ (r : Plan). a then b then r) (planPairs-parts child up (mid + length (c .blues)) (first + c .workers) (index₁ + length (b .groups)) cs)
 
 -- ---- what tiles gives

@@ -20,7 +20,7 @@ use Rattle.plan.specs.Groups.{Group, Plan, whole}
 use Rattle.plan.specs.Sound.{maxWorkers, maxDepth, maxGroups, eachOnce, depthFirst, allSound, sound}
 use Rattle.plan.proofs.Once.{same-once}
 use Rattle.race.specs.Loads.{load}
-use Rattle.race.specs.Planner.{Planner, nothing, _then_, leaf, pairs, planPairs, splits, split, planGroup, planRows}
+use Rattle.race.specs.Planner.{Planner, nothing, _then_, leaf, pairs, planPairs, splits, split, planGroup, wholeOf, planRows}
 use Rattle.race.proofs.Tiles.{Tiles, pairs-tile}
 use Rattle.race.proofs.Parts.{Part, parts, allRows, recordOf, planParts, planPairs-parts, tiles-rows, tiles-tiled, tiles-groups}
 use Rattle.race.proofs.Colours.{tiles-apart}
@@ -86,10 +86,6 @@ module _ (adj : ℕ → List ℕ) (n : ℕ) where
 
     -- ---- the whole
 
-    -- its record
-    abbrev wholeOf : (w : ℕ) → Group
-    wholeOf w = record { start = 0; length = n; first = 0; workers = w; colour = whole; parent = 0 }
-
     -- its rows in their order
     abbrev sorted : List ℕ
     sorted = concat (ownLevels adj n (range 0 n))
@@ -98,10 +94,10 @@ module _ (adj : ℕ → List ℕ) (n : ℕ) where
     sorted-same = own-same adj n (range 0 n) (proper-range n)
 
     -- the whole
-    rows-planned : (w : ℕ) → Planned maxDepth 0 (wholeOf w) sorted (planRows adj n p w)
+    rows-planned : (w : ℕ) → Planned maxDepth 0 (wholeOf n w) sorted (planRows adj n p w)
     unfolding planRows
     rows-planned w =
-        group-planned maxDepth 0 (wholeOf w) sorted (proper-same n sorted (range 0 n) sorted-same (proper-range n))
+        group-planned maxDepth 0 (wholeOf n w) sorted (proper-same n sorted (range 0 n) sorted-same (proper-range n))
         (sym (same-length sorted (range 0 n) sorted-same ∙ length-range 0 n))
 
     -- at most 1 + 16 × 30 groups
@@ -115,7 +111,7 @@ module _ (adj : ℕ → List ℕ) (n : ℕ) where
         let (below, shape, fine) = rows-planned w in
         let O = planRows adj n p w .order in
         let each : eachOnce n O ≡ true = same-once n O (λ v. fine .same v ∙ sorted-same v) in
-        let all : allSound adj O below 0 (wholeOf w ∷ below) ≡ true = fine .sound O below (take-length O) (λ i a b. refl) in
+        let all : allSound adj O below 0 (wholeOf n w ∷ below) ≡ true = fine .sound O below (take-length O) (λ i a b. refl) in
         let (out, above, walk) = fine .walked [] [] (omega arith) in
         let deep : depthFirst (0 ∷ []) 1 below ≡ true = ap (λ (l : List Group). depthFirst (0 ∷ []) 1 l) (sym (append-nil below)) ∙ walk in
         let few : suc (length below) ≤ maxGroups = omega (arith, fine .few) in

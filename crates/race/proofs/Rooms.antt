@@ -16,8 +16,7 @@ use Rattle.matrix.specs.Limits.{maxRows}
 use Rattle.matrix.specs.Matrix.{Matrix, isMatrix, neighbours, matrixCheck}
 use Rattle.matrix.proofs.Matrix.{matrix-facts}
 use Rattle.plan.specs.Groups.{Group, Plan, width, flat}
-use Rattle.plan.specs.Sound.{sound, isSound}
-use Rattle.plan.proofs.Cut.{mostFields}
+use Rattle.plan.specs.Sound.{sound, isSound, maxFields}
 use Rattle.plan.proofs.FlatRecords.{length-flat}
 use Rattle.plan.proofs.Once.{once}
 use Rattle.plan.proofs.Sound.{sound-facts}
@@ -35,7 +34,7 @@ length-order m o h = go (o .groups) h
 
 -- ---- the reply
 
-groups-cut : (count b y : ℕ) → count ≤ 481 → mostFields ≤ y → leb count (min b y / width) ≡ leb count (b / width)
+groups-cut : (count b y : ℕ) → count ≤ 481 → maxFields ≤ y → leb count (min b y / width) ≡ leb count (b / width)
 groups-cut count b y few enough =
     both-ways (leb count (min b y / width)) (leb count (b / width))
     (λ t. le-leb count (b / width) (omega (arith, leb-true count (min b y / width) t)))
@@ -43,7 +42,7 @@ groups-cut count b y few enough =
 
 module _ (m : Matrix) (w p : ℕ) where
   -- rooms that are cut to no less than a plan can need give the same reply
-  pub rooms-cut : (a b x y : ℕ) → maxRows ≤ x → mostFields ≤ y → planReply m w p (min a x) (min b y) ≡ planReply m w p a b
+  pub rooms-cut : (a b x y : ℕ) → maxRows ≤ x → maxFields ≤ y → planReply m w p (min a x) (min b y) ≡ planReply m w p a b
   unfolding planReply matrixCheck
   rooms-cut a b x y hx hy =
       inTurn-same refused (matrixCheck m) _ _ _ _ (λ ok.
@@ -54,9 +53,9 @@ module _ (m : Matrix) (w p : ℕ) where
   pub record Planned (a b k : ℕ) : Type 0 where
     pub matrix : isMatrix m ≡ true
     pub order-size : length (plan m w p .order) ≡ m .n
-    pub groups-size : length (flat (plan m w p .groups)) ≡ 6 * k
+    pub groups-size : length (flat (plan m w p .groups)) ≡ width * k
     pub order-room : m .n ≤ a
-    pub groups-room : 6 * k ≤ b
+    pub groups-room : width * k ≤ b
 
   pub planned : (a b k : ℕ) → planReply m w p a b ≡ accepted k → Planned a b k
   unfolding planReply matrixCheck inTurn

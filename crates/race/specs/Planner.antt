@@ -36,6 +36,13 @@ pub record Pair : Type 0 where
   pub blues : List ℕ
   pub workers : ℕ
 
+-- the record of a child of the group at index up, and of the whole: "the whole has depth 0 and all workers"
+abbrev pub childOf : (up start size first workers colour : ℕ) → Group
+childOf up start size first workers colour = record { start = start; length = size; first = first; workers = workers; colour = colour; parent = up }
+
+abbrev pub wholeOf : (n w : ℕ) → Group
+wholeOf n w = record { start = 0; length = n; first = 0; workers = w; colour = whole; parent = 0 }
+
 -- The pairs of a group of w workers and load R, in the levels ls and the free workers that are left: "The pair gets b workers, the next ones free". k bounds how many
 unfoldable pub pairs : (adj : ℕ → List ℕ) (k w R p free : ℕ) → List (List ℕ) → List Pair
 pairs adj zero w R p free ls = []
@@ -52,9 +59,9 @@ unfoldable pub planPairs : (child : Planner) (up start first index : ℕ) → Li
 planPairs child up start first index [] = nothing
 planPairs child up start first index (c ∷ cs) =
     let mid = start + length (c .reds) in
-    let a = child index (record { start = start; length = length (c .reds); first = first; workers = c .workers; colour = red; parent = up }) (c .reds) in
+    let a = child index (childOf up start (length (c .reds)) first (c .workers) red) (c .reds) in
     let index₁ = index + length (a .groups) in
-    let b = child index₁ (record { start = mid; length = length (c .blues); first = first; workers = c .workers; colour = blue; parent = up }) (c .blues) in
+    let b = child index₁ (childOf up mid (length (c .blues)) first (c .workers) blue) (c .blues) in
     a then b then planPairs child up (mid + length (c .blues)) (first + c .workers) (index₁ + length (b .groups)) cs
 
 -- "T is split if it has at least two workers, depth below 4 and m at least 4" (the depth: a stage is left)
@@ -74,10 +81,10 @@ planGroup adj n p (suc s) index g T =
     let ls = ownLevels adj n T in
     elim (splits g ls) [ true ↦ split adj (planGroup adj n p s) p index g ls | false ↦ leaf g T ]
 
--- "the whole has depth 0 and all workers"; "the whole is sorted even as a leaf"
+-- "the whole is sorted even as a leaf"
 unfoldable pub planRows : (adj : ℕ → List ℕ) (n p w : ℕ) → Plan
 planRows adj n p w =
-    planGroup adj n p maxDepth 0 (record { start = 0; length = n; first = 0; workers = w; colour = whole; parent = 0 }) (concat (ownLevels adj n (range 0 n)))
+    planGroup adj n p maxDepth 0 (wholeOf n w) (concat (ownLevels adj n (range 0 n)))
 
 -- the plan of a matrix for w workers
 unfoldable pub plan : Matrix → (w p : ℕ) → Plan

@@ -5,6 +5,8 @@ use crate::entry::read_entry;
 use crate::marks::bit_of;
 use crate::marks::mark;
 use crate::marks::mark_all;
+use matrix::limits::MAX_ENTRIES;
+use matrix::limits::MAX_ROWS;
 ghost use mathlib.Core.Path.{_≡_};
 ghost use mathlib.Core.List.{[]};
 ghost use Prim.Native.Nat.{ℕ};
@@ -14,6 +16,9 @@ ghost use Rattle.scan.specs.Classes.{Classes};
 ghost use Rattle.compress.specs.Arrays.{Arrays};
 ghost use Rattle.reader.specs.Scanned.{parsed, Within};
 ghost use Rattle.reader.specs.Entries.{Held, remaining, Ended};
+
+// Places are told apart by column, then row.
+const STRIDE: u32 = MAX_ROWS as u32;
 
 // A text's rows and count of entries, or its refusal with number and line.
 pub(crate) enum Scanned {
@@ -34,9 +39,9 @@ fn read_sorted(
     at: usize,
     n: usize,
     m: usize,
-    rows: &mut [u32; 32768],
-    columns: &mut [u32; 32768],
-    values: &mut [i32; 32768],
+    rows: &mut [u32; MAX_ENTRIES],
+    columns: &mut [u32; MAX_ENTRIES],
+    values: &mut [i32; MAX_ENTRIES],
 ) -> Reached
     requires { ⌜ Classes (now classes) × Held n m (now rows) (now columns) (now values) 0 ⌝ }
     ensures { λ r. ⌜ Held n m (now (rows .exit)) (now (columns .exit)) (now (values .exit)) (r .count) × ((k : ℕ) → remaining (now (s .entry)) n m k (now (rows .exit)) (now (columns .exit)) (now (values .exit)) (r .pos) (r .count) ≡ entries n m k [] (drop at (now (s .entry)))) ⌝ }
@@ -55,7 +60,7 @@ fn read_sorted(
         else {
             return Reached { count: i, pos: p };
         };
-        let key = column * 4096 + row;
+        let key = column * STRIDE + row;
         if key < low {
             return Reached { count: i, pos: p };
         }
@@ -88,9 +93,9 @@ fn read_marked(
     n: usize,
     m: usize,
     line: u32,
-    rows: &mut [u32; 32768],
-    columns: &mut [u32; 32768],
-    values: &mut [i32; 32768],
+    rows: &mut [u32; MAX_ENTRIES],
+    columns: &mut [u32; MAX_ENTRIES],
+    values: &mut [i32; MAX_ENTRIES],
 ) -> Scanned
     requires { ⌜ Classes (now classes) × Within n m line × Held n m (now rows) (now columns) (now values) (from .count) ⌝ }
     ensures { λ r. ⌜ (remaining (now (s .entry)) n m line (now (rows .entry)) (now (columns .entry)) (now (values .entry)) (from .pos) (from .count) ≡ parsed r (now (rows .exit)) (now (columns .exit)) (now (values .exit))) × Arrays (now (rows .exit)) (now (columns .exit)) (now (values .exit)) ⌝ }
@@ -132,9 +137,9 @@ pub(crate) fn read_entries(
     n: usize,
     m: usize,
     line: u32,
-    rows: &mut [u32; 32768],
-    columns: &mut [u32; 32768],
-    values: &mut [i32; 32768],
+    rows: &mut [u32; MAX_ENTRIES],
+    columns: &mut [u32; MAX_ENTRIES],
+    values: &mut [i32; MAX_ENTRIES],
 ) -> Scanned
     requires { ⌜ Classes (now classes) × Within n m line × Arrays (now rows) (now columns) (now values) ⌝ }
     ensures { λ r. ⌜ (entries n m line [] (drop at (now (s .entry))) ≡ parsed r (now (rows .exit)) (now (columns .exit)) (now (values .exit))) × Arrays (now (rows .exit)) (now (columns .exit)) (now (values .exit)) ⌝ }

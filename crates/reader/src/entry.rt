@@ -1,5 +1,6 @@
 // One entry line of a text.
 
+use matrix::limits::MAX_VALUE;
 use scan::lines::Fields;
 use scan::lines::read_line;
 ghost use mathlib.Core.Path.{_≡_};
@@ -10,14 +11,19 @@ ghost use Rattle.market.specs.Parse.{isEntry};
 ghost use Rattle.scan.specs.Classes.{Classes};
 ghost use Rattle.reader.specs.Entries.{EntryAt};
 
+// The largest value and the least, as wide as the text's numbers.
+const MOST: i64 = MAX_VALUE as i64;
+
+const LEAST: i64 = -MOST;
+
 // Whether a value is within its limits.
 fn in_limits(v: i64) -> bool
     ensures { λ r. ⌜ r ≡ within maxValue v ⌝ }
 {
-    if v < -1000000000 {
+    if v < LEAST {
         return false;
     }
-    if 1000000000 < v {
+    if MOST < v {
         return false;
     }
     true

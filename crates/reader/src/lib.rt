@@ -8,6 +8,7 @@ mod parse;
 use base::Answer;
 use compress::rows;
 use entries::Scanned;
+use matrix::limits::MAX_ENTRIES;
 ghost use mathlib.Core.Path.{_≡_};
 ghost use lib.ListN.{length};
 ghost use Rattle.base.specs.Answers.{replyOf};
@@ -22,9 +23,9 @@ pub fn read(text: &[u8], starts: &mut [u32], columns: &mut [u32], values: &mut [
     ensures { λ _. ⌜ now (columns .exit) ≡ lent (readReply (parse (now (text .entry))) (length (now (starts .entry))) (length (now (columns .entry))) (length (now (values .entry)))) (readMatrix (parse (now (text .entry))) .columns) (now (columns .entry)) ⌝ }
     ensures { λ _. ⌜ now (values .exit) ≡ lent (readReply (parse (now (text .entry))) (length (now (starts .entry))) (length (now (columns .entry))) (length (now (values .entry)))) (readMatrix (parse (now (text .entry))) .values) (now (values .entry)) ⌝ }
 {
-    let mut rs = [0u32; 32768];
-    let mut cs = [0u32; 32768];
-    let mut vs = [0i32; 32768];
+    let mut rs = [0u32; MAX_ENTRIES];
+    let mut cs = [0u32; MAX_ENTRIES];
+    let mut vs = [0i32; MAX_ENTRIES];
     let found = parse::parse_text(text, &mut rs, &mut cs, &mut vs);
     match found {
         Scanned::Rejected(q, p) => Answer::Refused(q, p),

@@ -1,5 +1,6 @@
 // One bit for each place of the lower triangle: which places an earlier line has named.
 
+use matrix::limits::MAX_ENTRIES;
 ghost use mathlib.Core.Path.{_≡_};
 ghost use mathlib.Core.List.{List, []};
 ghost use Prim.Native.Nat.{_≤_, _<_};
@@ -8,10 +9,11 @@ ghost use lib.ListN.{length};
 ghost use Rattle.compress.specs.Arrays.{tripletsOf};
 ghost use Rattle.reader.specs.Entries.{Lower};
 ghost use Rattle.reader.specs.Marks.{isMarked, marked, bitOf, Marks};
+ghost use Rattle.matrix.specs.Limits.{maxEntries, maxRows};
 
 // The bit of row r and column c.
 pub(crate) fn bit_of(r: u32, c: u32) -> usize
-    requires { ⌜ (c ≤ r) × (r < 4096) ⌝ }
+    requires { ⌜ (c ≤ r) × (r < maxRows) ⌝ }
     ensures { λ q. ⌜ (q ≡ bitOf r c) × (q < 8390656) ⌝ }
 {
     (r * (r + 1) / 2 + c) as usize
@@ -31,12 +33,12 @@ pub(crate) fn mark(marks: &mut [u64; 131104], q: usize) -> bool
 
 // Sets the bits of the first entries of two arrays.
 pub(crate) fn mark_all(
-    rows: &[u32; 32768],
-    columns: &[u32; 32768],
+    rows: &[u32; MAX_ENTRIES],
+    columns: &[u32; MAX_ENTRIES],
     count: usize,
     marks: &mut [u64; 131104],
 )
-    requires { ⌜ (count ≤ 32768) × (length (now rows) ≡ 32768) × (length (now columns) ≡ 32768) × Lower (now rows) (now columns) count × Marks (now marks) [] ⌝ }
+    requires { ⌜ (count ≤ maxEntries) × (length (now rows) ≡ maxEntries) × (length (now columns) ≡ maxEntries) × Lower (now rows) (now columns) count × Marks (now marks) [] ⌝ }
     ensures { λ _. ⌜ ((vs : List ℤ) → Marks (now (marks .exit)) (tripletsOf count (now (rows .entry)) (now (columns .entry)) vs)) ⌝ }
 {
     let mut k: usize = 0;

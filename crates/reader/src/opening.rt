@@ -7,6 +7,7 @@ ghost use mathlib.Core.Path.{_≡_};
 ghost use Prim.Native.Nat.{_≤_};
 ghost use lib.ListN.{length};
 ghost use Rattle.base.specs.Lists.{begins};
+ghost use Rattle.matrix.specs.Limits.{maxText};
 ghost use Rattle.market.specs.Bytes.{header};
 ghost use Rattle.scan.specs.Classes.{Classes};
 ghost use Rattle.reader.specs.Opening.{LineEnds, Skipped};
@@ -58,7 +59,7 @@ pub(crate) struct LineStart {
 
 // The first line from a position on that does not begin with %; the line at the position has the given number.
 pub(crate) fn skip_comments(classes: &[u8; 256], s: &[u8], at: usize, first: u32) -> LineStart
-    requires { ⌜ Classes (now classes) × (first ≤ at) × (at ≤ length (now s)) × (length (now s) ≤ 1048576) ⌝ }
+    requires { ⌜ Classes (now classes) × (first ≤ at) × (at ≤ length (now s)) × (length (now s) ≤ maxText) ⌝ }
     ensures { λ r. ⌜ Skipped (now (s .entry)) at first r ⌝ }
 {
     let mut i = at;

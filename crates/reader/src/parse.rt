@@ -4,6 +4,9 @@ use crate::entries::Scanned;
 use crate::entries::read_entries;
 use crate::opening::has_header;
 use crate::opening::skip_comments;
+use matrix::limits::MAX_ENTRIES;
+use matrix::limits::MAX_ROWS;
+use matrix::limits::MAX_TEXT;
 use scan::classes::table;
 use scan::lines::Fields;
 use scan::lines::read_line;
@@ -18,6 +21,11 @@ ghost use Rattle.scan.specs.Classes.{Classes};
 ghost use Rattle.compress.specs.Arrays.{Arrays};
 ghost use Rattle.reader.specs.Scanned.{parsed};
 
+// The limits of a size, as wide as the text's numbers.
+const MOST_ROWS: u64 = MAX_ROWS as u64;
+
+const MOST_ENTRIES: u64 = MAX_ENTRIES as u64;
+
 // Whether rows, columns and entry count are a size within limits.
 fn is_size(rows: u64, columns: u64, count: u64) -> bool
     ensures { λ r. ⌜ r ≡ eqb rows columns && leb 1 rows && leb rows maxRows && leb count maxEntries ⌝ }
@@ -28,10 +36,10 @@ fn is_size(rows: u64, columns: u64, count: u64) -> bool
     if rows < 1 {
         return false;
     }
-    if 4096 < rows {
+    if MOST_ROWS < rows {
         return false;
     }
-    count <= 32768
+    count <= MOST_ENTRIES
 }
 
 // The size line, at a position and with its number, and all after it.
@@ -40,9 +48,9 @@ fn parse_size(
     s: &[u8],
     pos: usize,
     line: u32,
-    rows: &mut [u32; 32768],
-    columns: &mut [u32; 32768],
-    values: &mut [i32; 32768],
+    rows: &mut [u32; MAX_ENTRIES],
+    columns: &mut [u32; MAX_ENTRIES],
+    values: &mut [i32; MAX_ENTRIES],
 ) -> Scanned
     requires { ⌜ Classes (now classes) × (line ≤ 1048577) × Arrays (now rows) (now columns) (now values) ⌝ }
     ensures { λ r. ⌜ (sizeLine line (drop pos (now (s .entry))) ≡ parsed r (now (rows .exit)) (now (columns .exit)) (now (values .exit))) × Arrays (now (rows .exit)) (now (columns .exit)) (now (values .exit)) ⌝ }
@@ -80,14 +88,14 @@ fn parse_size(
 // The text: n and the count of entries, which are in the arrays; or the refusal.
 pub(crate) fn parse_text(
     s: &[u8],
-    rows: &mut [u32; 32768],
-    columns: &mut [u32; 32768],
-    values: &mut [i32; 32768],
+    rows: &mut [u32; MAX_ENTRIES],
+    columns: &mut [u32; MAX_ENTRIES],
+    values: &mut [i32; MAX_ENTRIES],
 ) -> Scanned
     requires { ⌜ Arrays (now rows) (now columns) (now values) ⌝ }
     ensures { λ r. ⌜ (parse (now (s .entry)) ≡ parsed r (now (rows .exit)) (now (columns .exit)) (now (values .exit))) × Arrays (now (rows .exit)) (now (columns .exit)) (now (values .exit)) ⌝ }
 {
-    if 1048576 < s.len() {
+    if MAX_TEXT < s.len() {
         return Scanned::Rejected(base::FORM, 0);
     }
     if !has_header(s) {

@@ -4,6 +4,7 @@ use crate::classes::DIGIT;
 use crate::classes::SPACE;
 use crate::classes::class_of;
 use crate::classes::table;
+use base::bytes::wide64;
 ghost use mathlib.Core.Path.{_≡_};
 ghost use Prim.Native.Nat.{_+_, _<_};
 ghost use lib.ListN.{drop};
@@ -15,12 +16,6 @@ ghost use Rattle.scan.specs.Positions.{numberAt, isNumeral, pick};
 pub enum Number {
     At(u64, usize),
     No,
-}
-
-fn wide(x: u8) -> u64
-    ensures { λ r. ⌜ (r ≡ x) × (r < 256) ⌝ }
-{
-    x as u64
 }
 
 // What k digits make, of which the first is given, and which end before next.
@@ -61,7 +56,7 @@ pub(crate) fn scan_number(classes: &[u8; 256], s: &[u8], at: usize) -> Number
         if 10 <= i - at {
             return Number::No;
         }
-        v = v * 10 + (wide(b) - 48);
+        v = v * 10 + (wide64(b) - 48);
         i += 1;
     }
     numeral(first, v, i - at, i)

@@ -6,11 +6,15 @@ use base::DONE;
 use base::OVERFLOW;
 use base::STRANGER;
 use base::WAITING;
+use base::shorts::wide;
+use matrix::limits::MAX_ROWS;
+use plan::MAX_GROUPS;
+use plan::MAX_WORKERS;
 use sum::Sum;
 use sum::add_checked;
+use tables::MAX_UPDATES;
 use updates::amount_of;
 use updates::target_of;
-use updates::wide;
 ghost use mathlib.Core.Path.{_≡_};
 ghost use Prim.Native.Nat.{_+_, _/_, _≤_, _<_};
 ghost use lib.ListN.{length, getD};
@@ -21,7 +25,12 @@ ghost use Rattle.steps.specs.Updates.{updateIn, Readable};
 ghost use Rattle.steps.specs.Steps.{stateWith, rowNext, numberNext, reasonAt, Inside, StepTables, StepMade};
 
 // The position of the row that makes the update of worker w's next access.
-fn next_row(made: &[u32; 16], w: usize, first: &[u32; 16], row: &[u16; 69632]) -> usize
+fn next_row(
+    made: &[u32; MAX_WORKERS],
+    w: usize,
+    first: &[u32; MAX_WORKERS],
+    row: &[u16; MAX_UPDATES],
+) -> usize
     requires { ⌜ (w < maxWorkers) × (getD (now first) w 0 + count (now made) w / 2 < maxUpdates) ⌝ }
     ensures { λ r. ⌜ r ≡ rowNext (now (first .entry)) (now (row .entry)) (now (made .entry)) w ⌝ }
 {
@@ -31,14 +40,14 @@ fn next_row(made: &[u32; 16], w: usize, first: &[u32; 16], row: &[u16; 69632]) -
 
 // Why a step of worker w is refused by the counts: 10, 12, 13, or 0 if it is not.
 pub fn refusal(
-    made: &[u32; 16],
+    made: &[u32; MAX_WORKERS],
     w: usize,
     workers: usize,
-    counts: &[u32; 16],
-    first: &[u32; 16],
-    row: &[u16; 69632],
-    leaves: &[u16; 4096],
-    blocks: &[u8; 512],
+    counts: &[u32; MAX_WORKERS],
+    first: &[u32; MAX_WORKERS],
+    row: &[u16; MAX_UPDATES],
+    leaves: &[u16; MAX_ROWS],
+    blocks: &[u8; MAX_GROUPS],
 ) -> u32
     requires { ⌜ (workers ≤ maxWorkers) × Inside (now counts) (now first) (now row) (now leaves) ⌝ }
     ensures { λ r. ⌜ r ≡ reasonAt workers (now (counts .entry)) (now (first .entry)) (now (row .entry)) (now (leaves .entry)) (now (blocks .entry)) (now (made .entry)) w ⌝ }
@@ -61,15 +70,15 @@ pub enum Pick {
 
 // Worker w loads or stores the sum of update number k of the row at position p.
 fn access<'a>(
-    made: &'a [u32; 16],
-    held: &'a [i64; 16],
+    made: &'a [u32; MAX_WORKERS],
+    held: &'a [i64; MAX_WORKERS],
     sums: &mut [i64],
     w: usize,
     starts: &[u32],
     displacements: &[i32],
     order: &[u32],
-    at: &[u16; 69632],
-    beside: &[i32; 69632],
+    at: &[u16; MAX_UPDATES],
+    beside: &[i32; MAX_UPDATES],
     p: usize,
     k: usize,
 ) -> Pick
@@ -93,22 +102,22 @@ fn access<'a>(
 
 // One step of worker w, by the counts made and numbers held: the sum of its next update is loaded, or stored.
 pub fn step<'a>(
-    made: &'a [u32; 16],
-    held: &'a [i64; 16],
+    made: &'a [u32; MAX_WORKERS],
+    held: &'a [i64; MAX_WORKERS],
     sums: &mut [i64],
     w: usize,
     workers: usize,
-    counts: &[u32; 16],
-    first: &[u32; 16],
-    row: &[u16; 69632],
-    begins: &[u32; 4096],
-    leaves: &[u16; 4096],
-    blocks: &[u8; 512],
+    counts: &[u32; MAX_WORKERS],
+    first: &[u32; MAX_WORKERS],
+    row: &[u16; MAX_UPDATES],
+    begins: &[u32; MAX_ROWS],
+    leaves: &[u16; MAX_ROWS],
+    blocks: &[u8; MAX_GROUPS],
     starts: &[u32],
     displacements: &[i32],
     order: &[u32],
-    at: &[u16; 69632],
-    beside: &[i32; 69632],
+    at: &[u16; MAX_UPDATES],
+    beside: &[i32; MAX_UPDATES],
 ) -> Pick
     requires { ⌜ (workers ≤ maxWorkers) × StepTables (length (now sums)) (now counts) (now first) (now row) (now begins) (now leaves) (now starts) (now displacements) (now order) (now at) ⌝ }
     ensures { λ r. ⌜ StepMade (reasonAt workers (now (counts .entry)) (now (first .entry)) (now (row .entry)) (now (leaves .entry)) (now (blocks .entry)) (now (made .entry)) w)

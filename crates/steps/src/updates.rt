@@ -1,18 +1,13 @@
 // The updates of a row, found in the upper triangle of the matrix in plan order.
-use plan::fields::wide_at;
+use base::shorts::wide;
+use base::slices::wide_at;
+use tables::MAX_UPDATES;
 ghost use mathlib.Core.Path.{_≡_};
 ghost use Prim.Native.Nat.{_<_};
 ghost use lib.IntN.{_*ℤ_};
 ghost use lib.ListN.{length, getD};
 ghost use Rattle.tables.specs.Laid.{maxUpdates};
 ghost use Rattle.steps.specs.Updates.{byTurns, entryPlace, targetIn, amountIn, Readable};
-
-// A number of 16 bits, widened.
-pub(crate) fn wide(x: u16) -> usize
-    ensures { λ r. ⌜ r ≡ x ⌝ }
-{
-    x as usize
-}
 
 // a at even numbers k, b at odd ones.
 fn by_turns(k: usize, a: usize, b: usize) -> usize
@@ -41,7 +36,7 @@ fn entry_place(starts: &[u32], order: &[u32], p: usize, k: usize) -> usize
 pub(crate) fn target_of(
     starts: &[u32],
     order: &[u32],
-    at: &[u16; 69632],
+    at: &[u16; MAX_UPDATES],
     p: usize,
     k: usize,
 ) -> usize
@@ -56,8 +51,8 @@ pub(crate) fn amount_of(
     starts: &[u32],
     displacements: &[i32],
     order: &[u32],
-    at: &[u16; 69632],
-    beside: &[i32; 69632],
+    at: &[u16; MAX_UPDATES],
+    beside: &[i32; MAX_UPDATES],
     p: usize,
     k: usize,
 ) -> i64

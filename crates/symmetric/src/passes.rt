@@ -2,6 +2,9 @@
 use crate::places::is_at;
 use crate::places::is_below;
 use crate::places::past;
+use matrix::limits::MAX_ENTRIES;
+use matrix::limits::MAX_ROWS;
+use matrix::limits::MAX_VALUE;
 use matrix::limits::all_within;
 ghost use mathlib.Core.Path.{_≡_};
 ghost use mathlib.Core.Bool.{true, _&&_};
@@ -14,14 +17,6 @@ ghost use Rattle.matrix.specs.Limits.{maxEntries, maxValue};
 ghost use Rattle.matrix.specs.Matrix.{lowerEntries};
 ghost use Rattle.matrix.specs.Checks.{matrixOf, rises, shaped};
 ghost use Rattle.symmetric.specs.Cursors.{regular, ended, MeetOk, RowMet};
-
-// "A matrix has n freedoms, 1 to 4,096 .. and at most 32,768 stored entries on and below the diagonal"
-const MAX_ROWS: usize = 4096;
-
-const MAX_ENTRIES: usize = 32768;
-
-// "Stiffness is whole N/mm, at most 1,000,000,000 either side of 0"
-const MAX_VALUE: u32 = 1000000000;
 
 // No row starts after the next.
 fn starts_rise(n: usize, starts: &[u32]) -> bool
@@ -145,6 +140,6 @@ pub fn is_regular(n: usize, starts: &[u32], columns: &[u32], values: &[i32]) -> 
     requires { ⌜ shaped (matrixOf n (now starts) (now columns) (now values)) ≡ true ⌝ }
     ensures { λ r. ⌜ r ≡ regular (matrixOf n (now (starts .entry)) (now (columns .entry)) (now (values .entry))) && leb (lowerEntries (matrixOf n (now (starts .entry)) (now (columns .entry)) (now (values .entry)))) maxEntries ⌝ }
 {
-    let mut cursors = [0u32; 4096];
+    let mut cursors = [0u32; MAX_ROWS];
     meet_rows(n, starts, columns, values, &mut cursors)
 }

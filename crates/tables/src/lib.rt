@@ -1,1 +1,6 @@
 // What the tables of a run hold, and laws on the leaves of flat records. The code is in upper, layout and waits.
+use matrix::limits::MAX_CELLS;
+use matrix::limits::MAX_ROWS;
+
+// A worker's updates: one for each row, and two for each pair of adjacent rows.
+pub const MAX_UPDATES: usize = MAX_ROWS + MAX_CELLS;

@@ -1,7 +1,9 @@
 // Where rows stand in the order, and the upper triangle of the matrix in that order.
+use base::slices::wide_at;
+use matrix::limits::MAX_ROWS;
 use matrix::row::columns_of;
 use matrix::row::values_of;
-use plan::fields::wide_at;
+use tables::MAX_UPDATES;
 ghost use mathlib.Core.Path.{_≡_};
 ghost use mathlib.Core.Bool.{true};
 ghost use Prim.Native.Nat.{_+_, _≤_, _<_};
@@ -12,7 +14,7 @@ ghost use Rattle.plan.specs.Sound.{eachOnce};
 ghost use Rattle.upper.specs.Upper.{Positions, Lent, Upper};
 
 // The position of each row.
-pub fn positions(order: &[u32], n: usize, position: &mut [u32; 4096])
+pub fn positions(order: &[u32], n: usize, position: &mut [u32; MAX_ROWS])
     requires { ⌜ (n ≤ length (now order)) × (n ≤ maxRows) × (eachOnce n (take n (now order)) ≡ true) × (length (now position) ≡ maxRows) ⌝ }
     ensures { λ _. ⌜ Positions n (take n (now (order .entry))) (now (position .exit)) ⌝ }
 {
@@ -31,11 +33,11 @@ fn join(
     columns: &[u32],
     values: &[i32],
     order: &[u32],
-    position: &[u32; 4096],
+    position: &[u32; MAX_ROWS],
     q: usize,
-    sizes: &mut [u32; 4096],
-    at: &mut [u16; 69632],
-    beside: &mut [i32; 69632],
+    sizes: &mut [u32; MAX_ROWS],
+    at: &mut [u16; MAX_UPDATES],
+    beside: &mut [i32; MAX_UPDATES],
 )
     requires { ⌜ Lent n (now starts) (now columns) (now values) (now order) × Positions n (take n (now order)) (now position) × (q < n)
         × Upper (matrixOf n (now starts) (now columns) (now values)) (take n (now order)) q (now sizes) (now at) (now beside) ⌝ }
@@ -68,10 +70,10 @@ pub fn upper(
     columns: &[u32],
     values: &[i32],
     order: &[u32],
-    position: &[u32; 4096],
-    sizes: &mut [u32; 4096],
-    at: &mut [u16; 69632],
-    beside: &mut [i32; 69632],
+    position: &[u32; MAX_ROWS],
+    sizes: &mut [u32; MAX_ROWS],
+    at: &mut [u16; MAX_UPDATES],
+    beside: &mut [i32; MAX_UPDATES],
 )
     requires { ⌜ Lent n (now starts) (now columns) (now values) (now order) × Positions n (take n (now order)) (now position)
         × Upper (matrixOf n (now starts) (now columns) (now values)) (take n (now order)) 0 (now sizes) (now at) (now beside) ⌝ }

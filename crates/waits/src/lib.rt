@@ -1,4 +1,6 @@
 // Which leaves are blocked, and up to which counts this stays so: found by passes over the records.
+use plan::MAX_GROUPS;
+use plan::MAX_WORKERS;
 use plan::fields::BLUE;
 use plan::fields::RED;
 use plan::fields::record_at;
@@ -17,14 +19,14 @@ fn open_if(parent: u8, below: u8, made: u32, end: u32) -> u8
 }
 
 // .. and red.
-fn open_red(colour: usize, opened: u8) -> u8
+fn open_red(colour: u32, opened: u8) -> u8
     ensures { λ r. ⌜ r ≡ openRed colour opened ⌝ }
 {
     if colour == RED { opened } else { 0 }
 }
 
 // A group is blocked if its parent is, or if it is blue and has an open red sibling.
-fn blocked_if(above: u8, colour: usize, red: u8) -> u8
+fn blocked_if(above: u8, colour: u32, red: u8) -> u8
     ensures { λ r. ⌜ r ≡ blockedIf above colour red ⌝ }
 {
     if above == 1 {
@@ -47,13 +49,18 @@ fn next_end(made: u32, end: u32, stop: u32) -> u32
 }
 
 // The groups that have an open red child, from the last record to the first.
-fn open_reds(groups: &[u32], count: usize, ends: &[u32; 512], made: &[u32; 16]) -> [u8; 512]
+fn open_reds(
+    groups: &[u32],
+    count: usize,
+    ends: &[u32; MAX_GROUPS],
+    made: &[u32; MAX_WORKERS],
+) -> [u8; MAX_GROUPS]
     requires { ⌜ Recorded count (now groups) ⌝ }
     ensures { λ r. ⌜ OpenReds count (now (groups .entry)) (now (ends .entry)) (now (made .entry)) r ⌝ }
 {
-    let mut parents = [0u8; 512];
-    let mut opens = [0u8; 512];
-    let mut reds = [0u8; 512];
+    let mut parents = [0u8; MAX_GROUPS];
+    let mut opens = [0u8; MAX_GROUPS];
+    let mut reds = [0u8; MAX_GROUPS];
     let mut i = count;
     while 1 < i {
         i -= 1;
@@ -69,11 +76,11 @@ fn open_reds(groups: &[u32], count: usize, ends: &[u32; 512], made: &[u32; 16]) 
 }
 
 // The groups that are blocked, from the first record to the last.
-fn pass_down(groups: &[u32], count: usize, reds: &[u8; 512]) -> [u8; 512]
+fn pass_down(groups: &[u32], count: usize, reds: &[u8; MAX_GROUPS]) -> [u8; MAX_GROUPS]
     requires { ⌜ Recorded count (now groups) ⌝ }
     ensures { λ r. ⌜ Passed count (now (groups .entry)) (now (reds .entry)) r ⌝ }
 {
-    let mut blocks = [0u8; 512];
+    let mut blocks = [0u8; MAX_GROUPS];
     let mut i = 1;
     while i < count {
         let g = record_at(groups, i);
@@ -88,9 +95,9 @@ fn pass_down(groups: &[u32], count: usize, reds: &[u8; 512]) -> [u8; 512]
 pub fn blocked_groups(
     groups: &[u32],
     count: usize,
-    ends: &[u32; 512],
-    made: &[u32; 16],
-) -> [u8; 512]
+    ends: &[u32; MAX_GROUPS],
+    made: &[u32; MAX_WORKERS],
+) -> [u8; MAX_GROUPS]
     requires { ⌜ Recorded count (now groups) ⌝ }
     ensures { λ r. ⌜ Blocks count (now (groups .entry)) (now (ends .entry)) (now (made .entry)) r ⌝ }
 {
@@ -99,11 +106,16 @@ pub fn blocked_groups(
 }
 
 // For each worker the next end of a group of its own: up to there it finishes no leaf.
-pub fn next_ends(groups: &[u32], count: usize, ends: &[u32; 512], made: &[u32; 16]) -> [u32; 16]
+pub fn next_ends(
+    groups: &[u32],
+    count: usize,
+    ends: &[u32; MAX_GROUPS],
+    made: &[u32; MAX_WORKERS],
+) -> [u32; MAX_WORKERS]
     requires { ⌜ Recorded count (now groups) ⌝ }
     ensures { λ r. ⌜ Ahead count (now (groups .entry)) (now (ends .entry)) (now (made .entry)) r ⌝ }
 {
-    let mut stops = [4294967295u32; 16];
+    let mut stops = [4294967295u32; MAX_WORKERS];
     let mut i = 0;
     while i < count {
         let g = record_at(groups, i);

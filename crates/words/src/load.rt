@@ -1,9 +1,9 @@
 // Numbers loaded from bytes: as many as both lists hold. The rest of the list of numbers is unchanged.
-use crate::least;
 use crate::number::read_u32;
 use crate::number::read_u64;
 use crate::signs::to_i32;
 use crate::signs::to_i64;
+use base::numbers::least;
 ghost use mathlib.Core.Path.{_≡_};
 ghost use Prim.Native.Nat.{_/_, min};
 ghost use lib.ListN.{length, take};

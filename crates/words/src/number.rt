@@ -1,16 +1,11 @@
 // One number in a byte slice, the low byte first.
+use base::bytes::wide;
 ghost use mathlib.Core.Path.{_≡_};
 ghost use Prim.Native.Nat.{_+_, _≤_, _<_};
 ghost use lib.ListN.{length};
 ghost use lib.Seq.{sets};
 ghost use Rattle.words.specs.LittleEndian.{bytesOf};
 ghost use Rattle.words.specs.Places.{fourAt, eightAt};
-
-fn wide(byte: u8) -> u32
-    ensures { λ r. ⌜ (r ≡ byte) × (r < 256) ⌝ }
-{
-    byte as u32
-}
 
 // The number of the four bytes from a place on.
 pub fn read_u32(bytes: &[u8], at: usize) -> u32

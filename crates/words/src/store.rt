@@ -1,9 +1,9 @@
 // Numbers stored as bytes: as many as both lists hold. The rest of the bytes is unchanged.
-use crate::least;
 use crate::number::write_u32;
 use crate::number::write_u64;
 use crate::signs::of_i32;
 use crate::signs::of_i64;
+use base::numbers::least;
 ghost use mathlib.Core.Path.{_≡_};
 ghost use Prim.Native.Nat.{_/_};
 ghost use lib.ListN.{length, take};

@@ -2,6 +2,7 @@
 
 use crate::puts::line_width;
 use crate::puts::put_line;
+use base::numbers::wide;
 ghost use mathlib.Core.Path.{_≡_};
 ghost use mathlib.Core.Bool.{true};
 ghost use Prim.Native.Nat.{_+_, _≤_, _<_};
@@ -10,12 +11,7 @@ ghost use Rattle.matrix.specs.Matrix.{isMatrix};
 ghost use Rattle.matrix.specs.Checks.{matrixOf};
 ghost use Rattle.market.specs.Text.{lower};
 ghost use Rattle.writer.specs.Puts.{Put, fromDiagonal, ifLower, linesOf, Row, Tallied};
-
-fn wide(x: u32) -> usize
-    ensures { λ r. ⌜ r ≡ x ⌝ }
-{
-    x as usize
-}
+ghost use Rattle.matrix.specs.Limits.{maxRows};
 
 // How many entries, and how many bytes their lines take.
 pub(crate) struct Tally {
@@ -25,7 +21,7 @@ pub(crate) struct Tally {
 
 // What the entry of row j and column c, with value v, takes if it is written.
 fn tally_entry(j: u32, c: u32, v: i32) -> Tally
-    requires { ⌜ (j < 4096) × (c < 4096) ⌝ }
+    requires { ⌜ (j < maxRows) × (c < maxRows) ⌝ }
     ensures { λ r. ⌜ Tallied (ifLower j c v) (r .entries) (r .bytes) ⌝ }
 {
     if c < j {
@@ -79,7 +75,7 @@ pub(crate) fn tally_rows(n: u32, starts: &[u32], columns: &[u32], values: &[i32]
 
 // The line of the entry of row j and column c, if it is written, and the place after it.
 fn put_entry(text: &mut [u8], at: usize, j: u32, c: u32, v: i32) -> usize
-    requires { ⌜ (j < 4096) × (c < 4096) × (at + length (linesOf (ifLower j c v)) ≤ length (now text)) ⌝ }
+    requires { ⌜ (j < maxRows) × (c < maxRows) × (at + length (linesOf (ifLower j c v)) ≤ length (now text)) ⌝ }
     ensures { λ r. ⌜ Put (linesOf (ifLower j c v)) at r (now (text .entry)) (now (text .exit)) ⌝ }
 {
     if c < j {

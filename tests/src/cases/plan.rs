@@ -6,7 +6,7 @@ use crate::both::{self, PlanTwins};
 use crate::guarded::Twin;
 use crate::oracle::planner::{self, Plan};
 use crate::oracle::prng::Prng;
-use crate::oracle::{damage, nets, plans, WORKERS};
+use crate::oracle::{damage, nets, plans, FIELDS, WORKERS};
 
 /// Plans a random net for workers and p that are now and then outside their limits.
 pub fn plan(rng: &mut Prng, seen: &mut Seen) {
@@ -21,7 +21,7 @@ pub fn plan(rng: &mut Prng, seen: &mut Seen) {
     }
     let mut lists = [
         Twin::blank(room_about(rng, plan.order.len(), 4)),
-        Twin::blank(room_about(rng, plan.groups.len(), 24)),
+        Twin::blank(room_about(rng, plan.groups.len(), 4 * FIELDS)),
     ];
     let lent = perhaps_damaged(rng, matrix);
     let matrix = matrix_twins(rng, &lent);

@@ -3,13 +3,13 @@
 use super::machine::{Picked, Ready};
 use super::matrix::Matrix;
 use super::planner::Plan;
-use super::{room, Refusal, WORKERS};
+use super::{room, Fields, Refusal, WORKERS};
 
 /// The book of one accepted matrix, movement list and plan.
 pub struct Book {
     matrix: Matrix,
     movements: Vec<i32>,
-    groups: Vec<[u32; 6]>,
+    groups: Vec<Fields>,
     /// For each leaf, in plan order: its record, its worker, and its worker's moves up to its end.
     leaves: Vec<(usize, usize, u32)>,
     /// The moves of each worker.

@@ -55,7 +55,7 @@ pub fn plan(matrix: MatrixLists, workers: u32, p: u32, order: &mut [u8], groups:
         planner::judge_limits(workers, p)?;
         let plan = planner::plan(rows, workers, p);
         super::room(order.len() / 4, rows.n)?;
-        super::room(groups.len() / 4 / 6, plan.groups.len())?;
+        super::room(groups.len() / 4 / super::FIELDS, plan.groups.len())?;
         put(order, &plan.order, u32::to_le_bytes);
         put(groups, plan.groups.as_flattened(), u32::to_le_bytes);
         Ok(plan.group_count())

@@ -3,6 +3,7 @@
 use super::matrix::{Entry, Matrix};
 use super::prng::Prng;
 use super::text::LINE_1;
+use super::FIELDS;
 
 /// Numbers at the borders of what lists of 32 bits may hold.
 const ODD_NUMBERS: [u32; 10] = [0, 1, 2, 15, 16, 4_095, 4_096, 4_097, 0x8000_0000, u32::MAX];
@@ -204,7 +205,7 @@ fn swap_places(rng: &mut Prng, list: &mut [u32]) {
 
 /// Swaps two records, or gives one record another's fields.
 fn swap_records(rng: &mut Prng, groups: &mut [u32]) {
-    let records = groups.as_chunks_mut::<6>().0;
+    let records = groups.as_chunks_mut::<FIELDS>().0;
     if records.is_empty() {
         return;
     }
@@ -218,7 +219,7 @@ fn swap_records(rng: &mut Prng, groups: &mut [u32]) {
 
 /// Shifts a plan position where records meet, in all of them, so that stretches still tile.
 fn shift_border(rng: &mut Prng, groups: &mut [u32]) {
-    let records = groups.as_chunks_mut::<6>().0;
+    let records = groups.as_chunks_mut::<FIELDS>().0;
     if records.is_empty() {
         return;
     }

@@ -18,6 +18,11 @@ pub mod text;
 /// The most workers of a plan, and the workers that a state has room for.
 pub const WORKERS: usize = 16;
 
+/// The numbers of a group's record, and a record: start, length, first worker, worker count, colour (0 whole, 1 red,
+/// 2 blue), parent's index.
+pub const FIELDS: usize = 6;
+pub type Fields = [u32; FIELDS];
+
 /// A refusal: "Each is a number and a place (0 unless named)".
 #[derive(Clone, Copy, Debug, PartialEq, Eq)]
 pub struct Refusal {

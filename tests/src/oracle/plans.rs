@@ -4,7 +4,7 @@ use super::matrix::Matrix;
 use super::planner::{self, Plan};
 use super::prng::Prng;
 use super::soundness;
-use super::WORKERS;
+use super::{Fields, WORKERS};
 
 /// A random sound plan: one of the planner's, or a random tree on its order or on any order.
 pub fn random_plan(rng: &mut Prng, matrix: &Matrix) -> Plan {
@@ -90,7 +90,7 @@ fn tree_within(rng: &mut Prng, order: &[u32], workers: u32, limits: Limits) -> P
 }
 
 /// Adds a group's record and, if it is split, all records below it.
-fn grow(rng: &mut Prng, groups: &mut Vec<[u32; 6]>, record: [u32; 6], depth: u32, limits: Limits) {
+fn grow(rng: &mut Prng, groups: &mut Vec<Fields>, record: Fields, depth: u32, limits: Limits) {
     let index = groups.len() as u32;
     groups.push(record);
     if depth == limits.depth || rng.chance(10 + 20 * depth as usize) {

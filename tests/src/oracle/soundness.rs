@@ -1,7 +1,7 @@
 //! The check of a plan (8), on lists with any contents.
 
 use super::matrix::Rows;
-use super::{Refusal, WORKERS};
+use super::{Fields, Refusal, WORKERS};
 
 /// The most records of a plan.
 const MOST_GROUPS: u32 = 512;
@@ -23,8 +23,8 @@ pub struct Record {
 }
 
 impl Record {
-    /// The record that six numbers stand for.
-    pub fn of(fields: [u32; 6]) -> Record {
+    /// The record that its numbers stand for.
+    pub fn of(fields: Fields) -> Record {
         let [start, length, first_worker, workers, colour, parent] = fields;
         Record {
             start: start as usize,

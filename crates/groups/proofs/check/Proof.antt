@@ -43,8 +43,8 @@ use Rattle.base.proofs.Answer as S
 use Rattle.base.proofs.Answer.Laws as S′
 use Rattle.matrix.specs.Checks.{matrixOf}
 use Rattle.plan.specs.Sound.{checkReply}
-use Rattle.planner.specs.declared.records.Group.{Group}
-use Rattle.planner.proofs.records.Group as T
+use Rattle.plan.specs.declared.fields.Group.{Group}
+use Rattle.plan.proofs.fields.Group as T
 use Rattle.groups.specs.Structs.{Flattened}
 use Rattle.groups.proofs.CheckReply.{reply-flattened}
 use Rattle.groups.proofs.Walking.{u32-dropped, slice-dropped, hears, Flat, flat-lawful, at}

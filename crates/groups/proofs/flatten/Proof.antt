@@ -45,14 +45,14 @@ use denote.Triple.Table.{entered, cited}
 use denote.Triple.Walked.{says, Stays, stay-dropped, walkOf, Walks, ends-at, walked, walk-meets}
 use denote.Exit.{yes}
 use Rattle.plan.specs.Groups.{width, fields}
-use Rattle.plan.specs.Sound.{maxGroups}
-use Rattle.planner.specs.Records.{groupOf}
-use Rattle.planner.specs.declared.records.Group.{Group}
-use Rattle.planner.proofs.records.Group as T
-use Rattle.planner.proofs.records.Group.Laws as T′
+use Rattle.plan.specs.Sound.{maxGroups, maxFields}
+use Rattle.plan.specs.Checks.{groupOf}
+use Rattle.plan.specs.declared.fields.Group.{Group}
+use Rattle.plan.proofs.fields.Group as T
+use Rattle.plan.proofs.fields.Group.Laws as T′
 use Rattle.groups.specs.Structs.{few, Flattened}
 use Rattle.groups.proofs.Flattening.{Begun, begin, next, all-begun}
-use Rattle.groups.proofs.Walking.{numbersTy, slice-dropped, hears, Nearer, nearer-wf, Flat, none, group-vals, group-tells, group-copy, group-makes, group-lawful, flat-lawful, after}
+use Rattle.groups.proofs.Walking.{groupBytes, numbersTy, slice-dropped, hears, Nearer, nearer-wf, Flat, none, group-vals, group-tells, group-copy, group-makes, group-lawful, flat-lawful, after}
 use Rattle.groups.proofs.put as put
 use Rattle.groups.proofs.put.Symbol as put-def
 use Rattle.groups.proofs.put.Symbol.{name as #groups·put}
@@ -167,7 +167,7 @@ module _ {M : Type 1} (𝓤 : URA M) (H : Heap 𝓤) (A : Atoms 𝓤) (W : Given
           assigns ! (addr ! (from ! (stop !))) (from ! (stop !)) (init ! 4 refl (tt, tt)) $
           assigns ! (bin ! (load ! (from ! (stop !)) (look ! 14 refl)) (lit ! tt) (record { fits = small })) (from ! (stop !)) (init ! 10 refl (tt, record { fits = small })) $
           assigns ! (bin ! (load ! (from ! (fld ! refl (stop !))) (look-in ! 18 (sub ! 0 refl (whole !)))) (load ! (from ! (stop !)) (look ! 10 refl)) tt) (from ! (stop !)) (init ! 2 refl (tt, tt)) $
-          rewrite ! 2 (λ (p : ℕ). ‵ (fat fullShare tyPtr l₉ 0 (vptr b p))) (sym (place-is 24 o (t .k))) refl $
+          rewrite ! 2 (λ (p : ℕ). ‵ (fat fullShare tyPtr l₉ 0 (vptr b p))) (sym (place-is groupBytes o (t .k))) refl $
           move ! (23 ∷ 22 ∷ []) $ looks-slice ! tt T.the-row (Is T.the-row) (shows 𝓤 H A T.the-row) group-vals group-tells (group-copy 𝓤 H A W) gs b o (λ q′.
           elem-out ! T.the-row (Is T.the-row) (shows 𝓤 H A T.the-row) group-vals group-tells q′ gs (t .k) none b o within (λ is.
           -- [groups[k]; what it owns; the others; what shuts; the borrow; _10; …; _9; …; _8; …; _7; …; _6; …; _5; …; _4; …; _3; …; _2; …; _1; …; _0; …]
@@ -190,7 +190,7 @@ module _ {M : Type 1} (𝓤 : URA M) (H : Heap 𝓤) (A : Atoms 𝓤) (W : Given
           keep ! (5 ∷ 6 ∷ 7 ∷ 8 ∷ 9 ∷ 10 ∷ 11 ∷ 12 ∷ 13 ∷ 14 ∷ 15 ∷ 16 ∷ 17 ∷ 18 ∷ 19 ∷ 20 ∷ 0 ∷ 21 ∷ 22 ∷ 23 ∷ 24 ∷ 25 ∷ 3 ∷ 4 ∷ []) $
           again ! (Nearer left) At t (next t none within in-plan (zs .0) e) (omega arith))))))))
         where
-          small : t .k * 24 < 2 ^ 64
+          small : t .k * groupBytes < 2 ^ 64
           small = omega arith
 
           next-small : t .k + 1 < 2 ^ 64
@@ -218,18 +218,18 @@ module _ {M : Type 1} (𝓤 : URA M) (H : Heap 𝓤) (A : Atoms 𝓤) (W : Given
       alloc1 ! (λ l₀. alloc1 ! (λ l₁. alloc1 ! (λ l₂. alloc1 ! (λ l₃. alloc1 ! (λ l₄. alloc1 ! (λ l₅. alloc1 ! (λ l₆. alloc1 ! (λ l₇. alloc1 ! (λ l₈. alloc1 ! (λ l₉. alloc1 ! (λ l₁₀. alloc0 ! $ params1 ! $
       pass1 ! (init ! 18 refl (tt, (tt, (record { fits = room .0 }, tt)))) $ pass0 ! $
       owned ! u32 (Is u32) (uint-makes 𝓤 H A W w32) 0 (vint w32 0 ∷ []) (refl, lit< tt) $
-      use1 W (‵ (Flat .own zeros (arrayVal (replicate 3072 (vint w32 0)) ∷ []))) (array-repeat 𝓤 H A W u32 (uint-copy 𝓤 H A W w32) 3072 0 (vint w32 0)) $ peeks ! Flat (Is Flat) (shows 𝓤 H A Flat) zeros _ (λ is.
+      use1 W (‵ (Flat .own zeros (arrayVal (replicate maxFields (vint w32 0)) ∷ []))) (array-repeat 𝓤 H A W u32 (uint-copy 𝓤 H A W w32) maxFields 0 (vint w32 0)) $ peeks ! Flat (Is Flat) (shows 𝓤 H A Flat) zeros _ (λ is.
       -- [what the list owns; _10; …; _9; …; _8; …; _7; …; _6; …; _5; …; _4; …; _3; …; _2; …; _1; …; _0; …; the token; what the slice owns]
-      assigns ! (rep ! 3072 (lit ! tt)) (from ! (stop !)) (init ! 17 refl (flat-lawful 𝓤 H A W .typed zeros _ is .0)) $
+      assigns ! (rep ! maxFields (lit ! tt)) (from ! (stop !)) (init ! 17 refl (flat-lawful 𝓤 H A W .typed zeros _ is .0)) $
       assigns ! (of-opd ! (lit ! tt)) (from ! (stop !)) (init ! 15 refl (tt, record { fits = lit< tt })) $
-      move ! (17 ∷ 0 ∷ []) $ fjoin ! $ fpack ! (List Val) (λ us. fsep (cellAt fullShare (Flat .mir) us l₂ 0) (Flat .own zeros us)) (arrayVal (replicate 3072 (vint w32 0)) ∷ []) $
+      move ! (17 ∷ 0 ∷ []) $ fjoin ! $ fpack ! (List Val) (λ us. fsep (cellAt fullShare (Flat .mir) us l₂ 0) (Flat .own zeros us)) (arrayVal (replicate maxFields (vint w32 0)) ∷ []) $
       -- of what the slice owns, the borrow is kept
       move ! (23 ∷ []) $ fsplit ! $ fsplit ! $ drop ! $ fsplit ! $ drop ! $ move ! (24 ∷ []) $ split ! $
       keep ! (5 ∷ 6 ∷ 7 ∷ 8 ∷ 9 ∷ 10 ∷ 11 ∷ 12 ∷ 13 ∷ 14 ∷ 15 ∷ 16 ∷ 17 ∷ 18 ∷ 19 ∷ 20 ∷ 4 ∷ 21 ∷ 22 ∷ 23 ∷ 24 ∷ 25 ∷ 0 ∷ 2 ∷ []) $
       first ! $ blocks ! $ loops ! 𝓣 (Nearer left) (nearer-wf left) (At 𝓣 known room l₀ l₁ l₂ l₃ l₄ l₅ l₆ l₇ l₈ l₉ l₁₀) (turns 𝓣 known room l₀ l₁ l₂ l₃ l₄ l₅ l₆ l₇ l₈ l₉ l₁₀) (begin gs zeros)))))))))))))
     where
       zeros : List ℕ
-      zeros = replicate 3072 0
+      zeros = replicate maxFields 0
 
 module _ {M : Type 1} (𝓤 : URA M) (H : Heap 𝓤) (A : Atoms 𝓤) (W : Given 𝓤 H A) (memory : Memory → SProp 𝓤) (run : Routine → Fun 𝓤) (𝓣 : Tables 𝓤 H) (known : Triple 𝓤 (𝓣 .C #groups·put) (Put 𝓤 H A memory run)) where
   flatten-walks : Walks 𝓤 H A flatten.ended stayed (WpFn 𝓤 H (𝓣 .C) (𝓣 .Λ) code.function) (flatten.clauses 𝓤 H A memory run)

@@ -45,13 +45,13 @@ use denote.Triple.Table.{entered, cited}
 use denote.Triple.Walked.{says, needs, Stays, stay-dropped, stay-slice, walkOf, goes-dropped, goes-slice, Walks, ends-at, walked, walk-meets}
 use denote.Exit.{yes}
 use Rattle.plan.specs.Checks.{recordAt}
-use Rattle.plan.specs.Sound.{maxGroups}
-use Rattle.planner.specs.declared.records.Group.{Group}
-use Rattle.planner.proofs.records.Group as T
-use Rattle.planner.proofs.records.Group.Laws as T′
+use Rattle.plan.specs.Sound.{maxGroups, maxFields}
+use Rattle.plan.specs.declared.fields.Group.{Group}
+use Rattle.plan.proofs.fields.Group as T
+use Rattle.plan.proofs.fields.Group.Laws as T′
 use Rattle.groups.specs.Structs.{ofGroup, gathered}
 use Rattle.groups.proofs.Gathering.{gathered-none, length-gathered, gathered-next}
-use Rattle.groups.proofs.Walking.{numbersTy, hears, Nearer, nearer-wf, Flat, none, group-vals, group-tells, group-lawful, flat-makes, flat-lawful, after}
+use Rattle.groups.proofs.Walking.{groupBytes, numbersTy, hears, Nearer, nearer-wf, Flat, none, group-vals, group-tells, group-lawful, flat-makes, flat-lawful, after}
 use Rattle.groups.proofs.get as get
 use Rattle.groups.proofs.get.Symbol as get-def
 use Rattle.groups.proofs.get.Symbol.{name as #groups·get}
@@ -194,7 +194,7 @@ module _ {M : Type 1} (𝓤 : URA M) (H : Heap 𝓤) (A : Atoms 𝓤) (W : Given
           -- [_4; …; what the group owns; _10; …; _9; …; _8; …; _7; …; _6; …; _5; …; …; _3; …; _2; …; _1; …; _0; …; the groups; …]
           assigns ! (bin ! (load ! (from ! (stop !)) (look ! 13 refl)) (lit ! tt) (record { fits = small })) (from ! (stop !)) (init ! 5 refl (tt, record { fits = small })) $
           assigns ! (bin ! (load ! (from ! (fld ! refl (stop !))) (look-in ! 16 (sub ! 0 refl (whole !)))) (load ! (from ! (stop !)) (look ! 5 refl)) tt) (from ! (stop !)) (init ! 3 refl (tt, tt)) $
-          rewrite ! 3 (λ (p : ℕ). ‵ (fat fullShare tyPtr l₁₀ 0 (vptr b p))) (sym (place-is 24 o (t .0))) refl $
+          rewrite ! 3 (λ (p : ℕ). ‵ (fat fullShare tyPtr l₁₀ 0 (vptr b p))) (sym (place-is groupBytes o (t .0))) refl $
           move ! (24 ∷ []) $ elem-out ! T.the-row (Is T.the-row) (shows 𝓤 H A T.the-row) group-vals group-tells fullShare (gathered (t .0) ns gs) (t .0) none b o in-row (λ _.
           -- [groups[k]; what it owns; the others; _4; …; what the group owns; _10; …; _9; …; _8; …; _7; …; _6; …; _5; …]
           assigns ! (of-opd ! (load ! (from ! (stop !)) (look ! 12 refl))) (from ! (hop ! (look ! 6 refl) (stop !))) (store-raw ! 0 refl (group-lawful 𝓤 H A W .typed r _ is .0)) $
@@ -206,7 +206,7 @@ module _ {M : Type 1} (𝓤 : URA M) (H : Heap 𝓤) (A : Atoms 𝓤) (W : Given
           keep ! (4 ∷ 5 ∷ 6 ∷ 7 ∷ 8 ∷ 9 ∷ 10 ∷ 11 ∷ 12 ∷ 13 ∷ 14 ∷ 15 ∷ 2 ∷ 16 ∷ 17 ∷ 18 ∷ 19 ∷ 20 ∷ 21 ∷ 22 ∷ 23 ∷ 24 ∷ 0 ∷ 25 ∷ 26 ∷ 27 ∷ []) $
           again ! (Nearer left) At t (t .0 + 1, omega arith) (omega arith)))))))
         where
-          small : t .0 * 24 < 2 ^ 64
+          small : t .0 * groupBytes < 2 ^ 64
           small = omega arith
 
           next-small : t .0 + 1 < 2 ^ 64
@@ -247,7 +247,7 @@ module _ {M : Type 1} (𝓤 : URA M) (H : Heap 𝓤) (A : Atoms 𝓤) (W : Given
 module _ {M : Type 1} (𝓤 : URA M) (H : Heap 𝓤) (A : Atoms 𝓤) (W : Given 𝓤 H A) (memory : Memory → SProp 𝓤) (run : Routine → Fun 𝓤) (𝓣 : Tables 𝓤 H) (known : Triple 𝓤 (𝓣 .C #groups·get) (Get 𝓤 H A memory run)) where
   gather-walks : Walks 𝓤 H A gather.ended stayed (WpFn 𝓤 H (𝓣 .C) (𝓣 .Λ) code.function) (gather.clauses 𝓤 H A memory run)
   gather-walks = walked 𝓤 H A gather.ended stayed (gather.clauses 𝓤 H A memory run) (WpFn 𝓤 H (𝓣 .C) (𝓣 .Λ) code.function)
-      (λ κs. (array-vals (uint-vals w32), (uint-vals w64, (slice-vals, tt)))) (λ κs. (array-tells u32 (uint-vals w32) (uint-tells w32) 3072, (uint-tells w64, (mut-slice-tells (named 0) (κs .0) T.the-row, tt))))
+      (λ κs. (array-vals (uint-vals w32), (uint-vals w64, (slice-vals, tt)))) (λ κs. (array-tells u32 (uint-vals w32) (uint-tells w32) maxFields, (uint-tells w64, (mut-slice-tells (named 0) (κs .0) T.the-row, tt))))
       (λ κs qs bounds a g are. needs 𝓤 ((a .1 .0 ≤ maxGroups) × (a .1 .0 ≤ length (a .1 .1 .0 .now))) _ (λ fits.
       walk 𝓤 H A W memory run (κs .0) (qs .0) (a .1 .1 .0 .ptr .0) (a .1 .1 .0 .ptr .1) (a .1 .1 .0 .name) (a .1 .1 .0 .now) (a .0) _ (are .0) (a .1 .0) (fits .0) (fits .1) (are .1 .1 .0 .0 .1) 𝓣 known))
 

@@ -44,8 +44,8 @@ use Rattle.base.proofs.Answer as S
 use Rattle.base.proofs.Answer.Laws as S′
 use Rattle.matrix.specs.Checks.{matrixOf}
 use Rattle.matrix.specs.Matrix.{Matrix}
-use Rattle.planner.specs.declared.records.Group.{Group}
-use Rattle.planner.proofs.records.Group as T
+use Rattle.plan.specs.declared.fields.Group.{Group}
+use Rattle.plan.proofs.fields.Group as T
 use Rattle.groups.specs.declared.Made.{Made}
 use Rattle.groups.specs.Structs.{gathered, Planned}
 use Rattle.groups.proofs.Made as R

@@ -4,6 +4,7 @@ use native.Mathlib.Omega.{arith}
 use lib.ListN.{replicate}
 use lib.Seq.{length-take-le}
 use borrow.Author.Needs.{needs}
+use Rattle.plan.specs.Sound.{maxFields}
 use Rattle.matrix.specs.Checks.{matrixOf}
 use Rattle.groups.proofs.PlanReply.{made-planned}
 use Rattle.groups.proofs.plan_flat.Statement.{statement}
@@ -16,7 +17,7 @@ array-borrow-prefix-numbers : tie.Need-array-borrow-prefix-numbers
 array-borrow-prefix-numbers c = search needs
 
 slice-aggregate-plan : tie.Need-slice-aggregate-plan
-slice-aggregate-plan c = sym (length-take-le (c .before .before .size-for .result) (replicate 3072 0) (omega (arith, c .before .before .size-for .ensures)))
+slice-aggregate-plan c = sym (length-take-le (c .before .before .size-for .result) (replicate maxFields 0) (omega (arith, c .before .before .size-for .ensures)))
 
 plan-requires : tie.Need-plan-requires
 plan-requires c κs = search needs
@@ -31,7 +32,7 @@ returns : tie.Need-returns
 returns c =
     let a = c .before .before .before .before .before .before .before .before .before .before .before .args in
     let made = c .before .before .before .before .plan in
-    made-planned (matrixOf (a .n) (a .starts .now) (a .columns .now) (a .values .now)) (a .workers) (a .p) (a .order .now) (made .last .1 .1 .1 .1 .1 .1 .0) (replicate 3072 0) (made .last .1 .1 .1 .1 .1 .1 .1 .0) (a .room)
+    made-planned (matrixOf (a .n) (a .starts .now) (a .columns .now) (a .values .now)) (a .workers) (a .p) (a .order .now) (made .last .1 .1 .1 .1 .1 .1 .0) (replicate maxFields 0) (made .last .1 .1 .1 .1 .1 .1 .1 .0) (a .room)
     (c .before .before .before .before .before .before .before .size-for .result) (c .count-of .result) (made .result) refl (c .before .before .before .before .before .before .before .size-for .ensures)
     (made .ensures .0) (made .ensures .1 .0) (made .ensures .1 .1) (c .count-of .ensures)
 

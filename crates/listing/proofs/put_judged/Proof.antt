@@ -7,6 +7,7 @@ use lib.ListN.{replicate, length-replicate}
 use Rattle.base.specs.Answers.{replyOf}
 use Rattle.matrix.specs.Matrix.{Matrix}
 use Rattle.matrix.specs.Checks.{matrixOf}
+use Rattle.matrix.specs.Limits.{maxStarts, maxCells}
 use Rattle.writer.proofs.puts.Putting.{put-as}
 use Rattle.listing.specs.Listing.{parametersOf}
 use Rattle.listing.proofs.Judged.{Held, judged-refused, judged-accepted, planned-given, planned-missing}
@@ -20,7 +21,7 @@ matrix c = let r = c .before .before .before .before .before in matrixOf (c .fou
 held : (c : tie.After-found2) → Held (c .before .before .before .before .before .before .before .before .before .before .before .before .args .text .now) (matrix c)
 held c =
     let r = c .before .before .before .before .before in
-    judged-accepted (r .before .before .before .before .before .before .before .args .text .now) (replicate 4097 0) (replicate 65536 0) (replicate 65536 (pos 0)) (length-replicate {A = ℕ} 4097 0) (length-replicate {A = ℕ} 65536 0) (length-replicate {A = ℤ} 65536 (pos 0)) (c .found2 .given .0 .0)
+    judged-accepted (r .before .before .before .before .before .before .before .args .text .now) (replicate maxStarts 0) (replicate maxCells 0) (replicate maxCells (pos 0)) (length-replicate {A = ℕ} maxStarts 0) (length-replicate {A = ℕ} maxCells 0) (length-replicate {A = ℤ} maxCells (pos 0)) (c .found2 .given .0 .0)
     (ap replyOf (sym (c .found2 .given .1)) ∙ r .read .ensures .0) (r .read .ensures .1 .0) (r .read .ensures .1 .1 .0) (r .read .ensures .1 .1 .1)
 
 slice-aggregate-read : tie.Need-slice-aggregate-read
@@ -50,7 +51,7 @@ returns c =
     let f = r .before .before .before in
     let t = f .before .before .before .before .before in
     let a = t .before .before .before .before .before .before .before .args in
-    let e = judged-refused (a .text .now) (replicate 4097 0) (replicate 65536 0) (replicate 65536 (pos 0)) (length-replicate {A = ℕ} 4097 0) (length-replicate {A = ℕ} 65536 0) (length-replicate {A = ℤ} 65536 (pos 0)) (f .found .given .0 .0) (f .found .given .0 .1 .0)
+    let e = judged-refused (a .text .now) (replicate maxStarts 0) (replicate maxCells 0) (replicate maxCells (pos 0)) (length-replicate {A = ℕ} maxStarts 0) (length-replicate {A = ℕ} maxCells 0) (length-replicate {A = ℤ} maxCells (pos 0)) (f .found .given .0 .0) (f .found .given .0 .1 .0)
     (ap replyOf (sym (f .found .given .1)) ∙ t .read .ensures .0) (parametersOf (a .line .now)) in
     put-as (sym e) (r .put-refusal .ensures)
 

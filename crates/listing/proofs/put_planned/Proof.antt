@@ -8,6 +8,8 @@ use Rattle.base.specs.Answers.{replyOf}
 use Rattle.matrix.specs.Matrix.{Matrix}
 use Rattle.matrix.specs.Checks.{matrixOf}
 use Rattle.matrix.proofs.Matrix.{matrix-facts}
+use Rattle.matrix.specs.Limits.{maxRows}
+use Rattle.plan.specs.Sound.{maxFields}
 use Rattle.writer.proofs.puts.Putting.{put-as}
 use Rattle.listing.proofs.PlanLists.{Left, planned-refused, planned-accepted}
 use Rattle.listing.proofs.put_planned.Statement.{statement}
@@ -23,7 +25,7 @@ left : (c : tie.After-made2) → let w = c .before .before .before .before in le
 left c =
     let w = c .before .before .before .before in
     let s = w .before .before .before .before .before .before in
-    planned-accepted (held s) (s .args .workers) (s .args .p) (s .pre .0) (replicate 4096 0) (replicate 3072 0) (length-replicate {A = ℕ} 4096 0) (length-replicate {A = ℕ} 3072 0) (c .made2 .given .0 .0)
+    planned-accepted (held s) (s .args .workers) (s .args .p) (s .pre .0) (replicate maxRows 0) (replicate maxFields 0) (length-replicate {A = ℕ} maxRows 0) (length-replicate {A = ℕ} maxFields 0) (c .made2 .given .0 .0)
     (ap replyOf (sym (c .made2 .given .1)) ∙ w .plan .ensures .0) _ _ (w .plan .ensures .1 .0) (w .plan .ensures .1 .1)
 
 slice-aggregate-plan : tie.Need-slice-aggregate-plan
@@ -58,7 +60,7 @@ put-plan-requires c κs =
     let rows = matrix-facts (held s) (s .pre .0) .few in
     let count = left m .few in
     let long = w .plan .kept .1 .1 .1 .1 .1 .1 in
-    (omega (arith, long .0, length-replicate {A = ℕ} 4096 0), omega (arith, long .1 .0, length-replicate {A = ℕ} 3072 0), omega (arith, s .pre .1))
+    (omega (arith, long .0, length-replicate {A = ℕ} maxRows 0), omega (arith, long .1 .0, length-replicate {A = ℕ} maxFields 0), omega (arith, s .pre .1))
 
 same-length : tie.Need-same-length
 same-length c = search needs
@@ -69,7 +71,7 @@ returns c =
     let m = r .before .before .before in
     let w = m .before .before .before .before in
     let s = w .before .before .before .before .before .before in
-    let e = planned-refused (held s) (s .args .workers) (s .args .p) (s .pre .0) (replicate 4096 0) (replicate 3072 0) (length-replicate {A = ℕ} 4096 0) (length-replicate {A = ℕ} 3072 0) (m .made .given .0 .0) (m .made .given .0 .1 .0)
+    let e = planned-refused (held s) (s .args .workers) (s .args .p) (s .pre .0) (replicate maxRows 0) (replicate maxFields 0) (length-replicate {A = ℕ} maxRows 0) (length-replicate {A = ℕ} maxFields 0) (m .made .given .0 .0) (m .made .given .0 .1 .0)
     (ap replyOf (sym (m .made .given .1)) ∙ w .plan .ensures .0) in
     put-as (sym e) (r .put-refusal .ensures)
 

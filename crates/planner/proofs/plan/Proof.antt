@@ -9,6 +9,8 @@ use lib.Seq.{length-take-le, take-at}
 use Rattle.base.proofs.Booleans.{fails, holds}
 use Rattle.matrix.specs.Matrix.{Matrix, isMatrix}
 use Rattle.matrix.specs.Checks.{matrixOf}
+use Rattle.matrix.specs.Limits.{maxRows}
+use Rattle.plan.specs.Groups.{width}
 use Rattle.race.specs.Planner.{areParameters}
 use Rattle.planner.proofs.PlanReply.{parameters-in, rows, count-few, refuses-matrix, refuses-parameters, refuses-order, refuses-groups, accepts}
 use Rattle.planner.proofs.plan.Statement.{statement}
@@ -17,22 +19,45 @@ use Rattle.planner.proofs.plan.Tie as tie
 abbrev given : tie.Start → Matrix
 given c = let a = c .args in matrixOf (a .n) (a .starts .now) (a .columns .now) (a .values .now)
 
-is-not : (c : tie.Then1) → isMatrix (given (c .before .before .before .before .before .before)) ≡ false
-is-not c = fails (c .before .is-matrix .ensures) (c .if1 .taken)
+-- ---- milestones, and the way back from each to the one before it: it is a matrix; the parameters are in their limits; the order has room; the plan is made; the groups have room; the order is copied
 
-is : (c : tie.Else1) → isMatrix (given (c .before .before .before .before .before .before)) ≡ true
+abbrev start : tie.Else1 → tie.Start
+start c = c .before .before .before .before .before .before
+
+abbrev judged : tie.Else2 → tie.Else1
+judged c = c .before .before
+
+abbrev asked : tie.Else3 → tie.Else2
+asked c = c .before
+
+abbrev roomy : tie.After-plan-rows → tie.Else3
+roomy c = c .before .before .before
+
+abbrev made : tie.Else4 → tie.After-plan-rows
+made c = c .before .before .before
+
+abbrev listed : tie.After-copy → tie.Else4
+listed c = c .before .before .before
+
+is : (c : tie.Else1) → isMatrix (given (start c)) ≡ true
 is c = holds (c .before .is-matrix .ensures) (c .if1 .left)
 
-are : (c : tie.Else2) → areParameters (c .before .before .before .before .before .before .before .before .args .workers) (c .before .before .before .before .before .before .before .before .args .p) ≡ true
+are : (c : tie.Else2) → let a = start (judged c) .args in areParameters (a .workers) (a .p) ≡ true
 are c = holds (c .before .are-parameters .ensures) (c .if2 .left)
 
-small : (c : tie.Else2) → c .before .before .before .before .before .before .before .before .args .n ≤ 4096
-small c = let a = c .before .before .before .before .before .before .before .before .args in rows (given (c .before .before .before .before .before .before .before .before)) (a .workers) (a .p) (a .order .now) (a .groups .now) (is (c .before .before)) (are c) .small
+small : (c : tie.Else2) → start (judged c) .args .n ≤ maxRows
+small c = let s = start (judged c) in let a = s .args in rows (given s) (a .workers) (a .p) (a .order .now) (a .groups .now) (is (judged c)) (are c) .small
 
 -- once all is planned
 module _ (w : tie.After-plan-rows) where
-  abbrev start : tie.Start
-  start = w .before .before .before .before .before .before .before .before .before .before .before .before
+  abbrev parametersAt : tie.Else2
+  parametersAt = asked (roomy w)
+
+  abbrev matrixAt : tie.Else1
+  matrixAt = judged parametersAt
+
+  abbrev n : ℕ
+  n = start matrixAt .args .n
 
   abbrev planned : List ℕ
   planned = w .plan-rows .last .1 .1 .0
@@ -45,88 +70,100 @@ module _ (w : tie.After-plan-rows) where
 
   few : count ≤ 481
   few =
-      let a = start .args in
-      let ok = are (w .before .before .before .before) in
-      count-few (given start) (a .workers) (a .p) (a .order .now) (a .groups .now) (is (w .before .before .before .before .before .before)) ok (w .before .before .before .if3 .left) (w .plan-rows .ensures) (parameters-in (a .workers) (a .p) ok .0)
+      let s = start matrixAt in
+      let a = s .args in
+      let ok = are parametersAt in
+      count-few (given s) (a .workers) (a .p) (a .order .now) (a .groups .now) (is matrixAt) ok (roomy w .if3 .left) (w .plan-rows .ensures) (parameters-in (a .workers) (a .p) ok .0)
 
   -- the list in which the order is made
   abbrev list : List ℕ
-  list = planned ++ drop (start .args .n) (replicate 4096 0)
+  list = planned ++ drop n (replicate maxRows 0)
 
-  planned-length : length planned ≡ start .args .n
-  planned-length = w .plan-rows .kept .1 .1 .0 ∙ length-take-le (start .args .n) (replicate 4096 0) (small (w .before .before .before .before))
+  planned-length : length planned ≡ n
+  planned-length = w .plan-rows .kept .1 .1 .0 ∙ length-take-le n (replicate maxRows 0) (small parametersAt)
 
-  front : take (start .args .n) list ≡ planned
-  front = take-at planned (drop (start .args .n) (replicate 4096 0)) (start .args .n) planned-length
+  front : take n list ≡ planned
+  front = take-at planned (drop n (replicate maxRows 0)) n planned-length
 
-  room : 6 * count ≤ length records
+  room : width * count ≤ length records
   room = rw (w .plan-rows .kept .1 .1 .1 .0) (omega (arith, few))
+
+  records-taken : length (take (width * count) records) ≡ width * count
+  records-taken = length-take-le (width * count) records room
 
 is-matrix-requires : tie.Need-is-matrix-requires
 is-matrix-requires c κs = tt
 
 returns : tie.Need-returns
 returns c =
-    let a = c .before .before .before .before .before .before .args in
-    refuses-matrix (given (c .before .before .before .before .before .before)) (a .workers) (a .p) (a .order .now) (a .groups .now) (is-not c)
+    let s = c .before .before .before .before .before .before in
+    let a = s .args in
+    refuses-matrix (given s) (a .workers) (a .p) (a .order .now) (a .groups .now) (fails (c .before .is-matrix .ensures) (c .if1 .taken))
 
 are-parameters-requires : tie.Need-are-parameters-requires
 are-parameters-requires c κs = tt
 
 returns-2 : tie.Need-returns-2
 returns-2 c =
-    let a = c .before .before .before .before .before .before .before .before .args in
-    refuses-parameters (given (c .before .before .before .before .before .before .before .before)) (a .workers) (a .p) (a .order .now) (a .groups .now) (is (c .before .before)) (fails (c .before .are-parameters .ensures) (c .if2 .taken))
+    let e = c .before .before in
+    let s = start e in
+    let a = s .args in
+    refuses-parameters (given s) (a .workers) (a .p) (a .order .now) (a .groups .now) (is e) (fails (c .before .are-parameters .ensures) (c .if2 .taken))
 
 returns-3 : tie.Need-returns-3
 returns-3 c =
-    let a = c .before .before .before .before .before .before .before .before .before .args in
-    refuses-order (given (c .before .before .before .before .before .before .before .before .before)) (a .workers) (a .p) (a .order .now) (a .groups .now) (is (c .before .before .before)) (are (c .before)) (c .if3 .taken)
+    let e = c .before in
+    let s = start (judged e) in
+    let a = s .args in
+    refuses-order (given s) (a .workers) (a .p) (a .order .now) (a .groups .now) (is (judged e)) (are e) (c .if3 .taken)
 
 array-borrow-prefix-list : tie.Need-array-borrow-prefix-list
-array-borrow-prefix-list c = small (c .before)
+array-borrow-prefix-list c = small (asked c)
 
 slice-aggregate-plan-rows : tie.Need-slice-aggregate-plan-rows
-slice-aggregate-plan-rows c = sym (length-take-le (c .before .before .before .before .before .before .before .before .before .before .args .n) (replicate 4096 0) (small (c .before .before)))
+slice-aggregate-plan-rows c = let e = asked (c .before) in sym (length-take-le (start (judged e) .args .n) (replicate maxRows 0) (small e))
 
 slice-aggregate-plan-rows-2 : tie.Need-slice-aggregate-plan-rows-2
 slice-aggregate-plan-rows-2 c = refl
 
 plan-rows-requires : tie.Need-plan-rows-requires
 plan-rows-requires c κs =
-    let a = c .before .before .before .before .before .before .before .before .before .before .before .args in
-    let ok = are (c .before .before .before) in
-    let q = parameters-in (a .workers) (a .p) ok in
-    (rows (given (c .before .before .before .before .before .before .before .before .before .before .before)) (a .workers) (a .p) (a .order .now) (a .groups .now) (is (c .before .before .before .before .before)) ok, length-take-le (a .n) (replicate 4096 0) (small (c .before .before .before)), refl, q .1, q .0)
+    let e = asked (c .before .before) in
+    let s = start (judged e) in
+    let a = s .args in
+    let q = parameters-in (a .workers) (a .p) (are e) in
+    (rows (given s) (a .workers) (a .p) (a .order .now) (a .groups .now) (is (judged e)) (are e), length-take-le (a .n) (replicate maxRows 0) (small e), refl, q .1, q .0)
 
 cast-made : tie.Need-cast-made
 cast-made c = omega (arith, few (c .before .before))
 
 returns-4 : tie.Need-returns-4
 returns-4 c =
-    let a = c .before .before .before .before .before .before .before .before .before .before .before .before .before .before .before .args in
-    refuses-groups (given (c .before .before .before .before .before .before .before .before .before .before .before .before .before .before .before)) (a .workers) (a .p) (a .order .now) (a .groups .now) (is (c .before .before .before .before .before .before .before .before .before)) (are (c .before .before .before .before .before .before .before)) (c .before .before .before .before .before .before .if3 .left) (c .before .before .before .plan-rows .ensures) (c .if4 .taken)
+    let w = c .before .before .before in
+    let s = start (matrixAt w) in
+    let a = s .args in
+    refuses-groups (given s) (a .workers) (a .p) (a .order .now) (a .groups .now) (is (matrixAt w)) (are (parametersAt w)) (roomy w .if3 .left) (w .plan-rows .ensures) (c .if4 .taken)
 
 mul-size : tie.Need-mul-size
-mul-size c = omega (arith, few (c .before .before .before))
+mul-size c = omega (arith, few (made c))
 
 array-share-prefix-list : tie.Need-array-share-prefix-list
-array-share-prefix-list c = omega (arith, planned-length (c .before .before .before), length-append (planned (c .before .before .before)) (drop (c .before .before .before .before .before .before .before .before .before .before .before .before .before .before .before .args .n) (replicate 4096 0)))
+array-share-prefix-list c = let w = made c in omega (arith, planned-length w, length-append (planned w) (drop (n w) (replicate maxRows 0)))
 
 slice-aggregate-copy : tie.Need-slice-aggregate-copy
-slice-aggregate-copy c = sym (ap length (front (c .before .before .before .before)) ∙ planned-length (c .before .before .before .before))
+slice-aggregate-copy c = let w = made (c .before) in sym (ap length (front w) ∙ planned-length w)
 
 copy-requires : tie.Need-copy-requires
-copy-requires c κs = rw (front (c .before .before .before .before .before)) (omega (arith, planned-length (c .before .before .before .before .before), c .before .before .before .before .before .before .before .before .if3 .left))
+copy-requires c κs = let w = made (c .before .before) in rw (front w) (omega (arith, planned-length w, roomy w .if3 .left))
 
 array-share-prefix-records : tie.Need-array-share-prefix-records
-array-share-prefix-records c = room (c .before .before .before .before .before .before .before .before)
+array-share-prefix-records c = room (made (listed (c .before .before)))
 
 slice-aggregate-copy-2 : tie.Need-slice-aggregate-copy-2
-slice-aggregate-copy-2 c = sym (length-take-le (6 * count (c .before .before .before .before .before .before .before .before .before)) (records (c .before .before .before .before .before .before .before .before .before)) (room (c .before .before .before .before .before .before .before .before .before)))
+slice-aggregate-copy-2 c = sym (records-taken (made (listed (c .before .before .before))))
 
 copy-requires-2 : tie.Need-copy-requires-2
-copy-requires-2 c κs = rw (length-take-le (6 * count (c .before .before .before .before .before .before .before .before .before .before)) (records (c .before .before .before .before .before .before .before .before .before .before)) (room (c .before .before .before .before .before .before .before .before .before .before))) (omega (arith, c .before .before .before .before .before .before .before .if4 .left))
+copy-requires-2 c κs = let e = listed (c .before .before .before .before) in rw (records-taken (made e)) (omega (arith, e .if4 .left))
 
 same-length : tie.Need-same-length
 same-length c = c .before .before .before .before .before .before .before .copy .kept .1 .0
@@ -136,10 +173,14 @@ same-length-2 c = c .before .before .copy2 .kept .1 .0
 
 returns-5 : tie.Need-returns-5
 returns-5 c =
-    let a = c .before .before .before .before .before .before .before .before .before .before .before .before .before .before .before .before .before .before .before .before .before .before .before .before .before .args in
-    let w = c .before .before .before .before .before .before .before .before .before .before .before .before .before in
-    accepts (given (c .before .before .before .before .before .before .before .before .before .before .before .before .before .before .before .before .before .before .before .before .before .before .before .before .before)) (a .workers) (a .p) (a .order .now) (a .groups .now) (is (c .before .before .before .before .before .before .before .before .before .before .before .before .before .before .before .before .before .before .before)) (are (c .before .before .before .before .before .before .before .before .before .before .before .before .before .before .before .before .before)) (c .before .before .before .before .before .before .before .before .before .before .before .before .before .before .before .before .if3 .left) (w .plan-rows .ensures) (c .before .before .before .before .before .before .before .before .before .before .if4 .left)
-    (c .before .before .before .before .before .before .before .copy .last .1 .0) (c .before .before .copy2 .last .1 .0) (take (a .n) (list w)) (take (6 * count w) (records w)) (front w) refl (c .before .before .before .before .before .before .before .copy .ensures) (c .before .before .copy2 .ensures)
+    let d = c .before .before in
+    let o = d .before .before .before .before .before in
+    let e = listed o in
+    let w = made e in
+    let s = start (matrixAt w) in
+    let a = s .args in
+    accepts (given s) (a .workers) (a .p) (a .order .now) (a .groups .now) (is (matrixAt w)) (are (parametersAt w)) (roomy w .if3 .left) (w .plan-rows .ensures) (e .if4 .left)
+    (o .copy .last .1 .0) (d .copy2 .last .1 .0) (take (a .n) (list w)) (take (width * count w) (records w)) (front w) refl (o .copy .ensures) (d .copy2 .ensures)
 
 pub plan-spec : {M : Type 1} → statement M
 plan-spec =

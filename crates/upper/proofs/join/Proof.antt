@@ -24,7 +24,7 @@ use Rattle.upper.proofs.join.Statement.{statement}
 use Rattle.upper.proofs.join.Tie as tie
 use Rattle.matrix.proofs.row.columns_of.Reads as columns-of-reads
 use Rattle.matrix.proofs.row.values_of.Reads as values-of-reads
-use Rattle.plan.proofs.fields.wide_at.Reads as wide-at-reads
+use Rattle.base.proofs.slices.wide_at.Reads as wide-at-reads
 
 abbrev Inv-loop : tie.InvT-loop
 Inv-loop n starts columns values order position q sizes₀ at₀ beside₀ row own row-columns row-values k₀ sizes at beside k =

@@ -3,7 +3,7 @@ use mathlib.Core.Path.{_≡_, ap, subst}
 use Prim.Native.Nat.{ℕ, _-_, _≤_, _<_}
 use native.Mathlib.Omega.{arith}
 use Rattle.plan.specs.Groups.{Group}
-use Rattle.plan.specs.Checks.{groupOf}
+use Rattle.plan.specs.Checks.{ofRecord}
 use Rattle.waits.specs.Waits.{Ahead}
 use Rattle.waits.proofs.PassTurns.{ahead-none, ahead-next}
 use borrow.Author.Needs.{needs}
@@ -70,7 +70,7 @@ loop-again c =
     let s = l .before .before in
     let a = s .args in (
       search needs,
-      ahead-next (a .count) (a .groups .now) (s .pre) (l .loop .i) (groupOf (r .record-at .result)) (r .record-at .ensures .is) (t .loop-test .taken) (a .ends .now) (a .made .now) (l .loop .stops) (c .next-end .result) (c .next-end .ensures) (l .loop .inv .1),
+      ahead-next (a .count) (a .groups .now) (s .pre) (l .loop .i) (ofRecord (r .record-at .result)) (r .record-at .ensures .is) (t .loop-test .taken) (a .ends .now) (a .made .now) (l .loop .stops) (c .next-end .result) (c .next-end .ensures) (l .loop .inv .1),
     )
 
 returns : tie.Need-returns Inv-loop μ-loop

@@ -3,7 +3,7 @@ use mathlib.Core.Path.{ap}
 use Prim.Native.Nat.{_-_, _≤_, _<_}
 use native.Mathlib.Omega.{arith}
 use Rattle.plan.specs.Groups.{Group}
-use Rattle.plan.specs.Checks.{groupOf}
+use Rattle.plan.specs.Checks.{ofRecord}
 use Rattle.waits.proofs.PassTurns.{Backward, backward-none, backward-next, backward-all}
 use borrow.Author.Needs.{needs}
 use Rattle.waits.proofs.open_reds.Statement.{statement}
@@ -92,7 +92,7 @@ loop-again c =
     let a = s .args in (
       search needs,
       search needs,
-      backward-next (a .count) (a .groups .now) (a .ends .now) (a .made .now) (s .pre) (l .loop .i) (t .loop-test .taken) (l .loop .inv .1) (groupOf (r .record-at .result)) (r .record-at .ensures .is)
+      backward-next (a .count) (a .groups .now) (a .ends .now) (a .made .now) (s .pre) (l .loop .i) (t .loop-test .taken) (l .loop .inv .1) (ofRecord (r .record-at .result)) (r .record-at .ensures .is)
           (l .loop .parents) (l .loop .opens) (l .loop .reds) (o .result) (c .open-red .result) (o .ensures) (c .open-red .ensures) (l .loop .inv .2),
     )
 

@@ -3,7 +3,7 @@ use mathlib.Core.Path.{_≡_, ap, subst}
 use Prim.Native.Nat.{ℕ, _-_, _≤_, _<_}
 use native.Mathlib.Omega.{arith}
 use Rattle.plan.specs.Groups.{Group}
-use Rattle.plan.specs.Checks.{groupOf}
+use Rattle.plan.specs.Checks.{ofRecord}
 use Rattle.waits.specs.Waits.{Passed}
 use Rattle.waits.proofs.PassTurns.{passed-none, passed-next}
 use borrow.Author.Needs.{needs}
@@ -56,7 +56,7 @@ loop-again c =
     let a = s .args in (
       search needs,
       search needs,
-      passed-next (a .count) (a .groups .now) (s .pre) (l .loop .i) (groupOf (r .record-at .result)) (r .record-at .ensures .is) (l .loop .inv .0) (t .loop-test .taken) (a .reds .now) (l .loop .blocks) (c .blocked-if .result) (c .blocked-if .ensures) (l .loop .inv .2),
+      passed-next (a .count) (a .groups .now) (s .pre) (l .loop .i) (ofRecord (r .record-at .result)) (r .record-at .ensures .is) (l .loop .inv .0) (t .loop-test .taken) (a .reds .now) (l .loop .blocks) (c .blocked-if .result) (c .blocked-if .ensures) (l .loop .inv .2),
     )
 
 returns : tie.Need-returns Inv-loop μ-loop

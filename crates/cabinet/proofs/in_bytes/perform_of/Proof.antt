@@ -5,7 +5,7 @@ use lib.Dec.{eqb}
 use lib.ListN.{length}
 use lib.Seq.{length-take-le}
 use Rattle.matrix.specs.Checks.{matrixOf}
-use Rattle.matrix.proofs.Cut.{mostStarts}
+use Rattle.matrix.specs.Limits.{maxStarts}
 use Rattle.calls.specs.Performed.{asCall}
 use Rattle.words.specs.LittleEndian.{signedNumber}
 use Rattle.lent.proofs.Loads.{loaded}
@@ -30,12 +30,12 @@ load-state-requires c κs = search needs
 slice-relend-prefix-perform : tie.Need-slice-relend-prefix-perform
 slice-relend-prefix-perform c =
     let l = c .before .before .before in
-    kept-few (eqb (length (start l .args .state .now)) stateBytes) (c .before .lent-sums .ensures) (loaded (signedNumber 8) 8 (start l .args .sums .now) mostStarts _ _ _ (start l .pre) (l .load-i64 .ensures .0) (l .load-i64 .ensures .1))
+    kept-few (eqb (length (start l .args .state .now)) stateBytes) (c .before .lent-sums .ensures) (loaded (signedNumber 8) 8 (start l .args .sums .now) maxStarts _ _ _ (start l .pre) (l .load-i64 .ensures .0) (l .load-i64 .ensures .1))
 
 slice-aggregate-perform : tie.Need-slice-aggregate-perform
 slice-aggregate-perform c =
     let l = c .before .before .before .before in
-    sym (length-take-le _ _ (kept-few (eqb (length (start l .args .state .now)) stateBytes) (c .before .before .lent-sums .ensures) (loaded (signedNumber 8) 8 (start l .args .sums .now) mostStarts _ _ _ (start l .pre) (l .load-i64 .ensures .0) (l .load-i64 .ensures .1))))
+    sym (length-take-le _ _ (kept-few (eqb (length (start l .args .state .now)) stateBytes) (c .before .before .lent-sums .ensures) (loaded (signedNumber 8) 8 (start l .args .sums .now) maxStarts _ _ _ (start l .pre) (l .load-i64 .ensures .0) (l .load-i64 .ensures .1))))
 
 perform-requires : tie.Need-perform-requires
 perform-requires c κs = search needs
@@ -55,7 +55,7 @@ returns c =
     let a = start l .args in
     ran (matrixOf (a .n) (a .starts .now) (a .columns .now) (a .values .now)) (a .displacements .now) (a .order .now) (a .groups .now) (a .count) (asCall (a .call) (a .schedule .now) (length (a .forces .now)))
     (a .state .now) (a .sums .now) (state .load-state .result) (state .load-state .ensures)
-    (kept-is (eqb (length (a .state .now)) stateBytes) (kept .lent-sums .ensures) (loaded (signedNumber 8) 8 (a .sums .now) mostStarts _ _ _ (start l .pre) (l .load-i64 .ensures .0) (l .load-i64 .ensures .1)))
+    (kept-is (eqb (length (a .state .now)) stateBytes) (kept .lent-sums .ensures) (loaded (signedNumber 8) 8 (a .sums .now) maxStarts _ _ _ (start l .pre) (l .load-i64 .ensures .0) (l .load-i64 .ensures .1)))
     {part = made .perform .last .1 .1 .1 .1 .1 .1 .1 .1 .1 .0} _ (made .perform .kept .1 .1 .1 .1 .1 .1 .1 .1 .1 .0) (made .perform .ensures)
 
 pub perform-of-spec : {M : Type 1} → statement M

@@ -7,7 +7,7 @@ use native.Mathlib.Omega.{arith}
 use lib.ListN.{length, take, drop, length-append}
 use Rattle.market.specs.Text.{natural}
 use Rattle.writer.proofs.puts.Putting.{Putting, Next, put-then, putting-start, putting-room, putting-more, putting-end}
-use Rattle.plan.specs.Groups.{fields, records}
+use Rattle.plan.specs.Groups.{fields, records, width}
 use Rattle.plan.specs.Checks.{recordAt}
 use Rattle.plan.proofs.FlatRecords.{length-records}
 use Rattle.listing.specs.Listing.{groupLines}
@@ -16,7 +16,7 @@ use Rattle.listing.proofs.lines.put_groups.Statement.{statement}
 use Rattle.listing.proofs.lines.put_groups.Tie as tie
 
 abbrev Inv-loop : tie.InvT-loop
-Inv-loop output₀ at groups count p₀ from₀ i₀ output p from i = (i ≤ count) × (from ≡ 6 * i) × Putting (groupLines 0 (records count groups)) (groupLines i (drop i (records count groups))) at p output₀ output
+Inv-loop output₀ at groups count p₀ from₀ i₀ output p from i = (i ≤ count) × (from ≡ width * i) × Putting (groupLines 0 (records count groups)) (groupLines i (drop i (records count groups))) at p output₀ output
 
 abbrev μ-loop : tie.MeasureT-loop
 μ-loop output₀ at groups count p₀ from₀ i₀ output p from i = count - i
@@ -31,11 +31,11 @@ room : (c : tie.In-loop Inv-loop μ-loop) → let l = c .before in let g = recor
 room c = rw length-append at (putting-room (c .before .loop .inv .2) (next c))
 
 -- its record is a part of the list
-inside : (c : tie.In-loop Inv-loop μ-loop) → let l = c .before in l .loop .from + 6 ≤ length (l .before .before .before .args .groups .now)
+inside : (c : tie.In-loop Inv-loop μ-loop) → let l = c .before in l .loop .from + width ≤ length (l .before .before .before .args .groups .now)
 inside c = let l = c .before in omega (arith, l .before .before .before .pre .0)
 
 part : (c : tie.In-loop Inv-loop μ-loop) → let l = c .before in let ns = l .before .before .before .args .groups .now in
-    take (l .loop .from + 6 - l .loop .from) (drop (l .loop .from) ns) ≡ fields (recordAt ns (l .loop .i))
+    take (l .loop .from + width - l .loop .from) (drop (l .loop .from) ns) ≡ fields (recordAt ns (l .loop .i))
 part c = let l = c .before in record-part (l .before .before .before .args .groups .now) (l .loop .i) (l .loop .from) (l .loop .inv .1) (inside c)
 
 loop-holds : tie.Need-loop-holds Inv-loop μ-loop

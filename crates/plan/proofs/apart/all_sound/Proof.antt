@@ -7,6 +7,7 @@ use native.Mathlib.Omega.{arith}
 use lib.ListN.{take, drop}
 use Rattle.base.proofs.Booleans.{fails, holds}
 use Rattle.matrix.specs.Matrix.{pattern, neighbours}
+use Rattle.matrix.specs.Limits.{maxRows}
 use Rattle.plan.specs.Groups.{records}
 use Rattle.plan.specs.Sound.{children, childrenSound, allSound}
 use Rattle.plan.specs.Checks.{recordAt, belowWhole}
@@ -28,7 +29,7 @@ abbrev μ-loop : tie.MeasureT-loop
 μ-loop n starts columns order groups count marks₀ k₀ marks k = count - k
 
 loop-holds : tie.Need-loop-holds Inv-loop μ-loop
-loop-holds c = (refl, unmarked 4096 refl, omega arith)
+loop-holds c = (refl, unmarked maxRows refl, omega arith)
 
 -- the start of the function
 abbrev start : tie.At-loop Inv-loop μ-loop → tie.Start Inv-loop μ-loop

@@ -5,7 +5,7 @@ use Prim.Native.Nat.{_+_, _-_, _^_, _<_}
 use native.Mathlib.Omega.{arith}
 use lib.ListN.{take}
 use Rattle.base.proofs.Booleans.{fails, holds}
-use Rattle.plan.specs.Checks.{groupOf}
+use Rattle.plan.specs.Checks.{ofRecord}
 use Rattle.plan.specs.Marks.{touchedLike, Touched}
 use Rattle.plan.proofs.Stretch.{order-low}
 use Rattle.plan.proofs.Compare.{Comparing, comparing-first, comparing-stops, comparing-next, comparing-last, comparing-marks}
@@ -55,12 +55,12 @@ touch-like-requires c κs =
 
 -- what the call says of the child, whatever it answers
 touched : (c : tie.After-touch-like Inv-loop μ-loop) (r : Bool) → c .touch-like .result ≡ r → let l = c .before .before .before .before in let a = start l .args in
-    Touched (a .low) (a .low + l .loop .i) (touchedLike (a .n) (a .starts .now) (a .columns .now) (take (a .n) (a .order .now)) (a .colour) (groupOf (c .before .before .record-at .result)))
+    Touched (a .low) (a .low + l .loop .i) (touchedLike (a .n) (a .starts .now) (a .columns .now) (take (a .n) (a .order .now)) (a .colour) (ofRecord (c .before .before .record-at .result)))
     (l .loop .marks) (c .touch-like .last .1 .1 .1 .1 .0) r
 touched c r e =
     let l = c .before .before .before .before in
     let a = start l .args in
-    subst (λ (b : Bool). Touched (a .low) (a .low + l .loop .i) (touchedLike (a .n) (a .starts .now) (a .columns .now) (take (a .n) (a .order .now)) (a .colour) (groupOf (c .before .before .record-at .result)))
+    subst (λ (b : Bool). Touched (a .low) (a .low + l .loop .i) (touchedLike (a .n) (a .starts .now) (a .columns .now) (take (a .n) (a .order .now)) (a .colour) (ofRecord (c .before .before .record-at .result)))
     (l .loop .marks) (c .touch-like .last .1 .1 .1 .1 .0) b) e (c .touch-like .ensures)
 
 returns : tie.Need-returns Inv-loop μ-loop

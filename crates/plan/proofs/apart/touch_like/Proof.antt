@@ -7,7 +7,7 @@ use lib.ListN.{take, drop}
 use borrow.Author.Needs.{needs}
 use borrow.Author.Tests.{eq-eqb, ne-eqb}
 use Rattle.plan.specs.Sound.{rowsOf}
-use Rattle.plan.specs.Checks.{groupOf}
+use Rattle.plan.specs.Checks.{ofRecord}
 use Rattle.plan.specs.Marks.{touchedBy, touchedLike, Touched}
 use Rattle.plan.proofs.Touching.{touched-none}
 use Rattle.plan.proofs.Stretch.{stretch, part-low}
@@ -53,7 +53,7 @@ returns-2 c =
     let s = o .before .before .before .before .before in
     let a = s .args in
     let g = a .g in
-    let rows : take (e .least2 .result - e .before .before .least .result) (drop (e .before .before .least .result) (a .order .now)) ≡ rowsOf (take (a .n) (a .order .now)) (groupOf g)
+    let rows : take (e .least2 .result - e .before .before .least .result) (drop (e .before .before .least .result) (a .order .now)) ≡ rowsOf (take (a .n) (a .order .now)) (ofRecord g)
     = rw (e .least2 .ensures, e .before .before .least .ensures) (stretch (a .n) (g .start) (g .length) (a .order .now) (s .pre .3)) in
     rw (eq-eqb (g .colour) (a .colour) (o .if1 .left))
     (subst (λ (l : List ℕ). Touched (a .low) (a .mine) (touchedBy (a .n) (a .starts .now) (a .columns .now) l) (a .marks .now) (c .touch-rows .last .1 .1 .1 .0) (c .touch-rows .result)) rows (c .touch-rows .ensures))

@@ -2,12 +2,13 @@
 use mathlib.Core.Path.{refl, _∙_}
 use native.Mathlib.Omega.{arith}
 use borrow.Author.Needs.{needs}
+use Rattle.matrix.specs.Limits.{maxRows}
 use Rattle.plan.proofs.Seen.{seen-none, seen-once}
 use Rattle.plan.proofs.order.each_once.Statement.{statement}
 use Rattle.plan.proofs.order.each_once.Tie as tie
 
 mark-rows-requires : tie.Need-mark-rows-requires
-mark-rows-requires c κs = (omega arith, omega arith, seen-none (c .before .before .args .n) 4096 refl (omega arith))
+mark-rows-requires c κs = (omega arith, omega arith, seen-none (c .before .before .args .n) maxRows refl (omega arith))
 
 all-marked-requires : tie.Need-all-marked-requires
 all-marked-requires c κs = search needs

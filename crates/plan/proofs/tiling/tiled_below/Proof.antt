@@ -7,7 +7,7 @@ use lib.ListN.{drop}
 use Rattle.base.proofs.Booleans.{fails, holds}
 use Rattle.plan.specs.Groups.{Group, records}
 use Rattle.plan.specs.Sound.{children}
-use Rattle.plan.specs.Checks.{recordAt, groupOf, belowWhole, fitting, pending, complete, laid, tiles}
+use Rattle.plan.specs.Checks.{recordAt, ofRecord, belowWhole, fitting, pending, complete, laid, tiles}
 use Rattle.plan.proofs.Laid.{fits}
 use Rattle.plan.proofs.ChildTurns.{leaf-tiles, first-tiles, next-tiles, last-tiles}
 use Rattle.plan.proofs.tiling.tiled_below.Statement.{statement}
@@ -57,8 +57,8 @@ fits-requires c κs = tt
 -- the test of the child at i, and what is left after it
 turn : (c : tie.After-record-at2 Inv-loop μ-loop) → let l = c .before .before in let a = l .before .before .before .before .before .args in let h = c .record-at2 .result in
     tiles (recordAt (a .groups .now) (a .k)) (children (a .k) (belowWhole (a .count) (a .groups .now)))
-    ≡ fitting (l .loop .s) (l .loop .f) (l .loop .w) (groupOf h)
-    && laid (recordAt (a .groups .now) (a .k)) (l .loop .s + h .length) (l .loop .f + l .loop .w) (pending (l .loop .w) (groupOf h)) (children (a .k) (drop (l .loop .i + 1) (records (a .count) (a .groups .now))))
+    ≡ fitting (l .loop .s) (l .loop .f) (l .loop .w) (ofRecord h)
+    && laid (recordAt (a .groups .now) (a .k)) (l .loop .s + h .length) (l .loop .f + l .loop .w) (pending (l .loop .w) (ofRecord h)) (children (a .k) (drop (l .loop .i + 1) (records (a .count) (a .groups .now))))
 turn c =
     let l = c .before .before in
     let a = l .before .before .before .before .before .args in
@@ -70,7 +70,7 @@ returns-2 : tie.Need-returns-2 Inv-loop μ-loop
 returns-2 c = sym (turn (c .before .before) ∙ rw (fails (c .before .fits2 .ensures) (c .if2 .taken)))
 
 -- the child fits
-passed : (c : tie.Else2 Inv-loop μ-loop) → let l = c .before .before .before .before in fitting (l .loop .s) (l .loop .f) (l .loop .w) (groupOf (c .before .before .record-at2 .result)) ≡ true
+passed : (c : tie.Else2 Inv-loop μ-loop) → let l = c .before .before .before .before in fitting (l .loop .s) (l .loop .f) (l .loop .w) (ofRecord (c .before .before .record-at2 .result)) ≡ true
 passed c = holds (c .before .fits2 .ensures) (c .if2 .left)
 
 sums : (c : tie.Else2 Inv-loop μ-loop) → let l = c .before .before .before .before in let h = c .before .before .record-at2 .result in
@@ -78,7 +78,7 @@ sums : (c : tie.Else2 Inv-loop μ-loop) → let l = c .before .before .before .b
 sums c =
     let l = c .before .before .before .before in
     let small = c .before .before .record-at2 .ensures .small in
-    let f = fits (l .loop .s) (l .loop .f) (l .loop .w) (groupOf (c .before .before .record-at2 .result)) (passed c) in
+    let f = fits (l .loop .s) (l .loop .f) (l .loop .w) (ofRecord (c .before .before .record-at2 .result)) (passed c) in
     (omega (arith, small .start, small .length, f .start), omega (arith, small .first, small .workers, f .first, f .workers))
 
 add-s : tie.Need-add-s Inv-loop μ-loop

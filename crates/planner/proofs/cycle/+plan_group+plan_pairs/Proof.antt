@@ -9,4 +9,4 @@ use Rattle.planner.proofs.cycle.+plan_group+plan_pairs.{statement}
 use Rattle.planner.proofs.cycle.+plan_group+plan_pairs.Tie.{close}
 
 pub +plan-group+plan-pairs-spec : {M : Type 1} → statement M
-+plan-group+plan-pairs-spec = close μ-plan-group μ-plan-pairs plan-group-ok plan-pairs-ok
++plan-group+plan-pairs-spec = close μ-plan-group μ-plan-pairs (λ t. plan-group-ok t) (λ t. plan-pairs-ok t)

@@ -64,8 +64,8 @@ mul-v c =
     let a = l .before .before .before .before .args in
     omega (arith, digits-small (a .s .now) (a .at) (l .loop .v) (l .loop .i) (l .loop .inv .2))
 
-wide-requires : tie.Need-wide-requires Inv-loop μ-loop
-wide-requires c κs = search needs
+wide64-requires : tie.Need-wide64-requires Inv-loop μ-loop
+wide64-requires c κs = search needs
 
 sub-v : tie.Need-sub-v Inv-loop μ-loop
 sub-v c = omega (arith, digit-range _ (digit (c .before .before)))
@@ -86,7 +86,7 @@ loop-again : tie.Need-loop-again Inv-loop μ-loop
 loop-again c =
     let l = c .before .before .before .before .before .before in
     let a = l .before .before .before .before .args in
-    (l .loop .inv .0, l .loop .inv .1, rw (c .wide .ensures .0) (digits-step (a .s .now) (a .at) (l .loop .v) (l .loop .i) (l .loop .inv .2) (c .before .before .before .before .before .loop-test .taken) (digit (c .before .before)) (c .before .if3 .left)))
+    (l .loop .inv .0, l .loop .inv .1, rw (c .wide64 .ensures .0) (digits-step (a .s .now) (a .at) (l .loop .v) (l .loop .i) (l .loop .inv .2) (c .before .before .before .before .before .loop-test .taken) (digit (c .before .before)) (c .before .if3 .left)))
 
 sub-numeral-2 : tie.Need-sub-numeral-2 Inv-loop μ-loop
 sub-numeral-2 c = search needs
@@ -119,7 +119,7 @@ scan-number-spec =
     sub-if3
     returns-3
     mul-v
-    wide-requires
+    wide64-requires
     sub-v
     add-v
     add-i

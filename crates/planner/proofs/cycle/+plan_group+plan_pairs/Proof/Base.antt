@@ -3,6 +3,7 @@ use Prim.Native.Nat.{ℕ, _<_, _+_, _*_}
 use borrow.Fn.Kinds.{In}
 use borrow.Fn.PlainCycle.{Measures, is, falls, and}
 use lib.ListN.{length}
+use Rattle.sort.specs.Sort.{maxLevels}
 use Rattle.planner.proofs.cycle.plan_group.Reads as plan-group
 use Rattle.planner.proofs.cycle.plan_group.Kinds as plan-group-kinds
 use Rattle.planner.proofs.cycle.+plan_group+plan_pairs.Lts-plan_group as plan-group-lts
@@ -12,15 +13,18 @@ use Rattle.planner.proofs.cycle.+plan_group+plan_pairs.Lts-plan_pairs a
 use Rattle.sort.proofs.level_sort.Reads as level-sort-reads
 use Rattle.planner.proofs.cycle.next_pair.Reads as next-pair-reads
 use Rattle.planner.proofs.loads.level_loads.Reads as level-loads-reads
-use Rattle.planner.proofs.records.put.Reads as put-reads
+use Rattle.planner.proofs.cycle.red_of.Reads as red-of-reads
+use Rattle.planner.proofs.cycle.blue_of.Reads as blue-of-reads
+use Rattle.planner.proofs.cycle.after.Reads as after-reads
+use Rattle.plan.proofs.fields.put.Reads as put-reads
 
 -- stages left
 abbrev pub μ-plan-group : Measures 4 plan-group-kinds.ps ℕ
-μ-plan-group κs a = a .1 .1 .1 .1 .1 .1 .0 * 8194
+μ-plan-group κs a = a .1 .1 .1 .1 .1 .1 .0 * (maxLevels + 2)
 
 -- stages left, then levels left
 abbrev pub μ-plan-pairs : Measures 6 plan-pairs-kinds.ps ℕ
-μ-plan-pairs κs a = a .1 .1 .1 .1 .1 .1 .1 .1 .0 * 8194 + length (a .1 .1 .1 .0 .now) + 1
+μ-plan-pairs κs a = a .1 .1 .1 .1 .1 .1 .1 .1 .0 * (maxLevels + 2) + length (a .1 .1 .1 .0 .now) + 1
 
 abbrev pub plan-group-at : ℕ → In 4 plan-group-kinds.ps
 plan-group-at t = and 4 plan-group-kinds.ps (is 4 plan-group-kinds.ps μ-plan-group t) plan-group.Pre
@@ -38,4 +42,4 @@ abbrev pub plan-group-calls : ℕ → plan-group-lts.Claims
 plan-group-calls t = (put-reads.Asked, put-reads.Learnt, level-sort-reads.Asked, level-sort-reads.Learnt, level-loads-reads.Asked, level-loads-reads.Learnt, plan-pairs-below t, plan-pairs.Post)
 
 abbrev pub plan-pairs-calls : ℕ → plan-pairs-lts.Claims
-plan-pairs-calls t = (next-pair-reads.Asked, next-pair-reads.Learnt, plan-group-below t, plan-group.Post, plan-pairs-below t, plan-pairs.Post)
+plan-pairs-calls t = (next-pair-reads.Asked, next-pair-reads.Learnt, red-of-reads.Asked, red-of-reads.Learnt, blue-of-reads.Asked, blue-of-reads.Learnt, plan-group-below t, plan-group.Post, after-reads.Asked, after-reads.Learnt, plan-pairs-below t, plan-pairs.Post)

@@ -1,4 +1,4 @@
--- `copy` meets its contract: the first i numbers are copied.
+-- `slices::copy` meets its contract: the first i numbers are copied.
 use mathlib.Core.Path.{_≡_, refl, ap, _∙_}
 use mathlib.Core.List.{List, _++_}
 use Prim.Native.Nat.{ℕ, _-_, _≤_}
@@ -6,9 +6,9 @@ use native.Mathlib.Omega.{arith}
 use borrow.Author.Needs.{needs}
 use lib.ListN.{length, drop}
 use lib.Seq.{take-length}
-use Rattle.planner.proofs.Flat.{copied, copied-next, length-copied}
-use Rattle.planner.proofs.records.copy.Statement.{statement}
-use Rattle.planner.proofs.records.copy.Tie as tie
+use Rattle.base.proofs.Stored.{copied, copied-next, length-copied}
+use Rattle.base.proofs.slices.copy.Statement.{statement}
+use Rattle.base.proofs.slices.copy.Tie as tie
 
 abbrev Inv-loop : tie.InvT-loop
 Inv-loop from to₀ i₀ to i = (i ≤ length from) × (to ≡ copied from to₀ i)

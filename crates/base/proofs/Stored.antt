@@ -1,27 +1,24 @@
--- Numbers written into a list: a record's six, and a copy.
+-- Numbers written into a list: some in turn from a place on, and a copy.
 use mathlib.Core.Path.{_≡_}
-use mathlib.Core.List.{List, [], _∷_, _++_}
+use mathlib.Core.List.{List, _++_}
 use Prim.Native.Nat.{ℕ, suc, _+_, _*_, _≤_, _<_}
 use native.Mathlib.Nat.{zero-add}
-use native.Mathlib.Numerals.{add-one, add-two, add-three, add-four, add-five}
+use native.Mathlib.Numerals.{add-one}
 use native.Mathlib.Omega.{arith}
 use lib.ListN.{length, take, drop, getD, set, length-append}
 use lib.Seq.{sets, sets-eq, take-at, length-take-le, paste-suc, length-paste}
 
 -- numbers stored from a place on, and what is before them
-stored : (vs xs : List ℕ) (at : ℕ) → at + length vs ≤ length xs → take (at + length vs) (sets xs at vs) ≡ take at xs ++ vs
+pub stored : (vs xs : List ℕ) (at : ℕ) → at + length vs ≤ length xs → take (at + length vs) (sets xs at vs) ≡ take at xs ++ vs
 stored vs xs at h =
     let long : length (take at xs ++ vs) ≡ at + length vs = omega (arith, length-append (take at xs) vs, length-take-le at xs (omega arith)) in
     rw (sets-eq vs xs at h) (take-at (take at xs ++ vs) (drop (at + length vs) xs) (at + length vs) long)
 
--- six numbers at an index
-pub stored-six : (xs : List ℕ) (i a b c d e f : ℕ) → 6 * (i + 1) ≤ length xs
-    → take (6 * (i + 1)) (set (set (set (set (set (set xs (6 * i) a) (6 * i + 1) b) (6 * i + 2) c) (6 * i + 3) d) (6 * i + 4) e) (6 * i + 5) f)
-    ≡ take (6 * i) xs ++ a ∷ b ∷ c ∷ d ∷ e ∷ f ∷ []
-stored-six xs i a b c d e f h =
-    let next : 6 * (i + 1) ≡ 6 * i + 6 = omega arith in
-    rw (next, add-one (6 * i), add-two (6 * i), add-three (6 * i), add-four (6 * i), add-five (6 * i))
-    (stored (a ∷ b ∷ c ∷ d ∷ e ∷ f ∷ []) xs (6 * i) (omega arith))
+-- a record, of any width, at an index
+pub stored-record : (vs xs : List ℕ) (i : ℕ) → length vs * (i + 1) ≤ length xs → take (length vs * (i + 1)) (sets xs (length vs * i) vs) ≡ take (length vs * i) xs ++ vs
+stored-record vs xs i h =
+    let next : length vs * (i + 1) ≡ length vs * i + length vs = omega arith in
+    rw next (stored vs xs (length vs * i) (omega arith))
 
 -- the first i numbers copied
 abbrev pub copied : (from to : List ℕ) → ℕ → List ℕ

@@ -1,9 +1,9 @@
--- `fields::wide_at`: a number of the list has 32 bits.
+-- `slices::wide_at`: a number of the list has 32 bits.
 use mathlib.Core.Path.{refl}
 use native.Mathlib.Omega.{arith}
 use borrow.Author.Needs.{needs}
-use Rattle.plan.proofs.fields.wide_at.Statement.{statement}
-use Rattle.plan.proofs.fields.wide_at.Tie as tie
+use Rattle.base.proofs.slices.wide_at.Statement.{statement}
+use Rattle.base.proofs.slices.wide_at.Tie as tie
 
 mul-result : tie.Need-mul-result
 mul-result c = search needs
