@@ -25,6 +25,7 @@ pub mod Positions
 pub mod OrderSums
 pub mod RowShares
 pub mod Total
+pub mod Book
 pub mod Bound
 pub mod Past
 pub mod Seek
