@@ -14,7 +14,8 @@ use Rattle.plan.specs.Sound.{maxWorkers}
 use Rattle.run.specs.Job.{Job}
 use Rattle.run.specs.Updates.{count, accesses}
 use Rattle.run.specs.Machine.{State, over, original, countsFine, isState}
-use Rattle.run.specs.Calls.{Call, picks, readySet, forceList, Answer, picked, forces, refused, placeOf, pickedOf, readyOf, forcesOf, stateCheck, answerOf, afterOf, answer, after, answers, afterAll}
+use Rattle.run.specs.Calls.{Call, picks, readySet, forceList, Answer, picked, forces, refused, placeOf, pickedOf, readyOf, forcesOf, stateCheck, answerOf, afterOf, answer, after}
+use Rattle.run.specs.Sequence.{answersFrom, stateAfter}
 use Rattle.run.specs.Model.{note, endedAt, modelAnswer, modelAfter, modelAnswers, modelCounts, takenNow, takenPicks}
 use Rattle.run.specs.OneAccess.{Walk, stay, andThen}
 use Rattle.run.proofs.Facts.{Facts}
@@ -79,14 +80,14 @@ module _ (j : Job) (F : Facts j) where
 
   -- a list of calls
   pub record AllKept (s : State) (cs : List Call) : Type 0 where
-    pub inv : Inv j (afterAll j s cs)
-    pub made : afterAll j s cs .made ≡ modelCounts j (s .made) cs
-    pub same : answers j s cs ≡ modelAnswers j (s .made) cs
-    pub walked : Walk j s (takenPicks j (s .made) cs) (afterAll j s cs)
+    pub inv : Inv j (stateAfter (after j) s cs)
+    pub made : stateAfter (after j) s cs .made ≡ modelCounts j (s .made) cs
+    pub same : answersFrom (answer j) (after j) s cs ≡ modelAnswers j (s .made) cs
+    pub walked : Walk j s (takenPicks j (s .made) cs) (stateAfter (after j) s cs)
 
   -- .. and so all calls of a list
   pub calls-model : (s : State) → Inv j s → (cs : List Call) → AllKept s cs
-  unfolding answers afterAll modelAnswers modelCounts takenPicks
+  unfolding answersFrom stateAfter modelAnswers modelCounts takenPicks
   calls-model s I [] = record { inv = I; made = refl; same = refl; walked = stay }
   calls-model s I (c ∷ cs) =
       let k = call-model s I c in

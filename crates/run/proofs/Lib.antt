@@ -1,3 +1,4 @@
+pub mod Sequence
 pub mod Amounts
 pub mod Facts
 pub mod Invariant

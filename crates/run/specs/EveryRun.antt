@@ -12,7 +12,8 @@ use Rattle.run.specs.Tree.{tree, leaves}
 use Rattle.run.specs.Updates.{updates, accesses, leafByLeaf}
 use Rattle.run.specs.Machine.{State, fresh, workers, original}
 use Rattle.run.specs.OneAccess.{Walk}
-use Rattle.run.specs.Calls.{Call, picks, readySet, forceList, Answer, picked, isReady, forces, refused, answer, answers, afterAll}
+use Rattle.run.specs.Calls.{Call, picks, readySet, forceList, Answer, picked, isReady, forces, refused, answer, after}
+use Rattle.run.specs.Sequence.{answersFrom, stateAfter}
 use Rattle.run.specs.Model.{noCounts, isFinished, takenPicks, modelAnswers, modelCounts}
 
 -- how many steps a call took, and a list of calls
@@ -28,10 +29,10 @@ takenIn (a ∷ as′) = takenOf a + takenIn as′
 
 -- "Each run begins fresh": its state after a list of calls, and its answers
 unfoldable pub runState : Job → List Call → State
-runState j cs = afterAll j (fresh (j .matrix .n)) cs
+runState j cs = stateAfter (after j) (fresh (j .matrix .n)) cs
 
 unfoldable pub runAnswers : Job → List Call → List Answer
-runAnswers j cs = answers j (fresh (j .matrix .n)) cs
+runAnswers j cs = answersFrom (answer j) (after j) (fresh (j .matrix .n)) cs
 
 -- "The run is finished when all counts are all their workers' moves"
 unfoldable pub finishedRun : Job → List Call → Bool

@@ -6,6 +6,7 @@ pub mod OneAccess
 pub mod InOrder
 pub mod Calls
 pub mod Model
+pub mod Sequence
 pub mod EveryRun
 pub mod Consequences
 pub mod LentRuns
