@@ -25,7 +25,7 @@ use Rattle.run.proofs.LentRuns.{lent-runs}
 use Rattle.words.specs.LittleEndian.{signedBytes, stored}
 use Rattle.lent.specs.Word.{word}
 use Rattle.cabinet.specs.Runs.{stateBytes, answerIn, replyTo, forceBytes, ForcesAnswered, bytesIn, leftBy}
-use Rattle.cabinet.specs.ByteRuns.{inBytes, byteAnswer, picksLeave, byteAfter, byteAnswers, byteAfterAll, runBytes, ByteRun, ByteRuns}
+use Rattle.cabinet.specs.ByteRuns.{inBytes, byteAnswer, picksLeave, byteAfter, byteAnswers, runBytes, ByteRun, ByteRuns}
 use Rattle.cabinet.proofs.StateBack.{Sized, state-length, state-back, sums-length, zeros-fresh}
 use Rattle.cabinet.proofs.StateBytes.{stored-over}
 
