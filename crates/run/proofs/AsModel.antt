@@ -5,7 +5,7 @@ use mathlib.Core.List.{List, [], _∷_, _++_}
 use Prim.Native.Nat.{ℕ, zero, suc, _≤_}
 use native.Mathlib.Omega.{arith}
 use lib.ListN.{length}
-use lib.Dec.{leb}
+use lib.Dec.{eqb, leb}
 use borrow.Author.Tests.{eq-eqb, ne-eqb, le-leb}
 use Rattle.base.specs.Refusals as no
 use Rattle.base.specs.Replies.{inTurn}
@@ -16,7 +16,7 @@ use Rattle.run.specs.Updates.{count, accesses}
 use Rattle.run.specs.Machine.{State, over, original, countsFine, isState}
 use Rattle.run.specs.Calls.{Call, picks, readySet, forceList, Answer, picked, forces, refused, placeOf, pickedOf, readyOf, forcesOf, stateCheck, answerOf, afterOf, answer, after}
 use Rattle.run.specs.Sequence.{answersFrom, stateAfter}
-use Rattle.run.specs.Model.{note, endedAt, modelAnswer, modelAfter, modelAnswers, modelCounts, takenNow, takenPicks}
+use Rattle.run.specs.Model.{note, modelAnswer, modelAfter, modelAnswers, modelCounts, takenNow, takenPicks}
 use Rattle.run.specs.OneAccess.{Walk, stay, andThen}
 use Rattle.run.proofs.Facts.{Facts}
 use Rattle.run.proofs.Invariant.{Inv}
@@ -31,8 +31,8 @@ walk-on j (andThen a x) y = andThen a (walk-on j x y)
 
 module _ (j : Job) (F : Facts j) where
   -- the answer to a list of picks
-  picked-model : (taken number : ℕ) → pickedOf taken number ≡ picked taken number (endedAt taken number)
-  unfolding pickedOf placeOf endedAt
+  picked-model : (taken number : ℕ) → pickedOf taken number ≡ picked taken number (cond (eqb number 0) 0 taken)
+  unfolding pickedOf placeOf
   picked-model taken zero = refl
   picked-model taken (suc k) = rw (ne-eqb (suc k) 0 (λ e. omega arith)) refl
 

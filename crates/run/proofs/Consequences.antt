@@ -22,7 +22,7 @@ use Rattle.run.specs.Consequences.{numberOf, Consequence, Consequences}
 use Rattle.run.proofs.Schedule.{note-on, note-end}
 use Rattle.run.proofs.Finished.{over-made}
 use Rattle.run.proofs.Progress.{progress}
-use Rattle.run.proofs.Accepted.{tree-of, facts, accesses-of}
+use Rattle.run.proofs.Accepted.{tree-of, accesses-of}
 use Rattle.run.proofs.EveryRun.{inv, finished-over, answered, ready-is, taken-is}
 
 -- ---- the model's numbers

@@ -22,8 +22,7 @@ noCounts = replicate maxWorkers 0
 unfoldable pub added : (counts : List ℕ) → ℕ → List ℕ
 added counts w = set counts w (suc (count counts w))
 
--- "One naming no worker of the plan ends its call with 10, one whose worker's count is all its moves with 12, one whose worker waits by these counts with 13";
--- 0: the pick is taken
+-- "One naming no worker of the plan ends its call with 10, one whose worker's count is all its moves with 12, .. waits by these counts with 13"; 0: it is taken
 unfoldable pub ending : Job → (counts : List ℕ) → ℕ → ℕ
 ending j counts w = cond (ltb w (workers j)) (cond (eqb (count counts w) (accesses j w)) no.done (cond (waits j counts w) no.waiting 0)) no.stranger
 
@@ -50,15 +49,10 @@ able j counts = filter (λ w. eqb (ending j counts w) 0) (range 0 (workers j))
 unfoldable pub isFinished : Job → (counts : List ℕ) → Bool
 isFinished j counts = all (λ w. eqb (count counts w) (accesses j w)) (range 0 (workers j))
 
--- "at the pick's index": those before it were taken; "0 at 0 as its ending if it took all"
-unfoldable pub endedAt : (taken number : ℕ) → ℕ
-endedAt taken number = cond (eqb number 0) 0 taken
-
--- "The answer is the number that the call took and that ending";
--- "A ready-set call gets the workers whose pick would be taken, and their count": a bit for each;
--- "A force-list call gets 15 until then, afterwards 9 at n if its list is shorter than n, else 0 with the full product in original order"
+-- "The answer is the number that the call took and that ending, or 0 at 0 as its ending if it took all" (those before the pick's index were taken);
+-- a bit for each worker "whose pick would be taken, and their count"; "15 until then, afterwards 9 at n .., else 0 with the full product in original order"
 unfoldable pub modelAnswer : Job → (counts : List ℕ) → Call → Answer
-modelAnswer j counts (picks ws) = picked (note j counts ws .taken) (note j counts ws .number) (endedAt (note j counts ws .taken) (note j counts ws .number))
+modelAnswer j counts (picks ws) = picked (note j counts ws .taken) (note j counts ws .number) (cond (eqb (note j counts ws .number) 0) 0 (note j counts ws .taken))
 modelAnswer j counts readySet = isReady (sum (map (_^_ 2) (able j counts))) (length (able j counts))
 modelAnswer j counts (forceList room) =
     cond (isFinished j counts) (cond (leb (j .matrix .n) room) (forces (product (j .matrix) (j .displacements))) (refused no.short (j .matrix .n))) (refused no.early 0)

@@ -29,7 +29,7 @@ use Rattle.run.specs.Updates.{entryAt, displacementAt, later, withEach, rowUpda
 use Rattle.run.specs.Machine.{fresh, workersOf, workers, reason, refusal, onward, load as loadSum, total, store, access, move, stepIf, step, oneMore, steps, readyBelow, ready, bits, allMade, over, positionOf, original, countsFine, isState}
 use Rattle.run.specs.Calls.{Call, picks, readySet, forceList, Answer, picked, isReady, forces, refused as refusedCall, placeOf, pickedOf, readyOf, forcesOf, answerOf, afterOf, stateCheck, answer, after}
 use Rattle.run.specs.Sequence.{answersFrom}
-use Rattle.run.specs.Model.{noCounts, added, ending, oneNoted, note, able, isFinished, endedAt, modelAnswer, modelAfter, modelAnswers, modelCounts}
+use Rattle.run.specs.Model.{noCounts, added, ending, oneNoted, note, able, isFinished, modelAnswer, modelAfter, modelAnswers, modelCounts}
 use Rattle.run.specs.EveryRun.{takenOf, takenIn, runAnswers, wholeRun}
 use Rattle.listing.specs.Listing.{firstLine, restOf, last, second, parametersOf, spaced, refusedLine, orderLine, titleLine, groupLines, planListing, planned, judged, listing}
 
@@ -206,5 +206,5 @@ failing k (true ∷ bs) = failing (suc k) bs
 failing k (false ∷ bs) = k ∷ failing (suc k) bs
 
 all-hold : failing 0 samples ≡ []
-unfolding sumBelow sumℤ within same fits64 inTurn partOf columnsOf valuesOf lookup entry neighbours adjacent adjacentPairs ascending mirrored isRow lowerEntries isMatrix matrixCheck displacement areDisplacements forceAt product classOf header digits isNumber valueOf number spaces field value valueField fields entries sizeLine comments parse full cell rowOf rowsOf startsFrom rowStarts columns values ofTriplets readMatrix decimal textOf columnOf lower written groupFields flat eachOnce depthFirst children tiled apart groupRows likeApart childrenSound allSound sound isSound near region root isNext levelsFrom levels ownLevels weight load endsFrom best nearest off serves extentOf extentFrom extent cutAt cut nothing _then_ leaf pairs planPairs splits split planGroup planRows plan areParameters planReply rowAt forest tree leaves holds ownerIn unfinished redOpen blocked entryAt displacementAt later withEach rowUpdates owner when upTo updates accesses finished noUpdate next waits fresh workersOf workers reason refusal onward loadSum total store access move stepIf step oneMore steps readyBelow ready bits allMade over positionOf original countsFine isState placeOf pickedOf readyOf forcesOf answerOf afterOf stateCheck answer after answersFrom noCounts added ending oneNoted note able isFinished endedAt modelAnswer modelAfter modelAnswers modelCounts takenOf takenIn runAnswers wholeRun firstLine restOf last second parametersOf spaced refusedLine orderLine titleLine groupLines planListing planned judged listing
+unfolding sumBelow sumℤ within same fits64 inTurn partOf columnsOf valuesOf lookup entry neighbours adjacent adjacentPairs ascending mirrored isRow lowerEntries isMatrix matrixCheck displacement areDisplacements forceAt product classOf header digits isNumber valueOf number spaces field value valueField fields entries sizeLine comments parse full cell rowOf rowsOf startsFrom rowStarts columns values ofTriplets readMatrix decimal textOf columnOf lower written groupFields flat eachOnce depthFirst children tiled apart groupRows likeApart childrenSound allSound sound isSound near region root isNext levelsFrom levels ownLevels weight load endsFrom best nearest off serves extentOf extentFrom extent cutAt cut nothing _then_ leaf pairs planPairs splits split planGroup planRows plan areParameters planReply rowAt forest tree leaves holds ownerIn unfinished redOpen blocked entryAt displacementAt later withEach rowUpdates owner when upTo updates accesses finished noUpdate next waits fresh workersOf workers reason refusal onward loadSum total store access move stepIf step oneMore steps readyBelow ready bits allMade over positionOf original countsFine isState placeOf pickedOf readyOf forcesOf answerOf afterOf stateCheck answer after answersFrom noCounts added ending oneNoted note able isFinished modelAnswer modelAfter modelAnswers modelCounts takenOf takenIn runAnswers wholeRun firstLine restOf last second parametersOf spaced refusedLine orderLine titleLine groupLines planListing planned judged listing
 all-hold = refl
