@@ -37,6 +37,7 @@ pub mod Tally
 pub mod Small
 pub mod Accepted
 pub mod EveryRun
+pub mod OneMachine
 pub mod Consequences
 pub mod LentRuns
 pub mod Fits

@@ -8,5 +8,6 @@ pub mod Calls
 pub mod Model
 pub mod Sequence
 pub mod EveryRun
+pub mod OneMachine
 pub mod Consequences
 pub mod LentRuns
