@@ -3,10 +3,10 @@
  *     gcc -O2 -pthread -Iinclude examples/stage.c target/staticlib/libmazhoketh.a -o target/stage
  *     target/stage data/bcsstk14.mtx 16 --seed 7
  *
- * `stage MATRIX WORKERS MOVEMENTS` plans the net for the workers and starts a thread for each. A thread picks itself, in
- * bursts of any length, whenever it comes to the lock; where its pick waits it sleeps until another thread has moved.
- * The forces are printed one a line, if they are those of one core; progress goes to standard error. In place of the
- * file MOVEMENTS, `--seed NUMBER` draws movements. refusals.h has the exit statuses. */
+ * `stage MATRIX WORKERS MOVEMENTS` plans the net for the workers and starts a thread for each. A thread picks itself,
+ * in bursts of any length, whenever it comes to the lock; where its pick waits it sleeps until another has moved. The
+ * forces are printed one a line, if they are those of one core; progress goes to standard error. In place of the file
+ * MOVEMENTS, `--seed NUMBER` draws movements. refusals.h has the exit statuses. */
 
 #include <pthread.h>
 #include <sched.h>
