@@ -13,6 +13,9 @@ fn main() {
     let mut output = [0u8; 84533];
     let written = listing(&input[..size], &mut output);
     if !io::write_all(STDOUT_FILENO, &output[..written]) {
-        io::write_all(STDERR_FILENO, b"netplan: standard output cannot be written\n");
+        io::write_all(
+            STDERR_FILENO,
+            b"netplan: standard output cannot be written\n",
+        );
     }
 }
