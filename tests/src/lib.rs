@@ -1,6 +1,7 @@
 //! Another implementation of document 01, written from its sentences alone, and the verified library to test and time against it.
 
 pub mod both;
+pub mod built;
 pub mod cases;
 pub mod files;
 pub mod guarded;

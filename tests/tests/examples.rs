@@ -4,12 +4,11 @@ use std::fs::File;
 use std::path::{Path, PathBuf};
 use std::process::{Command, Output, Stdio};
 
-use mazhoketh_tests::files;
 use mazhoketh_tests::oracle::nets;
 use mazhoketh_tests::oracle::prng::Prng;
+use mazhoketh_tests::{built, files};
 
-/// The repository, and a folder to build in.
-const ROOT: &str = concat!(env!("CARGO_MANIFEST_DIR"), "/..");
+/// A folder to build in.
 const BUILT: &str = env!("CARGO_TARGET_TMPDIR");
 
 /// The nets that the examples are run on.
@@ -21,18 +20,10 @@ const SMALL: &str = concat!(env!("CARGO_MANIFEST_DIR"), "/../data/roof_45.mtx");
 /// What a movement must be.
 const MOVEMENT: &str = "wanted a whole number of -1000000 to 1000000";
 
-/// Builds an example for a test, without a warning; the program.
+/// Builds an example for a test; the program.
 fn build(name: &str, test: &str) -> PathBuf {
     let program = Path::new(BUILT).join(format!("{name} for {test}"));
-    let built = Command::new("gcc")
-        .args(["-Wall", "-Wextra", "-Werror", "-O2", "-pthread"])
-        .arg(format!("-I{ROOT}/include"))
-        .arg(format!("{ROOT}/examples/{name}.c"))
-        .arg(format!("{ROOT}/target/staticlib/libmazhoketh.a"))
-        .arg("-o")
-        .arg(&program)
-        .status();
-    assert!(built.expect("gcc can be run").success(), "{name} is built");
+    built::compile("gcc", &[], &format!("examples/{name}.c"), &program);
     program
 }
 
