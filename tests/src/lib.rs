@@ -10,3 +10,4 @@ pub mod guarded;
 pub mod library;
 pub mod lists;
 pub mod oracle;
+pub mod progress;

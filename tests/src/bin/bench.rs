@@ -1,6 +1,6 @@
 //! Benchmarks: the verified library beside the other implementation, in one run, as a Markdown table.
 //!
-//! `cargo run --release --bin bench` prints it.
+//! `cargo run --release --bin bench` prints it all; `bench picks roof` the lines of a call, of a net, or of both.
 //! A line for each net and call: the least time of many rounds of each, their ratio, and how the library's time grows
 //! from the net of half the size.
 
@@ -141,18 +141,17 @@ fn least_times(work: Work, given: &Given) -> [f64; 2] {
     least
 }
 
-/// Prints the lines of a net, with the growth from a net of half its size if there is one.
-fn print_net(name: &str, net: &Matrix, half: Option<&Matrix>) {
-    let given = Given::new(net, 60);
-    let half = half.map(|half| Given::new(half, 60));
-    for (call, work) in WORKS {
-        let [ours, theirs] = least_times(work, &given);
-        let growth = half.as_ref().map(|half| ours / least_times(work, half)[0]);
-        let growth = growth.map_or(String::new(), |growth| format!("{growth:.2}"));
-        let ratio = ours / theirs;
-        println!("| {name} | {call} | {ours:.0} | {theirs:.0} | {ratio:.2} | {growth} |");
-    }
-}
+/// A net by name, what the table calls it, and how it is made: with one of half its size, if there is one.
+type Net = (&'static str, &'static str, fn() -> (Matrix, Option<Matrix>));
+
+/// All nets that calls are timed on.
+#[rustfmt::skip]
+const NETS: [Net; 4] = [
+    ("roof", "roof of 3,900 rows", || (roof(52), Some(roof(26)))),
+    ("bcsstk14", "bcsstk14", || (files::read(&files::folder().join("bcsstk14.mtx")).1, None)),
+    ("chain", "chain of 4,096", || (nets::chain(4_096), Some(nets::chain(2_048)))),
+    ("unjoined", "4,096 unjoined rows", || (nets::unjoined(4_096), Some(nets::unjoined(2_048)))),
+];
 
 /// A roof of so many spokes, 75 freedoms each.
 fn roof(spokes: usize) -> Matrix {
@@ -163,21 +162,82 @@ fn roof(spokes: usize) -> Matrix {
     nets::roof(&mut Prng::new(1), roof)
 }
 
-/// Prints the table.
-fn print_table() {
+/// The call that a work is of.
+fn call_of(work: &str) -> &str {
+    work.split(',').next().unwrap_or(work)
+}
+
+/// What is asked for by name: calls and nets, all of a kind if none of it is named.
+struct Asked(Vec<String>);
+
+impl Asked {
+    /// The arguments, if each names a call or a net.
+    fn new(arguments: Vec<String>) -> Option<Asked> {
+        let is_known = |name: &String| Asked::names().contains(&name.as_str());
+        arguments.iter().all(is_known).then_some(Asked(arguments))
+    }
+
+    /// The calls, each once.
+    fn calls() -> Vec<&'static str> {
+        let mut calls: Vec<&str> = WORKS.iter().map(|(work, _)| call_of(work)).collect();
+        calls.dedup();
+        calls
+    }
+
+    /// The calls and the nets.
+    fn names() -> Vec<&'static str> {
+        let nets = NETS.iter().map(|(name, _, _)| *name);
+        Asked::calls().into_iter().chain(nets).collect()
+    }
+
+    /// Whether a name is asked for, among those of its kind.
+    fn has(&self, name: &str, kind: &[&str]) -> bool {
+        let named: Vec<&String> = self
+            .0
+            .iter()
+            .filter(|name| kind.contains(&name.as_str()))
+            .collect();
+        named.is_empty() || named.iter().any(|&asked| asked == name)
+    }
+}
+
+/// Prints the lines of a net, with the growth from a net of half its size if there is one.
+fn print_net(asked: &Asked, name: &str, net: &Matrix, half: Option<&Matrix>) {
+    let given = Given::new(net, 60);
+    let half = half.map(|half| Given::new(half, 60));
+    for (call, work) in WORKS {
+        if !asked.has(call_of(call), &Asked::calls()) {
+            continue;
+        }
+        let [ours, theirs] = least_times(work, &given);
+        let growth = half.as_ref().map(|half| ours / least_times(work, half)[0]);
+        let growth = growth.map_or(String::new(), |growth| format!("{growth:.2}"));
+        let ratio = ours / theirs;
+        println!("| {name} | {call} | {ours:.0} | {theirs:.0} | {ratio:.2} | {growth} |");
+    }
+}
+
+/// Prints the table of what is asked for.
+fn print_table(asked: &Asked) {
     println!("| net | call | library µs | Rust µs | ratio | growth from half |");
     println!("|---|---|---:|---:|---:|---:|");
-    print_net("roof of 3,900 rows", &roof(52), Some(&roof(26)));
-    let (_, bcsstk14) = files::read(&files::folder().join("bcsstk14.mtx"));
-    print_net("bcsstk14", &bcsstk14, None);
-    let (chain, half) = (nets::chain(4_096), nets::chain(2_048));
-    print_net("chain of 4,096", &chain, Some(&half));
-    let (unjoined, half) = (nets::unjoined(4_096), nets::unjoined(2_048));
-    print_net("4,096 unjoined rows", &unjoined, Some(&half));
+    for (name, title, make) in NETS {
+        if asked.has(name, &NETS.map(|(name, _, _)| name)) {
+            let (net, half) = make();
+            print_net(asked, title, &net, half.as_ref());
+        }
+    }
 }
 
 fn main() {
-    let thread = thread::Builder::new().stack_size(STACK).spawn(print_table);
-    let ended = thread.expect("a thread can be started").join();
+    let Some(asked) = Asked::new(std::env::args().skip(1).collect()) else {
+        eprintln!("usage: bench [NAME ..] ({})", Asked::names().join(", "));
+        std::process::exit(2);
+    };
+    let thread = thread::Builder::new().stack_size(STACK);
+    let ended = thread
+        .spawn(move || print_table(&asked))
+        .expect("a thread can be started")
+        .join();
     ended.expect("the table is printed");
 }
