@@ -41,6 +41,23 @@ fn bench() {
     }
 }
 
+/// A call and a net, in any order, are one line of the table.
+#[test]
+fn bench_alone() {
+    for arguments in [["ready", "chain"], ["chain", "ready"]] {
+        let output = Command::new(env!("CARGO_BIN_EXE_bench"))
+            .args(arguments)
+            .output();
+        let output = output.expect("the program can be run");
+        let table = String::from_utf8_lossy(&output.stdout);
+        let found = table
+            .lines()
+            .skip(2)
+            .map(|line| line.starts_with("| chain of 4,096 | ready |"));
+        assert_eq!(found.collect::<Vec<bool>>(), [true], "{table}");
+    }
+}
+
 #[test]
 fn stack() {
     for arguments in [&[][..], &["read"], &["reads", "2097152"], &["read", "x"]] {
