@@ -5,8 +5,8 @@
  * sums and forces 64 bits in two's complement. A list's length in numbers is its bytes divided by the number's width,
  * rounded down; a trailing part is neither read nor written.
  * Text and picks are read whole, and movements, sums and state have exactly the length needed: lend lengths there, not
- * capacities. Other lists may be longer than what is read or written; but a call decodes every list that it is lent to
- * its end, so exact lengths are the fastest.
+ * capacities. Other lists may be longer than what is read or written; but a call decodes what it is lent, up to the
+ * largest sizes below, so exact lengths are the fastest.
  *
  * Values are whole N/mm, at most 1,000,000,000 either side of 0; movements whole micrometres, at most 1,000,000 either
  * side of 0; forces then mN. A matrix is symmetric and held in full rows, each by ascending column.
