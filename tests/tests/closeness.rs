@@ -1,37 +1,15 @@
 //! What include/mazhoketh.h and the README say of p: how many workers the plans of the matrix files keep moving.
 
 use mazhoketh_tests::files;
-use mazhoketh_tests::oracle::leaves::Leaves;
+use mazhoketh_tests::oracle::leaves::leaves_of;
 use mazhoketh_tests::oracle::matrix::Matrix;
-use mazhoketh_tests::oracle::{planner, soundness, WORKERS};
+use mazhoketh_tests::oracle::prng::Prng;
+use mazhoketh_tests::oracle::{nets, planner, WORKERS};
 
-/// How many of 16 workers move at the same time, on average over a run in which each makes a move a tick unless it
-/// waits.
+/// How many of 16 workers move at the same time, on average over a run in which each moves unless it waits.
 fn moving(matrix: &Matrix, p: u32) -> f64 {
     let plan = planner::plan(matrix.rows(), WORKERS as u32, p);
-    let (groups, count) = (plan.flat(), plan.group_count());
-    let sound = soundness::check(matrix.rows(), &plan.order, &groups, count);
-    let leaves = Leaves::of(matrix.rows(), &sound.expect("the plan is sound"));
-    let mut finished: [Vec<(u32, u32)>; WORKERS] = Default::default(); // moves made, and when
-    for leaf in &leaves.leaves {
-        let last = finished[leaf.worker].last().map_or(0, |&(_, tick)| tick);
-        let made = |(worker, &awaited): (usize, &u32)| {
-            let ticks = finished[worker].iter();
-            ticks.copied().find(|&(moves, _)| moves >= awaited)
-        };
-        let awaited = leaf
-            .awaited
-            .iter()
-            .enumerate()
-            .filter(|(_, &moves)| moves > 0);
-        let awaited = awaited.filter_map(made).map(|(_, tick)| tick).max();
-        let start = awaited.unwrap_or(0).max(last);
-        let moves = leaf.moves_end - leaf.moves_before;
-        finished[leaf.worker].push((leaf.moves_end, start + moves));
-    }
-    let ends = finished.iter().filter_map(|ticks| ticks.last());
-    let end = ends.map(|&(_, tick)| tick).max().unwrap_or(0);
-    f64::from(leaves.moves.iter().sum::<u32>()) / f64::from(end)
+    leaves_of(matrix, &plan).efficiency() * WORKERS as f64
 }
 
 /// Its mean over all matrix files.
@@ -50,4 +28,26 @@ fn sixty_first() {
         assert!((0.95..1.05).contains(&ratio), "{p}: {ratio} times 60's");
     }
     assert!(mean_moving(99) < sixty / 2.0);
+}
+
+/// The moves of the longest chain are the ticks of a run in which everybody moves at once who does not wait.
+#[test]
+fn chains_are_runs() {
+    let mut rng = Prng::new(21);
+    for _ in 0..400 {
+        let matrix = nets::random_net(&mut rng, 60);
+        let (workers, p) = (1 + rng.below(16) as u32, 50 + rng.below(50) as u32);
+        let leaves = leaves_of(&matrix, &planner::plan(matrix.rows(), workers, p));
+        let mut made = [0; WORKERS];
+        let mut ticks = 0;
+        while made != leaves.moves {
+            let moves = |worker: usize| {
+                let next = leaves.next_leaf(worker, made[worker], 0);
+                next.is_some_and(|leaf| !leaves.leaves[leaf].waits(&made))
+            };
+            made = std::array::from_fn(|worker| made[worker] + u32::from(moves(worker)));
+            ticks += 1;
+        }
+        assert_eq!(leaves.longest_chain(), ticks, "{matrix:?} {workers} {p}");
+    }
 }
