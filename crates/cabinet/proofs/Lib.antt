@@ -1,9 +1,6 @@
-pub mod PlanChecks
 pub mod CutJobs
 pub mod RunCalls
 pub mod RunForces
 pub mod TakenFew
 pub mod RunPicks
 pub mod StateBytes
-pub mod StateBack
-pub mod ByteRuns

@@ -1,9 +1,10 @@
 -- The calls on a run with lists that are cut, and with a state that is decoded.
-use mathlib.Core.Path.{_≡_, refl, ap}
+use mathlib.Core.Path.{_≡_, refl, ap, _∙_}
 use mathlib.Core.Logic.{_≢_}
 use mathlib.Core.Bool.{Bool, true, false, cond}
 use mathlib.Core.List.{List, [], _∷_}
-use Prim.Native.Nat.{ℕ, _*_, _≤_}
+use Prim.Native.Nat.{ℕ, _*_, _≤_, min}
+use native.Mathlib.Nat.{min-comm}
 use native.Mathlib.Omega.{arith}
 use lib.Dec.{eqb, leb}
 use lib.IntN.{ℤ}
@@ -12,11 +13,10 @@ use lib.Seq.{take-all, length-take-le}
 use borrow.Author.Tests.{eqb-true, ne-eqb, leb-true, leb-false}
 use Rattle.base.specs.Refusals as no
 use Rattle.base.specs.Replies.{Check, inTurn}
-use Rattle.base.proofs.Booleans.{conj-at}
+use Rattle.base.proofs.Booleans.{conj-at, leb-min}
 use Rattle.base.proofs.Replies.{inTurn-same}
-use Rattle.matrix.specs.Limits.{maxRows, maxStarts, maxCells}
+use Rattle.matrix.specs.Limits.{maxRows, maxStarts}
 use Rattle.matrix.specs.Matrix.{Matrix, isMatrix, matrixCheck, areDisplacements, displacementCheck}
-use Rattle.matrix.specs.Checks.{matrixOf}
 use Rattle.matrix.proofs.Matrix.{matrix-facts}
 use Rattle.matrix.proofs.Cut.{cut, cut-matrix, cut-displacements, displacements-kept}
 use Rattle.plan.specs.Groups.{Plan, width, planOf}
@@ -25,14 +25,15 @@ use Rattle.plan.proofs.Cut.{cut-plan, plan-kept}
 use Rattle.words.specs.LittleEndian.{unsigned, signed}
 use Rattle.run.specs.Job.{Job, jobOf}
 use Rattle.run.specs.Machine.{State, isState}
-use Rattle.run.specs.Calls.{Call, Answer, refused, stateCheck, answer, after, jobChecks, answerLent, afterLent}
+use Rattle.run.specs.Calls.{Call, Answer, refused, answerOf, afterOf, stateCheck, answer, after, jobChecks, answerLent, afterLent, forcesLent}
+use Rattle.calls.specs.Performed.{asCall, Performed}
+use Rattle.calls.specs.declared.Call as asked
+use Rattle.calls.specs.declared.Call.the-variants.{Picks, ReadySet, ForceList}
 use Rattle.machine.specs.Record.{stateOf}
 use Rattle.machine.specs.declared.state.State as code
-use Rattle.lent.specs.Lists.{Loaded}
 use Rattle.cabinet.specs.Runs.{stateBytes, countBytes, stateIn, answerIn}
 use Rattle.cabinet.specs.Ran.{StateIs}
-use Rattle.lent.proofs.Loads.{loaded-matrix}
-use Rattle.cabinet.proofs.PlanChecks.{plan-of-cut}
+use Rattle.lent.proofs.Loads.{plan-of-cut}
 use Rattle.cabinet.proofs.CutJobs.{answer-same, after-same}
 
 -- ---- the lists of the job
@@ -74,26 +75,34 @@ module _ (m : Matrix) (x : List ℤ) (order groups : List ℕ) (count : ℕ) (c 
   unfolding answerLent
   lent-cut s = job-cut refused (λ j. answer j s c) (λ m ok x p. answer-same m ok x p s c) m x order groups count
 
-  in-cut : (state sums : List ℕ) → answerIn (cut m) (take maxStarts x) (take maxRows order) (take maxFields groups) count state sums c ≡ answerIn m x order groups count state sums c
-  unfolding answerIn
-  in-cut state sums = rw (lent-cut (stateIn state sums), job-cut refused (λ j. refused no.state 0) (λ m ok x p. refl) m x order groups count)
-
   -- .. and leave the same state
   left-cut : (s : State) → afterLent (cut m) (take maxStarts x) (take maxRows order) (take maxFields groups) count s c ≡ afterLent m x order groups count s c
   unfolding afterLent
   left-cut s = job-cut (λ number place. s) (λ j. after j s c) (λ m ok x p. after-same m ok x p s c) m x order groups count
 
--- the lists that a call decodes for the whole ones
-module _ (n : ℕ) {starts columns : List ℕ} {values x : List ℤ} {order groups s c : List ℕ} {v d : List ℤ} {o g : List ℕ} {i j k l p q : ℕ}
-    (ls : Loaded maxStarts starts s i) (lc : Loaded maxCells columns c j) (lv : Loaded maxCells values v k)
-    (ld : Loaded maxStarts x d l) (lo : Loaded maxRows order o p) (lg : Loaded maxFields groups g q) (count : ℕ) (call : Call) where
-  pub answer-loaded : (state sums : List ℕ)
-      → answerIn (matrixOf n (take i s) (take j c) (take k v)) (take l d) (take p o) (take q g) count state sums call ≡ answerIn (matrixOf n starts columns values) x order groups count state sums call
-  answer-loaded state sums = rw (loaded-matrix n ls lc lv, ld .is, lo .is, lg .is) (in-cut (matrixOf n starts columns values) x order groups count call state sums)
+-- room for forces that is cut to the rows of the longest matrix gives the same answer, and leaves the same state
+module _ (m : Matrix) (x : List ℤ) (order groups : List ℕ) (count : ℕ) (s : State) (room : ℕ) where
+  room-cut : (call : asked.Call) (ws : List ℕ) → answerLent m x order groups count s (asCall call ws (min room maxRows)) ≡ answerLent m x order groups count s (asCall call ws room)
+  unfolding answerLent answer answerOf jobChecks matrixCheck jobOf
+  room-cut Picks ws = refl
+  room-cut ReadySet ws = refl
+  room-cut ForceList ws = inTurn-same refused (matrixCheck m) _ _ _ _ (λ ok. rw (min-comm room maxRows, leb-min (m .n) maxRows room (matrix-facts m ok .few)))
 
-  pub after-loaded : (t : State)
-      → afterLent (matrixOf n (take i s) (take j c) (take k v)) (take l d) (take p o) (take q g) count t call ≡ afterLent (matrixOf n starts columns values) x order groups count t call
-  after-loaded t = rw (loaded-matrix n ls lc lv, ld .is, lo .is, lg .is) (left-cut (matrixOf n starts columns values) x order groups count call t)
+  left-room : (call : asked.Call) (ws : List ℕ) → afterLent m x order groups count s (asCall call ws (min room maxRows)) ≡ afterLent m x order groups count s (asCall call ws room)
+  unfolding afterLent after afterOf
+  left-room Picks ws = refl
+  left-room ReadySet ws = refl
+  left-room ForceList ws = refl
+
+-- a call on the lists that are decoded, and with the room that is lent on, is the call on the whole ones
+pub performed-whole : (m : Matrix) (x : List ℤ) (order groups : List ℕ) {count : ℕ} {d : Matrix} {y : List ℤ} {o g : List ℕ} → d ≡ cut m → y ≡ take maxStarts x → o ≡ take maxRows order → g ≡ take maxFields groups
+    → (call : asked.Call) (ws : List ℕ) {size : ℕ} (room : ℕ) → size ≡ min room maxRows → {s : State} {old : List ℤ} {a : Answer} {t : State} {new : List ℤ}
+    → Performed d y o g count s (asCall call ws size) old a t new → Performed m x order groups count s (asCall call ws room) old a t new
+performed-whole m x order groups {count} ed ey eo eg call ws room e {s} {old} h =
+    let k = rw (ed, ey, eo, eg, e) at h in
+    let c = asCall call ws (min room maxRows) in
+    let same = lent-cut m x order groups count c s ∙ room-cut m x order groups count s room call ws in
+    record { answers = k .answers ∙ same; leaves = k .leaves ∙ left-cut m x order groups count c s ∙ left-room m x order groups count s room call ws; forces = k .forces ∙ ap (λ (b : Answer). forcesLent b old) same }
 
 -- ---- the state
 

@@ -1,5 +1,5 @@
 -- A call on a run whose state and sums are decoded; and picks, which are stored.
-use mathlib.Core.Path.{_≡_, refl, sym, ap, _∙_, subst}
+use mathlib.Core.Path.{_≡_, refl, sym, ap, _∙_}
 use mathlib.Core.Logic.{_≢_, ⊎-elim}
 use mathlib.Core.Bool.{Bool, true, false, cond}
 use mathlib.Core.List.{List, [], _∷_, _++_}
@@ -23,7 +23,7 @@ use Rattle.matrix.proofs.Matrix.{matrix-facts}
 use Rattle.plan.specs.Sound.{maxWorkers}
 use Rattle.run.specs.Job.{Job, jobOf, Accepted}
 use Rattle.run.specs.Machine.{State, steps, over, original, isState, countsFine}
-use Rattle.run.specs.Calls.{Call, picks, readySet, forceList, Answer, picked, refused, placeOf, pickedOf, readyOf, forcesOf, answerOf, stateCheck, answer, jobChecks, answerLent, afterLent, forcesLent}
+use Rattle.run.specs.Calls.{Call, picks, readySet, forceList, Answer, picked, refused, placeOf, pickedOf, readyOf, forcesOf, answerOf, stateCheck, answer, jobChecks, answerLent, afterLent}
 use Rattle.machine.specs.Record.{stateOf}
 use Rattle.machine.specs.declared.state.State as code
 use Rattle.calls.specs.Performed.{asAnswer, Performed}
@@ -33,9 +33,8 @@ use Rattle.calls.specs.declared.Response.the-variants.{Picked, Ready, Forces, R
 use Rattle.calls.proofs.JobChecked.{job-given}
 use Rattle.words.specs.LittleEndian.{number, signedNumber, signed, signedBytes, stored}
 use Rattle.words.proofs.Blocks.{length-decoded}
-use Rattle.lent.specs.Lists.{Loaded}
 use Rattle.lent.specs.Word.{word}
-use Rattle.cabinet.specs.Runs.{stateBytes, countBytes, stateIn, answerIn, replyTo, bytesIn, leftBy, PicksAnswered}
+use Rattle.cabinet.specs.Runs.{stateBytes, countBytes, stateIn, answerIn, replyTo, forceBytes, bytesIn, leftBy, PicksAnswered}
 use Rattle.cabinet.specs.Ran.{StateIs, Taken, Ran, LowPlace, PicksFit}
 use Rattle.cabinet.proofs.RunCalls.{decoded, always-refused}
 use Rattle.cabinet.proofs.TakenFew.{taken-few}
@@ -147,39 +146,37 @@ module _ (m : Matrix) (x : List ℤ) (order groups : List ℕ) (count : ℕ) (c 
         low = picked-low m x order groups count (stateOf r zs) c told counts;
       }
 
--- a call in bytes
+-- a call in bytes, whose forces are stored
 pub ran : (m : Matrix) (x : List ℤ) (order groups : List ℕ) (count : ℕ) (c : Call) (state sums : List ℕ) (r : code.State) {zs : List ℤ}
     → (length state ≡ stateBytes → StateIs r state) → zs ≡ cond (eqb (length state) stateBytes) (take maxStarts (signed 8 sums)) []
-    → {old : List ℤ} {answer : Response} {after : code.State} {part : List ℤ} (rest : List ℤ) {forces : List ℤ} → length part ≡ length zs
-    → Performed m x order groups count (stateOf r zs) c old (asAnswer answer (take (m .n) forces)) (stateOf after part) forces
-    → Ran (m .n) (answerIn m x order groups count state sums c) (afterLent m x order groups count (stateIn state sums) c) state sums old answer after (part ++ rest) forces
-ran m x order groups count c state sums r is lent {old} rest long h = record {
-  answers = h .answers ∙ decoded m x order groups count c state sums r is lent;
-  lists = h .forces ∙ ap (λ (a : Answer). forcesLent a old) (decoded m x order groups count c state sums r is lent);
-  taken = λ k q p e. picks-taken m x order groups count c state sums r is lent e rest long (h .leaves);
-}
+    → {old : List ℤ} {answer : Response} (made : List ℤ) {after : code.State} {part : List ℤ} (rest : List ℤ) {forces : List ℤ} → length part ≡ length zs
+    → Performed m x order groups count (stateOf r zs) c old (asAnswer answer made) (stateOf after part) forces
+    → {bytes left : List ℕ} → left ≡ replies.lent (replyTo (asAnswer answer made)) (forceBytes (asAnswer answer made)) bytes
+    → Ran (m .n) (answerIn m x order groups count state sums c) (afterLent m x order groups count (stateIn state sums) c) state sums bytes answer after (part ++ rest) left
+ran m x order groups count c state sums r is lent made rest long h {bytes} f =
+    let told = h .answers ∙ decoded m x order groups count c state sums r is lent in
+    record {
+      made = made;
+      answers = told;
+      lists = f ∙ ap (λ (a : Answer). replies.lent (replyTo a) (forceBytes a) bytes) told;
+      taken = λ k q p e. picks-taken m x order groups count c state sums r is lent e rest long (h .leaves);
+    }
 
--- the sums that are lent on, of those that were loaded
-module _ (b : Bool) {size kept : ℕ} (e : kept ≡ cond b size 0) {list array : List ℤ} (l : Loaded maxStarts list array size) where
-  pub kept-few : kept ≤ length array
-  kept-few = omega (arith, go b e, l .short, l .long)
+-- the sums that are lent on: all that were loaded, or none
+module _ (b : Bool) (size : ℕ) {kept : ℕ} (e : kept ≡ cond b size 0) (array : List ℤ) where
+  pub kept-few : size ≤ length array → kept ≤ length array
+  kept-few l = go b e
     where
-      go : (t : Bool) → kept ≡ cond t size 0 → kept ≤ size
+      go : (t : Bool) → kept ≡ cond t size 0 → kept ≤ length array
       go true f = omega arith
       go false f = omega arith
 
-  pub kept-is : take kept array ≡ cond b (take maxStarts list) []
-  kept-is = go b e
+  pub kept-is : {list : List ℤ} → take size array ≡ list → take kept array ≡ cond b list []
+  kept-is {list} l = go b e
     where
-      go : (t : Bool) → kept ≡ cond t size 0 → take kept array ≡ cond t (take maxStarts list) []
-      go true f = rw f (l .is)
+      go : (t : Bool) → kept ≡ cond t size 0 → take kept array ≡ cond t list []
+      go true f = rw f l
       go false f = rw f
-
--- one call for another with the same answer that leaves the same state
-pub ran-same : {n : ℕ} {a b : Answer} {s t : State} {state sums : List ℕ} {old : List ℤ} {answer : Response} {after : code.State} {new forces : List ℤ} → a ≡ b → s ≡ t
-    → Ran n a s state sums old answer after new forces → Ran n b t state sums old answer after new forces
-ran-same {n} {a} {b} {s} {t} {state} {sums} {old} {answer} {after} {new} {forces} e f h =
-    subst (λ (c : Answer). Ran n c t state sums old answer after new forces) e (subst (λ (u : State). Ran n a u state sums old answer after new forces) f h)
 
 -- ---- what is stored
 
@@ -201,9 +198,9 @@ picks-kept (Refused q p) h zs new old = refl
 pub sums-stored : (zs : List ℤ) (bytes : List ℕ) {new : List ℕ} → length zs ≤ length bytes / 8 → new ≡ stored (signedBytes 8 (take (length bytes / 8) zs)) bytes → new ≡ stored (signedBytes 8 zs) bytes
 sums-stored zs bytes l e = e ∙ rw (take-all (length bytes / 8) zs l)
 
-module _ {n : ℕ} {a : Answer} {s : State} {state sums : List ℕ} {old : List ℤ} {answer : Response} {after : code.State} {new forces : List ℤ} (h : Ran n a s state sums old answer after new forces) where
+module _ {n : ℕ} {a : Answer} {s : State} {state sums old : List ℕ} {answer : Response} {after : code.State} {new : List ℤ} {left : List ℕ} (h : Ran n a s state sums old answer after new left) where
   picked-is : (k q p : ℕ) → answer ≡ Picked k q p → Taken n s p state sums after new
-  picked-is k q p e = h .taken k q p (sym (h .answers) ∙ ap (λ (r : Response). asAnswer r (take n forces)) e)
+  picked-is k q p e = h .taken k q p (sym (h .answers) ∙ ap (λ (r : Response). asAnswer r (h .made)) e)
 
   -- what is asked before
   pub ran-low : LowPlace answer
@@ -212,12 +209,16 @@ module _ {n : ℕ} {a : Answer} {s : State} {state sums : List ℕ} {old : List 
   pub ran-fits : PicksFit n answer new state sums
   ran-fits k q p e = let t = picked-is k q p e in (t .whole, t .inside, t .room)
 
+  -- what any call returns
+  pub ran-word : {w : ℕ} → ((zs : List ℤ) → w ≡ word (replyTo (asAnswer answer zs))) → w ≡ word (replyTo a)
+  ran-word f = f (h .made) ∙ ap (λ (b : Answer). word (replyTo b)) (h .answers)
+
   -- whatever stands for forces that picks do not have
-  pub left-is : (zs : List ℤ) (f : State → List ℕ) (bytes : List ℕ) → leftBy (asAnswer answer zs) (f (stateOf after (take n new))) bytes ≡ leftBy a (f s) bytes
+  left-is : (zs : List ℤ) (f : State → List ℕ) (bytes : List ℕ) → leftBy (asAnswer answer zs) (f (stateOf after (take n new))) bytes ≡ leftBy a (f s) bytes
   unfolding leftBy
   left-is zs f bytes = go answer refl ∙ ap (λ (b : Answer). leftBy b (f s) bytes) (h .answers)
     where
-      go : (r : Response) → answer ≡ r → leftBy (asAnswer r zs) (f (stateOf after (take n new))) bytes ≡ leftBy (asAnswer r (take n forces)) (f s) bytes
+      go : (r : Response) → answer ≡ r → leftBy (asAnswer r zs) (f (stateOf after (take n new))) bytes ≡ leftBy (asAnswer r (h .made)) (f s) bytes
       go (Picked k q p) e = ap (λ (u : State). stored (f u) bytes) (picked-is k q p e .left)
       go (Ready b k) e = refl
       go Forces e = refl
@@ -227,8 +228,4 @@ module _ {n : ℕ} {a : Answer} {s : State} {state sums : List ℕ} {old : List 
   pub picks-answered : {w : ℕ} → ((zs : List ℤ) → w ≡ word (replyTo (asAnswer answer zs))) → (zs : List ℤ) {newState newSums : List ℕ}
       → newState ≡ leftBy (asAnswer answer zs) (bytesIn (stateOf after (take n new))) state → newSums ≡ leftBy (asAnswer answer zs) (signedBytes 8 (take n new)) sums
       → PicksAnswered a s state sums w newState newSums
-  picks-answered f zs g i = record {
-    returns = f (take n forces) ∙ ap (λ (b : Answer). word (replyTo b)) (h .answers);
-    state-left = g ∙ left-is zs bytesIn state;
-    sums-left = i ∙ left-is zs (λ (u : State). signedBytes 8 (u .sums)) sums;
-  }
+  picks-answered f zs g i = record { returns = ran-word f; state-left = g ∙ left-is zs bytesIn state; sums-left = i ∙ left-is zs (λ (u : State). signedBytes 8 (u .sums)) sums }

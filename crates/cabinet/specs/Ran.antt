@@ -4,15 +4,16 @@ use mathlib.Core.List.{List}
 use Prim.Native.Nat.{ℕ, _/_, _^_, _≤_, _<_}
 use lib.IntN.{ℤ}
 use lib.ListN.{length, take, drop}
+use Rattle.base.specs.Replies.{lent}
 use Rattle.run.specs.Machine.{State}
-use Rattle.run.specs.Calls.{Answer, picked, forcesLent}
+use Rattle.run.specs.Calls.{Answer, picked}
 use Rattle.machine.specs.Record.{stateOf}
 use Rattle.machine.specs.declared.state.State as code
 use Rattle.calls.specs.Performed.{asAnswer}
 use Rattle.calls.specs.declared.Response.{Response}
 use Rattle.calls.specs.declared.Response.the-variants.{Picked, Forces}
 use Rattle.words.specs.LittleEndian.{unsigned, signed}
-use Rattle.cabinet.specs.Runs.{stateBytes, countBytes}
+use Rattle.cabinet.specs.Runs.{stateBytes, countBytes, replyTo, forceBytes}
 
 -- the record that 192 bytes stand for
 pub record StateIs (r : code.State) (bytes : List ℕ) : Type 0 where
@@ -27,10 +28,11 @@ pub record Taken (n : ℕ) (s : State) (place : ℕ) (state sums : List ℕ) (af
   pub room : n ≤ length sums / 8
   pub low : place < 2 ^ 32
 
--- a call with the answer a, that leaves state s if that is of picks: the code's answer, and what stands in its lists
-pub record Ran (n : ℕ) (a : Answer) (s : State) (state sums : List ℕ) (old : List ℤ) (answer : Response) (after : code.State) (new forces : List ℤ) : Type 0 where
-  pub answers : asAnswer answer (take n forces) ≡ a
-  pub lists : forces ≡ forcesLent a old
+-- a call with the answer a, that leaves state s if that is of picks: the code's answer, with the forces that it may have, and what stands in the lists
+pub record Ran (n : ℕ) (a : Answer) (s : State) (state sums old : List ℕ) (answer : Response) (after : code.State) (new : List ℤ) (left : List ℕ) : Type 0 where
+  pub made : List ℤ
+  pub answers : asAnswer answer made ≡ a
+  pub lists : left ≡ lent (replyTo a) (forceBytes a) old
   pub taken : (k q p : ℕ) → a ≡ picked k q p → Taken n s p state sums after new
 
 -- the place of picks' ending fits a word's low half

@@ -1,15 +1,13 @@
 // A call on a run whose lists stand in bytes.
 use crate::state::STATE_BYTES;
 use crate::state::load_state;
+use crate::stored::store_forces;
+use base::numbers::least;
 use calls::Call;
 use calls::Done;
 use calls::perform;
-use lent::lists::load_columns;
-use lent::lists::load_displacements;
-use lent::lists::load_groups;
-use lent::lists::load_order;
-use lent::lists::load_starts;
-use lent::lists::load_values;
+use lent::lists::load_signed;
+use lent::lists::load_unsigned;
 use matrix::limits::MAX_CELLS;
 use matrix::limits::MAX_ROWS;
 use matrix::limits::MAX_STARTS;
@@ -17,9 +15,9 @@ use plan::fields::MAX_FIELDS;
 use words::load::load_i64;
 ghost use mathlib.Core.Path.{_≡_};
 ghost use mathlib.Core.Bool.{cond};
+ghost use Prim.Native.Nat.{_/_};
 ghost use lib.Dec.{eqb};
 ghost use lib.ListN.{length};
-ghost use Rattle.matrix.specs.Checks.{matrixOf};
 ghost use Rattle.matrix.specs.Limits.{maxStarts};
 ghost use Rattle.run.specs.Calls.{afterLent};
 ghost use Rattle.calls.specs.Performed.{asCall};
@@ -35,51 +33,7 @@ fn lent_sums(state: &[u8], size: usize) -> usize
     if state.len() == STATE_BYTES { size } else { 0 }
 }
 
-// State and sums are decoded, the sums into `new`, where the call leaves them.
-fn perform_of(
-    n: u32,
-    starts: &[u32],
-    columns: &[u32],
-    values: &[i32],
-    displacements: &[i32],
-    order: &[u32],
-    groups: &[u32],
-    count: u32,
-    state: &[u8],
-    sums: &[u8],
-    new: &mut [i64],
-    schedule: &[u8],
-    forces: &mut [i64],
-    call: Call,
-) -> Done
-    requires { ⌜ length (now new) ≡ maxStarts ⌝ }
-    ensures { λ r. ⌜ Ran n
-        (answerIn (matrixOf n (now (starts .entry)) (now (columns .entry)) (now (values .entry))) (now (displacements .entry)) (now (order .entry)) (now (groups .entry)) count
-        (now (state .entry)) (now (sums .entry)) (asCall call (now (schedule .entry)) (length (now (forces .entry)))))
-        (afterLent (matrixOf n (now (starts .entry)) (now (columns .entry)) (now (values .entry))) (now (displacements .entry)) (now (order .entry)) (now (groups .entry)) count
-        (stateIn (now (state .entry)) (now (sums .entry))) (asCall call (now (schedule .entry)) (length (now (forces .entry)))))
-        (now (state .entry)) (now (sums .entry)) (now (forces .entry)) (r .answer) (r .state) (now (new .exit)) (now (forces .exit)) ⌝ }
-{
-    let size = load_i64(sums, new);
-    let kept = lent_sums(state, size);
-    perform(
-        n,
-        starts,
-        columns,
-        values,
-        displacements,
-        order,
-        groups,
-        count,
-        load_state(state),
-        &mut new[..kept],
-        schedule,
-        forces,
-        call,
-    )
-}
-
-// The lists of the job are decoded, as far as any job can reach.
+// The lists are decoded, as far as any job can reach; the sums into `new`, where the call leaves them. Forces are stored.
 pub fn perform_in(
     n: u32,
     row_starts: &[u8],
@@ -89,47 +43,47 @@ pub fn perform_in(
     order: &[u8],
     groups: &[u8],
     group_count: u32,
+    schedule: &[u8],
+    forces: &mut [u8],
     state: &[u8],
     sums: &[u8],
     new: &mut [i64],
-    schedule: &[u8],
-    forces: &mut [i64],
     call: Call,
 ) -> Done
     requires { ⌜ length (now new) ≡ maxStarts ⌝ }
     ensures { λ r. ⌜ Ran n
         (answerIn (matrixIn n (now («row_starts» .entry)) (now (columns .entry)) (now (values .entry))) (signed 4 (now (movements .entry))) (unsigned 4 (now (order .entry))) (unsigned 4 (now (groups .entry))) «group_count»
-        (now (state .entry)) (now (sums .entry)) (asCall call (now (schedule .entry)) (length (now (forces .entry)))))
+        (now (state .entry)) (now (sums .entry)) (asCall call (now (schedule .entry)) (length (now (forces .entry)) / 8)))
         (afterLent (matrixIn n (now («row_starts» .entry)) (now (columns .entry)) (now (values .entry))) (signed 4 (now (movements .entry))) (unsigned 4 (now (order .entry))) (unsigned 4 (now (groups .entry))) «group_count»
-        (stateIn (now (state .entry)) (now (sums .entry))) (asCall call (now (schedule .entry)) (length (now (forces .entry)))))
+        (stateIn (now (state .entry)) (now (sums .entry))) (asCall call (now (schedule .entry)) (length (now (forces .entry)) / 8)))
         (now (state .entry)) (now (sums .entry)) (now (forces .entry)) (r .answer) (r .state) (now (new .exit)) (now (forces .exit)) ⌝ }
 {
     let mut starts = [0u32; MAX_STARTS];
-    let starts_len = load_starts(row_starts, &mut starts);
     let mut column_list = [0u32; MAX_CELLS];
-    let columns_len = load_columns(columns, &mut column_list);
     let mut value_list = [0i32; MAX_CELLS];
-    let values_len = load_values(values, &mut value_list);
     let mut displacements = [0i32; MAX_STARTS];
-    let displacements_len = load_displacements(movements, &mut displacements);
     let mut order_list = [0u32; MAX_ROWS];
-    let order_len = load_order(order, &mut order_list);
     let mut group_list = [0u32; MAX_FIELDS];
-    let groups_len = load_groups(groups, &mut group_list);
-    perform_of(
+    let size = load_i64(sums, new);
+    let kept = lent_sums(state, size);
+    let mut made = [0i64; MAX_ROWS];
+    let room = least(forces.len() / 8, MAX_ROWS);
+    let done = perform(
         n,
-        &starts[..starts_len],
-        &column_list[..columns_len],
-        &value_list[..values_len],
-        &displacements[..displacements_len],
-        &order_list[..order_len],
-        &group_list[..groups_len],
+        load_unsigned(row_starts, &mut starts),
+        load_unsigned(columns, &mut column_list),
+        load_signed(values, &mut value_list),
+        load_signed(movements, &mut displacements),
+        load_unsigned(order, &mut order_list),
+        load_unsigned(groups, &mut group_list),
         group_count,
-        state,
-        sums,
-        new,
+        load_state(state),
+        &mut new[..kept],
         schedule,
-        forces,
+        &mut made[..room],
         call,
-    )
+    );
+    let answer = done.answer;
+    store_forces(n, answer, &made, forces);
+    done
 }

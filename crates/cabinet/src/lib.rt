@@ -1,5 +1,4 @@
-// The calls on byte lists that check a plan and run it: numbers are decoded into arrays, the proved call is made, its answer is stored.
-pub mod check;
+// The calls on a run in byte lists: numbers are decoded into arrays, the proved call is made, its answer is stored.
 pub mod in_bytes;
 mod state;
 pub mod stored;

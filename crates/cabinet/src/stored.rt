@@ -34,7 +34,7 @@ pub fn store_picks(
 }
 
 // The forces of an answer that has them. Any other answer leaves the list.
-pub fn store_forces(n: u32, answer: Response, made: &[i64], forces: &mut [u8])
+pub(crate) fn store_forces(n: u32, answer: Response, made: &[i64], forces: &mut [u8])
     requires { ⌜ ForcesFit n answer (now made) (now forces) ⌝ }
     ensures { λ _. ⌜ now (forces .exit) ≡ lent (replyTo (asAnswer answer (take n (now (made .entry))))) (forceBytes (asAnswer answer (take n (now (made .entry))))) (now (forces .entry)) ⌝ }
 {

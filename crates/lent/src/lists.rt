@@ -1,47 +1,22 @@
-// Lists decoded from bytes into arrays that are long enough for every matrix and plan.
-use matrix::limits::MAX_CELLS;
-use matrix::limits::MAX_ROWS;
-use matrix::limits::MAX_STARTS;
-use plan::fields::MAX_FIELDS;
+// The list that bytes stand for, decoded into an array: as far as the array reaches.
 use words::load::load_i32;
 use words::load::load_u32;
+ghost use mathlib.Core.Path.{_≡_};
+ghost use lib.ListN.{length, take};
 ghost use Rattle.words.specs.LittleEndian.{unsigned, signed};
-ghost use Rattle.lent.specs.Lists.{Loaded};
-ghost use Rattle.matrix.specs.Limits.{maxCells, maxRows, maxStarts};
-ghost use Rattle.plan.specs.Sound.{maxFields};
 
-pub fn load_starts(bytes: &[u8], array: &mut [u32; MAX_STARTS]) -> usize
-    ensures { λ r. ⌜ Loaded maxStarts (unsigned 4 (now (bytes .entry))) (now (array .exit)) r ⌝ }
+pub fn load_unsigned<'a>(bytes: &[u8], array: &'a mut [u32]) -> &'a [u32]
+    ensures { λ r. ⌜ now r ≡ take (length (now (array .entry))) (unsigned 4 (now (bytes .entry))) ⌝ }
 {
-    load_u32(bytes, &mut array[..])
+    let count = load_u32(bytes, array);
+    let all = &array[..];
+    &all[..count]
 }
 
-pub fn load_columns(bytes: &[u8], array: &mut [u32; MAX_CELLS]) -> usize
-    ensures { λ r. ⌜ Loaded maxCells (unsigned 4 (now (bytes .entry))) (now (array .exit)) r ⌝ }
+pub fn load_signed<'a>(bytes: &[u8], array: &'a mut [i32]) -> &'a [i32]
+    ensures { λ r. ⌜ now r ≡ take (length (now (array .entry))) (signed 4 (now (bytes .entry))) ⌝ }
 {
-    load_u32(bytes, &mut array[..])
-}
-
-pub fn load_values(bytes: &[u8], array: &mut [i32; MAX_CELLS]) -> usize
-    ensures { λ r. ⌜ Loaded maxCells (signed 4 (now (bytes .entry))) (now (array .exit)) r ⌝ }
-{
-    load_i32(bytes, &mut array[..])
-}
-
-pub fn load_displacements(bytes: &[u8], array: &mut [i32; MAX_STARTS]) -> usize
-    ensures { λ r. ⌜ Loaded maxStarts (signed 4 (now (bytes .entry))) (now (array .exit)) r ⌝ }
-{
-    load_i32(bytes, &mut array[..])
-}
-
-pub fn load_order(bytes: &[u8], array: &mut [u32; MAX_ROWS]) -> usize
-    ensures { λ r. ⌜ Loaded maxRows (unsigned 4 (now (bytes .entry))) (now (array .exit)) r ⌝ }
-{
-    load_u32(bytes, &mut array[..])
-}
-
-pub fn load_groups(bytes: &[u8], array: &mut [u32; MAX_FIELDS]) -> usize
-    ensures { λ r. ⌜ Loaded maxFields (unsigned 4 (now (bytes .entry))) (now (array .exit)) r ⌝ }
-{
-    load_u32(bytes, &mut array[..])
+    let count = load_i32(bytes, array);
+    let all = &array[..];
+    &all[..count]
 }

@@ -44,7 +44,7 @@ module _ (m : Matrix) (x : List ℤ) (room : ℕ) where
   matrix-cut-reply = rw (cut-matrix m)
 
   -- cut, the lists of the matrix give the same reply and forces
-  pub matrix-cut : {old : List ℕ} {w : ℕ} {new : List ℕ} → Answered (productReply (cut m) x room) (signedBytes 8 (product (cut m) x)) old w new
+  matrix-cut : {old : List ℕ} {w : ℕ} {new : List ℕ} → Answered (productReply (cut m) x room) (signedBytes 8 (product (cut m) x)) old w new
       → Answered (productReply m x room) (signedBytes 8 (product m x)) old w new
   matrix-cut t = answered-same matrix-cut-reply (λ k e. ap (signedBytes 8) (cut-product m (product-made k e .matrix) x)) t
 
@@ -56,23 +56,19 @@ module _ (m : Matrix) (x : List ℤ) (room : ℕ) where
   uncut k e = let made = product-made k e in displacements-kept (m .n) x (matrix-facts m (made .matrix) .few) (made .moved)
 
   -- .. and so do the displacements
-  pub displacements-cut : {old : List ℕ} {w : ℕ} {new : List ℕ} → Answered (productReply m (take maxStarts x) room) (signedBytes 8 (product m (take maxStarts x))) old w new
+  displacements-cut : {old : List ℕ} {w : ℕ} {new : List ℕ} → Answered (productReply m (take maxStarts x) room) (signedBytes 8 (product m (take maxStarts x))) old w new
       → Answered (productReply m x room) (signedBytes 8 (product m x)) old w new
   displacements-cut t = answered-same displacements-cut-reply (λ k e. ap (λ (l : List ℤ). signedBytes 8 (product m l)) (uncut k e)) t
 
   -- .. and the room for forces
-  pub room-cut : (size : ℕ) → maxRows ≤ size → productReply m x (min room size) ≡ productReply m x room
+  room-cut : (size : ℕ) → maxRows ≤ size → productReply m x (min room size) ≡ productReply m x room
   unfolding productReply matrixCheck
   room-cut size enough = inTurn-same refused (matrixCheck m) _ _ _ _ (λ h. rw (min-comm room size, leb-min (m .n) size room (omega (arith, matrix-facts m h .few))))
 
 -- the lists that a call decodes, cut, for the whole ones
-pub decoded-matrix : (m : Matrix) (x : List ℤ) (room : ℕ) {c : Matrix} {old : List ℕ} {w : ℕ} {new : List ℕ} → c ≡ cut m
-    → Answered (productReply c x room) (signedBytes 8 (product c x)) old w new → Answered (productReply m x room) (signedBytes 8 (product m x)) old w new
-decoded-matrix m x room e t = matrix-cut m x room (rw e at t)
-
-pub decoded-displacements : (m : Matrix) (X : List ℤ) (room : ℕ) {x : List ℤ} {old : List ℕ} {w : ℕ} {new : List ℕ} → x ≡ take maxStarts X
-    → Answered (productReply m x room) (signedBytes 8 (product m x)) old w new → Answered (productReply m X room) (signedBytes 8 (product m X)) old w new
-decoded-displacements m X room e t = displacements-cut m X room (rw e at t)
+pub decoded-lists : (m : Matrix) (x : List ℤ) (room : ℕ) {c : Matrix} {y : List ℤ} {old : List ℕ} {w : ℕ} {new : List ℕ} → c ≡ cut m → y ≡ take maxStarts x
+    → Answered (productReply c y room) (signedBytes 8 (product c y)) old w new → Answered (productReply m x room) (signedBytes 8 (product m x)) old w new
+decoded-lists m x room ec ey t = displacements-cut m x room (matrix-cut m (take maxStarts x) room (rw (ec, ey) at t))
 
 -- ---- sums beside the lent list
 

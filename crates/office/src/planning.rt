@@ -1,18 +1,25 @@
 // plan: the plan of a matrix.
 use base::Answer;
 use base::numbers::least;
+use lent::lists::load_signed;
+use lent::lists::load_unsigned;
 use lent::word::word_of;
+use matrix::limits::MAX_CELLS;
+use matrix::limits::MAX_ROWS;
+use matrix::limits::MAX_STARTS;
+use plan::fields::MAX_FIELDS;
 use plan::fields::WIDTH;
 use words::store::store_u32;
 ghost use Prim.Native.Nat.{_≤_};
 ghost use lib.ListN.{length};
 ghost use Rattle.matrix.specs.Checks.{matrixOf};
-ghost use Rattle.office.specs.Lent.{PlanAnswered};
-ghost use Rattle.plan.specs.Sound.{maxFields};
 ghost use Rattle.matrix.specs.Limits.{maxRows};
+ghost use Rattle.plan.specs.Sound.{maxFields};
+ghost use Rattle.lent.specs.Bytes.{matrixIn};
+ghost use Rattle.office.specs.Lent.{PlanAnswered};
 
 // The matrix is decoded. The plan is made in order and groups, as far as the lent lists have room; then it is stored.
-pub fn plan_in(
+fn plan_of(
     n: u32,
     starts: &[u32],
     columns: &[u32],
@@ -47,4 +54,35 @@ pub fn plan_in(
     store_u32(&order[..rows], order_bytes);
     store_u32(&groups[..fields], group_bytes);
     word_of(answer)
+}
+
+pub fn plan_in(
+    n: u32,
+    row_starts: &[u8],
+    columns: &[u8],
+    values: &[u8],
+    workers: u32,
+    p: u32,
+    order: &mut [u8],
+    groups: &mut [u8],
+) -> u64
+    ensures { λ r. ⌜ PlanAnswered (matrixIn n (now («row_starts» .entry)) (now (columns .entry)) (now (values .entry))) workers p (now (order .entry)) (now (groups .entry)) r (now (order .exit)) (now (groups .exit)) ⌝ }
+{
+    let mut starts = [0u32; MAX_STARTS];
+    let mut column_list = [0u32; MAX_CELLS];
+    let mut value_list = [0i32; MAX_CELLS];
+    let mut order_list = [0u32; MAX_ROWS];
+    let mut group_list = [0u32; MAX_FIELDS];
+    plan_of(
+        n,
+        load_unsigned(row_starts, &mut starts),
+        load_unsigned(columns, &mut column_list),
+        load_signed(values, &mut value_list),
+        workers,
+        p,
+        &mut order_list,
+        &mut group_list,
+        order,
+        groups,
+    )
 }

@@ -1,21 +1,24 @@
 // product: the forces of a matrix and movements.
 use base::Answer;
 use base::numbers::least;
-use lent::lists::load_displacements;
+use lent::lists::load_signed;
+use lent::lists::load_unsigned;
 use lent::word::word_of;
+use matrix::limits::MAX_CELLS;
 use matrix::limits::MAX_ROWS;
 use matrix::limits::MAX_STARTS;
 use words::store::store_i64;
 ghost use Prim.Native.Nat.{_/_, _≤_};
 ghost use lib.ListN.{length};
 ghost use Rattle.matrix.specs.Checks.{matrixOf};
+ghost use Rattle.matrix.specs.Limits.{maxRows};
 ghost use Rattle.matrix.specs.Product.{product, productReply};
 ghost use Rattle.words.specs.LittleEndian.{signed, signedBytes};
+ghost use Rattle.lent.specs.Bytes.{matrixIn};
 ghost use Rattle.lent.specs.Word.{Answered};
-ghost use Rattle.matrix.specs.Limits.{maxRows};
 
 // The matrix and the displacements are decoded; the product is made in sums.
-fn product_in(
+fn product_of(
     n: u32,
     starts: &[u32],
     columns: &[u32],
@@ -37,26 +40,27 @@ fn product_in(
     word_of(answer)
 }
 
-// The matrix is decoded.
-pub fn product_of(
+pub fn product_in(
     n: u32,
-    starts: &[u32],
-    columns: &[u32],
-    values: &[i32],
+    row_starts: &[u8],
+    columns: &[u8],
+    values: &[u8],
     movements: &[u8],
     forces: &mut [u8],
 ) -> u64
-    ensures { λ r. ⌜ Answered (productReply (matrixOf n (now (starts .entry)) (now (columns .entry)) (now (values .entry))) (signed 4 (now (movements .entry))) (length (now (forces .entry)) / 8)) (signedBytes 8 (product (matrixOf n (now (starts .entry)) (now (columns .entry)) (now (values .entry))) (signed 4 (now (movements .entry))))) (now (forces .entry)) r (now (forces .exit)) ⌝ }
+    ensures { λ r. ⌜ Answered (productReply (matrixIn n (now («row_starts» .entry)) (now (columns .entry)) (now (values .entry))) (signed 4 (now (movements .entry))) (length (now (forces .entry)) / 8)) (signedBytes 8 (product (matrixIn n (now («row_starts» .entry)) (now (columns .entry)) (now (values .entry))) (signed 4 (now (movements .entry))))) (now (forces .entry)) r (now (forces .exit)) ⌝ }
 {
+    let mut starts = [0u32; MAX_STARTS];
+    let mut column_list = [0u32; MAX_CELLS];
+    let mut value_list = [0i32; MAX_CELLS];
     let mut displacements = [0i32; MAX_STARTS];
-    let count = load_displacements(movements, &mut displacements);
     let mut sums = [0i64; MAX_ROWS];
-    product_in(
+    product_of(
         n,
-        starts,
-        columns,
-        values,
-        &displacements[..count],
+        load_unsigned(row_starts, &mut starts),
+        load_unsigned(columns, &mut column_list),
+        load_signed(values, &mut value_list),
+        load_signed(movements, &mut displacements),
         &mut sums,
         forces,
     )

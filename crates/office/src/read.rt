@@ -3,17 +3,18 @@ use base::Answer;
 use base::numbers::least;
 use base::numbers::wide;
 use lent::word::word_of;
+use matrix::limits::MAX_CELLS;
+use matrix::limits::MAX_STARTS;
 use reader::read;
 use words::store::store_i32;
 use words::store::store_u32;
-ghost use mathlib.Core.Path.{_≡_};
 ghost use Prim.Native.Nat.{_≤_};
 ghost use lib.ListN.{length};
 ghost use Rattle.office.specs.Lent.{ReadAnswered};
 ghost use Rattle.matrix.specs.Limits.{maxCells, maxStarts};
 
 // The matrix is made in starts, columns and values, as far as the lent lists have room; then it is stored.
-pub fn read_in(
+fn read_of(
     text: &[u8],
     starts: &mut [u32],
     columns: &mut [u32],
@@ -43,4 +44,21 @@ pub fn read_in(
     store_u32(&columns[..entries], column_bytes);
     store_i32(&values[..entries], value_bytes);
     word_of(answer)
+}
+
+pub fn read_in(text: &[u8], row_starts: &mut [u8], columns: &mut [u8], values: &mut [u8]) -> u64
+    ensures { λ r. ⌜ ReadAnswered (now (text .entry)) (now («row_starts» .entry)) (now (columns .entry)) (now (values .entry)) r (now («row_starts» .exit)) (now (columns .exit)) (now (values .exit)) ⌝ }
+{
+    let mut starts = [0u32; MAX_STARTS];
+    let mut column_list = [0u32; MAX_CELLS];
+    let mut value_list = [0i32; MAX_CELLS];
+    read_of(
+        text,
+        &mut starts,
+        &mut column_list,
+        &mut value_list,
+        row_starts,
+        columns,
+        values,
+    )
 }

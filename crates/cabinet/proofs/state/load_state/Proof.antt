@@ -10,35 +10,11 @@ use Rattle.lent.proofs.Loads.{loaded-whole}
 use Rattle.cabinet.proofs.state.load_state.Statement.{statement}
 use Rattle.cabinet.proofs.state.load_state.Tie as tie
 
-fresh-requires : tie.Need-fresh-requires
-fresh-requires c κs = search needs
-
 returns : tie.Need-returns
 returns c whole = absurd (c .before .if1 .taken whole)
 
 slice-aggregate-load-u32 : tie.Need-slice-aggregate-load-u32
 slice-aggregate-load-u32 c = sym (length-take-le 64 (c .before .before .before .args .bytes .now) (omega (arith, c .before .if1 .left)))
-
-slice-aggregate-load-u32-2 : tie.Need-slice-aggregate-load-u32-2
-slice-aggregate-load-u32-2 c = search needs
-
-load-u32-requires : tie.Need-load-u32-requires
-load-u32-requires c κs = search needs
-
-sub-load-i64 : tie.Need-sub-load-i64
-sub-load-i64 c = search needs
-
-part-load-i64-start : tie.Need-part-load-i64-start
-part-load-i64-start c = search needs
-
-part-load-i64-end : tie.Need-part-load-i64-end
-part-load-i64-end c = search needs
-
-slice-aggregate-load-i64 : tie.Need-slice-aggregate-load-i64
-slice-aggregate-load-i64 c = search needs
-
-load-i64-requires : tie.Need-load-i64-requires
-load-i64-requires c κs = search needs
 
 returns-2 : tie.Need-returns-2
 returns-2 c whole =
@@ -48,22 +24,12 @@ returns-2 c whole =
     let held : take (length bytes - 64) (drop 64 bytes) ≡ drop 64 bytes = take-all (length bytes - 64) (drop 64 bytes) (rw length-drop (omega arith)) in
     let numbers : length (take (length bytes - 64) (drop 64 bytes)) ≡ 128 = rw (held, length-drop) (omega (arith, whole)) in
     record {
-      made = loaded-whole number 4 (take 64 bytes) _ (rw counts) (load .load-u32 .ensures .0) (load .load-u32 .ensures .1);
-      held = loaded-whole (signedNumber 8) 8 (take (length bytes - 64) (drop 64 bytes)) _ (rw numbers) (c .before .load-i64 .ensures .0) (c .before .load-i64 .ensures .1) ∙ ap (signed 8) held;
+      made = loaded-whole number 4 (take 64 bytes) _ (load .load-u32 .ensures .0) (load .load-u32 .ensures .1) (rw counts);
+      held = loaded-whole (signedNumber 8) 8 (take (length bytes - 64) (drop 64 bytes)) _ (c .before .load-i64 .ensures .0) (c .before .load-i64 .ensures .1) (rw numbers) ∙ ap (signed 8) held;
     }
 
 pub load-state-spec : {M : Type 1} → statement M
 load-state-spec =
     tie.close
-    (tie.spec
-    fresh-requires
-    returns
-    slice-aggregate-load-u32
-    slice-aggregate-load-u32-2
-    load-u32-requires
-    sub-load-i64
-    part-load-i64-start
-    part-load-i64-end
-    slice-aggregate-load-i64
-    load-i64-requires
-    returns-2)
+    (tie.spec (search needs) returns slice-aggregate-load-u32 (search needs) (search needs) (search needs)
+    (search needs) (search needs) (search needs) (search needs) returns-2)

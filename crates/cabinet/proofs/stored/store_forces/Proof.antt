@@ -8,9 +8,6 @@ use Rattle.cabinet.proofs.RunForces.{forces-kept, forces-stored}
 use Rattle.cabinet.proofs.stored.store_forces.Statement.{statement}
 use Rattle.cabinet.proofs.stored.store_forces.Tie as tie
 
-enum-told : tie.Need-enum-told
-enum-told c = search needs
-
 returns : tie.Need-returns
 returns c = forces-kept (c .before .before .args .answer) (c .match .keys2) _ _
 
@@ -19,12 +16,6 @@ slice-aggregate-store-i64 c =
     let t = c .before in
     let s = t .before .before .before in
     sym (length-take-le (s .args .n) (s .args .made .now) (s .pre (t .enum-told .given .1) .0))
-
-store-i64-requires : tie.Need-store-i64-requires
-store-i64-requires c κs = search needs
-
-same-length : tie.Need-same-length
-same-length c = search needs
 
 returns-2 : tie.Need-returns-2
 returns-2 c =
@@ -37,4 +28,4 @@ returns-2 c =
 pub store-forces-spec : {M : Type 1} → statement M
 store-forces-spec =
     tie.close
-    (tie.spec enum-told returns slice-aggregate-store-i64 store-i64-requires same-length returns-2)
+    (tie.spec (search needs) returns slice-aggregate-store-i64 (search needs) (search needs) returns-2)

@@ -9,9 +9,6 @@ use Rattle.cabinet.proofs.RunPicks.{picks-kept, sums-stored}
 use Rattle.cabinet.proofs.stored.store_picks.Statement.{statement}
 use Rattle.cabinet.proofs.stored.store_picks.Tie as tie
 
-enum-told : tie.Need-enum-told
-enum-told c = search needs
-
 returns : tie.Need-returns
 returns c =
     let a = c .before .before .before .args in
@@ -28,15 +25,6 @@ slice-aggregate-store-i64 c =
     let s = t .before .before .before .before in
     sym (length-take-le (s .args .n) (s .args .new .now) (s .pre _ _ _ (t .enum-told .given .1) .1))
 
-store-i64-requires : tie.Need-store-i64-requires
-store-i64-requires c κs = search needs
-
-same-length : tie.Need-same-length
-same-length c = search needs
-
-same-length-2 : tie.Need-same-length-2
-same-length-2 c = search needs
-
 returns-2 : tie.Need-returns-2
 unfolding leftBy
 returns-2 c =
@@ -52,12 +40,5 @@ returns-2 c =
 pub store-picks-spec : {M : Type 1} → statement M
 store-picks-spec =
     tie.close
-    (tie.spec
-    enum-told
-    returns
-    store-state-requires
-    slice-aggregate-store-i64
-    store-i64-requires
-    same-length
-    same-length-2
-    returns-2)
+    (tie.spec (search needs) returns store-state-requires slice-aggregate-store-i64 (search needs) (search needs)
+    (search needs) returns-2)

@@ -11,14 +11,8 @@ returns : tie.Need-returns
 unfolding word replyTo
 returns c = rw (c .if1 .taken)
 
-cast-t5 : tie.Need-cast-t5
-cast-t5 c = search needs
-
-word-of-requires : tie.Need-word-of-requires
-word-of-requires c κs = search needs
-
 returns-2 : tie.Need-returns-2
 returns-2 c = let a = c .before .before .args in c .word-of .ensures ∙ ap word (sym (ended (a .taken) (a .number) (a .place) (c .before .if1 .left)))
 
 pub word-of-end-spec : {M : Type 1} → statement M
-word-of-end-spec = tie.close (tie.spec returns cast-t5 word-of-requires returns-2)
+word-of-end-spec = tie.close (tie.spec returns (search needs) (search needs) returns-2)

@@ -1,152 +1,23 @@
--- `plan_in` meets its contract, by the reply.
+-- `plan_in` meets its contract: the lists are decoded as far as they can reach.
 use borrow.Author.Needs.{needs}
-use mathlib.Core.Path.{_≡_, sym, ap, _∙_}
-use mathlib.Core.List.{_++_}
-use native.Mathlib.Omega.{arith}
-use lib.ListN.{length, take, drop}
-use lib.Seq.{length-take-le}
-use Rattle.base.specs.Answers.{replyOf}
-use Rattle.base.specs.declared.Answer.{Answer}
-use Rattle.matrix.specs.Matrix.{Matrix}
-use Rattle.matrix.specs.Checks.{matrixOf}
-use Rattle.race.specs.Planner.{planReply}
-use Rattle.lent.specs.Word.{word}
-use Rattle.office.specs.Lent.{planIn}
-use Rattle.lent.proofs.Answers.{begins-fits, begins-size}
-use Rattle.office.proofs.Plans.{same-reply, Held, plan-refused, plan-held, plan-stored}
+use Rattle.lent.specs.Bytes.{matrixIn}
+use Rattle.lent.proofs.Loads.{loaded-matrix}
+use Rattle.office.proofs.Plans.{decoded-matrix}
 use Rattle.office.proofs.planning.plan_in.Statement.{statement}
 use Rattle.office.proofs.planning.plan_in.Tie as tie
 
-abbrev given : tie.Start → Matrix
-given c = let a = c .args in matrixOf (a .n) (a .starts .now) (a .columns .now) (a .values .now)
-
--- the reply of lists that are lent on cut
-same : (w : tie.After-plan) → let s = w .before .before .before .before .before .before .before .before .before .before .before in let a = s .args in planReply (given s) (a .workers) (a .p) (length (take (w .before .before .before .before .least .result) (a .order .now))) (length (take (w .before .before .before .least2 .result) (a .groups .now))) ≡ planIn (given s) (a .workers) (a .p) (a .order-bytes .now) (a .group-bytes .now)
-same w =
-    let s = w .before .before .before .before .before .before .before .before .before .before .before in
-    let a = s .args in
-    same-reply (given s) (a .workers) (a .p) (a .order .now) (a .groups .now) (a .order-bytes .now) (a .group-bytes .now) (s .pre) (w .before .before .before .before .least .ensures) (w .before .before .before .least2 .ensures)
-
--- the two lists after an accepted call
-held : (c : tie.After-answer) → let w = c .before .before .before .before .before .before in let l = w .plan .last .1 .1 .1 .1 .1 .1 in let s = w .before .before .before .before .before .before .before .before .before .before .before in let a = s .args in Held (given s) (a .workers) (a .p) (a .order-bytes .now) (a .group-bytes .now) (c .answer .given .0 .0) (l .0 ++ drop (w .before .before .before .before .least .result) (a .order .now)) (l .1 .0 ++ drop (w .before .before .before .least2 .result) (a .groups .now))
-held c =
-    let w = c .before .before .before .before .before .before in
-    let e = w .plan .ensures in
-    plan-held (same w) (ap replyOf (sym (c .answer .given .1)) ∙ e .0) _ _ (e .1 .0) (e .1 .1) _ _
-
-least-requires : tie.Need-least-requires
-least-requires c κs = search needs
-
-least-requires-2 : tie.Need-least-requires-2
-least-requires-2 c κs = search needs
-
-slice-relend-prefix-plan : tie.Need-slice-relend-prefix-plan
-slice-relend-prefix-plan c = search needs
-
-slice-aggregate-plan : tie.Need-slice-aggregate-plan
-slice-aggregate-plan c = sym (length-take-le (c .before .before .least .result) (c .before .before .before .before .before .before .before .before .before .args .order .now) (omega arith))
-
-slice-relend-prefix-plan-2 : tie.Need-slice-relend-prefix-plan-2
-slice-relend-prefix-plan-2 c = search needs
-
-slice-aggregate-plan-2 : tie.Need-slice-aggregate-plan-2
-slice-aggregate-plan-2 c = sym (length-take-le (c .before .before .least2 .result) (c .before .before .before .before .before .before .before .before .before .before .args .groups .now) (omega arith))
-
-plan-requires : tie.Need-plan-requires
-plan-requires c κs = search needs
-
-enum-known-answer : tie.Need-enum-known-answer
-enum-known-answer c = search needs
-
-enum-told : tie.Need-enum-told
-enum-told c = search needs
-
-word-of-requires : tie.Need-word-of-requires
-word-of-requires c κs = search needs
-
-same-length : tie.Need-same-length
-same-length c = search needs
-
-same-length-2 : tie.Need-same-length-2
-same-length-2 c = search needs
-
 returns : tie.Need-returns
 returns c =
-    let told = c .before in
-    let made = told .before .before .before .before .before .before in
-    let said = sym (told .enum-told .given .1) in
-    plan-refused (same made) (ap replyOf said ∙ made .plan .ensures .0) (c .word-of .ensures ∙ ap (λ (r : Answer). word (replyOf r)) (sym said))
-
-cast-fields : tie.Need-cast-fields
-cast-fields c = search needs
-
-mul-fields : tie.Need-mul-fields
-mul-fields c = search needs
-
-slice-reshare-prefix-store-u32 : tie.Need-slice-reshare-prefix-store-u32
-slice-reshare-prefix-store-u32 c = begins-fits (held (c .before) .order-begins)
-
-slice-aggregate-store-u32 : tie.Need-slice-aggregate-store-u32
-slice-aggregate-store-u32 c = begins-size (held (c .before .before) .order-begins)
-
-store-u32-requires : tie.Need-store-u32-requires
-store-u32-requires c κs = search needs
-
-slice-reshare-prefix-store-u32-2 : tie.Need-slice-reshare-prefix-store-u32-2
-slice-reshare-prefix-store-u32-2 c = begins-fits (held (c .before .before .before .before .before .before) .groups-begin)
-
-slice-aggregate-store-u32-2 : tie.Need-slice-aggregate-store-u32-2
-slice-aggregate-store-u32-2 c = begins-size (held (c .before .before .before .before .before .before .before) .groups-begin)
-
-store-u32-requires-2 : tie.Need-store-u32-requires-2
-store-u32-requires-2 c κs = search needs
-
-word-of-requires-2 : tie.Need-word-of-requires-2
-word-of-requires-2 c κs = search needs
-
-same-length-3 : tie.Need-same-length-3
-same-length-3 c = search needs
-
-same-length-4 : tie.Need-same-length-4
-same-length-4 c = search needs
-
-same-length-5 : tie.Need-same-length-5
-same-length-5 c = search needs
-
-same-length-6 : tie.Need-same-length-6
-same-length-6 c = search needs
-
-returns-2 : tie.Need-returns-2
-returns-2 c = plan-stored (held (c .before .before .before .before .before .before .before .before .before .before .before .before)) (c .word-of2 .ensures) (c .before .before .before .before .before .before .before .before .store-u32 .ensures) (c .before .before .before .store-u322 .ensures)
+    let made = c .before .before .before .before .before .before .before .before .before in
+    let values = made .before .before .before .before .before in
+    let columns = values .before .before in
+    let starts = columns .before .before in
+    let a = starts .before .before .before .before .before .before .before .args in
+    let m = matrixIn (a .n) (a .row-starts .now) (a .columns .now) (a .values .now) in
+    decoded-matrix m (a .workers) (a .p) (loaded-matrix m (starts .load-unsigned .ensures) (columns .load-unsigned2 .ensures) (values .load-signed .ensures)) (made .plan-of .ensures)
 
 pub plan-in-spec : {M : Type 1} → statement M
 plan-in-spec =
     tie.close
-    (tie.spec
-    least-requires
-    least-requires-2
-    slice-relend-prefix-plan
-    slice-aggregate-plan
-    slice-relend-prefix-plan-2
-    slice-aggregate-plan-2
-    plan-requires
-    enum-known-answer
-    enum-told
-    word-of-requires
-    same-length
-    same-length-2
-    returns
-    cast-fields
-    mul-fields
-    slice-reshare-prefix-store-u32
-    slice-aggregate-store-u32
-    store-u32-requires
-    slice-reshare-prefix-store-u32-2
-    slice-aggregate-store-u32-2
-    store-u32-requires-2
-    word-of-requires-2
-    same-length-3
-    same-length-4
-    same-length-5
-    same-length-6
-    returns-2)
+    (tie.spec (search needs) (search needs) (search needs) (search needs) (search needs) (search needs)
+    (search needs) (search needs) (search needs) (search needs) (search needs) returns)

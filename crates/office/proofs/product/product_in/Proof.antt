@@ -1,120 +1,25 @@
--- `product_in` meets its contract, by the reply.
+-- `product_in` meets its contract: the lists are decoded as far as they can reach.
 use borrow.Author.Needs.{needs}
-use mathlib.Core.Path.{_≡_, sym, ap, _∙_}
-use Prim.Native.Nat.{_/_, min}
-use native.Mathlib.Omega.{arith}
-use lib.ListN.{length, take}
-use lib.Seq.{length-take-le}
-use Rattle.base.specs.Replies.{accepted}
-use Rattle.base.specs.Answers.{replyOf}
-use Rattle.base.specs.declared.Answer.{Answer}
-use Rattle.matrix.specs.Matrix.{Matrix}
-use Rattle.matrix.specs.Checks.{matrixOf}
-use Rattle.matrix.specs.Product.{productReply}
-use Rattle.lent.specs.Word.{word}
-use Rattle.lent.proofs.Answers.{begins-fits, begins-size}
-use Rattle.office.proofs.Products.{product-refused, product-begins, product-stored}
+use Rattle.words.specs.LittleEndian.{signed}
+use Rattle.lent.specs.Bytes.{matrixIn}
+use Rattle.lent.proofs.Loads.{loaded-matrix}
+use Rattle.office.proofs.Products.{decoded-lists}
 use Rattle.office.proofs.product.product_in.Statement.{statement}
 use Rattle.office.proofs.product.product_in.Tie as tie
 
-abbrev given : tie.Start → Matrix
-given c = let a = c .args in matrixOf (a .n) (a .starts .now) (a .columns .now) (a .values .now)
-
--- how many sums are lent on
-least : (c : tie.After-least) → let a = c .before .before .before .before .args in length (take (c .least .result) (a .sums .now)) ≡ min (length (a .forces .now) / 8) (length (a .sums .now))
-least c = let a = c .before .before .before .before .args in length-take-le (c .least .result) (a .sums .now) (omega arith) ∙ c .least .ensures
-
--- the call was accepted
-told : (c : tie.After-enum-told) → let p = c .before .before .before in let s = p .before .before .before .before .before .before in accepted (c .enum-told .given .0 .0) ≡ productReply (given s) (s .args .displacements .now) (length (take (p .before .before .least .result) (s .args .sums .now)))
-told c = ap replyOf (sym (c .enum-told .given .1)) ∙ c .before .before .before .product .ensures .0
-
-least-requires : tie.Need-least-requires
-least-requires c κs = search needs
-
-slice-relend-prefix-product : tie.Need-slice-relend-prefix-product
-slice-relend-prefix-product c = search needs
-
-slice-aggregate-product : tie.Need-slice-aggregate-product
-slice-aggregate-product c = sym (length-take-le (c .before .least .result) (c .before .before .before .before .before .args .sums .now) (omega arith))
-
-product-requires : tie.Need-product-requires
-product-requires c κs = search needs
-
-enum-told : tie.Need-enum-told
-enum-told c = search needs
-
-enum-told-2 : tie.Need-enum-told-2
-enum-told-2 c = search needs
-
-word-of-requires : tie.Need-word-of-requires
-word-of-requires c κs = search needs
-
-same-length : tie.Need-same-length
-same-length c = search needs
-
 returns : tie.Need-returns
 returns c =
-    let p = c .before .before .before .before in
-    let l = p .before .before in
-    let s = l .before .before .before .before in
-    let said = sym (c .before .enum-told2 .given .1) in
-    product-refused (given s) (s .args .displacements .now) (length (s .args .sums .now)) _ (s .pre) (s .args .forces .now) (least l) _ _
-    (ap replyOf said ∙ p .product .ensures .0) (c .word-of .ensures ∙ ap (λ (r : Answer). word (replyOf r)) (sym said))
-
-slice-reshare-prefix-store-i64 : tie.Need-slice-reshare-prefix-store-i64
-slice-reshare-prefix-store-i64 c =
-    let p = c .before .before .before in
-    let l = p .before .before in
-    let s = l .before .before .before .before in
-    begins-fits (product-begins (given s) (s .args .displacements .now) (length (s .args .sums .now)) _ (s .pre) (s .args .forces .now) (least l) _ (told c) _ _ _ (p .product .ensures .1))
-
-slice-aggregate-store-i64 : tie.Need-slice-aggregate-store-i64
-slice-aggregate-store-i64 c =
-    let t = c .before in
-    let p = t .before .before .before in
-    let l = p .before .before in
-    let s = l .before .before .before .before in
-    begins-size (product-begins (given s) (s .args .displacements .now) (length (s .args .sums .now)) _ (s .pre) (s .args .forces .now) (least l) _ (told t) _ _ _ (p .product .ensures .1))
-
-store-i64-requires : tie.Need-store-i64-requires
-store-i64-requires c κs = search needs
-
-word-of-requires-2 : tie.Need-word-of-requires-2
-word-of-requires-2 c κs = search needs
-
-same-length-2 : tie.Need-same-length-2
-same-length-2 c = search needs
-
-same-length-3 : tie.Need-same-length-3
-same-length-3 c = search needs
-
-returns-2 : tie.Need-returns-2
-returns-2 c =
-    let stores = c .before .before .before in
-    let t = stores .before .before .before in
-    let p = t .before .before .before in
-    let l = p .before .before in
-    let s = l .before .before .before .before in
-    product-stored (given s) (s .args .displacements .now) (length (s .args .sums .now)) _ (s .pre) (s .args .forces .now) (least l) _ (told t) _ _ _ (p .product .ensures .1)
-    (c .word-of2 .ensures ∙ ap (λ (r : Answer). word (replyOf r)) (t .enum-told .given .1)) (stores .store-i64 .ensures)
+    let made = c .before .before .before .before .before .before .before in
+    let displacements = made .before .before .before in
+    let values = made .before .before .before .before .before in
+    let columns = values .before .before in
+    let starts = columns .before .before in
+    let a = starts .before .before .before .before .before .before .before .args in
+    let m = matrixIn (a .n) (a .row-starts .now) (a .columns .now) (a .values .now) in
+    decoded-lists m (signed 4 (a .movements .now)) _ (loaded-matrix m (starts .load-unsigned .ensures) (columns .load-unsigned2 .ensures) (values .load-signed .ensures)) (displacements .load-signed2 .ensures) (made .product-of .ensures)
 
 pub product-in-spec : {M : Type 1} → statement M
 product-in-spec =
     tie.close
-    (tie.spec
-    least-requires
-    slice-relend-prefix-product
-    slice-aggregate-product
-    product-requires
-    enum-told
-    enum-told-2
-    word-of-requires
-    same-length
-    returns
-    slice-reshare-prefix-store-i64
-    slice-aggregate-store-i64
-    store-i64-requires
-    word-of-requires-2
-    same-length-2
-    same-length-3
-    returns-2)
+    (tie.spec (search needs) (search needs) (search needs) (search needs) (search needs) (search needs)
+    (search needs) (search needs) (search needs) (search needs) (search needs) returns)

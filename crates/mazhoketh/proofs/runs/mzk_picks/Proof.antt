@@ -1,0 +1,22 @@
+-- `mzk_picks` meets its contract: the call, then what it leaves is stored.
+use borrow.Author.Needs.{needs}
+use Rattle.cabinet.proofs.RunPicks.{ran-low, ran-fits, picks-answered}
+use Rattle.mazhoketh.proofs.runs.mzk_picks.Statement.{statement}
+use Rattle.mazhoketh.proofs.runs.mzk_picks.Tie as tie
+
+store-picks-requires : tie.Need-store-picks-requires
+store-picks-requires c κs = ran-fits (c .before .before .before .before .before .before .perform-in .ensures)
+
+word-of-requires : tie.Need-word-of-requires
+word-of-requires c κs = ran-low (c .before .before .before .before .before .before .before .before .before .before .before .perform-in .ensures)
+
+returns : tie.Need-returns
+returns c =
+    let stored = c .before .before .before .before .before in
+    picks-answered (stored .before .before .before .before .before .before .before .perform-in .ensures) (c .word-of .ensures) _ (stored .store-picks .ensures .0) (stored .store-picks .ensures .1)
+
+pub mzk-picks-spec : {M : Type 1} → statement M
+mzk-picks-spec =
+    tie.close
+    (tie.spec (search needs) (search needs) (search needs) (search needs) store-picks-requires word-of-requires
+    (search needs) (search needs) returns)

@@ -1,0 +1,16 @@
+-- `mzk_ready` meets its contract: the call, then its word.
+use borrow.Author.Needs.{needs}
+use Rattle.cabinet.proofs.RunPicks.{ran-low, ran-word}
+use Rattle.mazhoketh.proofs.runs.mzk_ready.Statement.{statement}
+use Rattle.mazhoketh.proofs.runs.mzk_ready.Tie as tie
+
+word-of-requires : tie.Need-word-of-requires
+word-of-requires c κs = ran-low (c .before .before .perform-in .ensures)
+
+returns : tie.Need-returns
+returns c = ran-word (c .before .before .before .perform-in .ensures) (c .word-of .ensures)
+
+pub mzk-ready-spec : {M : Type 1} → statement M
+mzk-ready-spec =
+    tie.close
+    (tie.spec (search needs) (search needs) (search needs) (search needs) word-of-requires returns)

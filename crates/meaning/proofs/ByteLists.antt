@@ -1,0 +1,197 @@
+-- What the calls leave in bytes stands for what they made.
+use mathlib.Core.Path.{_≡_, refl, ap, _∙_}
+use mathlib.Core.Bool.{Bool, true, false}
+use mathlib.Core.List.{List, [], _∷_, _++_}
+use Prim.Native.Nat.{ℕ, suc, _+_, _/_, _≤_}
+use native.Mathlib.Numerals.{add-one}
+use native.Mathlib.Omega.{arith}
+use lib.Dec.{ltb}
+use lib.IntN.{ℤ}
+use lib.ListN.{length, getD, take, drop, length-append, length-map}
+use lib.Seq.{take-take, getD-take, drop-append-seam}
+use borrow.Author.Tests.{ltb-true, le-leb}
+use Rattle.base.specs.Replies.{Reply, accepted, Check, roomFor, inTurn, lent}
+use Rattle.base.proofs.Each.{Each}
+use Rattle.base.proofs.Replies.{accepted-all, lent-accepted}
+use Rattle.matrix.specs.Matrix.{Matrix, partOf, columnsOf, valuesOf, isMatrix}
+use Rattle.matrix.specs.Checks.{matrixOf}
+use Rattle.matrix.proofs.Matrix.{matrix-facts}
+use Rattle.matrix.proofs.Checks.{matrix-tidy}
+use Rattle.matrix.proofs.Rows.{row-in}
+use Rattle.market.specs.Parse.{Triplet, Parsed, matrixText, rejected, parse}
+use Rattle.market.specs.FullRows.{full, rowsOf, rowStarts, columns, values, ofTriplets, readMatrix, readReply}
+use Rattle.market.specs.AcceptedText.{leftIn, SameRows}
+use Rattle.market.specs.Text.{written, writeReply}
+use Rattle.market.specs.WriteThenRead.{size, exactly}
+use Rattle.market.proofs.Accepted.{Accepted, parse-accepted}
+use Rattle.market.proofs.AcceptedText.{accepted-text}
+use Rattle.market.proofs.FullCount.{length-rows}
+use Rattle.market.proofs.FullRows.{length-row-starts}
+use Rattle.market.proofs.WriteThenRead.{write-then-read}
+use Rattle.plan.specs.Groups.{flat}
+use Rattle.plan.specs.Sound.{isSound, checkReply}
+use Rattle.plan.proofs.FlatRecords.{length-flat}
+use Rattle.race.specs.Planner.{plan, areParameters, planReply}
+use Rattle.race.specs.PlannedSound.{orderLeft, groupsLeft}
+use Rattle.race.proofs.PlannedSound.{planned-sound}
+use Rattle.race.proofs.Rooms.{Planned, planned}
+use Rattle.words.specs.LittleEndian.{unsigned, signed, unsignedBytes, signedBytes}
+use Rattle.words.proofs.Codes.{Holds, HoldsSigned, unsigned-append, signed-append}
+use Rattle.lent.specs.Word.{word, Answered}
+use Rattle.office.specs.Lent.{readIn, planIn, PlanAnswered}
+use Rattle.meaning.specs.ByteLists.{Reading, leftBy, RoomFor, ByteLists}
+use Rattle.meaning.proofs.SmallMatrix.{starts-small, columns-small, values-small}
+use Rattle.meaning.proofs.SmallPlan.{Small, sound-small}
+
+-- a list that is lent to itself
+lent-again : {A : Type 0} (k : ℕ) (xs rest : List A) → lent (accepted k) xs (xs ++ rest) ≡ xs ++ rest
+unfolding lent
+lent-again k xs rest = ap (λ (l : List _). xs ++ l) (drop-append-seam xs rest)
+
+-- the numbers that an accepted call left in bytes, and past them what these stand for
+module _ {r : Reply} {k : ℕ} (ok : r ≡ accepted k) where
+  unsigned-left : (vs : List ℕ) → Each (Holds 4) vs → (old : List ℕ) {new : List ℕ} → new ≡ lent r (unsignedBytes 4 vs) old → unsigned 4 new ≡ vs ++ unsigned 4 (drop (length (unsignedBytes 4 vs)) old)
+  unsigned-left vs h old e = ap (unsigned 4) (e ∙ lent-accepted (unsignedBytes 4 vs) old r k ok) ∙ unsigned-append 4 (omega arith) vs h (drop (length (unsignedBytes 4 vs)) old)
+
+  signed-left : (zs : List ℤ) → Each (HoldsSigned 4) zs → (old : List ℕ) {new : List ℕ} → new ≡ lent r (signedBytes 4 zs) old → signed 4 new ≡ zs ++ signed 4 (drop (length (signedBytes 4 zs)) old)
+  signed-left zs h old e = ap (signed 4) (e ∙ lent-accepted (signedBytes 4 zs) old r k ok) ∙ signed-append 4 (omega arith) zs h (drop (length (signedBytes 4 zs)) old)
+
+-- ---- reading
+
+module _ (text : List ℕ) (n : ℕ) (es : List Triplet) (t : parse text ≡ matrixText n es) where
+  accepted-es : Accepted n es
+  accepted-es = parse-accepted text n es t
+
+  -- lists that begin with the text's are lists that its call leaves
+  module _ (a b : List ℕ) (c : List ℤ) where
+    abbrev ss : List ℕ
+    ss = rowStarts n es ++ a
+
+    abbrev cs : List ℕ
+    cs = columns n es ++ b
+
+    abbrev vs : List ℤ
+    vs = values n es ++ c
+
+    room : readReply (parse text) (length ss) (length cs) (length vs) ≡ accepted n
+    unfolding readReply inTurn columns values
+    room =
+        let size : length (rowsOf n es) ≡ length (full es) = length-rows n es (accepted-es .inner) in
+        rw (
+          t,
+          le-leb (n + 1) (length ss) (omega (arith, length-append (rowStarts n es) a, length-row-starts n es)),
+          le-leb (length (full es)) (length cs) (omega (arith, length-append (columns n es) b, length-map (rowsOf n es) (λ (e : Triplet). e .column))),
+          le-leb (length (full es)) (length vs) (omega (arith, length-append (values n es) c, length-map (rowsOf n es) (λ (e : Triplet). e .value))),
+        )
+
+    left-is : leftIn n (parse text) ss cs vs ≡ matrixOf n ss cs vs
+    unfolding leftIn readMatrix ofTriplets
+    left-is = rw (room, t, lent-again n (rowStarts n es) a, lent-again n (columns n es) b, lent-again n (values n es) c)
+
+    same-rows : SameRows (matrixOf n ss cs vs) (readMatrix (parse text))
+    unfolding readMatrix
+    same-rows = rw (t, ← left-is) (accepted-text .left text n n es ss cs vs t room)
+
+module _ (text : List ℕ) (r : Reading text) (k : ℕ) (ok : readIn text (r .starts) (r .columns) (r .values) ≡ accepted k) where
+  -- an accepted text, and what its call left
+  text-left : (n : ℕ) (es : List Triplet) → parse text ≡ matrixText n es → n ≡ k → SameRows (leftBy k r) (readMatrix (parse text))
+  unfolding leftBy
+  text-left n es t e =
+      let a = accepted-es text n es t in
+      let is : readMatrix (parse text) ≡ ofTriplets n es = unfold readMatrix in ap readMatrix t in
+      let reply = readIn text (r .starts) (r .columns) (r .values) in
+      let starts = unsigned-left ok (rowStarts n es) (starts-small a) (r .starts) (r .answered .starts-left ∙ ap (λ (m : Matrix). lent reply (unsignedBytes 4 (m .starts)) (r .starts)) is ∙ unfold ofTriplets in refl) in
+      let columns = unsigned-left ok (columns n es) (columns-small a) (r .columns) (r .answered .columns-left ∙ ap (λ (m : Matrix). lent reply (unsignedBytes 4 (m .columns)) (r .columns)) is ∙ unfold ofTriplets in refl) in
+      let values = signed-left ok (values n es) (values-small a) (r .values) (r .answered .values-left ∙ ap (λ (m : Matrix). lent reply (signedBytes 4 (m .values)) (r .values)) is ∙ unfold ofTriplets in refl) in
+      rw (← e, starts, columns, values) (same-rows text n es t _ _ _)
+
+  matrix-count : (n : ℕ) (es : List Triplet) (a b c : ℕ) → readReply (matrixText n es) a b c ≡ accepted k → n ≡ k
+  unfolding readReply inTurn
+  matrix-count n es a b c e =
+      let checks : List Check = roomFor (n + 1) a ∷ roomFor (length (full es)) b ∷ roomFor (length (full es)) c ∷ [] in
+      let all = accepted-all checks (accepted n) k e in
+      let told : accepted n ≡ accepted k = rw (all .0, all .1 .0, all .1 .1 .0) at e in
+      cc
+
+  reads : SameRows (leftBy k r) (readMatrix (parse text))
+  reads = go (parse text) refl ok
+    where
+      go : (t : Parsed) → parse text ≡ t → readReply t (length (r .starts) / 4) (length (r .columns) / 4) (length (r .values) / 4) ≡ accepted k → SameRows (leftBy k r) (readMatrix (parse text))
+      go (matrixText n es) t e = text-left n es t (matrix-count n es _ _ _ e)
+      go (rejected q p) t e = unfold readReply in absurd (let z : _≡_ {A = ℕ} 0 1 = cc in omega arith)
+
+-- ---- writing, then reading
+
+module _ (m : Matrix) (ok : isMatrix m ≡ true) where
+  -- without what stands past them its lists have the same rows
+  part-exactly : {A : Type 0} (xs : List A) (i : ℕ) → partOf (exactly m) (take (size m) xs) i ≡ partOf m xs i
+  unfolding partOf exactly size
+  part-exactly xs i = go (ltb i (m .n)) refl
+    where
+      go : (b : Bool) → ltb i (m .n) ≡ b → partOf (exactly m) (take (size m) xs) i ≡ partOf m xs i
+      go true e =
+          let l = ltb-true i (m .n) e in
+          let end : getD (m .starts) (suc i) 0 ≤ getD (m .starts) (m .n) 0 = rw (add-one i) at (row-in m (matrix-tidy m ok .shape) i l (getD (m .starts) (m .n) 0) (omega arith) .ends) in
+          rw (
+            e,
+            getD-take (suc (m .n)) (m .starts) i 0 (omega arith),
+            getD-take (suc (m .n)) (m .starts) (suc i) 0 (omega arith),
+            take-take (getD (m .starts) (suc i) 0) (getD (m .starts) (m .n) 0) xs end,
+          )
+      go false e = rw e
+
+  rows-of : {other : Matrix} → SameRows other (exactly m) → SameRows other m
+  unfolding columnsOf valuesOf exactly
+  rows-of s = record { matrix = s .matrix; columns = λ i. s .columns i ∙ part-exactly (m .columns) i; values = λ i. s .values i ∙ part-exactly (m .values) i }
+
+  reads-back : (text : List ℕ) → text ≡ written m → (r : Reading text) → RoomFor m r → (r .returned ≡ m .n) × SameRows (leftBy (m .n) r) m
+  unfolding word
+  reads-back text e r room =
+      let same = write-then-read .every m ok in
+      let taken : readIn text (r .starts) (r .columns) (r .values) ≡ accepted (m .n) = rw e (same .reads _ _ _ (room .starts) (room .columns) (room .values)) in
+      let back : readMatrix (parse text) ≡ exactly m = rw e (same .same) in
+      (r .answered .returns ∙ ap word taken, rows-of (rw back at (reads text r (m .n) taken)))
+
+  written-read : (old : List ℕ) (returned : ℕ) (new : List ℕ) → length (written m) ≤ length old → Answered (writeReply m (length old)) (written m) old returned new
+      → (r : Reading (take returned new)) → RoomFor m r → (r .returned ≡ m .n) × SameRows (leftBy (m .n) r) m
+  unfolding word
+  written-read old returned new room a =
+      let w = write-then-read .every m ok .writes old room in
+      let count : returned ≡ length (written m) = a .returns ∙ ap word (w .0) in
+      reads-back (take returned new) (rw (count, a .leaves) (w .1))
+
+-- ---- planning
+
+module _ (m : Matrix) (w p : ℕ) (order groups : List ℕ) (returned : ℕ) (newOrder newGroups : List ℕ) (a : PlanAnswered m w p order groups returned newOrder newGroups) (k : ℕ)
+    (ok : planIn m w p order groups ≡ accepted k) where
+  parameters : areParameters w p ≡ true
+  unfolding planReply
+  parameters = accepted-all _ _ k ok .1 .0
+
+  made : Planned m w p (length order / 4) (length groups / 4) k
+  made = planned m w p (length order / 4) (length groups / 4) k ok
+
+  small : Small (plan m w p .order) (plan m w p .groups)
+  unfolding isSound
+  small = sound-small _ (m .n) (plan m w p .order) (plan m w p .groups) (matrix-facts m (made .matrix) .few) (planned-sound .sound m w p (made .matrix) parameters)
+
+  -- the lists that the bytes stand for
+  abbrev rows : List ℕ
+  rows = unsigned 4 (drop (length (unsignedBytes 4 (plan m w p .order))) order)
+
+  abbrev numbers : List ℕ
+  numbers = unsigned 4 (drop (length (unsignedBytes 4 (flat (plan m w p .groups)))) groups)
+
+  planned-left : checkReply m (unsigned 4 newOrder) (unsigned 4 newGroups) k ≡ accepted 0
+  unfolding orderLeft groupsLeft
+  planned-left =
+      let O = plan m w p .order ++ rows in
+      let G = flat (plan m w p .groups) ++ numbers in
+      let count : k ≡ length (plan m w p .groups) = omega (arith, made .groups-size, length-flat (plan m w p .groups)) in
+      let left = planned-sound .left m w p O G (made .matrix) parameters (record { rows = omega (arith, length-append (plan m w p .order) rows, made .order-size); records = omega (arith, length-append (flat (plan m w p .groups)) numbers, length-flat (plan m w p .groups)) }) in
+      let passes = rw (left .accepts, lent-again (length (plan m w p .groups)) (plan m w p .order) rows, lent-again (length (plan m w p .groups)) (flat (plan m w p .groups)) numbers) at (left .passes) in
+      rw (unsigned-left ok (plan m w p .order) (small .rows) order (a .order-left), unsigned-left ok (flat (plan m w p .groups)) (small .numbers) groups (a .groups-left), count) passes
+
+-- the theorem
+pub byte-lists : ByteLists
+byte-lists = record { read = reads; written-read = written-read; planned = planned-left }

@@ -1,0 +1,7 @@
+pub mod StateBack
+pub mod ByteRuns
+pub mod EachIn
+pub mod SmallMatrix
+pub mod SmallPlan
+pub mod ByteLists
+pub mod Words

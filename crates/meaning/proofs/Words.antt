@@ -1,0 +1,283 @@
+-- The word of every call's reply tells it.
+use mathlib.Core.Path.{_≡_, refl, ap}
+use mathlib.Core.Bool.{Bool, true, false, _&&_, not, cond}
+use mathlib.Core.List.{List, [], _∷_, _++_}
+use Prim.Native.Nat.{ℕ, zero, suc, _+_, _-_, _^_, _≤_, _<_}
+use native.Mathlib.Nat.{pow-le-pow-right}
+use native.Mathlib.Omega.{arith}
+use lib.Dec.{eqb, ltb, leb}
+use lib.IntN.{ℤ, pos, negsuc}
+use lib.ListN.{length, take, drop, length-drop}
+use lib.Seq.{length-take-le}
+use borrow.Author.Tests.{eqb-true, ltb-false, leb-true}
+use Rattle.base.specs.Lists.{isEmpty, begins}
+use Rattle.base.specs.Integers.{within}
+use Rattle.base.specs.Refusals as no
+use Rattle.base.specs.Replies.{Reply, accepted, refused, Check, inTurn}
+use Rattle.base.proofs.Booleans.{and-right}
+use Rattle.matrix.specs.Limits.{maxRows, maxEntries, maxDisplacement, maxText}
+use Rattle.matrix.specs.Matrix.{Matrix, matrixCheck, firstPast, displacementCheck}
+use Rattle.matrix.specs.Product.{productReply}
+use Rattle.matrix.proofs.Matrix.{matrix-facts}
+use Rattle.market.specs.Bytes.{isEnd, percent, header}
+use Rattle.market.specs.Fields.{Line, line, broken, fields}
+use Rattle.market.specs.Parse.{Triplet, triplet, Parsed, matrixText, rejected, isEntry, isAmong, onLine, entries, sized, sizeLine, place, comments, body, parse}
+use Rattle.market.specs.FullRows.{full, readReply}
+use Rattle.market.specs.Text.{written, writeReply}
+use Rattle.market.proofs.Accepted.{parse-accepted}
+use Rattle.market.proofs.WriteThenRead.{write-then-read}
+use Rattle.plan.specs.Sound.{maxWorkers, planCheck, checkReply}
+use Rattle.race.specs.Planner.{plan, planReply}
+use Rattle.race.proofs.PlannedSound.{planned-sound}
+use Rattle.run.specs.Job.{Job, jobOf, Accepted}
+use Rattle.run.specs.Machine.{State, steps, workers, refusal, readyBelow, ready, over}
+use Rattle.run.specs.Calls.{Call, picks, readySet, forceList, Answer, placeOf, pickedOf, readyOf, forcesOf, answerOf, stateCheck, answer, jobChecks, answerLent}
+use Rattle.run.specs.Calls as calls
+use Rattle.run.specs.LentRuns.{passed}
+use Rattle.run.proofs.Accepted.{facts}
+use Rattle.run.proofs.LentRuns.{lent-runs}
+use Rattle.calls.proofs.ReadyBits.{bits-below}
+use Rattle.words.specs.LittleEndian.{number}
+use Rattle.words.proofs.Blocks.{length-decoded}
+use Rattle.lent.specs.Word.{word}
+use Rattle.cabinet.specs.Runs.{stateBytes, countBytes, stateIn, answerIn, replyTo}
+use Rattle.cabinet.proofs.TakenFew.{taken-few}
+use Rattle.meaning.specs.Words.{numberIn, placeIn, Told, Words}
+use Rattle.meaning.proofs.SmallMatrix.{full-few}
+
+-- ---- one reply
+
+told-accepted : (k : ℕ) → k < 2 ^ 32 → Told (accepted k)
+unfolding word numberIn placeIn
+told-accepted k l = record { high = omega arith; low = omega arith; some = λ q p e. absurd (let z : _≡_ {A = ℕ} 0 1 = cc in omega arith) }
+
+told-refused : (q p : ℕ) → 1 ≤ q → p < 2 ^ 32 → Told (refused q p)
+unfolding word numberIn placeIn
+told-refused q p h l = record { high = omega arith; low = omega arith; some = λ r s e. let f : q ≡ r = cc in omega arith }
+
+-- checks in turn: P holds of what the first refusal gives, or of the answer
+turn : {A : Type 0} (P : A → Type 0) (refuse : (number place : ℕ) → A) (c : Check) (cs : List Check) (a : A) → P (refuse (c .number) (c .place)) → (c .holds ≡ true → P (inTurn refuse cs a)) → P (inTurn refuse (c ∷ cs) a)
+unfolding inTurn
+turn P refuse c cs a fails passes = go (c .holds) passes
+  where
+    go : (b : Bool) → (b ≡ true → P (inTurn refuse cs a)) → P (cond b (inTurn refuse cs a) (refuse (c .number) (c .place)))
+    go true h = h refl
+    go false h = fails
+
+-- no check is left
+last : {A : Type 0} (P : A → Type 0) (refuse : (number place : ℕ) → A) (a : A) → P a → P (inTurn refuse [] a)
+unfolding inTurn
+last P refuse a h = h
+
+one : (r s : Reply) → Told r → Told s → word r ≡ word s → r ≡ s
+unfolding numberIn placeIn
+one (accepted a) (accepted b) x y e = ap accepted (omega (arith, x .low, y .low, e))
+one (accepted a) (refused q p) x y e = absurd (omega (arith, x .high, y .high, e, y .some q p refl))
+one (refused q p) (accepted b) x y e = absurd (omega (arith, x .high, y .high, e, x .some q p refl))
+one (refused q p) (refused r s) x y e = let f : q ≡ r = omega (arith, x .high, y .high, e) in let g : p ≡ s = omega (arith, x .low, y .low, e) in cc
+
+-- ---- reading
+
+-- a refusal of a text: its number is some, its line at most b
+abbrev Low : ℕ → Parsed → Type 0
+Low b (matrixText n es) = Unit {0}
+Low b (rejected q p) = (1 ≤ q) × (p ≤ b)
+
+low-cond : (b : ℕ) (t : Bool) (x y : Parsed) → (t ≡ true → Low b x) → Low b y → Low b (cond t x y)
+low-cond b true x y h k = h refl
+low-cond b false x y h k = k
+
+entries-low : (b n m k : ℕ) (es : List Triplet) (xs : List ℕ) → k + m ≤ b → Low b (entries n m k es xs)
+unfolding entries
+entries-low b n zero k es xs l = low-cond b (isEmpty xs) (matrixText n es) (rejected no.form k) (λ e. tt) (omega arith, omega arith)
+entries-low b n (suc m) k es xs l = on (fields xs) (λ d x. entries-low b n m (suc k) d x (omega arith))
+  where
+    on : (f : Line) → ((d : List Triplet) (x : List ℕ) → Low b (entries n m (suc k) d x)) → Low b (onLine f (rejected no.form k) (λ r c v a.
+        cond (isEntry n r c v && not (isAmong es (r - 1) (c - 1)))
+        (entries n m (suc k) (es ++ triplet (r - 1) (c - 1) v ∷ []) (drop a xs))
+        (rejected no.entry k)))
+    on broken ih = (omega arith, omega arith)
+    on (line r c v a) ih = low-cond b (isEntry n r c v && not (isAmong es (r - 1) (c - 1))) _ (rejected no.entry k) (λ e. ih _ _) (omega arith, omega arith)
+
+size-low : (b k : ℕ) (xs : List ℕ) → k + 1 + maxEntries ≤ b → Low b (sizeLine k xs)
+unfolding sizeLine
+size-low b k xs l = on (fields xs)
+  where
+    on : (f : Line) → Low b (onLine f (rejected no.form k) (λ r c v a. sized k r c v (drop a xs)))
+    on broken = (omega arith, omega arith)
+    on (line r c (negsuc m) a) = (omega arith, omega arith)
+    on (line r c (pos m) a) =
+        low-cond b (eqb r c && leb 1 r && leb r maxRows && leb m maxEntries) (entries r m (suc k) [] (drop a xs)) (rejected no.size k)
+        (λ e. entries-low b r m (suc k) [] (drop a xs) (omega (arith, leb-true m maxEntries (and-right (eqb r c && leb 1 r && leb r maxRows) (leb m maxEntries) e)))) (omega arith, omega arith)
+
+-- a text has no more lines than bytes
+comments-low : (inside : Bool) (k : ℕ) (xs : List ℕ) → comments inside k xs .number ≤ k + length xs
+unfolding comments
+comments-low inside k [] = omega arith
+comments-low true k (x ∷ xs) = go (isEnd x) (λ c j. comments-low c j xs)
+  where
+    go : (b : Bool) → ((c : Bool) (j : ℕ) → comments c j xs .number ≤ j + length xs) → comments (not b) (cond b (suc k) k) xs .number ≤ k + suc (length xs)
+    go true ih = omega (arith, ih false (suc k))
+    go false ih = omega (arith, ih true k)
+comments-low false k (x ∷ xs) = go (eqb x percent) (comments-low true k xs)
+  where
+    go : (b : Bool) → comments true k xs .number ≤ k + length xs → cond b (comments true k xs) (place k (x ∷ xs)) .number ≤ k + suc (length xs)
+    go true ih = omega (arith, ih)
+    go false ih = omega arith
+
+most : ℕ
+most = 2000000
+
+parse-low : (xs : List ℕ) → Low most (parse xs)
+unfolding parse most
+parse-low xs = go (ltb maxText (length xs)) refl
+  where
+    go : (b : Bool) → ltb maxText (length xs) ≡ b → Low most (cond b (rejected no.form 0) (cond (begins xs header) (body (comments false 2 (drop (length header) xs))) (rejected no.header 1)))
+    go true e = (omega arith, omega arith)
+    go false e =
+        low-cond most (begins xs header) (body (comments false 2 (drop (length header) xs))) (rejected no.header 1)
+        (λ h. size-low most (comments false 2 (drop (length header) xs) .number) (comments false 2 (drop (length header) xs) .text)
+        (omega (arith, comments-low false 2 (drop (length header) xs), length-drop (length header) xs, ltb-false maxText (length xs) e))) (omega arith, omega arith)
+
+-- an accepted text is not too long
+parse-short : (xs : List ℕ) (n : ℕ) (es : List Triplet) → parse xs ≡ matrixText n es → length xs ≤ maxText
+unfolding parse
+parse-short xs n es t = go (ltb maxText (length xs)) refl t
+  where
+    rest : Parsed
+    rest = cond (begins xs header) (body (comments false 2 (drop (length header) xs))) (rejected no.header 1)
+
+    go : (b : Bool) → ltb maxText (length xs) ≡ b → cond b (rejected no.form 0) rest ≡ matrixText n es → length xs ≤ maxText
+    go true e t = absurd (let z : _≡_ {A = ℕ} 0 1 = cc in omega arith)
+    go false e t = ltb-false maxText (length xs) e
+
+read-told : (text : List ℕ) (a b c : ℕ) → Told (readReply (parse text) a b c)
+unfolding readReply most
+read-told text a b c = go (parse text) refl (parse-low text)
+  where
+    go : (t : Parsed) → parse text ≡ t → Low most t → Told (readReply t a b c)
+    go (rejected q p) t l = told-refused q p (l .0) (omega (arith, l .1))
+    go (matrixText n es) t l =
+        let f = parse-accepted text n es t in
+        turn Told refused _ _ (accepted n) (told-refused no.short (n + 1) (omega arith) (omega (arith, f .rows))) (λ e.
+        turn Told refused _ _ (accepted n) (told-refused no.short (length (full es)) (omega arith) (omega (arith, f .count, full-few es))) (λ e.
+        turn Told refused _ [] (accepted n) (told-refused no.short (length (full es)) (omega arith) (omega (arith, f .count, full-few es))) (λ e.
+        last Told refused (accepted n) (told-accepted n (omega (arith, f .rows))))))
+
+-- ---- the other calls of the office
+
+module _ (m : Matrix) where
+  write-told : (room : ℕ) → Told (writeReply m room)
+  unfolding writeReply matrixCheck
+  write-told room =
+      turn Told refused (matrixCheck m) _ _ (told-refused no.matrix 0 (omega arith) (omega arith)) (λ ok.
+      let short : length (written m) ≤ maxText = parse-short (written m) _ _ (write-then-read .every m ok .parsed) in
+      turn Told refused _ [] _ (told-refused no.short (length (written m)) (omega arith) (omega arith)) (λ e. last Told refused _ (told-accepted (length (written m)) (omega arith))))
+
+  first-low : (limit : ℕ) (x : List ℤ) → firstPast limit x ≤ length x
+  unfolding firstPast
+  first-low limit [] = omega arith
+  first-low limit (z ∷ zs) = go (within limit z) (first-low limit zs)
+    where
+      go : (b : Bool) → firstPast limit zs ≤ length zs → cond b (suc (firstPast limit zs)) 0 ≤ suc (length zs)
+      go true h = omega arith
+      go false h = omega arith
+
+  place-low : (x : List ℤ) → m .n ≤ maxRows → displacementCheck (m .n) x .place ≤ maxRows
+  unfolding displacementCheck
+  place-low x few = go (eqb (length x) (m .n)) refl
+    where
+      go : (b : Bool) → eqb (length x) (m .n) ≡ b → cond b (firstPast maxDisplacement x) 0 ≤ maxRows
+      go true e = omega (arith, first-low maxDisplacement x, eqb-true (length x) (m .n) e)
+      go false e = omega arith
+
+  product-told : (x : List ℤ) (room : ℕ) → Told (productReply m x room)
+  unfolding productReply matrixCheck displacementCheck
+  product-told x room =
+      turn Told refused (matrixCheck m) _ _ (told-refused no.matrix 0 (omega arith) (omega arith)) (λ ok.
+      let few = matrix-facts m ok .few in
+      turn Told refused (displacementCheck (m .n) x) _ _ (told-refused no.displacement _ (omega arith) (omega (arith, place-low x few))) (λ e.
+      turn Told refused _ [] _ (told-refused no.short (m .n) (omega arith) (omega (arith, few))) (λ e. last Told refused _ (told-accepted 0 (omega arith)))))
+
+  plan-told : (w p a b : ℕ) → Told (planReply m w p a b)
+  unfolding planReply matrixCheck
+  plan-told w p a b =
+      turn Told refused (matrixCheck m) _ _ (told-refused no.matrix 0 (omega arith) (omega arith)) (λ ok.
+      turn Told refused _ _ _ (told-refused no.parameter 0 (omega arith) (omega arith)) (λ given.
+      let few : length (plan m w p .groups) ≤ 481 = planned-sound .few m w p ok given in
+      turn Told refused _ _ _ (told-refused no.short (m .n) (omega arith) (omega (arith, matrix-facts m ok .few))) (λ e.
+      turn Told refused _ [] _ (told-refused no.short (length (plan m w p .groups)) (omega arith) (omega arith)) (λ e. last Told refused _ (told-accepted (length (plan m w p .groups)) (omega arith))))))
+
+  check-told : (order groups : List ℕ) (count : ℕ) → Told (checkReply m order groups count)
+  unfolding checkReply matrixCheck planCheck
+  check-told order groups count =
+      turn Told refused (matrixCheck m) _ _ (told-refused no.matrix 0 (omega arith) (omega arith)) (λ ok.
+      turn Told refused (planCheck m order groups count) [] _ (told-refused no.unsound 0 (omega arith) (omega arith)) (λ e. last Told refused _ (told-accepted 0 (omega arith))))
+
+-- ---- the calls of a run
+
+abbrev Tells : Answer → Type 0
+Tells a = Told (replyTo a)
+
+tells-refused : (q p : ℕ) → 1 ≤ q → p < 2 ^ 32 → Tells (calls.refused q p)
+unfolding replyTo
+tells-refused q p h l = told-refused q p h l
+
+-- no more are ready than there are
+ready-few : (j : Job) (made : List ℕ) (k : ℕ) → length (readyBelow j made k) ≤ k
+unfolding readyBelow
+ready-few j made zero = omega arith
+ready-few j made (suc k) = go (eqb (refusal j made k) 0) (ready-few j made k)
+  where
+    go : (b : Bool) → length (readyBelow j made k) ≤ k → length (cond b (k ∷ readyBelow j made k) (readyBelow j made k)) ≤ suc k
+    go true h = omega arith
+    go false h = omega arith
+
+module _ (j : Job) (ok : Accepted j) (s : State) (long : length (s .made) ≡ maxWorkers) where
+  picked-tells : (taken number : ℕ) → taken < 2 ^ 32 → Tells (pickedOf taken number)
+  unfolding pickedOf placeOf replyTo
+  picked-tells taken zero l = told-accepted taken l
+  picked-tells taken (suc k) l = told-refused (suc k) taken (omega arith) l
+
+  forces-tell : (isOver wide : Bool) (zs : List ℤ) → j .matrix .n ≤ maxRows → Tells (forcesOf isOver wide (j .matrix .n) zs)
+  unfolding forcesOf replyTo
+  forces-tell false wide zs few = told-refused no.early 0 (omega arith) (omega arith)
+  forces-tell true false zs few = told-refused no.short (j .matrix .n) (omega arith) (omega arith)
+  forces-tell true true zs few = told-accepted 0 (omega arith)
+
+  ready-tells : Tells (readyOf j (s .made))
+  unfolding readyOf ready replyTo
+  ready-tells =
+      let most : 2 ^ workers j ≤ 2 ^ 16 = pow-le-pow-right (omega arith) (facts j ok .few) in
+      told-accepted _ (omega (arith, bits-below j (s .made) (workers j), ready-few j (s .made) (workers j), facts j ok .few))
+
+  answer-tells : (c : Call) → Tells (answer j s c)
+  unfolding answer stateCheck answerOf
+  answer-tells (picks ws) = turn Tells calls.refused _ [] _ (tells-refused no.state 0 (omega arith) (omega arith)) (λ e. last Tells calls.refused _ (picked-tells (steps j s ws .taken) (steps j s ws .number) (taken-few j ok s ws long)))
+  answer-tells readySet = turn Tells calls.refused _ [] _ (tells-refused no.state 0 (omega arith) (omega arith)) (λ e. last Tells calls.refused _ ready-tells)
+  answer-tells (forceList room) = turn Tells calls.refused _ [] _ (tells-refused no.state 0 (omega arith) (omega arith)) (λ e. last Tells calls.refused _ (forces-tell (over j (s .made)) (leb (j .matrix .n) room) _ (matrix-facts (j .matrix) (ok .matrix) .few)))
+
+module _ (m : Matrix) (x : List ℤ) (order groups : List ℕ) (count : ℕ) where
+  -- 5, 6 and 8, and then an answer that tells
+  checks-tell : (a : Answer) → (passed m x order groups count ≡ true → Tells a) → Tells (inTurn calls.refused (jobChecks m x order groups count) a)
+  unfolding jobChecks matrixCheck displacementCheck planCheck passed
+  checks-tell a h =
+      turn Tells calls.refused (matrixCheck m) _ _ (tells-refused no.matrix 0 (omega arith) (omega arith)) (λ e.
+      turn Tells calls.refused (displacementCheck (m .n) x) _ _ (tells-refused no.displacement _ (omega arith) (omega (arith, place-low m x (matrix-facts m e .few)))) (λ f.
+      turn Tells calls.refused (planCheck m order groups count) [] _ (tells-refused no.unsound 0 (omega arith) (omega arith)) (λ g. last Tells calls.refused a (h (rw (e, f, g))))))
+
+  run-tells : (state sums : List ℕ) (c : Call) → Tells (answerIn m x order groups count state sums c)
+  unfolding answerIn answerLent
+  run-tells state sums c = go (eqb (length state) stateBytes) refl
+    where
+      go : (b : Bool) → eqb (length state) stateBytes ≡ b
+          → Tells (cond b (answerLent m x order groups count (stateIn state sums) c) (inTurn calls.refused (jobChecks m x order groups count) (calls.refused no.state 0)))
+      go true e =
+          let size = eqb-true (length state) stateBytes e in
+          checks-tell _ (λ h. answer-tells (jobOf m x order groups count) (lent-runs .every m x order groups count h .accepted) (stateIn state sums)
+          (rw (length-decoded number 4 (take countBytes state), length-take-le countBytes state (omega arith))) c)
+      go false e = checks-tell _ (λ h. tells-refused no.state 0 (omega arith) (omega arith))
+
+-- the theorem
+pub words : Words
+words = record { read = λ text starts columns values. read-told text _ _ _; write = write-told; product = product-told; plan = λ m w p order groups. plan-told m w p _ _; check = check-told; run = run-tells; one = one }

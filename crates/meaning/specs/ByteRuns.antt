@@ -1,0 +1,70 @@
+-- A run whose state and sums stand in bytes from call to call, as a caller of the exported functions keeps them: it is the run that every-run speaks of.
+use mathlib.Core.Path.{_≡_}
+use mathlib.Core.Bool.{true}
+use mathlib.Core.List.{List}
+use Prim.Native.Nat.{ℕ, _*_, _/_, _≤_}
+use lib.IntN.{ℤ}
+use lib.ListN.{length, replicate}
+use Rattle.matrix.specs.Matrix.{Matrix}
+use Rattle.matrix.specs.Product.{product}
+use Rattle.run.specs.Job.{jobOf}
+use Rattle.run.specs.Machine.{State}
+use Rattle.run.specs.Calls.{Call, picks, readySet, forceList, Answer, afterLent}
+use Rattle.run.specs.Sequence.{answersFrom, stateAfter}
+use Rattle.run.specs.EveryRun.{runState, runAnswers, finishedRun}
+use Rattle.run.specs.LentRuns.{passed}
+use Rattle.words.specs.LittleEndian.{signedBytes, stored}
+use Rattle.cabinet.specs.Runs.{stateBytes, stateIn, answerIn, ForcesAnswered, bytesIn, leftBy}
+
+-- the bytes of a run's state, and of its sums
+pub record Bytes : Type 0 where
+  pub state : List ℕ
+  pub sums : List ℕ
+
+abbrev pub inBytes : State → Bytes
+inBytes s = record { state = bytesIn s; sums = signedBytes 8 (s .sums) }
+
+-- "Fresh means all 0, the sums too": 192 bytes, and eight for each of n sums
+unfoldable pub zeros : (n : ℕ) → Bytes
+zeros n = record { state = replicate stateBytes 0; sums = replicate (8 * n) 0 }
+
+-- the calls on lent lists
+module _ (m : Matrix) (x : List ℤ) (order groups : List ℕ) (count : ℕ) where
+  unfoldable pub byteAnswer : Bytes → Call → Answer
+  byteAnswer b c = answerIn m x order groups count (b .state) (b .sums) c
+
+  -- the state that a call of picks leaves
+  unfoldable pub picksLeave : Bytes → (schedule : List ℕ) → State
+  picksLeave b ws = afterLent m x order groups count (stateIn (b .state) (b .sums)) (picks ws)
+
+  -- the bytes after a call: of picks as PicksAnswered has them; the other two write neither
+  unfoldable pub byteAfter : Bytes → Call → Bytes
+  byteAfter b (picks ws) = record {
+    state = leftBy (byteAnswer b (picks ws)) (bytesIn (picksLeave b ws)) (b .state);
+    sums = leftBy (byteAnswer b (picks ws)) (signedBytes 8 (picksLeave b ws .sums)) (b .sums);
+  }
+  byteAfter b readySet = b
+  byteAfter b (forceList room) = b
+
+  -- "Each run begins fresh": the answers to a list of calls, and the bytes after it
+  unfoldable pub byteAnswers : List Call → List Answer
+  byteAnswers cs = answersFrom byteAnswer byteAfter (zeros (m .n)) cs
+
+  unfoldable pub runBytes : List Call → Bytes
+  runBytes cs = stateAfter byteAfter (zeros (m .n)) cs
+
+pub record ByteRun (m : Matrix) (x : List ℤ) (order groups : List ℕ) (count : ℕ) (cs : List Call) : Type 0 where
+  -- the answers are those of the run of the job in the lists
+  pub answered : byteAnswers m x order groups count cs ≡ runAnswers (jobOf m x order groups count) cs
+  -- the bytes after the calls are those of its state
+  pub left : runBytes m x order groups count cs ≡ inBytes (runState (jobOf m x order groups count) cs)
+  -- and stand for that state: no number is lost in them
+  pub read-back : stateIn (runBytes m x order groups count cs .state) (runBytes m x order groups count cs .sums) ≡ runState (jobOf m x order groups count) cs
+  -- a force-list call on them with room, once the run is finished, returns 0, and leaves the bytes of the full product in the lent list, and past them what stood there
+  pub forced : finishedRun (jobOf m x order groups count) cs ≡ true → (old : List ℕ) (returned : ℕ) (new : List ℕ) → 8 * m .n ≤ length old
+      → ForcesAnswered (byteAnswer m x order groups count (runBytes m x order groups count cs) (forceList (length old / 8))) old returned new
+      → (returned ≡ 0) × (new ≡ stored (signedBytes 8 (product m x)) old)
+
+-- for all lent lists that pass their checks and every list of calls
+pub record ByteRuns : Type 0 where
+  pub every : (m : Matrix) (x : List ℤ) (order groups : List ℕ) (count : ℕ) → passed m x order groups count ≡ true → (cs : List Call) → ByteRun m x order groups count cs
