@@ -1,4 +1,5 @@
--- A schedule takes no more steps than the accesses that are left: their number fits a word's low half, whatever the schedule and the state.
+-- A schedule takes no more steps than the accesses that are left: their number fits
+-- a word's low half, whatever the schedule and the state.
 use mathlib.Core.Path.{_≡_, refl, ap, _∙_}
 use mathlib.Core.List.{List, [], _∷_}
 use Prim.Native.Nat.{ℕ, zero, suc, _+_, _*_, _-_, _^_, _≤_, _<_}

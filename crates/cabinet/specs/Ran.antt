@@ -20,7 +20,8 @@ pub record StateIs (r : code.State) (bytes : List ℕ) : Type 0 where
   pub made : r .made ≡ unsigned 4 (take countBytes bytes)
   pub held : r .held ≡ signed 8 (drop countBytes bytes)
 
--- picks that were taken leave state s: it is in the record and the first n numbers of `new`, there is room for it, and a place fits a word's low half
+-- picks that were taken leave state s: it is in the record and the first n numbers of
+-- `new`, there is room for it, and a place fits a word's low half
 pub record Taken (n : ℕ) (s : State) (place : ℕ) (state sums : List ℕ) (after : code.State) (new : List ℤ) : Type 0 where
   pub left : stateOf after (take n new) ≡ s
   pub whole : length state ≡ stateBytes
@@ -28,7 +29,8 @@ pub record Taken (n : ℕ) (s : State) (place : ℕ) (state sums : List ℕ) (af
   pub room : n ≤ length sums / 8
   pub low : place < 2 ^ 32
 
--- a call with the answer a, that leaves state s if that is of picks: the code's answer, with the forces that it may have, and what stands in the lists
+-- a call with the answer a, that leaves state s if that is of picks: the code's answer,
+-- with the forces that it may have, and what stands in the lists
 pub record Ran (n : ℕ) (a : Answer) (s : State) (state sums old : List ℕ) (answer : Response) (after : code.State) (new : List ℤ) (left : List ℕ) : Type 0 where
   pub made : List ℤ
   pub answers : asAnswer answer made ≡ a

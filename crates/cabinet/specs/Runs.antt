@@ -32,7 +32,8 @@ unfoldable pub answerIn : Matrix → List ℤ → (order groups : List ℕ) (cou
 answerIn m x order groups count state sums c =
     cond (eqb (length state) stateBytes) (answerLent m x order groups count (stateIn state sums) c) (inTurn refused (jobChecks m x order groups count) (refused no.state 0))
 
--- the reply that a call's word says: picks taken, or the number and place that ended them; sixteen bits, and above them the count of those set; 0 for forces
+-- the reply that a call's word says: picks taken, or the number and place that ended them;
+-- sixteen bits, and above them the count of those set; 0 for forces
 unfoldable pub replyTo : Answer → Reply
 replyTo (picked taken zero place) = replies.accepted taken
 replyTo (picked taken (suc k) place) = replies.refused (suc k) place
@@ -57,7 +58,8 @@ ForcesAnswered a old returned new = Answered (replyTo a) (forceBytes a) old retu
 abbrev pub bytesIn : State → List ℕ
 bytesIn s = unsignedBytes 4 (s .made) ++ signedBytes 8 (s .held)
 
--- a lent list after a call of picks with this answer: as the picks taken left it, also if there are none; where 5, 6, 8 or 11 refused the call, as it was
+-- a lent list after a call of picks with this answer: as the picks taken left it, also if
+-- there are none; where 5, 6, 8 or 11 refused the call, as it was
 unfoldable pub leftBy : Answer → (new old : List ℕ) → List ℕ
 leftBy (picked taken number place) new old = stored new old
 leftBy (isReady bits count) new old = old

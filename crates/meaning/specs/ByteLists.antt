@@ -42,9 +42,11 @@ pub record RoomFor (m : Matrix) {text : List ℕ} (r : Reading text) : Type 0 wh
 pub record ByteLists : Type 0 where
   -- a text that is read leaves its matrix, whatever stands past it: no later call refuses the bytes with 5
   pub read : (text : List ℕ) (r : Reading text) (n : ℕ) → readIn text (r .starts) (r .columns) (r .values) ≡ accepted n → SameRows (leftBy n r) (readMatrix (parse text))
-  -- a matrix that is written, as mzk_write promises, and then read, if both lists have room: the second call returns its rows and leaves them
+  -- a matrix that is written, as mzk_write promises, and then read, if both lists have
+  -- room: the second call returns its rows and leaves them
   pub written-read : (m : Matrix) → isMatrix m ≡ true → (old : List ℕ) (returned : ℕ) (new : List ℕ) → length (written m) ≤ length old
       → Answered (writeReply m (length old)) (written m) old returned new → (r : Reading (take returned new)) → RoomFor m r → (r .returned ≡ m .n) × SameRows (leftBy (m .n) r) m
-  -- a plan that is made, as mzk_plan promises, passes the check in the bytes where it is left, whatever stands past it: no later call refuses them with 8
+  -- a plan that is made, as mzk_plan promises, passes the check in the bytes where it is
+  -- left, whatever stands past it: no later call refuses them with 8
   pub planned : (m : Matrix) (workers p : ℕ) (order groups : List ℕ) (returned : ℕ) (newOrder newGroups : List ℕ) → PlanAnswered m workers p order groups returned newOrder newGroups
       → (count : ℕ) → planIn m workers p order groups ≡ accepted count → checkReply m (unsigned 4 newOrder) (unsigned 4 newGroups) count ≡ accepted 0

@@ -1,4 +1,5 @@
--- A run whose state and sums stand in bytes from call to call, as a caller of the exported functions keeps them: it is the run that every-run speaks of.
+-- A run whose state and sums stand in bytes from call to call, as a caller of the exported
+-- functions keeps them: it is the run that every-run speaks of.
 use mathlib.Core.Path.{_≡_}
 use mathlib.Core.Bool.{true}
 use mathlib.Core.List.{List}
@@ -60,7 +61,8 @@ pub record ByteRun (m : Matrix) (x : List ℤ) (order groups : List ℕ) (count 
   pub left : runBytes m x order groups count cs ≡ inBytes (runState (jobOf m x order groups count) cs)
   -- and stand for that state: no number is lost in them
   pub read-back : stateIn (runBytes m x order groups count cs .state) (runBytes m x order groups count cs .sums) ≡ runState (jobOf m x order groups count) cs
-  -- a force-list call on them with room, once the run is finished, returns 0, and leaves the bytes of the full product in the lent list, and past them what stood there
+  -- a force-list call on them with room, once the run is finished, returns 0, and leaves the bytes
+  -- of the full product in the lent list, and past them what stood there
   pub forced : finishedRun (jobOf m x order groups count) cs ≡ true → (old : List ℕ) (returned : ℕ) (new : List ℕ) → 8 * m .n ≤ length old
       → ForcesAnswered (byteAnswer m x order groups count (runBytes m x order groups count cs) (forceList (length old / 8))) old returned new
       → (returned ≡ 0) × (new ≡ stored (signedBytes 8 (product m x)) old)

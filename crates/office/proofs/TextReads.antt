@@ -55,7 +55,8 @@ module _ (text : List ℕ) (a b c x y z : ℕ) (hx : maxStarts ≤ x) (hy : maxC
       go (matrixText n es) e = room-cut n es e
       go (rejected q p) e = refl
 
--- the lists of an accepted call, of k rows: how long they are, how many entries the last row start tells, and that there is room
+-- the lists of an accepted call, of k rows: how long they are, how many entries
+-- the last row start tells, and that there is room
 pub record Read (t : Parsed) (a b c k : ℕ) : Type 0 where
   pub starts-size : length (readMatrix t .starts) ≡ k + 1
   pub values-size : length (readMatrix t .values) ≡ length (readMatrix t .columns)

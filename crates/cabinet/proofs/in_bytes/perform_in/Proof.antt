@@ -1,4 +1,5 @@
--- `perform_in` meets its contract: the lists are decoded as far as a job can reach, and the forces are made beside the lent list.
+-- `perform_in` meets its contract: the lists are decoded as far as a job can
+-- reach, and the forces are made beside the lent list.
 use borrow.Author.Needs.{needs}
 use mathlib.Core.Path.{_≡_, sym, ap, _∙_}
 use mathlib.Core.List.{List}
@@ -19,7 +20,8 @@ use Rattle.cabinet.proofs.RunPicks.{kept-few, kept-is, ran}
 use Rattle.cabinet.proofs.in_bytes.perform_in.Statement.{statement}
 use Rattle.cabinet.proofs.in_bytes.perform_in.Tie as tie
 
--- from the decoded state back: the room for forces, the sums that are lent on, those that were loaded, the function's entry
+-- from the decoded state back: the room for forces, the sums that are lent
+-- on, those that were loaded, the function's entry
 abbrev least : tie.After-load-state → tie.After-least
 least l = l .before .before .before .before .before .before .before .before .before .before .before .before .before
 
