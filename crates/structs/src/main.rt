@@ -1,4 +1,5 @@
-// structs: the plan of a chain of eight rows in a slice of group structs, and the check of it; a slice that is too short; an unsound plan.
+// structs: plans a chain of eight rows into a slice of group structs, and checks the plan.
+// A plan with a group twice is not sound, and a slice is too short for the plan of more rows.
 use base::Answer;
 use libc::STDOUT_FILENO;
 use plan::fields::Group;
@@ -108,11 +109,10 @@ fn none() -> Group {
     }
 }
 
-// The chain is planned for two workers, and its plan is checked; with a group twice it is not sound.
-fn chain() {
-    let starts = [0u32, 2, 5, 8, 11, 14, 17, 20, 22];
-    let columns = [
-        0u32,
+// The columns of a chain of eight rows, row by row.
+fn chain_columns() -> [u32; 22] {
+    [
+        0,
         1,
         0,
         1,
@@ -134,11 +134,12 @@ fn chain() {
         7,
         6,
         7,
-    ];
-    let values = [
-        2i32,
-        -1,
-        -1,
+    ]
+}
+
+// .. and its values: 2 on the diagonal, -1 beside it.
+fn chain_values() -> [i32; 22] {
+    [
         2,
         -1,
         -1,
@@ -158,7 +159,25 @@ fn chain() {
         -1,
         -1,
         2,
-    ];
+        -1,
+        -1,
+        2,
+    ]
+}
+
+// Checks a plan of eight rows: it is sound; with a group twice it is not.
+fn put_checks(starts: &[u32], columns: &[u32], values: &[i32], order: &[u32], groups: [Group; 5]) {
+    put_answer(check_in(8, starts, columns, values, order, groups));
+    let mut twice = groups;
+    twice[2] = groups[1];
+    put_answer(check_in(8, starts, columns, values, order, twice));
+}
+
+// The chain is planned for two workers, and its plan is checked.
+fn chain() {
+    let starts = [0u32, 2, 5, 8, 11, 14, 17, 20, 22];
+    let columns = chain_columns();
+    let values = chain_values();
     let mut order = [0u32; 8];
     let made = plan_in(
         8,
@@ -174,10 +193,7 @@ fn chain() {
     let answer = made.answer;
     put_answer(answer);
     put_groups(groups);
-    put_answer(check_in(8, &starts, &columns, &values, &order, groups));
-    let mut twice = groups;
-    twice[2] = groups[1];
-    put_answer(check_in(8, &starts, &columns, &values, &order, twice));
+    put_checks(&starts, &columns, &values, &order, groups);
 }
 
 // Sixteen unjoined rows and four workers need more than five groups.

@@ -1,4 +1,5 @@
--- `check_in` meets its contract: a walk of its MIR, by hand. The array is lent for the call of `groups::check`. Assumes nothing.
+-- `check_in` meets its contract: a walk of its MIR, by hand.
+-- The array is lent for the call of `groups::check`. Assumes nothing.
 use mathlib.Core.Path.{_≡_, refl, sym}
 use mathlib.Core.List.{List, [], _∷_, map}
 use Prim.Native.Nat.{ℕ, _<_, _^_}
@@ -170,9 +171,9 @@ module _ {M : Type 1} (𝓤 : URA M) (H : Heap 𝓤) (A : Atoms 𝓤) (W : Given
         use1 W (later (some (λ (δ : GName). ‵ (ShrSlice (named 4) (α ∷ []) T.the-row .own (slice l₇ α δ) (at (slice l₇ α δ) ∷ [])) ⊛ ‵ (flent (α ∷ []) (arr-parts (shares T.the-row) (length list) .part fullShare list l₇ 0)))))
         (lends-shr-slice 𝓤 H A W T.the-row (named 4) (α ∷ []) fullShare list l₇ 0 (room list lv are)) $ await ! tt $ pick ! (λ δ. split ! $
         rewrite ! 3 (λ (m : ℕ). ‵ (fat fullShare lentTy l₉ 0 (sliceVal (l₇, 0) m))) (sym (five list lv are)) refl $
-        -- [the slice; the lender's part; the token of α; _9; …; _8; …; …; _6; …; … _1; …; _0; …; the tokens; what the parameters own]
+        -- [the slice; the lender's part; the token of α; _9; …; … _0; …; the tokens; what the parameters own]
         move ! (23 ∷ []) $ fsplit ! $ drop ! $ fsplit ! $ move ! (1 ∷ []) $ fsplit ! $ move ! (1 ∷ []) $ fsplit ! $ move ! (1 ∷ []) $ fsplit ! $ move ! (1 ∷ []) $ drop ! $
-        -- [what order owns; values'; columns'; starts'; the slice; the lender's part; the token of α; _9; …; the tokens]
+        -- [order's; values'; columns'; starts'; the slice; the lender's part; the token of α; _9; …; the tokens]
         move ! (26 ∷ []) $ split ! $ move ! (1 ∷ []) $ split ! $ move ! (1 ∷ []) $ split ! $ move ! (1 ∷ []) $ split ! $
         move ! (9 ∷ 11 ∷ 0 ∷ 2 ∷ 3 ∷ 4 ∷ 5 ∷ 6 ∷ 7 ∷ 8 ∷ []) $ group ! 10 $ use1 W (raw (Check 𝓤 H A memory run .pre (to-check l₇ α δ))) (goes l₇ α δ) $
         -- [what `check` asks; …; the lender's part; _9; …; _8; …; …; _6; …; _5; …; _4; …; _3; …; _2; …; _1; …; _0; …]

@@ -1,5 +1,5 @@
--- `plan_in` meets its contract: a walk of its MIR, by hand. The array is lent for the call of `groups::plan`, and the order is passed on for good.
--- Assumes nothing.
+-- `plan_in` meets its contract: a walk of its MIR, by hand.
+-- The array is lent for the call of `groups::plan`, and the order is passed on for good. Assumes nothing.
 use mathlib.Core.Path.{_≡_, refl, sym, ap, _∙_, subst}
 use mathlib.Core.List.{List, [], _∷_, map}
 use Prim.Native.Nat.{ℕ, _*_, _<_, _^_}
@@ -235,7 +235,8 @@ module _ {M : Type 1} (𝓤 : URA M) (H : Heap 𝓤) (A : Atoms 𝓤) (W : Given
         pass1 ! (init ! 24 refl (shr-slice-lawful 𝓤 H A W (named 1) κ₁ u32 .typed columns _ is₂ .0)) $ pass1 ! (init ! 22 refl (shr-slice-lawful 𝓤 H A W (named 2) κ₂ i32 .typed values _ is₃ .0)) $
         pass1 ! (init ! 20 refl (tt, record { fits = workers-small })) $ pass1 ! (init ! 18 refl (tt, record { fits = p-small })) $
         pass1 ! (init ! 16 refl (mut-slice-lawful 𝓤 H A W (named 3) κ₃ u32 .typed order _ is₄ .0)) $ pass1 ! (init ! 14 refl (places-typed list lv are 𝓤 H A W)) $ pass0 ! $
-        -- the locals: 0 what is returned; 1 to 8 the parameters; 9 the array; 10 the answer; 11 and 12 the order lent on; 13 and 14 the array lent; 15 the array after the call
+        -- the locals: 0 what is returned; 1 to 8 the parameters; 9 the array; 10 the answer;
+        -- 11 and 12 the order lent on; 13 and 14 the array lent; 15 the array after the call
         assigns ! (of-opd ! (load ! (from ! (stop !)) (look ! 14 refl))) (from ! (stop !)) (init ! 12 refl (places-typed list lv are 𝓤 H A W)) $
         assigns ! (addr ! (from ! (fld ! refl (hop ! (look-in ! 16 (sub ! 0 refl (whole !))) (stop !))))) (from ! (stop !)) (init ! 8 refl (tt, tt)) $
         assigns ! (agg ! (and-then ! (load ! (from ! (stop !)) (look ! 8 refl)) (and-then ! (load ! (from ! (fld ! refl (stop !))) (look-in ! 16 (sub ! 1 refl (whole !)))) (no-more !)))) (from ! (stop !)) (init ! 6 refl (tt, (tt, (record { fits = is₄ .0 .1 .0 }, tt)))) $
@@ -244,7 +245,7 @@ module _ {M : Type 1} (𝓤 : URA M) (H : Heap 𝓤) (A : Atoms 𝓤) (W : Given
         owned ! Places (Is Places) (places-makes 𝓤 H A W) list _ are $ move ! (13 ∷ 0 ∷ []) $
         use1 W (‵ (cellAt fullShare (Places .mir) (lv ∷ []) l₉ 0)) (W .laws .at-raw fullShare placesTy l₉ 0 lv) $ fjoin ! $
         fpack ! (List Val) (λ us. fsep (cellAt fullShare (Places .mir) us l₉ 0) (Places .own list us)) (lv ∷ []) $
-        -- [_9; _15; …; _14; …; _13; …; _12; …; _11; …; _10; …; …; _8; …; … _1; …; _0; …; the tokens; what the parameters own]
+        -- [_9; _15; …; … _10; …; …; _8; …; … _0; …; the tokens; what the parameters own]
         use1 W (‵ (arr-parts (shares T.the-row) 5 .part fullShare list l₉ 0)) (array-apart 𝓤 H A W T.the-row fullShare tt 5 list l₉ 0) $ fsplit ! $ feqL ! (λ _.
         rewrite ! 0 (λ (F : Fml). ‵ F) (parts-cells T.the-row fullShare list l₉ 0) refl $
         -- the array is lent for a lifetime α of the call
@@ -252,29 +253,29 @@ module _ {M : Type 1} (𝓤 : URA M) (H : Heap 𝓤) (A : Atoms 𝓤) (W : Given
         use1 W (later (some (λ (δ : GName). ‵ (MutSlice (named 4) (α ∷ []) T.the-row .own (slice l₉ α δ) (at (slice l₉ α δ) ∷ [])) ⊛ ‵ (flent (α ∷ []) (Held T.the-row (length list) l₉ 0 δ)))))
         (lends-slice 𝓤 H A W T.the-row (named 4) (α ∷ []) list l₉ 0 (room list lv are)) $ await ! tt $ pick ! (λ δ. split ! $
         rewrite ! 5 (λ (k : ℕ). ‵ (fat fullShare lentTy l₁₄ 0 (sliceVal (l₉, 0) k))) (sym (five list lv are)) refl $
-        -- [the slice; the lender's part; the token of α; _15; …; _14; …; … _10; …; …; _8; …; … _1; …; _0; …; the tokens; what the parameters own]
+        -- [the slice; the lender's part; the token of α; _15; …; … _0; …; the tokens; what the parameters own]
         move ! (35 ∷ []) $ fsplit ! $ drop ! $ fsplit ! $ move ! (1 ∷ []) $ fsplit ! $ move ! (1 ∷ []) $ fsplit ! $ move ! (1 ∷ []) $ fsplit ! $ drop ! $ fsplit ! $ drop ! $ fsplit ! $ move ! (1 ∷ []) $ drop ! $
-        -- [what order owns; values'; columns'; starts'; the slice; the lender's part; the token of α; _15; …; the tokens]
+        -- [order's; values'; columns'; starts'; the slice; the lender's part; the token of α; _15; …; the tokens]
         move ! (38 ∷ []) $ split ! $ move ! (1 ∷ []) $ split ! $ move ! (1 ∷ []) $ split ! $ move ! (1 ∷ []) $ split ! $
         move ! (9 ∷ 11 ∷ 0 ∷ 2 ∷ 3 ∷ 4 ∷ 5 ∷ 6 ∷ 7 ∷ 8 ∷ []) $ group ! 10 $ use1 W (raw (Plan 𝓤 H A memory run .pre (to-plan l₉ α δ))) (goes l₉ α δ) $
-        -- [what `plan` asks; …; the lender's part; _15; …; _14; …; _13; …; _12; …; _11; …; _10; …; …; _8; …; _7; …; … _1; …; _0; …]
+        -- [what `plan` asks; …; the lender's part; _15; …; … _10; …; …; _8; …; … _0; …]
         calls-at ! (fmOf 𝓤 H (W .laws) 𝓣) (Plan 𝓤 H A memory run) known (to-plan l₉ α δ) (and-then ! (load ! (from ! (stop !)) (look ! 30 refl)) (and-then ! (load ! (from ! (stop !)) (look ! 28 refl)) (and-then ! (load ! (from ! (stop !)) (look ! 26 refl))
         (and-then ! (load ! (from ! (stop !)) (look ! 24 refl)) (and-then ! (load ! (from ! (stop !)) (look ! 22 refl)) (and-then ! (load ! (from ! (stop !)) (look ! 20 refl)) (and-then ! (load ! (from ! (stop !)) (look ! 9 refl)) (and-then ! (load ! (from ! (stop !)) (look ! 5 refl)) (no-more !))))))))) (λ u.
         use1 W (Left l₉ α δ u) (id⊢ 𝓤 _) $ await ! tt $ pick ! (λ r. split ! $ move ! (1 ∷ []) $ pick ! (λ ws. split ! $ move ! (1 ∷ []) $ split ! $ heard ! (Said r) (λ said. split ! $ heard ! _ (λ _. heard ! (Kept (groups-last l₉ α δ ws)) (λ kept.
         fsplit ! $ drop ! $ fsplit ! $ drop ! $ fsplit ! $ drop ! $ fsplit ! $ drop ! $ fsplit ! $ drop ! $ fsplit ! $ drop ! $ fsplit ! $ fsplit ! $ move ! (1 ∷ []) $ feqL ! (λ long.
         move ! (1 ∷ []) $ fsplit ! $ fsplit ! $ move ! (1 ∷ []) $ feqL ! (λ _. move ! (3 ∷ []) $ split ! $ move ! (1 ∷ []) $ peeks ! S.the-row (Is S.the-row) (shows 𝓤 H A S.the-row) r (u ∷ []) (λ is.
-        -- [what the answer owns; the tokens; the last groups; …; the last order; …; the lender's part; _15; …; … _10; …; …; _8; …; … _1; …; _0; …]
+        -- [the answer's; the tokens; the last groups; …; the last order; …; the lender's part; _15; …; … _0; …]
         land ! (from ! (stop !)) (init ! 17 refl (EL.lawful S.the-type S′.the-laws 𝓤 H A W tt .typed r _ is .0)) $
         rewrite ! 17 (λ (v : Val). ‵ (fat fullShare S′.mir l₁₀ 0 v)) (ap only (answer-tells (made (groups-last l₉ α δ ws) r) u is)) refl $
         move ! (1 ∷ []) $ split ! $ move ! (1 ∷ []) $ split ! $ move ! (1 ∷ []) $ split ! $ move ! (1 ∷ []) $ split ! $ move ! (1 ∷ []) $ split ! $ lft-end ! tt $
-        -- [α is over; …; the tokens of κ₃, κ₂, κ₁, κ₀; what the answer owns; the last groups; …; the last order; …; the lender's part; _15; …]
+        -- [α is over; …; κ₃ to κ₀; the answer's; the last groups; …; the last order; …; the lender's part; _15; …]
         move ! (0 ∷ 11 ∷ 7 ∷ []) $ use3 W (later (‵ (Arr (mem T.the-row) (length list) .lies (groups-last l₉ α δ ws) l₉ 0))) (slice-back 𝓤 H A W T.the-row (α ∷ []) δ (groups-last l₉ α δ ws) (length list) l₉ 0) $ await ! tt $
         fsplit ! $ feqL ! (λ long′. rewrite ! 0 (λ (F : Fml). ‵ F) (sym (parts-cells T.the-row fullShare (groups-last l₉ α δ ws) l₉ 0)) refl $ feqI ! ℕ (length (groups-last l₉ α δ ws)) 5 (long′ ∙ five list lv are) $ fjoin ! $
         use1 W (‵ (partAt Places fullShare (groups-last l₉ α δ ws) l₉ 0)) (array-whole 𝓤 H A W T.the-row fullShare 5 (groups-last l₉ α δ ws) l₉ 0) $
         fpick ! (λ vs. fsplit ! $ move ! (1 ∷ []) $ peeks ! Places (Is Places) (shows 𝓤 H A Places) (groups-last l₉ α δ ws) vs (λ is′. drop ! $
         rewrite ! 0 (λ (us : List Val). ‵ (cellAt fullShare (Places .mir) us l₉ 0)) (groups-tell (made (groups-last l₉ α δ ws) r) vs is′) refl $
         use1 W (‵ (fat fullShare placesTy l₉ 0 (groupsAt (made (groups-last l₉ α δ ws) r)))) (W .laws .raw-at fullShare placesTy l₉ 0 (groupsAt (made (groups-last l₉ α δ ws) r))) $
-        -- [_9; …; the tokens of κ₃, κ₂, κ₁, κ₀; what the answer owns; …; the last order; …; _15; …; _14; …; … _10; …; …; _8; …; … _1; …; _0; …]
+        -- [_9; …; κ₃, κ₂, κ₁, κ₀; the answer's; …; the last order; …; _15; …; … _10; …; …; _8; …; … _0; …]
         assigns ! (of-opd ! (load ! (from ! (stop !)) (look ! 0 refl))) (from ! (stop !)) (init ! 10 refl (places-typed (groups-last l₉ α δ ws) (groupsAt (made (groups-last l₉ α δ ws) r)) (are-groups (made (groups-last l₉ α δ ws) r) vs is′) 𝓤 H A W)) $
         assigns ! (agg ! (and-then ! (load ! (from ! (stop !)) (look ! 10 refl)) (and-then ! (load ! (from ! (stop !)) (look ! 20 refl)) (no-more !)))) (from ! (stop !))
         (init ! 39 refl (LL.lawful R.the-type R′.the-laws 𝓤 H A W .typed (made (groups-last l₉ α δ ws) r) _ (is-five (made (groups-last l₉ α δ ws) r) vs u is′ is) .0)) $
