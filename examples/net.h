@@ -1,90 +1,91 @@
-/* A matrix file and its movements as the byte lists of mazhoketh.h: what both examples begin with. */
+/* A matrix file and its movements as the byte lists of mazhoketh.h, and forces as text: what the examples share. */
 #ifndef NET_H
 #define NET_H
 
-#include <stdio.h>
-#include <stdlib.h>
+#include "texts.h"
 
-#include "mazhoketh.h"
-
-enum { ROWS = 4096, ENTRIES = 65536, TEXT = 1048576, LARGEST = 1000000 };
+enum { LARGEST = 1000000 }; /* the largest movement */
 
 struct net {
-    uint32_t n;
-    uint8_t starts[4 * (ROWS + 1)], columns[4 * ENTRIES], values[4 * ENTRIES];
-    uint8_t movements[4 * (ROWS + 1)]; /* room for one too many, which is then refused */
-    size_t movement_count;
+    uint32_t n, entries;
+    uint8_t starts[4 * MZK_ROW_STARTS], columns[4 * MZK_ENTRIES], values[4 * MZK_ENTRIES];
+    uint8_t movements[4 * MZK_ROWS];
 };
 
-/* The arguments that hand a net's matrix and its movements to a call. */
-#define MATRIX(net) (net)->n, (net)->starts, sizeof (net)->starts, \
-    (net)->columns, sizeof (net)->columns, (net)->values, sizeof (net)->values
-#define MOVEMENTS(net) (net)->movements, 4 * (net)->movement_count
+/* The arguments that hand a net's matrix and its movements to a call, with just their lengths. */
+#define MATRIX(net) (net)->n, (net)->starts, 4 * ((size_t)(net)->n + 1), \
+    (net)->columns, 4 * (size_t)(net)->entries, (net)->values, 4 * (size_t)(net)->entries
+#define MOVEMENTS(net) (net)->movements, 4 * (size_t)(net)->n
 
-/* A refusal's number, and its place or the count of an accepted call. */
-static inline uint32_t number_of(uint64_t word) { return word >> 32; }
-static inline uint32_t count_of(uint64_t word) { return (uint32_t)word; }
+/* A text of the largest size and one byte more, so that a longer one is told from it. */
+static char text[MZK_TEXT_BYTES + 1];
 
-/* Ends the program unless a call was accepted. */
-static inline uint32_t accepted(const char *call, uint64_t word)
+/* The number in so many bytes, low byte first. */
+static inline uint64_t number_in(const uint8_t *bytes, int width)
 {
-    if (number_of(word) != 0) {
-        fprintf(stderr, "%s: refused %u %u\n", call, number_of(word), count_of(word));
-        exit(2);
-    }
-    return count_of(word);
-}
-
-static inline FILE *open_file(const char *path)
-{
-    FILE *file = fopen(path, "rb");
-    if (file == NULL) {
-        perror(path);
-        exit(2);
-    }
-    return file;
+    uint64_t number = 0;
+    while (width-- > 0)
+        number = number << 8 | bytes[width];
+    return number;
 }
 
 /* Reads the matrix of a file. */
 static inline void read_matrix(struct net *net, const char *path)
 {
-    static uint8_t text[TEXT + 1]; /* one more than a text may have, so that a longer one is refused */
-    FILE *file = open_file(path);
-    size_t length = fread(text, 1, sizeof text, file);
-    fclose(file);
-    net->n = accepted(path, mzk_read(text, length, net->starts, sizeof net->starts,
+    size_t length = read_file(path, text, sizeof text);
+    net->n = accepted(path, mzk_read((const uint8_t *)text, length, net->starts, sizeof net->starts,
                                      net->columns, sizeof net->columns, net->values, sizeof net->values));
+    net->entries = number_in(net->starts + 4 * net->n, 4);
 }
 
-/* Appends a movement, low byte first. */
-static inline void add_movement(struct net *net, long movement)
+/* Puts a row's movement, low byte first. */
+static inline void put_movement(struct net *net, uint32_t row, int64_t movement)
 {
-    uint8_t *place = net->movements + 4 * net->movement_count++;
-    if (movement > LARGEST || movement < -LARGEST)
-        movement = LARGEST + 1; /* still too large, and of 32 bits */
     for (int byte = 0; byte < 4; byte++)
-        place[byte] = (uint32_t)movement >> 8 * byte;
+        net->movements[4 * row + byte] = (uint32_t)movement >> 8 * byte;
 }
 
-/* Reads movements from a file: whole micrometres, parted by white space. */
+/* Takes the movement that stands in a line; past the last row a number is counted by its line, and no more. */
+static inline void take_line(struct net *net, struct field *field, bool is_ended)
+{
+    if (field->line > net->n)
+        field->wanted = "the end of the file";
+    int64_t movement = whole_number(field);
+    if (!is_ended) {
+        field->wanted = "a line feed after it";
+        refuse_field(field);
+    }
+    if (field->line <= net->n)
+        put_movement(net, field->line - 1, movement);
+}
+
+/* Reads movements from a file: one whole number of micrometres a line, as many as the matrix has rows. */
 static inline void read_movements(struct net *net, const char *path)
 {
-    FILE *file = open_file(path);
-    long movement;
-    while (net->movement_count <= ROWS && fscanf(file, "%ld", &movement) == 1)
-        add_movement(net, movement);
-    fclose(file);
+    size_t length = read_file(path, text, sizeof text);
+    struct field field = { path, 0, text, 0, -LARGEST, LARGEST, NULL };
+    if (length > MZK_TEXT_BYTES) {
+        fprintf(stderr, "%s: longer than %d bytes, %u movements needed\n", path, MZK_TEXT_BYTES, net->n);
+        exit(REFUSED);
+    }
+    for (const char *end = text + length; field.text < end; field.text += field.length + 1) {
+        const char *feed = memchr(field.text, '\n', end - field.text);
+        field.line++;
+        field.length = (feed != NULL ? feed : end) - field.text;
+        take_line(net, &field, feed != NULL);
+    }
+    if (field.line != net->n) {
+        fprintf(stderr, "%s: %u movements found, %u needed\n", path, field.line, net->n);
+        exit(REFUSED);
+    }
 }
 
-/* Prints the forces, one a line, in millinewtons. */
+/* Prints the forces of n rows, one a line, in millinewtons, and ends the output. */
 static inline void print_forces(const uint8_t *forces, uint32_t n)
 {
-    for (uint32_t row = 0; row < n; row++) {
-        uint64_t force = 0;
-        for (int byte = 8; byte-- > 0;)
-            force = force << 8 | forces[8 * row + byte];
-        printf("%lld\n", (long long)force);
-    }
+    for (uint32_t row = 0; row < n; row++)
+        printf("%lld\n", (long long)(int64_t)number_in(forces + 8 * row, 8));
+    end_output();
 }
 
 #endif

@@ -1,29 +1,26 @@
 /* One stage as a cabinet runs it: N threads multiply a net by its movements over one shared list of sums.
  *
- *     gcc -Wall -Wextra -O2 -pthread -I../include stage.c ../target/staticlib/libmazhoketh.a -o stage
- *     ./stage ../data/bcsstk14.mtx 16 7
+ *     gcc -O2 -pthread -Iinclude examples/stage.c target/staticlib/libmazhoketh.a -o target/stage
+ *     target/stage data/bcsstk14.mtx 16 --seed 7
  *
- * `stage MATRIX WORKERS MOVEMENTS` plans the net for the workers and starts a thread for each. A thread picks itself, in bursts
- * of any length, whenever it comes to the lock; where its pick waits (13) it sleeps until another thread has moved. The forces
- * are printed one a line, progress goes to standard error. MOVEMENTS is a file, or a number from which movements are drawn.
- *
- * The exit status is 0 if the forces are those of one core, 1 if they are not, 2 if a call refused its input.
- *
- * Stack: calls keep their tables in local arrays (mazhoketh.h says how much), so threads are given STACK bytes, 4 MiB. */
+ * `stage MATRIX WORKERS MOVEMENTS` plans the net for the workers and starts a thread for each. A thread picks itself,
+ * in bursts of any length, whenever it comes to the lock; where its pick waits it sleeps until another has moved. The
+ * forces are printed one a line, if they are those of one core; progress goes to standard error. In place of the file
+ * MOVEMENTS, `--seed NUMBER` draws movements. refusals.h has the exit statuses. */
 
 #include <pthread.h>
 #include <sched.h>
-#include <string.h>
 
 #include "net.h"
 
-/* A call judges all its lists anew, so bursts are long. */
-enum { WORKERS = 16, CLOSENESS = 60, GROUPS = 512, FIELDS = 6, STATE = 192, BURST = 1000, STACK = 4 << 20 };
+/* A call judges all its lists anew, so bursts are long. It keeps its tables in local arrays, so threads have a stack of
+ * twice what a call needs. */
+enum { CLOSENESS = 60, BURST = 1000, STACK = 2 * MZK_STACK_BYTES };
 
 static struct net net;
 
 static struct {
-    uint8_t order[4 * ROWS], groups[4 * FIELDS * GROUPS];
+    uint8_t order[4 * MZK_ROWS], groups[4 * MZK_GROUP_FIELDS * MZK_GROUPS];
     uint32_t count;
 } plan;
 
@@ -31,12 +28,13 @@ static struct {
 static struct {
     pthread_mutex_t lock;
     pthread_cond_t moved;
-    uint8_t state[STATE], sums[8 * ROWS];
+    uint8_t state[MZK_STATE_BYTES], sums[8 * MZK_ROWS];
     uint32_t moves;
 } run = { .lock = PTHREAD_MUTEX_INITIALIZER, .moved = PTHREAD_COND_INITIALIZER };
 
 /* The arguments that hand the whole job to a call, and those that hand over the state. */
-#define JOB MATRIX(&net), MOVEMENTS(&net), plan.order, sizeof plan.order, plan.groups, sizeof plan.groups, plan.count
+#define JOB MATRIX(&net), MOVEMENTS(&net), plan.order, 4 * (size_t)net.n, \
+    plan.groups, 4 * MZK_GROUP_FIELDS * (size_t)plan.count, plan.count
 #define AT run.state, sizeof run.state, run.sums, 8 * (size_t)net.n
 
 /* Draws movements for all rows from a seed. */
@@ -44,7 +42,7 @@ static void draw_movements(uint64_t bits)
 {
     for (uint32_t row = 0; row < net.n; row++) {
         bits = bits * 6364136223846793005u + 1442695040888963407u;
-        add_movement(&net, (long)((bits >> 33) % (2 * LARGEST + 1)) - LARGEST);
+        put_movement(&net, row, (int64_t)((bits >> 33) % (2 * LARGEST + 1)) - LARGEST);
     }
 }
 
@@ -55,7 +53,7 @@ static void tell_progress(uint32_t taken)
     run.moves += taken;
     if (run.moves / tell != (run.moves - taken) / tell) {
         uint32_t ready = accepted("ready", mzk_ready(JOB, AT));
-        fprintf(stderr, "%u moves made, %u workers ready\n", run.moves, ready >> 16);
+        fprintf(stderr, "%u moves made, %u workers ready\n", run.moves, MZK_READY_COUNT(ready));
     }
 }
 
@@ -70,15 +68,15 @@ static void *work(void *argument)
     pthread_mutex_lock(&run.lock);
     do {
         uint64_t word = mzk_picks(JOB, AT, picks, 1 + rand_r(&seed) % BURST);
-        number = number_of(word);
-        if (number != 0 && number != 12 && number != 13)
+        number = MZK_NUMBER(word);
+        if (number != MZK_ACCEPTED && number != MZK_DONE && number != MZK_WAITS)
             accepted("picks", word);
         bursts++;
-        if (count_of(word) > 0) { /* accepted or stopped, so many picks were taken */
-            tell_progress(count_of(word));
+        if (MZK_COUNT(word) > 0) { /* accepted or stopped, so many picks were taken */
+            tell_progress(MZK_COUNT(word));
             pthread_cond_broadcast(&run.moved);
         }
-        if (number == 13) {
+        if (number == MZK_WAITS) {
             waits++;
             pthread_cond_wait(&run.moved, &run.lock);
         } else { /* others may come to the lock */
@@ -86,7 +84,7 @@ static void *work(void *argument)
             sched_yield();
             pthread_mutex_lock(&run.lock);
         }
-    } while (number != 12);
+    } while (number != MZK_DONE);
     fprintf(stderr, "worker %u is done: %u bursts, %u waits\n", worker, bursts, waits);
     pthread_mutex_unlock(&run.lock);
     return NULL;
@@ -95,8 +93,8 @@ static void *work(void *argument)
 /* Runs the plan with a thread a worker. */
 static void run_threads(uint8_t workers)
 {
-    pthread_t threads[WORKERS];
-    uint8_t names[WORKERS];
+    pthread_t threads[MZK_WORKERS];
+    uint8_t names[MZK_WORKERS];
     pthread_attr_t attributes;
     pthread_attr_init(&attributes);
     pthread_attr_setstacksize(&attributes, STACK);
@@ -104,7 +102,7 @@ static void run_threads(uint8_t workers)
         names[worker] = worker;
         if (pthread_create(&threads[worker], &attributes, work, &names[worker]) != 0) {
             fprintf(stderr, "no thread for worker %u\n", worker);
-            exit(2);
+            exit(FAILED);
         }
     }
     for (uint8_t worker = 0; worker < workers; worker++)
@@ -112,29 +110,39 @@ static void run_threads(uint8_t workers)
     pthread_attr_destroy(&attributes);
 }
 
-int main(int argc, char **argv)
+/* Plans the net, runs the plan, and prints its forces if they are those of one core; the exit status. */
+static int run_stage(uint8_t workers)
 {
-    static uint8_t forces[8 * ROWS], product[8 * ROWS];
-    if (argc != 4) {
-        fprintf(stderr, "usage: stage MATRIX WORKERS MOVEMENTS\n");
-        return 2;
-    }
-    char *end;
-    uint32_t workers = strtoul(argv[2], NULL, 10);
-    uint64_t seed = strtoul(argv[3], &end, 10);
-    read_matrix(&net, argv[1]);
-    if (*end == '\0')
-        draw_movements(seed);
-    else
-        read_movements(&net, argv[3]);
+    static uint8_t forces[8 * MZK_ROWS], product[8 * MZK_ROWS];
+    size_t length = 8 * (size_t)net.n;
     plan.count = accepted("plan", mzk_plan(MATRIX(&net), workers, CLOSENESS, plan.order, sizeof plan.order,
                                            plan.groups, sizeof plan.groups));
     fprintf(stderr, "%u rows, %u workers, %u groups\n", net.n, workers, plan.count);
     run_threads(workers);
-    accepted("forces", mzk_forces(JOB, AT, forces, sizeof forces));
-    accepted("product", mzk_product(MATRIX(&net), MOVEMENTS(&net), product, sizeof product));
+    accepted("forces", mzk_forces(JOB, AT, forces, length));
+    accepted("product", mzk_product(MATRIX(&net), MOVEMENTS(&net), product, length));
+    if (memcmp(forces, product, length) != 0) {
+        fprintf(stderr, "NOT as on one core; no forces are printed\n");
+        return DIFFERENT;
+    }
+    fprintf(stderr, "as on one core\n");
     print_forces(forces, net.n);
-    int same = memcmp(forces, product, 8 * (size_t)net.n) == 0;
-    fprintf(stderr, same ? "as on one core\n" : "NOT as on one core\n");
-    return same ? 0 : 1;
+    return 0;
+}
+
+int main(int argc, char **argv)
+{
+    bool drawn = argc == 5 && strcmp(argv[3], "--seed") == 0;
+    if (!drawn && (argc != 4 || strcmp(argv[3], "--seed") == 0)) {
+        fprintf(stderr, "usage: stage MATRIX WORKERS MOVEMENTS\n       stage MATRIX WORKERS --seed NUMBER\n");
+        return REFUSED;
+    }
+    uint8_t workers = argument_number("WORKERS", argv[2], 1, MZK_WORKERS);
+    int64_t seed = drawn ? argument_number("NUMBER", argv[4], 0, UINT32_MAX) : 0;
+    read_matrix(&net, argv[1]);
+    if (drawn)
+        draw_movements(seed);
+    else
+        read_movements(&net, argv[3]);
+    return run_stage(workers);
 }

@@ -1,41 +1,91 @@
-/* Mazhoketh: force lists on shared cores. Functions of libmazhoketh.a.
+/* Mazhoketh: force lists on shared cores. The functions of libmazhoketh.a, for C and C++.
  *
- * A list is a pair: a pointer to bytes and their number. Numbers in a list are little-endian, low byte first:
- * row starts, columns, order and group fields are 32 bits without sign; values and movements 32 bits in two's
- * complement; sums and forces 64 bits in two's complement. A list's length in numbers is its bytes divided by the
- * number's width, rounded down; a trailing part is neither read nor written. Lists may be longer than what is read,
- * but for movements, sums and state.
+ * A list is a pair: a pointer to bytes and their number. Numbers in a list are little-endian, low byte first: row
+ * starts, columns, order and group fields are 32 bits without sign; values and movements 32 bits in two's complement;
+ * sums and forces 64 bits in two's complement. A list's length in numbers is its bytes divided by the number's width,
+ * rounded down; a trailing part is neither read nor written.
+ * Text and picks are read whole, and movements, sums and state have exactly the length needed: lend lengths there, not
+ * capacities. Other lists may be longer than what is read or written; but a call decodes what it is lent, up to the
+ * largest sizes below, so exact lengths are the fastest.
  *
- * Every call returns one word: the refusal's number in the high 32 bits (0: accepted), and in the low 32 bits the
- * refusal's place, or the accepted call's count, 0 where none is named. On a refusal nothing is written, but by the
- * picks of a list before the one that is refused.
+ * Values are whole N/mm, at most 1,000,000,000 either side of 0; movements whole micrometres, at most 1,000,000 either
+ * side of 0; forces then mN. A matrix is symmetric and held in full rows, each by ascending column.
  *
- * A matrix has 1 to 4,096 rows and at most 32,768 entries on and below the diagonal; it is symmetric, and held in full
- * rows, each by ascending column. Values are in N/mm, at most 1,000,000,000 either side of 0; movements in µm, at most
- * 1,000,000 either side of 0; forces in mN.
+ * The lists belong to the caller, and nothing is kept between calls. Calls may run at the same time if none writes a
+ * list of another; lists that are only read may be shared. In a call, a list that is written overlaps no other list.
+ * No pointer is null, also of an empty list.
  *
- * The lists belong to the caller; nothing is kept between calls, and calls may run at the same time on different
- * lists. A list that is written overlaps no other list of the call, and no pointer is null, also of an empty list.
- * A call uses up to 0.6 MiB of stack, mzk_plan up to 1 MiB, those on a run up to 1.3 MiB and mzk_read up to 2 MiB. */
+ * Stack: mzk_read uses up to 2 MiB, mzk_picks, mzk_ready and mzk_forces up to 1.3 MiB, mzk_plan up to 1 MiB, the others
+ * up to 0.6 MiB. A thread with MZK_STACK_BYTES and its own needs can make any call. */
 #ifndef MAZHOKETH_H
 #define MAZHOKETH_H
 
 #include <stddef.h>
 #include <stdint.h>
 
+#ifdef __cplusplus
+extern "C" {
+#endif
+
+/* Sizes, in numbers where they do not say bytes. */
+enum {
+    MZK_ROWS = 4096,             /* rows of a matrix, its order, movements, sums and forces, at most */
+    MZK_ROW_STARTS = 4097,       /* row starts, one more than rows, at most */
+    MZK_ENTRIES = 65536,         /* columns, and values, of all full rows, at most */
+    MZK_STORED = 32768,          /* entries on and below the diagonal, at most */
+    MZK_WORKERS = 16,            /* workers, at most */
+    MZK_GROUPS = 481,            /* records of a sound plan, at most: the room that mzk_plan needs */
+    MZK_GROUPS_LIMIT = 512,      /* records that may be lent: a higher group_count is refused */
+    MZK_GROUP_FIELDS = 6,        /* numbers of a record */
+    MZK_STATE_BYTES = 192,       /* the state of a run, always */
+    MZK_TEXT_BYTES = 1048576,    /* a text that is read, at most */
+    MZK_WRITTEN_BYTES = 720963,  /* a text that is written, at most: 51 + 16 + 32,768 x 22 */
+    MZK_STACK_BYTES = 2097152    /* the stack of a call, at most */
+};
+
+/* Every call returns one word: the refusal's number, 0 if it was accepted, and the refusal's place or the accepted
+ * call's count, 0 where none is named. The number is bits 32 to 39 alone; later calls carry more above it. */
+#define MZK_NUMBER(word) ((uint32_t)((uint64_t)(word) >> 32 & 0xff))
+#define MZK_PLACE(word) ((uint32_t)((uint64_t)(word) & 0xffffffff))
+#define MZK_COUNT(word) ((uint32_t)((uint64_t)(word) & 0xffffffff))
+
+/* The numbers of refusals, with their place (0 unless named). On a refusal nothing is written, but by the picks of a
+ * list before the one that is refused. */
+enum {
+    MZK_ACCEPTED = 0,
+    MZK_FIRST_LINE = 1,   /* line 1 of the text differs (1) */
+    MZK_FORM = 2,         /* text too long (0), or a line breaks the form, is missing or is one too many (its line) */
+    MZK_SIZE = 3,         /* rows differ from columns, or rows or entries are outside their limits (line) */
+    MZK_ENTRY = 4,        /* entry above the diagonal, outside the rows, given before, or value too large (line) */
+    MZK_NO_MATRIX = 5,    /* the lists are no matrix of n rows */
+    MZK_MOVEMENTS = 6,    /* not n movements (0), or one is too large (its index) */
+    MZK_PARAMETERS = 7,   /* workers not 1 to 16, or p not 50 to 99 */
+    MZK_UNSOUND = 8,      /* the plan is not sound for the matrix */
+    MZK_TOO_SHORT = 9,    /* a list to be written is too short (the numbers it needs; groups: the records) */
+    MZK_NO_WORKER = 10,   /* the pick names no worker of the plan (its index) */
+    MZK_NO_STATE = 11,    /* not 192 bytes of state, not n sums, or a count past its worker's moves */
+    MZK_DONE = 12,        /* the pick's worker is done: it has made all its moves (index) */
+    MZK_WAITS = 13,       /* the pick's worker waits: pick it again when another worker has moved (index) */
+    MZK_OVERFLOW = 14,    /* the sum to store passes 64 bits (index); never met in a run that began with zeros */
+    MZK_UNFINISHED = 15   /* a worker has moves left */
+};
+
 /* The matrix of a text, in full rows, into row_starts, columns and values; returns its number of rows. It has one row
- * start more than rows, and the last one is the number of its columns and of its values; at most 4,097, 65,536 and
- * 65,536 numbers are written.
- * Refused: 1 line 1 differs (place 1); 2 text too long (0), or a line breaks the form, is missing or is one too many
- * (its line); 3 the size line is outside the limits (its line); 4 an entry is, or stands above the diagonal, or is given
- * twice (its line); 9 row_starts, columns or values too short (the numbers needed by the first such). */
+ * start more than rows; the last one is the number of its columns and of its values.
+ * The text is Matrix Market's. Line 1 is `%%MatrixMarket matrix coordinate integer symmetric`. Then come any lines that
+ * begin with %, a line of rows, columns and number of entries, and for each entry a line of row, column and value,
+ * counted from 1, on or below the diagonal, in any order. One or more spaces stand between numbers, none at the ends of
+ * a line; a number has 1 to 10 digits, no needless leading zero, and before a value other than 0 perhaps a minus sign.
+ * Every line ends in one line feed, and nothing follows the last.
+ * Refused: 1, 2, 3, 4 line by line; 9 (row_starts, columns, values). */
 uint64_t mzk_read(const uint8_t *text, size_t text_bytes,
                   uint8_t *row_starts, size_t row_starts_bytes,
                   uint8_t *columns, size_t columns_bytes,
                   uint8_t *values, size_t values_bytes);
 
-/* A matrix of n rows as text, its bytes into text; returns their number. The text is measured before it is written.
- * Refused: 5 no matrix; 9 text too short (the number of bytes needed). */
+/* A matrix of n rows as such a text, by column, then row, without lines that begin with %; returns its bytes. It is
+ * measured before it is written.
+ * Refused: 5; 9 (text). */
 uint64_t mzk_write(uint32_t n,
                    const uint8_t *row_starts, size_t row_starts_bytes,
                    const uint8_t *columns, size_t columns_bytes,
@@ -43,7 +93,7 @@ uint64_t mzk_write(uint32_t n,
                    uint8_t *text, size_t text_bytes);
 
 /* The forces of a matrix of n rows: the full product with the movements, n numbers into forces.
- * Refused: 5 no matrix; 6 not n movements (place 0), or one is too large (its index); 9 forces too short (n). */
+ * Refused: 5; 6; 9 (forces). */
 uint64_t mzk_product(uint32_t n,
                      const uint8_t *row_starts, size_t row_starts_bytes,
                      const uint8_t *columns, size_t columns_bytes,
@@ -51,12 +101,12 @@ uint64_t mzk_product(uint32_t n,
                      const uint8_t *movements, size_t movements_bytes,
                      uint8_t *forces, size_t forces_bytes);
 
-/* The plan of a matrix for workers, 1 to 16, and p, 50 to 99: n rows into order, and for each group a record of six
- * numbers into groups (start, length, first worker, workers, colour, parent); returns the number of groups. Start and
- * length are positions in the order, the colour is 0 for the whole, 1 for red and 2 for blue, the parent is the number
- * of its record, and the whole's is 0.
- * At most 4,096 and 6 x 481 numbers are written.
- * Refused: 5 no matrix; 7 workers or p outside the limits; 9 order too short (n), or groups (the records needed). */
+/* The plan of a matrix: its n rows into order, and for each group a record into groups (start, length, first worker,
+ * workers, colour, parent); returns the number of groups. Start and length are positions in the order, the colour is 0
+ * for the whole, 1 for red and 2 for blue, the parent is the number of its record, and the whole's is 0.
+ * p, 50 to 99, is how near, in per cent, the load of a red and a blue group must come to a whole number of workers.
+ * Take 60 first: on the matrices of data/ 50 to 80 keep about as many workers moving, and 99 less than half as many.
+ * Refused: 5; 7; 9 (order, groups). */
 uint64_t mzk_plan(uint32_t n,
                   const uint8_t *row_starts, size_t row_starts_bytes,
                   const uint8_t *columns, size_t columns_bytes,
@@ -66,8 +116,10 @@ uint64_t mzk_plan(uint32_t n,
                   uint8_t *order, size_t order_bytes,
                   uint8_t *groups, size_t groups_bytes);
 
-/* Whether a plan is sound for a matrix: order, and group_count records of six numbers.
- * Refused: 5 no matrix; 8 plan not sound. */
+/* Whether a plan of group_count records is sound for a matrix: it has each row once, its groups are a tree as mzk_plan
+ * makes them, and no row of a group is joined to, or joined to a row that is joined to, a row of a sibling of the same
+ * colour. Plans of mzk_plan are.
+ * Refused: 5; 8. */
 uint64_t mzk_check(uint32_t n,
                    const uint8_t *row_starts, size_t row_starts_bytes,
                    const uint8_t *columns, size_t columns_bytes,
@@ -78,15 +130,14 @@ uint64_t mzk_check(uint32_t n,
 
 /* A run of a matrix of n rows, n movements and a sound plan is kept by the caller: a state of 192 bytes, and n sums in
  * plan order. The state has 16 counts of 32 bits without sign, the moves that each worker has made, and then the 16
- * numbers of 64 bits in two's complement that they hold. A run begins with zeros, in state and sums. Calls on one run
- * are made one at a time, in any order, by any threads. */
+ * numbers of 64 bits in two's complement that they hold. A run begins with zeros, in state and sums, and is finished
+ * after 2 picks a row and 4 a pair of joined rows. Calls on one run are made one at a time, in any order, by any
+ * threads. Each checks matrix and plan anew, which takes about as long as three products: make lists of picks long. */
 
 /* A list of picks, one byte each, the worker that moves: each makes its worker's next load or store on the sums, in
- * turn. Returns how many were taken, all of them; state and sums are as they left them.
- * Refused: 5 no matrix; 6 not n movements (place 0), or one is too large (its index); 8 plan not sound; 11 not 192
- * bytes of state, not n sums, or a count past its worker's moves. A pick is refused with its index as place, and state
- * and sums are as the picks before it left them: 10 no worker of the plan; 12 its worker has made all moves; 13 its
- * worker waits; 14 the sum to store passes 64 bits. */
+ * turn. Returns how many were taken, all of them. A pick that is refused has its index as place, which is how many were
+ * taken before it, and state and sums are as these left them.
+ * Refused: 5; 6; 8; 11; then pick by pick 10, 12, 13, 14. */
 uint64_t mzk_picks(uint32_t n,
                    const uint8_t *row_starts, size_t row_starts_bytes,
                    const uint8_t *columns, size_t columns_bytes,
@@ -101,7 +152,9 @@ uint64_t mzk_picks(uint32_t n,
 
 /* The ready set of a run: the workers whose next pick would be taken. Returns sixteen bits, bit 0 for worker 0, and
  * 65,536 times the count of those set.
- * Refused: 5, 6, 8, 11 as by mzk_picks. */
+ * Refused: 5; 6; 8; 11. */
+#define MZK_READY_SET(word) (MZK_COUNT(word) & 0xffff)
+#define MZK_READY_COUNT(word) (MZK_COUNT(word) >> 16)
 uint64_t mzk_ready(uint32_t n,
                    const uint8_t *row_starts, size_t row_starts_bytes,
                    const uint8_t *columns, size_t columns_bytes,
@@ -115,7 +168,7 @@ uint64_t mzk_ready(uint32_t n,
 
 /* The forces of a finished run, its sums in the order of the rows, n numbers into forces: the full product, if the run
  * began with zeros.
- * Refused: 5, 6, 8, 11 as by mzk_picks; 15 a worker has moves left; 9 forces too short (n). */
+ * Refused: 5; 6; 8; 11; 15; 9 (forces). */
 uint64_t mzk_forces(uint32_t n,
                     const uint8_t *row_starts, size_t row_starts_bytes,
                     const uint8_t *columns, size_t columns_bytes,
@@ -127,5 +180,9 @@ uint64_t mzk_forces(uint32_t n,
                     const uint8_t *state, size_t state_bytes,
                     const uint8_t *sums, size_t sums_bytes,
                     uint8_t *forces, size_t forces_bytes);
+
+#ifdef __cplusplus
+}
+#endif
 
 #endif

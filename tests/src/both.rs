@@ -1,4 +1,5 @@
-//! Calls made to the library and to the other implementation, and compared: the answer word, and every list that was lent.
+//! Calls made to the library and to the other implementation, and compared: the answer word, and every list that was
+//! lent.
 
 use crate::guarded::Twin;
 use crate::library;

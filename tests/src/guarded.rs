@@ -1,4 +1,5 @@
-//! Lists lent to the library so that no byte beside them is touched unseen, each with a copy for the other implementation.
+//! Lists lent to the library so that no byte beside them is touched unseen, each with a copy for the other
+//! implementation.
 //!
 //! A list ends where memory ends: reading or writing past its end stops the test at once. Before it stand guard bytes.
 

@@ -1,9 +1,13 @@
-//! Another implementation of document 01, written from its sentences alone, and the verified library to test and time against it.
+//! Another implementation of document 01, written from its sentences alone, and the verified library to test and time
+//! against it.
 
 pub mod both;
+pub mod built;
 pub mod cases;
 pub mod files;
+pub mod given;
 pub mod guarded;
 pub mod library;
 pub mod lists;
 pub mod oracle;
+pub mod progress;

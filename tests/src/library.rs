@@ -64,7 +64,8 @@ pub fn read(text: &[u8], row_starts: &mut [u8], columns: &mut [u8], values: &mut
     unsafe {
         mzk_read(
             text.as_ptr(), text.len(),
-            row_starts.as_mut_ptr(), row_starts.len(), columns.as_mut_ptr(), columns.len(), values.as_mut_ptr(), values.len(),
+            row_starts.as_mut_ptr(), row_starts.len(),
+            columns.as_mut_ptr(), columns.len(), values.as_mut_ptr(), values.len(),
         )
     }
 }

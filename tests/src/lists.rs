@@ -30,7 +30,7 @@ pub fn bytes<T: Copy, const W: usize>(numbers: &[T], word: fn(T) -> [u8; W]) -> 
     numbers.iter().flat_map(|&number| word(number)).collect()
 }
 
-/// The refusal's number in an answer word; 0 if the call was accepted.
+/// The refusal's number in an answer word, bits 32 to 39; 0 if the call was accepted.
 pub fn refusal_number(word: u64) -> usize {
-    (word >> 32) as usize
+    (word >> 32 & 0xff) as usize
 }

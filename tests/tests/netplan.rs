@@ -1,5 +1,6 @@
 //! The program `netplan`, which `rt check netplan` builds, beside the other implementation.
 
+use std::fs::File;
 use std::io::Write;
 use std::process::{Command, Stdio};
 
@@ -8,14 +9,18 @@ use mazhoketh_tests::oracle::prng::Prng;
 use mazhoketh_tests::oracle::text::{self, LINE_1};
 use mazhoketh_tests::oracle::{damage, nets};
 
+/// The program.
+const PROGRAM: &str = "../target/bin/netplan";
+
 /// The most bytes that the program takes.
 const LONGEST: usize = 24_576;
 
 /// What the program writes for an input.
 fn run(input: &[u8]) -> String {
-    let mut program = Command::new("../target/bin/netplan")
+    let mut program = Command::new(PROGRAM)
         .stdin(Stdio::piped())
         .stdout(Stdio::piped())
+        .stderr(Stdio::piped())
         .spawn()
         .expect("`rt check netplan` has built the program");
     let mut stdin = program.stdin.take().expect("its input is a pipe");
@@ -24,6 +29,7 @@ fn run(input: &[u8]) -> String {
     let output = program.wait_with_output().expect("the program runs");
     assert!(fed.is_ok() || input.len() > LONGEST, "all input is read");
     assert!(output.status.success(), "the program ends well");
+    assert!(output.stderr.is_empty(), "nothing is amiss");
     String::from_utf8(output.stdout).expect("the output is ASCII")
 }
 
@@ -77,6 +83,20 @@ fn runs_samples() {
         let read = |kind: &str| std::fs::read(format!("{name}{kind}")).expect("a sample's file");
         assert_eq!(run(&read("stdin")).as_bytes(), read("stdout"), "{name}");
     }
+}
+
+/// Output that cannot be written is said on standard error, and only that.
+#[test]
+fn says_unwritten_output() {
+    let input = File::open("../crates/netplan/stdin").expect("the chain's input");
+    let full = File::options().write(true).open("/dev/full");
+    let program = Command::new(PROGRAM)
+        .stdin(input)
+        .stdout(full.expect("the device can be opened"))
+        .stderr(Stdio::piped())
+        .output();
+    let told = program.expect("the program runs").stderr;
+    assert_eq!(told, b"netplan: standard output cannot be written\n");
 }
 
 #[test]

@@ -12,9 +12,10 @@ use Rattle.matrix.specs.Matrix.{Matrix}
 use Rattle.matrix.specs.Product.{product}
 use Rattle.run.specs.Job.{Job, jobOf}
 use Rattle.run.specs.Machine.{State, fresh, isState, steps}
-use Rattle.run.specs.Calls.{Call, picks, readySet, forceList, Answer, forces, pickedOf, answerOf, afterOf, stateCheck, answer, after, answers, afterAll}
+use Rattle.run.specs.Calls.{Call, picks, readySet, forceList, Answer, forces, pickedOf, answerOf, afterOf, stateCheck, answer, after}
 use Rattle.run.specs.EveryRun.{runState, runAnswers, finishedRun}
 use Rattle.run.specs.LentRuns.{passed, LentRun}
+use Rattle.run.proofs.Sequence.{all-answered, all-left, all-met}
 use Rattle.run.proofs.Accepted.{facts}
 use Rattle.run.proofs.AsModel.{fine, call-model}
 use Rattle.run.proofs.EveryRun.{every-run}
@@ -24,7 +25,7 @@ use Rattle.run.proofs.LentRuns.{lent-runs}
 use Rattle.words.specs.LittleEndian.{signedBytes, stored}
 use Rattle.lent.specs.Word.{word}
 use Rattle.cabinet.specs.Runs.{stateBytes, answerIn, replyTo, forceBytes, ForcesAnswered, bytesIn, leftBy}
-use Rattle.cabinet.specs.ByteRuns.{inBytes, byteAnswer, picksLeave, byteAfter, byteAnswers, byteAfterAll, runBytes, ByteRun, ByteRuns}
+use Rattle.cabinet.specs.ByteRuns.{inBytes, byteAnswer, picksLeave, byteAfter, byteAnswers, runBytes, ByteRun, ByteRuns}
 use Rattle.cabinet.proofs.StateBack.{Sized, state-length, state-back, sums-length, zeros-fresh}
 use Rattle.cabinet.proofs.StateBytes.{stored-over}
 
@@ -92,33 +93,24 @@ module _ (m : Matrix) (x : List ℤ) (order groups : List ℕ) (count : ℕ) (pa
   one-after s k readySet = rw (is-state s k)
   one-after s k (forceList room) = rw (is-state s k)
 
-  -- ---- a list of calls
-
-  all-answered : (s : State) → Met s → (cs : List Call) → byteAnswers m x order groups count (inBytes s) cs ≡ answers job s cs
-  unfolding byteAnswers answers
-  all-answered s k [] = refl
-  all-answered s k (c ∷ cs) = rw (one-answer s k c, one-after s k c, all-answered (after job s c) (met-after s k c) cs)
-
-  all-left : (s : State) → Met s → (cs : List Call) → byteAfterAll m x order groups count (inBytes s) cs ≡ inBytes (afterAll job s cs)
-  unfolding byteAfterAll afterAll
-  all-left s k [] = refl
-  all-left s k (c ∷ cs) = rw (one-after s k c) (all-left (after job s c) (met-after s k c) cs)
-
-  all-met : (s : State) → Met s → (cs : List Call) → Met (afterAll job s cs)
-  unfolding afterAll
-  all-met s k [] = k
-  all-met s k (c ∷ cs) = all-met (after job s c) (met-after s k c) cs
-
-  -- ---- a run
+  -- ---- a run, call by call
 
   module _ (cs : List Call) where
     met : Met (runState job cs)
     unfolding runState jobOf
-    met = all-met (fresh (m .n)) met-fresh cs
+    met = all-met (answer job) (after job) (byteAnswer m x order groups count) (byteAfter m x order groups count) inBytes Met one-answer one-after met-after (fresh (m .n)) met-fresh cs
 
     left : runBytes m x order groups count cs ≡ inBytes (runState job cs)
     unfolding runBytes runState jobOf
-    left = rw (zeros-fresh (m .n)) (all-left (fresh (m .n)) met-fresh cs)
+    left =
+        rw (zeros-fresh (m .n))
+        (all-left (answer job) (after job) (byteAnswer m x order groups count) (byteAfter m x order groups count) inBytes Met one-answer one-after met-after (fresh (m .n)) met-fresh cs)
+
+    answers-are : byteAnswers m x order groups count cs ≡ runAnswers job cs
+    unfolding byteAnswers runAnswers jobOf
+    answers-are =
+        rw (zeros-fresh (m .n))
+        (all-answered (answer job) (after job) (byteAnswer m x order groups count) (byteAfter m x order groups count) inBytes Met one-answer one-after met-after (fresh (m .n)) met-fresh cs)
 
     -- the answer to a force-list call once the run is finished
     product-answer : finishedRun job cs ≡ true → (room : ℕ) → m .n ≤ room → byteAnswer m x order groups count (runBytes m x order groups count cs) (forceList room) ≡ forces (product m x)
@@ -128,9 +120,8 @@ module _ (m : Matrix) (x : List ℤ) (order groups : List ℕ) (count : ℕ) (pa
         rw left (one-answer (runState job cs) met (forceList room) ∙ run .forced o room l ∙ ap forces (run .whole o))
 
     byte-run : ByteRun m x order groups count cs
-    unfolding runAnswers jobOf
     byte-run = record {
-      answered = rw (zeros-fresh (m .n)) (all-answered (fresh (m .n)) met-fresh cs);
+      answered = answers-are;
       left = left;
       read-back = rw left (state-back (runState job cs) (sized (runState job cs) met));
       forced = λ o old returned new room h. forces-left (product-answer o (length old / 8) (omega arith)) h;

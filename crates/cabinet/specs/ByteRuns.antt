@@ -1,7 +1,7 @@
 -- A run whose state and sums stand in bytes from call to call, as a caller of the exported functions keeps them: it is the run that every-run speaks of.
 use mathlib.Core.Path.{_≡_}
 use mathlib.Core.Bool.{true}
-use mathlib.Core.List.{List, [], _∷_}
+use mathlib.Core.List.{List}
 use Prim.Native.Nat.{ℕ, _*_, _/_, _≤_}
 use lib.IntN.{ℤ}
 use lib.ListN.{length, replicate}
@@ -10,6 +10,7 @@ use Rattle.matrix.specs.Product.{product}
 use Rattle.run.specs.Job.{jobOf}
 use Rattle.run.specs.Machine.{State}
 use Rattle.run.specs.Calls.{Call, picks, readySet, forceList, Answer, afterLent}
+use Rattle.run.specs.Sequence.{answersFrom, stateAfter}
 use Rattle.run.specs.EveryRun.{runState, runAnswers, finishedRun}
 use Rattle.run.specs.LentRuns.{passed}
 use Rattle.words.specs.LittleEndian.{signedBytes, stored}
@@ -45,22 +46,16 @@ module _ (m : Matrix) (x : List ℤ) (order groups : List ℕ) (count : ℕ) whe
   byteAfter b readySet = b
   byteAfter b (forceList room) = b
 
-  -- a list of calls, each "handed both as the last one left them"
-  unfoldable pub byteAnswers : Bytes → List Call → List Answer
-  byteAnswers b [] = []
-  byteAnswers b (c ∷ cs) = byteAnswer b c ∷ byteAnswers (byteAfter b c) cs
+  -- "Each run begins fresh": the answers to a list of calls, and the bytes after it
+  unfoldable pub byteAnswers : List Call → List Answer
+  byteAnswers cs = answersFrom byteAnswer byteAfter (zeros (m .n)) cs
 
-  unfoldable pub byteAfterAll : Bytes → List Call → Bytes
-  byteAfterAll b [] = b
-  byteAfterAll b (c ∷ cs) = byteAfterAll (byteAfter b c) cs
-
-  -- "Each run begins fresh": the bytes after a list of calls
   unfoldable pub runBytes : List Call → Bytes
-  runBytes cs = byteAfterAll (zeros (m .n)) cs
+  runBytes cs = stateAfter byteAfter (zeros (m .n)) cs
 
 pub record ByteRun (m : Matrix) (x : List ℤ) (order groups : List ℕ) (count : ℕ) (cs : List Call) : Type 0 where
   -- the answers are those of the run of the job in the lists
-  pub answered : byteAnswers m x order groups count (zeros (m .n)) cs ≡ runAnswers (jobOf m x order groups count) cs
+  pub answered : byteAnswers m x order groups count cs ≡ runAnswers (jobOf m x order groups count) cs
   -- the bytes after the calls are those of its state
   pub left : runBytes m x order groups count cs ≡ inBytes (runState (jobOf m x order groups count) cs)
   -- and stand for that state: no number is lost in them

@@ -1,22 +1,26 @@
 -- The answers of all calls are the model's: 11 is never met.
 use mathlib.Core.Path.{_≡_, refl, ap}
-use mathlib.Core.Bool.{Bool, true, false}
+use mathlib.Core.Bool.{Bool, true, false, cond}
 use mathlib.Core.List.{List, [], _∷_, _++_}
 use Prim.Native.Nat.{ℕ, zero, suc, _≤_}
+use native.Mathlib.Omega.{arith}
 use lib.ListN.{length}
-use lib.Dec.{leb}
-use borrow.Author.Tests.{eq-eqb, le-leb}
+use lib.Dec.{eqb, leb}
+use borrow.Author.Tests.{eq-eqb, ne-eqb, le-leb}
+use Rattle.base.specs.Refusals as no
 use Rattle.base.specs.Replies.{inTurn}
 use Rattle.matrix.specs.Product.{product}
 use Rattle.plan.specs.Sound.{maxWorkers}
 use Rattle.run.specs.Job.{Job}
 use Rattle.run.specs.Updates.{count, accesses}
 use Rattle.run.specs.Machine.{State, over, original, countsFine, isState}
-use Rattle.run.specs.Calls.{Call, picks, readySet, forceList, Answer, forcesOf, stateCheck, answerOf, afterOf, answer, after, answers, afterAll}
-use Rattle.run.specs.Model.{modelAnswer, modelAfter, modelAnswers, modelCounts, takenNow, takenPicks}
+use Rattle.run.specs.Calls.{Call, picks, readySet, forceList, Answer, picked, forces, refused, placeOf, pickedOf, readyOf, forcesOf, stateCheck, answerOf, afterOf, answer, after}
+use Rattle.run.specs.Sequence.{answersFrom, stateAfter}
+use Rattle.run.specs.Model.{note, modelAnswer, modelAfter, modelAnswers, modelCounts, takenNow, takenPicks}
 use Rattle.run.specs.OneAccess.{Walk, stay, andThen}
 use Rattle.run.proofs.Facts.{Facts}
 use Rattle.run.proofs.Invariant.{Inv}
+use Rattle.run.proofs.Book.{able-bits, able-count, finished-is}
 use Rattle.run.proofs.Taken.{steps-model, walks}
 use Rattle.run.proofs.Finished.{forces-product}
 
@@ -26,12 +30,28 @@ walk-on j stay y = y
 walk-on j (andThen a x) y = andThen a (walk-on j x y)
 
 module _ (j : Job) (F : Facts j) where
-  -- the answer to a force-list call
-  forces-model : (s : State) → Inv j s → (room : ℕ) (b : Bool) → over j (s .made) ≡ b
-      → forcesOf b (leb (j .matrix .n) room) (j .matrix .n) (original j (s .sums)) ≡ forcesOf b (leb (j .matrix .n) room) (j .matrix .n) (product (j .matrix) (j .displacements))
-  unfolding forcesOf
-  forces-model s I room true e = rw (forces-product j F s I e) refl
-  forces-model s I room false e = refl
+  -- the answer to a list of picks
+  picked-model : (taken number : ℕ) → pickedOf taken number ≡ picked taken number (cond (eqb number 0) 0 taken)
+  unfolding pickedOf placeOf
+  picked-model taken zero = refl
+  picked-model taken (suc k) = rw (ne-eqb (suc k) 0 (λ e. omega arith)) refl
+
+  -- .. to a ready-set call
+  ready-model : (s : State) → Inv j s → readyOf j (s .made) ≡ modelAnswer j (s .made) readySet
+  unfolding readyOf modelAnswer
+  ready-model s I = rw (able-bits j (s .made) (I .bounded), able-count j (s .made) (I .bounded)) refl
+
+  -- .. to a force-list call
+  forces-model : (s : State) → Inv j s → (room : ℕ)
+      → forcesOf (over j (s .made)) (leb (j .matrix .n) room) (j .matrix .n) (original j (s .sums)) ≡ modelAnswer j (s .made) (forceList room)
+  unfolding modelAnswer forcesOf
+  forces-model s I room = rw (finished-is j (s .made) (I .bounded)) (go (over j (s .made)) refl (leb (j .matrix .n) room))
+    where
+      go : (b : Bool) → over j (s .made) ≡ b → (c : Bool)
+          → forcesOf b c (j .matrix .n) (original j (s .sums)) ≡ cond b (cond c (forces (product (j .matrix) (j .displacements))) (refused no.short (j .matrix .n))) (refused no.early 0)
+      go true e true = rw (forces-product j F s I e) refl
+      go true e false = refl
+      go false e c = refl
 
   -- one call
   pub record Kept (s : State) (c : Call) : Type 0 where
@@ -54,20 +74,20 @@ module _ (j : Job) (F : Facts j) where
   -- a call from a state with the invariant keeps it, and is answered as the model answers
   pub call-model : (s : State) → Inv j s → (c : Call) → Kept s c
   unfolding answer after stateCheck inTurn answerOf afterOf modelAnswer modelAfter takenNow
-  call-model s I (picks ws) = let a = steps-model j F s I ws in record { inv = rw (fine s I) (a .inv); made = rw (fine s I) (a .made); same = rw (fine s I, a .count, a .number) refl; walked = rw (fine s I) (walks j F s I ws) }
-  call-model s I readySet = record { inv = rw (fine s I) I; made = rw (fine s I) refl; same = rw (fine s I) refl; walked = rw (fine s I) stay }
-  call-model s I (forceList room) = record { inv = rw (fine s I) I; made = rw (fine s I) refl; same = rw (fine s I) (forces-model s I room (over j (s .made)) refl); walked = rw (fine s I) stay }
+  call-model s I (picks ws) = let a = steps-model j F s I ws in record { inv = rw (fine s I) (a .inv); made = rw (fine s I) (a .made); same = rw (fine s I, a .count, a .number) (picked-model (note j (s .made) ws .taken) (note j (s .made) ws .number)); walked = rw (fine s I) (walks j F s I ws) }
+  call-model s I readySet = record { inv = rw (fine s I) I; made = rw (fine s I) refl; same = rw (fine s I) (ready-model s I); walked = rw (fine s I) stay }
+  call-model s I (forceList room) = record { inv = rw (fine s I) I; made = rw (fine s I) refl; same = rw (fine s I) (forces-model s I room); walked = rw (fine s I) stay }
 
   -- a list of calls
   pub record AllKept (s : State) (cs : List Call) : Type 0 where
-    pub inv : Inv j (afterAll j s cs)
-    pub made : afterAll j s cs .made ≡ modelCounts j (s .made) cs
-    pub same : answers j s cs ≡ modelAnswers j (s .made) cs
-    pub walked : Walk j s (takenPicks j (s .made) cs) (afterAll j s cs)
+    pub inv : Inv j (stateAfter (after j) s cs)
+    pub made : stateAfter (after j) s cs .made ≡ modelCounts j (s .made) cs
+    pub same : answersFrom (answer j) (after j) s cs ≡ modelAnswers j (s .made) cs
+    pub walked : Walk j s (takenPicks j (s .made) cs) (stateAfter (after j) s cs)
 
   -- .. and so all calls of a list
   pub calls-model : (s : State) → Inv j s → (cs : List Call) → AllKept s cs
-  unfolding answers afterAll modelAnswers modelCounts takenPicks
+  unfolding answersFrom stateAfter modelAnswers modelCounts takenPicks
   calls-model s I [] = record { inv = I; made = refl; same = refl; walked = stay }
   calls-model s I (c ∷ cs) =
       let k = call-model s I c in

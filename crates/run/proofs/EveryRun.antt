@@ -4,7 +4,7 @@ use mathlib.Core.Bool.{true, false}
 use mathlib.Core.List.{List, [], _∷_}
 use Prim.Native.Nat.{ℕ, _<_}
 use native.Mathlib.Omega.{arith}
-use lib.ListN.{getD, length-map}
+use lib.ListN.{length, getD, length-map}
 use lib.IntN.{ℤ, pos}
 use borrow.Author.Tests.{le-leb}
 use Rattle.base.specs.Lists.{range}
@@ -14,8 +14,8 @@ use Rattle.base.proofs.Sums.{sum-below-same, sum-below-equal}
 use Rattle.matrix.specs.Product.{forceAt, product}
 use Rattle.run.specs.Job.{Job, Accepted, rowAt}
 use Rattle.run.specs.Updates.{count, accesses}
-use Rattle.run.specs.Machine.{fresh, workers, oneMore, steps, positionOf, original}
-use Rattle.run.specs.Calls.{Call, picks, picked, placeOf, pickedOf, forcesOf, stateCheck, answerOf, answer}
+use Rattle.run.specs.Machine.{fresh, workers, oneMore, steps, ready, bits, over, positionOf, original}
+use Rattle.run.specs.Calls.{Call, picks, readySet, picked, isReady, placeOf, pickedOf, readyOf, forcesOf, stateCheck, answerOf, answer}
 use Rattle.run.specs.Model.{noCounts, takenPicks, modelAnswers, modelCounts}
 use Rattle.run.specs.OneAccess.{Walk}
 use Rattle.run.specs.EveryRun.{takenIn, runState, runAnswers, finishedRun, runForces, EveryRun, EqualForces, Demand3}
@@ -24,6 +24,7 @@ use Rattle.run.proofs.Able.{able-refusal}
 use Rattle.run.proofs.Schedule.{steps-on}
 use Rattle.run.proofs.OneAccess.{one-way}
 use Rattle.run.proofs.Taken.{taken}
+use Rattle.run.proofs.Book.{finished-is}
 use Rattle.run.proofs.Finished.{over-made, made-over, forces-product}
 use Rattle.run.proofs.AsModel.{AllKept, calls-model, fine}
 use Rattle.run.proofs.Progress.{some-able, progress}
@@ -46,6 +47,11 @@ module _ (j : Job) (ok : Accepted j) (cs : List Call) where
   unfolding runState fresh noCounts
   counted = kept .made
 
+  -- finished by the model's counts is finished by the machine's
+  pub finished-over : finishedRun j cs ≡ over j (runState j cs .made)
+  unfolding finishedRun
+  finished-over = rw (← counted) (finished-is j (runState j cs .made) (inv .bounded))
+
   -- .. and so are the answers
   pub answered : runAnswers j cs ≡ modelAnswers j noCounts cs
   unfolding runAnswers fresh noCounts
@@ -61,8 +67,8 @@ module _ (j : Job) (ok : Accepted j) (cs : List Call) where
   taken-is = rw (counted, answered) (taken-all j (facts j ok .few) cs)
 
   whole : finishedRun j cs ≡ true → runForces j cs ≡ product (j .matrix) (j .displacements)
-  unfolding finishedRun runForces
-  whole o = forces-product j (facts j ok) (runState j cs) inv o
+  unfolding runForces
+  whole o = forces-product j (facts j ok) (runState j cs) inv (sym finished-over ∙ o)
 
   in-place : (p : ℕ) → p < j .matrix .n → getD (runForces j cs) (rowAt j p) (pos 0) ≡ getD (runState j cs .sums) p (pos 0)
   unfolding runForces original
@@ -71,28 +77,33 @@ module _ (j : Job) (ok : Accepted j) (cs : List Call) where
       ∙ ap (λ (q : ℕ). getD (runState j cs .sums) q (pos 0)) (position-row j ok p l)
 
   can-move : finishedRun j cs ≡ false → (w : ℕ) × (w < workers j) × (answer j (runState j cs) (picks (w ∷ [])) ≡ picked 1 0 0)
-  unfolding finishedRun answer stateCheck inTurn answerOf pickedOf placeOf steps oneMore
+  unfolding answer stateCheck inTurn answerOf pickedOf placeOf steps oneMore
   can-move o =
       let s = runState j cs in
-      let (w, a) = some-able j (s .made) (tree-of j ok) o in
+      let (w, a) = some-able j (s .made) (tree-of j ok) (sym finished-over ∙ o) in
       let t = taken j (facts j ok) s inv w (able-refusal j (s .made) w a) in
       (w, a .inPlan, rw (fine j (facts j ok) s inv, steps-on j s w [] (t .state) (t .is)) refl)
 
+  -- the answer to a ready-set call
+  pub ready-is : answer j (runState j cs) readySet ≡ isReady (bits (ready j (runState j cs .made))) (length (ready j (runState j cs .made)))
+  unfolding answer stateCheck inTurn answerOf readyOf
+  ready-is = rw (fine j (facts j ok) (runState j cs) inv) refl
+
   one-run : EveryRun j cs
-  unfolding finishedRun answer stateCheck inTurn answerOf forcesOf product runForces original
+  unfolding answer stateCheck inTurn answerOf forcesOf product runForces original
   one-run = record {
     answered = answered;
     counted = counted;
     walked = walked;
-    enough = λ o. sym taken-is ∙ sum-below-same (count made) (accesses j) (workers j) (λ w l. omega (arith, over-made j made o w l, inv .bounded w)) ∙ accesses-of j ok;
-    only-then = λ e. made-over j made (λ w l. omega (arith, sum-below-equal (count made) (accesses j) (workers j) (inv .bounded) (taken-is ∙ e ∙ sym (accesses-of j ok)) w l));
+    enough = λ o. sym taken-is ∙ sum-below-same (count made) (accesses j) (workers j) (λ w l. omega (arith, over-made j made (sym finished-over ∙ o) w l, inv .bounded w)) ∙ accesses-of j ok;
+    only-then = λ e. finished-over ∙ made-over j made (λ w l. omega (arith, sum-below-equal (count made) (accesses j) (workers j) (inv .bounded) (taken-is ∙ e ∙ sym (accesses-of j ok)) w l));
     long = length-map (range 0 (j .matrix .n)) (λ i. getD (runState j cs .sums) (positionOf (j .plan .order) i) (pos 0)) ∙ length-range 0 (j .matrix .n);
     in-place = in-place;
-    forced = λ o room l. rw (fine j (facts j ok) (runState j cs) inv, o, le-leb (j .matrix .n) room l) refl;
+    forced = λ o room l. rw (fine j (facts j ok) (runState j cs) inv, sym finished-over ∙ o, le-leb (j .matrix .n) room l) refl;
     entries = λ o i l. ap (λ (zs : List ℤ). getD zs i (pos 0)) (whole o) ∙ map-range-zero (forceAt (j .matrix) (j .displacements)) (j .matrix .n) i (pos 0) l;
     whole = whole;
     can-move = can-move;
-    ready-set = progress j made (tree-of j ok);
+    ready-set = λ o. (bits (ready j made), length (ready j made), ready-is, progress j made (tree-of j ok) (sym finished-over ∙ o));
   }
     where
       made : List ℕ

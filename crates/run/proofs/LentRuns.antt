@@ -13,9 +13,13 @@ use Rattle.base.proofs.Each.{Each}
 use Rattle.matrix.specs.Matrix.{Matrix, matrixCheck, displacementCheck}
 use Rattle.plan.specs.Groups.{width, planOf}
 use Rattle.plan.specs.Sound.{maxGroups, isSound, isPlan, planCheck}
-use Rattle.run.specs.Job.{jobOf}
-use Rattle.run.specs.Calls.{refused, answer, after, jobChecks, answerLent, afterLent}
+use Rattle.run.specs.Job.{Job, jobOf}
+use Rattle.run.specs.Machine.{State, fresh}
+use Rattle.run.specs.Calls.{Call, refused, answer, after, jobChecks, answerLent, afterLent}
+use Rattle.run.specs.Sequence.{answersFrom, stateAfter}
+use Rattle.run.specs.EveryRun.{runState, runAnswers}
 use Rattle.run.specs.LentRuns.{passed, LentRun, LentRuns}
+use Rattle.run.proofs.Sequence.{all-answered, all-left}
 
 -- checks that all hold, one by one
 each-holds : (cs : List Check) → all (λ c. c .holds) cs ≡ true → Each (λ c. c .holds ≡ true) cs
@@ -35,16 +39,41 @@ plan-sound m order groups count h =
     conj-at (leb (m .n) (length order)) (leb count maxGroups ∷ leb (width * count) (length groups) ∷ isSound m (planOf (m .n) order groups count) ∷ []) h 2
 
 module _ (m : Matrix) (x : List ℤ) (order groups : List ℕ) (count : ℕ) (h : passed m x order groups count ≡ true) where
+  abbrev job : Job
+  job = jobOf m x order groups count
+
+  abbrev checks : List Check
+  checks = jobChecks m x order groups count
+
+  each : Each (λ c. c .holds ≡ true) checks
+  unfolding passed
+  each = each-holds checks h
+
+  answered : (s : State) (c : Call) → answerLent m x order groups count s c ≡ answer job s c
+  unfolding answerLent
+  answered s c = none-refused refused checks (answer job s c) each
+
+  left : (s : State) (c : Call) → afterLent m x order groups count s c ≡ after job s c
+  unfolding afterLent
+  left s c = none-refused (λ number place. s) checks (after job s c) each
+
+  -- one call after the other
+  module _ (cs : List Call) where
+    alike : answersFrom (answerLent m x order groups count) (afterLent m x order groups count) (fresh (m .n)) cs ≡ answersFrom (answer job) (after job) (fresh (m .n)) cs
+    alike = all-answered (answer job) (after job) (answerLent m x order groups count) (afterLent m x order groups count) (λ s. s) (λ s. Unit {0}) (λ s k. answered s) (λ s k. left s) (λ s k c. tt) (fresh (m .n)) tt cs
+
+    same-left : stateAfter (afterLent m x order groups count) (fresh (m .n)) cs ≡ stateAfter (after job) (fresh (m .n)) cs
+    same-left = all-left (answer job) (after job) (answerLent m x order groups count) (afterLent m x order groups count) (λ s. s) (λ s. Unit {0}) (λ s k. answered s) (λ s k. left s) (λ s k c. tt) (fresh (m .n)) tt cs
+
   lent-run : LentRun m x order groups count
-  unfolding passed jobChecks matrixCheck displacementCheck planCheck jobOf answerLent afterLent
-  lent-run =
-      let checks : List Check = jobChecks m x order groups count in
-      let each = each-holds checks h in
-      record {
-        accepted = record { matrix = each .0; displacements = each .1 .0; plan = plan-sound m order groups count (each .1 .1 .0) };
-        answered = λ s c. none-refused refused checks (answer (jobOf m x order groups count) s c) each;
-        left = λ s c. none-refused (λ number place. s) checks (after (jobOf m x order groups count) s c) each;
-      }
+  unfolding jobChecks matrixCheck displacementCheck planCheck jobOf runAnswers runState
+  lent-run = record {
+    accepted = record { matrix = each .0; displacements = each .1 .0; plan = plan-sound m order groups count (each .1 .1 .0) };
+    answered = answered;
+    left = left;
+    all-answered = alike;
+    all-left = same-left;
+  }
 
 -- the theorem
 pub lent-runs : LentRuns

@@ -1,3 +1,4 @@
+pub mod Sequence
 pub mod Amounts
 pub mod Facts
 pub mod Invariant
@@ -25,6 +26,7 @@ pub mod Positions
 pub mod OrderSums
 pub mod RowShares
 pub mod Total
+pub mod Book
 pub mod Bound
 pub mod Past
 pub mod Seek
@@ -35,6 +37,7 @@ pub mod Tally
 pub mod Small
 pub mod Accepted
 pub mod EveryRun
+pub mod OneMachine
 pub mod Consequences
 pub mod LentRuns
 pub mod Fits

@@ -9,7 +9,7 @@ use Rattle.base.specs.Integers.{fits64}
 use Rattle.run.specs.Job.{Job}
 use Rattle.run.specs.Updates.{Update, count, next}
 use Rattle.run.specs.Machine.{State, refusal, moved, halted, onward, load, total, store, access, move, stepIf, step, oneMore, steps}
-use Rattle.run.specs.Model.{oneNoted, note}
+use Rattle.run.specs.Model.{added, ending, oneNoted, note}
 
 -- a step that the counts refuse
 pub step-end : (j : Job) (s : State) (w k : ℕ) → refusal j (s .made) w ≡ suc k → step j s w ≡ halted (suc k)
@@ -31,12 +31,12 @@ module _ (j : Job) (s : State) (w : ℕ) (ws : List ℕ) where
 -- .. and of the model
 module _ (j : Job) (made : List ℕ) (w : ℕ) (ws : List ℕ) where
   -- it is taken
-  pub note-on : refusal j made w ≡ 0 → note j made (w ∷ ws) ≡ oneNoted (note j (onward made w) ws)
+  pub note-on : ending j made w ≡ 0 → note j made (w ∷ ws) ≡ oneNoted (note j (added made w) ws)
   unfolding note
   note-on e = rw (e, note)
 
   -- it ends the call
-  pub note-end : (k : ℕ) → refusal j made w ≡ suc k → note j made (w ∷ ws) ≡ record { made = made; taken = 0; number = suc k }
+  pub note-end : (k : ℕ) → ending j made w ≡ suc k → note j made (w ∷ ws) ≡ record { counts = made; taken = 0; number = suc k }
   unfolding note
   note-end k e = rw (e, note)
 

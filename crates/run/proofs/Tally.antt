@@ -1,25 +1,25 @@
 -- The model's counts together are the steps that its answers say were taken.
 use mathlib.Core.Path.{_≡_, refl, _∙_}
-use mathlib.Core.Bool.{Bool, true, false}
+use mathlib.Core.Bool.{Bool, true, false, cond}
 use mathlib.Core.List.{List, [], _∷_}
 use Prim.Native.Nat.{ℕ, zero, suc, _+_, _≤_, _<_}
 use native.Mathlib.Omega.{arith}
 use lib.ListN.{length, set, replicate, length-set}
 use lib.Seq.{getD-set-same, getD-set-other}
 use lib.Dec.{leb}
-use lib.IntN.{ℤ}
 use Rattle.base.specs.Lists.{sumBelow}
+use Rattle.base.specs.Refusals as no
 use Rattle.base.proofs.Sums.{sum-below-more}
 use Rattle.matrix.specs.Product.{product}
 use Rattle.plan.specs.Sound.{maxWorkers}
 use Rattle.run.specs.Job.{Job}
 use Rattle.run.specs.Updates.{count}
-use Rattle.run.specs.Machine.{workers, refusal, onward, over}
-use Rattle.run.specs.Calls.{Call, picks, readySet, forceList, pickedOf, readyOf, forcesOf}
-use Rattle.run.specs.Model.{noCounts, oneNoted, note, modelAnswer, modelAfter, modelAnswers, modelCounts}
+use Rattle.run.specs.Machine.{workers}
+use Rattle.run.specs.Calls.{Call, picks, readySet, forceList, forces, refused}
+use Rattle.run.specs.Model.{noCounts, added, ending, oneNoted, note, isFinished, modelAnswer, modelAfter, modelAnswers, modelCounts}
 use Rattle.run.specs.EveryRun.{takenOf, takenIn}
 use Rattle.run.proofs.Invariant.{zero-count}
-use Rattle.run.proofs.Able.{able}
+use Rattle.run.proofs.Book.{ending-in}
 use Rattle.run.proofs.Schedule.{note-on, note-end}
 
 module _ (j : Job) (few : workers j ≤ maxWorkers) where
@@ -32,36 +32,36 @@ module _ (j : Job) (few : workers j ≤ maxWorkers) where
     more : madeIn new ≡ madeIn made + k
     long : length new ≡ maxWorkers
 
-  one-more : (made : List ℕ) (w : ℕ) → length made ≡ maxWorkers → w < workers j → madeIn (onward made w) ≡ madeIn made + 1
-  unfolding onward
+  one-more : (made : List ℕ) (w : ℕ) → length made ≡ maxWorkers → w < workers j → madeIn (added made w) ≡ madeIn made + 1
+  unfolding added
   one-more made w l h =
       sum-below-more (count made) (count (set made w (suc (count made w)))) 1 (workers j) w h
       (getD-set-same made w (suc (count made w)) 0 (omega arith) ∙ (let e : suc (count made w) ≡ count made w + 1 = omega arith in e))
       (λ v d. getD-set-other made w v (suc (count made w)) 0 d)
 
   -- a schedule
-  noted : (made ws : List ℕ) → length made ≡ maxWorkers → Tally made (note j made ws .made) (note j made ws .taken)
-  unfolding note oneNoted onward
+  noted : (made ws : List ℕ) → length made ≡ maxWorkers → Tally made (note j made ws .counts) (note j made ws .taken)
+  unfolding note oneNoted added
   noted made [] l = record { more = omega arith; long = l }
-  noted made (w ∷ ws) l = go (refusal j made w) refl (noted (onward made w) ws (length-set made w (suc (count made w)) ∙ l))
+  noted made (w ∷ ws) l = go (ending j made w) refl (noted (added made w) ws (length-set made w (suc (count made w)) ∙ l))
     where
-      go : (k : ℕ) → refusal j made w ≡ k → Tally (onward made w) (note j (onward made w) ws .made) (note j (onward made w) ws .taken)
-          → Tally made (note j made (w ∷ ws) .made) (note j made (w ∷ ws) .taken)
-      go zero e ih = rw (note-on j made w ws e) (record { more = omega (arith, ih .more, one-more made w l (able j made w e .inPlan)); long = ih .long })
+      go : (k : ℕ) → ending j made w ≡ k → Tally (added made w) (note j (added made w) ws .counts) (note j (added made w) ws .taken)
+          → Tally made (note j made (w ∷ ws) .counts) (note j made (w ∷ ws) .taken)
+      go zero e ih = rw (note-on j made w ws e) (record { more = omega (arith, ih .more, one-more made w l (ending-in j made w e)); long = ih .long })
       go (suc k) e ih = rw (note-end j made w ws k e) (record { more = omega arith; long = l })
 
   -- a call
   called : (made : List ℕ) (c : Call) → length made ≡ maxWorkers → Tally made (modelAfter j made c) (takenOf (modelAnswer j made c))
-  unfolding modelAfter modelAnswer takenOf pickedOf readyOf forcesOf
+  unfolding modelAfter modelAnswer takenOf
   called made (picks ws) l = noted made ws l
   called made readySet l = record { more = omega arith; long = l }
   called made (forceList room) l =
-      record { more = omega (arith, none (over j made) (leb (j .matrix .n) room) (j .matrix .n) (product (j .matrix) (j .displacements))); long = l }
+      record { more = omega (arith, none (isFinished j made) (leb (j .matrix .n) room)); long = l }
     where
-      none : (a b : Bool) (n : ℕ) (zs : List ℤ) → takenOf (forcesOf a b n zs) ≡ 0
-      none false b n zs = refl
-      none true false n zs = refl
-      none true true n zs = refl
+      none : (a b : Bool) → takenOf (cond a (cond b (forces (product (j .matrix) (j .displacements))) (refused no.short (j .matrix .n))) (refused no.early 0)) ≡ 0
+      none false b = refl
+      none true false = refl
+      none true true = refl
 
   -- a list of calls
   tallied : (made : List ℕ) (cs : List Call) → length made ≡ maxWorkers → madeIn (modelCounts j made cs) ≡ madeIn made + takenIn (modelAnswers j made cs)

@@ -62,15 +62,6 @@ answer j s c = inTurn refused (stateCheck j s) (answerOf j s c)
 unfoldable pub after : Job → State → Call → State
 after j s c = inTurn (λ number place. s) (stateCheck j s) (afterOf j s c)
 
--- the answers to a list of calls, each "handed both as the last one left them"
-unfoldable pub answers : Job → State → List Call → List Answer
-answers j s [] = []
-answers j s (c ∷ cs) = answer j s c ∷ answers j (after j s c) cs
-
-unfoldable pub afterAll : Job → State → List Call → State
-afterAll j s [] = s
-afterAll j s (c ∷ cs) = afterAll j (after j s c) cs
-
 -- ---- a call on lent lists, any whatever: 5, 6, 8 come before 11
 
 unfoldable pub jobChecks : Matrix → List ℤ → (order groups : List ℕ) (count : ℕ) → List Check

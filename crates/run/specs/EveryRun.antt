@@ -10,10 +10,11 @@ use Rattle.matrix.specs.Product.{forceAt, product}
 use Rattle.run.specs.Job.{Job, Accepted, rowAt}
 use Rattle.run.specs.Tree.{tree, leaves}
 use Rattle.run.specs.Updates.{updates, accesses, leafByLeaf}
-use Rattle.run.specs.Machine.{State, fresh, workers, ready, over, original}
+use Rattle.run.specs.Machine.{State, fresh, workers, original}
 use Rattle.run.specs.OneAccess.{Walk}
-use Rattle.run.specs.Calls.{Call, picks, forceList, Answer, picked, isReady, forces, refused, answer, answers, afterAll}
-use Rattle.run.specs.Model.{noCounts, takenPicks, modelAnswers, modelCounts}
+use Rattle.run.specs.Calls.{Call, picks, readySet, forceList, Answer, picked, isReady, forces, refused, answer, after}
+use Rattle.run.specs.Sequence.{answersFrom, stateAfter}
+use Rattle.run.specs.Model.{noCounts, isFinished, takenPicks, modelAnswers, modelCounts}
 
 -- how many steps a call took, and a list of calls
 unfoldable pub takenOf : Answer → ℕ
@@ -28,13 +29,14 @@ takenIn (a ∷ as′) = takenOf a + takenIn as′
 
 -- "Each run begins fresh": its state after a list of calls, and its answers
 unfoldable pub runState : Job → List Call → State
-runState j cs = afterAll j (fresh (j .matrix .n)) cs
+runState j cs = stateAfter (after j) (fresh (j .matrix .n)) cs
 
 unfoldable pub runAnswers : Job → List Call → List Answer
-runAnswers j cs = answers j (fresh (j .matrix .n)) cs
+runAnswers j cs = answersFrom (answer j) (after j) (fresh (j .matrix .n)) cs
 
+-- "The run is finished when all counts are all their workers' moves"
 unfoldable pub finishedRun : Job → List Call → Bool
-finishedRun j cs = over j (runState j cs .made)
+finishedRun j cs = isFinished j (modelCounts j noCounts cs)
 
 -- "its force list, which is its sums put in original order"
 unfoldable pub runForces : Job → List Call → List ℤ
@@ -65,7 +67,7 @@ pub record EveryRun (j : Job) (cs : List Call) : Type 0 where
   -- "Until a run is finished some worker can move": a call with one pick of it takes it
   pub can-move : finishedRun j cs ≡ false → (w : ℕ) × (w < workers j) × (answer j (runState j cs) (picks (w ∷ [])) ≡ picked 1 0 0)
   -- "it is empty only in a finished run, if begun fresh"
-  pub ready-set : finishedRun j cs ≡ false → 1 ≤ length (ready j (runState j cs .made))
+  pub ready-set : finishedRun j cs ≡ false → (bits count : ℕ) × (answer j (runState j cs) readySet ≡ isReady bits count) × (1 ≤ count)
 
 -- "Two finished runs over equally many freedoms, whatever their matrices, movements, plans, workers and picks, leave equal force lists exactly when their two full products are equal"
 pub record EqualForces (j k : Job) (cs ds : List Call) : Type 0 where

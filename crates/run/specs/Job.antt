@@ -9,6 +9,7 @@ use Rattle.matrix.specs.Matrix.{Matrix, isMatrix, areDisplacements}
 use Rattle.plan.specs.Groups.{Plan, planOf}
 use Rattle.plan.specs.Sound.{isSound}
 
+-- a run keeps its matrix, its displacements and its plan throughout
 pub record Job : Type 0 where
   pub matrix : Matrix
   pub displacements : List ℤ

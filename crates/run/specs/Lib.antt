@@ -6,6 +6,8 @@ pub mod OneAccess
 pub mod InOrder
 pub mod Calls
 pub mod Model
+pub mod Sequence
 pub mod EveryRun
+pub mod OneMachine
 pub mod Consequences
 pub mod LentRuns

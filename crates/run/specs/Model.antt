@@ -1,57 +1,82 @@
--- The model of a run (document 01's book): "fed the run's calls alone", it "keeps a count for each worker, at first 0".
-use mathlib.Core.List.{List, [], _∷_, _++_}
-use Prim.Native.Nat.{ℕ, zero, suc}
-use lib.ListN.{take, replicate}
-use lib.Dec.{leb}
+-- The model of a run (document 01's book): "fed the run's calls alone: their arguments without the state and sums, and no answers".
+-- What a worker's accesses are and when it waits it takes from Updates.antt, as the machine does; of the machine it takes nothing.
+use mathlib.Core.Bool.{Bool, cond}
+use mathlib.Core.List.{List, [], _∷_, _++_, map}
+use Prim.Native.Nat.{ℕ, zero, suc, _^_}
+use lib.ListN.{length, take, set, replicate}
+use lib.Dec.{eqb, ltb, leb}
+use Rattle.base.specs.Lists.{filter, all, sum, range}
+use Rattle.base.specs.Refusals as no
 use Rattle.matrix.specs.Product.{product}
 use Rattle.plan.specs.Sound.{maxWorkers}
 use Rattle.run.specs.Job.{Job}
-use Rattle.run.specs.Machine.{refusal, onward, over}
-use Rattle.run.specs.Calls.{Call, picks, readySet, forceList, Answer, pickedOf, readyOf, forcesOf}
+use Rattle.run.specs.Updates.{count, accesses, waits}
+use Rattle.run.specs.Machine.{workers}
+use Rattle.run.specs.Calls.{Call, picks, readySet, forceList, Answer, picked, isReady, forces, refused}
 
+-- "It keeps a count for each worker, at first 0"
 unfoldable pub noCounts : List ℕ
 noCounts = replicate maxWorkers 0
 
+-- "each adding 1 to its worker's count"
+unfoldable pub added : (counts : List ℕ) → ℕ → List ℕ
+added counts w = set counts w (suc (count counts w))
+
+-- "One naming no worker of the plan ends its call with 10, one whose worker's count is all its moves with 12, .. waits by these counts with 13"; 0: it is taken
+unfoldable pub ending : Job → (counts : List ℕ) → ℕ → ℕ
+ending j counts w = cond (ltb w (workers j)) (cond (eqb (count counts w) (accesses j w)) no.done (cond (waits j counts w) no.waiting 0)) no.stranger
+
+-- what becomes of a list of picks: the counts, how many were taken, and the number that ended them
 pub record Noted : Type 0 where
-  pub made : List ℕ
+  pub counts : List ℕ
   pub taken : ℕ
   pub number : ℕ
 
 unfoldable pub oneNoted : Noted → Noted
-oneNoted r = record { made = r .made; taken = suc (r .taken); number = r .number }
+oneNoted r = record { counts = r .counts; taken = suc (r .taken); number = r .number }
 
--- "Picks are taken in turn, each adding 1 to its worker's count. One naming no worker of the plan ends its call with 10, .. all its moves with 12, .. waits by these counts with 13"
-unfoldable pub note : Job → (made schedule : List ℕ) → Noted
-note j made [] = record { made = made; taken = 0; number = 0 }
-note j made (w ∷ ws) =
-    elim (refusal j made w) [ zero ↦ oneNoted (note j (onward made w) ws) | suc k ↦ record { made = made; taken = 0; number = suc k } ]
+-- "Picks are taken in turn"
+unfoldable pub note : Job → (counts schedule : List ℕ) → Noted
+note j counts [] = record { counts = counts; taken = 0; number = 0 }
+note j counts (w ∷ ws) =
+    elim (ending j counts w) [ zero ↦ oneNoted (note j (added counts w) ws) | suc k ↦ record { counts = counts; taken = 0; number = suc k } ]
 
--- "A force-list call gets 15 until then, afterwards 9 at n if its list is shorter than n, else 0 with the full product in original order"
-unfoldable pub modelAnswer : Job → (made : List ℕ) → Call → Answer
-modelAnswer j made (picks ws) = pickedOf (note j made ws .taken) (note j made ws .number)
-modelAnswer j made readySet = readyOf j made
-modelAnswer j made (forceList room) = forcesOf (over j made) (leb (j .matrix .n) room) (j .matrix .n) (product (j .matrix) (j .displacements))
+-- "the workers whose pick would be taken"
+unfoldable pub able : Job → (counts : List ℕ) → List ℕ
+able j counts = filter (λ w. eqb (ending j counts w) 0) (range 0 (workers j))
+
+-- "The run is finished when all counts are all their workers' moves"
+unfoldable pub isFinished : Job → (counts : List ℕ) → Bool
+isFinished j counts = all (λ w. eqb (count counts w) (accesses j w)) (range 0 (workers j))
+
+-- "The answer is the number that the call took and that ending, or 0 at 0 as its ending if it took all" (those before the pick's index were taken);
+-- a bit for each worker "whose pick would be taken, and their count"; "15 until then, afterwards 9 at n .., else 0 with the full product in original order"
+unfoldable pub modelAnswer : Job → (counts : List ℕ) → Call → Answer
+modelAnswer j counts (picks ws) = picked (note j counts ws .taken) (note j counts ws .number) (cond (eqb (note j counts ws .number) 0) 0 (note j counts ws .taken))
+modelAnswer j counts readySet = isReady (sum (map (_^_ 2) (able j counts))) (length (able j counts))
+modelAnswer j counts (forceList room) =
+    cond (isFinished j counts) (cond (leb (j .matrix .n) room) (forces (product (j .matrix) (j .displacements))) (refused no.short (j .matrix .n))) (refused no.early 0)
 
 -- "It and the ready set change no count"
-unfoldable pub modelAfter : Job → (made : List ℕ) → Call → List ℕ
-modelAfter j made (picks ws) = note j made ws .made
-modelAfter j made readySet = made
-modelAfter j made (forceList room) = made
+unfoldable pub modelAfter : Job → (counts : List ℕ) → Call → List ℕ
+modelAfter j counts (picks ws) = note j counts ws .counts
+modelAfter j counts readySet = counts
+modelAfter j counts (forceList room) = counts
 
-unfoldable pub modelAnswers : Job → (made : List ℕ) → List Call → List Answer
-modelAnswers j made [] = []
-modelAnswers j made (c ∷ cs) = modelAnswer j made c ∷ modelAnswers j (modelAfter j made c) cs
+unfoldable pub modelAnswers : Job → (counts : List ℕ) → List Call → List Answer
+modelAnswers j counts [] = []
+modelAnswers j counts (c ∷ cs) = modelAnswer j counts c ∷ modelAnswers j (modelAfter j counts c) cs
 
-unfoldable pub modelCounts : Job → (made : List ℕ) → List Call → List ℕ
-modelCounts j made [] = made
-modelCounts j made (c ∷ cs) = modelCounts j (modelAfter j made c) cs
+unfoldable pub modelCounts : Job → (counts : List ℕ) → List Call → List ℕ
+modelCounts j counts [] = counts
+modelCounts j counts (c ∷ cs) = modelCounts j (modelAfter j counts c) cs
 
 -- the picks that are taken of a call, and of a list of calls, in their order
-unfoldable pub takenNow : Job → (made : List ℕ) → Call → List ℕ
-takenNow j made (picks ws) = take (note j made ws .taken) ws
-takenNow j made readySet = []
-takenNow j made (forceList room) = []
+unfoldable pub takenNow : Job → (counts : List ℕ) → Call → List ℕ
+takenNow j counts (picks ws) = take (note j counts ws .taken) ws
+takenNow j counts readySet = []
+takenNow j counts (forceList room) = []
 
-unfoldable pub takenPicks : Job → (made : List ℕ) → List Call → List ℕ
-takenPicks j made [] = []
-takenPicks j made (c ∷ cs) = takenNow j made c ++ takenPicks j (modelAfter j made c) cs
+unfoldable pub takenPicks : Job → (counts : List ℕ) → List Call → List ℕ
+takenPicks j counts [] = []
+takenPicks j counts (c ∷ cs) = takenNow j counts c ++ takenPicks j (modelAfter j counts c) cs

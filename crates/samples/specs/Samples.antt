@@ -27,9 +27,10 @@ use Rattle.run.specs.Job.{Job, rowAt}
 use Rattle.run.specs.Tree.{forest, tree, leaves, holds, ownerIn, unfinished, redOpen, blocked}
 use Rattle.run.specs.Updates.{entryAt, displacementAt, later, withEach, rowUpdates, owner, when, upTo, updates, accesses, finished, noUpdate, next, waits}
 use Rattle.run.specs.Machine.{fresh, workersOf, workers, reason, refusal, onward, load as loadSum, total, store, access, move, stepIf, step, oneMore, steps, readyBelow, ready, bits, allMade, over, positionOf, original, countsFine, isState}
-use Rattle.run.specs.Calls.{Call, picks, readySet, forceList, Answer, picked, isReady, forces, refused as refusedCall, placeOf, pickedOf, readyOf, forcesOf, answerOf, afterOf, stateCheck, answer, after, answers, afterAll}
-use Rattle.run.specs.Model.{noCounts, oneNoted, note, modelAnswer, modelAfter, modelAnswers, modelCounts}
-use Rattle.run.specs.EveryRun.{takenOf, takenIn, wholeRun}
+use Rattle.run.specs.Calls.{Call, picks, readySet, forceList, Answer, picked, isReady, forces, refused as refusedCall, placeOf, pickedOf, readyOf, forcesOf, answerOf, afterOf, stateCheck, answer, after}
+use Rattle.run.specs.Sequence.{answersFrom}
+use Rattle.run.specs.Model.{noCounts, added, ending, oneNoted, note, able, isFinished, modelAnswer, modelAfter, modelAnswers, modelCounts}
+use Rattle.run.specs.EveryRun.{takenOf, takenIn, runAnswers, wholeRun}
 use Rattle.listing.specs.Listing.{firstLine, restOf, last, second, parametersOf, spaced, refusedLine, orderLine, titleLine, groupLines, planListing, planned, judged, listing}
 
 -- ---- every answer as a list of numbers, so that one test compares them all
@@ -164,7 +165,7 @@ samples =
     -- P: "n = 1, value 5, movement −3: force −15, two moves, one leaf"
     ∷ (product (lone .matrix) (lone .displacements) is negsuc 14 ∷ [])
     ∷ (numbers (accesses lone 0 ∷ length (leaves (tree (lone .plan .groups))) ∷ []) is numbers (2 ∷ 1 ∷ []))
-    ∷ (ofAnswers (answers lone (fresh 1) (picks (0 ∷ 0 ∷ []) ∷ forceList 1 ∷ [])) is ofAnswers (picked 2 0 0 ∷ forces (negsuc 14 ∷ []) ∷ []))
+    ∷ (ofAnswers (runAnswers lone (picks (0 ∷ 0 ∷ []) ∷ forceList 1 ∷ [])) is ofAnswers (picked 2 0 0 ∷ forces (negsuc 14 ∷ []) ∷ []))
     -- P: "eight unjoined freedoms at `2 60`: levels 0, 2, .. 14; same groups as the chain"
     ∷ (ofLevels (ownLevels (neighbours unjoined) 8 (range 0 8)) is numbers (1 ∷ 0 ∷ 0 ∷ 1 ∷ 1 ∷ 0 ∷ 1 ∷ 2 ∷ 0 ∷ 1 ∷ 3 ∷ 0 ∷ 1 ∷ 4 ∷ 0 ∷ 1 ∷ 5 ∷ 0 ∷ 1 ∷ 6 ∷ 0 ∷ 1 ∷ 7 ∷ []))
     ∷ (ofPlan (plan unjoined 2 60) is numbers (range 0 8) ++ groups8)
@@ -191,7 +192,7 @@ samples =
     -- "freedoms 0, 2 and 3 of T, joined only to outsider 1, have levels 0, 2 and 2"
     ∷ (ofLevels (ownLevels (neighbours star) 4 (0 ∷ 2 ∷ 3 ∷ [])) is numbers (1 ∷ 0 ∷ 0 ∷ 2 ∷ 2 ∷ 3 ∷ []))
     -- a whole run of the chain: the machine's answers and the model's; 2 picks for each row and 4 for each adjacent pair
-    ∷ (ofAnswers (answers chainJob (fresh 8) chainCalls) is ofAnswers chainAnswers)
+    ∷ (ofAnswers (runAnswers chainJob chainCalls) is ofAnswers chainAnswers)
     ∷ (ofAnswers (modelAnswers chainJob noCounts chainCalls) is ofAnswers chainAnswers)
     ∷ (numbers (takenIn chainAnswers ∷ []) is numbers (wholeRun chainJob ∷ []))
     -- the chain is taken: a matrix, displacements, a sound plan
@@ -235,7 +236,7 @@ unfolding fresh workersOf workers reason refusal onward loadSum total store acce
 machines = tt
 
 calls : Unit {0}
-unfolding placeOf pickedOf readyOf forcesOf answerOf afterOf stateCheck answer after answers afterAll noCounts oneNoted note modelAnswer modelAfter modelAnswers modelCounts takenOf takenIn wholeRun
+unfolding placeOf pickedOf readyOf forcesOf answerOf afterOf stateCheck answer after noCounts oneNoted note modelAnswer modelAfter modelAnswers modelCounts takenOf takenIn wholeRun answersFrom added ending able isFinished runAnswers
 calls = tt
 
 listings : Unit {0}

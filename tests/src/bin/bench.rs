@@ -1,6 +1,6 @@
 //! Benchmarks: the verified library beside the other implementation, in one run, as a Markdown table.
 //!
-//! `cargo run --release --bin bench` prints it.
+//! `cargo run --release --bin bench` prints it all; `bench picks roof` the lines of a call, of a net, or of both.
 //! A line for each net and call: the least time of many rounds of each, their ratio, and how the library's time grows
 //! from the net of half the size.
 
@@ -8,135 +8,18 @@ use std::hint::black_box;
 use std::thread;
 use std::time::{Duration, Instant};
 
+use mazhoketh_tests::given::{At, Given};
 use mazhoketh_tests::guarded::STACK;
-use mazhoketh_tests::lists::{bytes, MatrixLists, PlanLists, RunLists};
+use mazhoketh_tests::lists::{MatrixLists, PlanLists, RunLists};
+use mazhoketh_tests::oracle::calls;
 use mazhoketh_tests::oracle::matrix::Matrix;
 use mazhoketh_tests::oracle::nets::{self, Roof};
 use mazhoketh_tests::oracle::prng::Prng;
-use mazhoketh_tests::oracle::{calls, planner, text};
 use mazhoketh_tests::{files, library};
 
 /// A call is timed at least so long, and in so many rounds.
 const TIME: Duration = Duration::from_millis(500);
 const ROUNDS: usize = 5;
-/// The lists that a whole run is cut into.
-const LISTS: usize = 1_000;
-
-/// A state of a run and its sums, as bytes.
-struct At {
-    state: Vec<u8>,
-    sums: Vec<u8>,
-}
-
-impl At {
-    /// The fresh state of a run.
-    fn fresh(n: u32) -> At {
-        At {
-            state: vec![0; calls::STATE_BYTES],
-            sums: vec![0; 8 * n as usize],
-        }
-    }
-}
-
-/// What calls read: the lists of a net, of its plan for 16 workers and of a run.
-struct Given {
-    text: Vec<u8>,
-    n: u32,
-    row_starts: Vec<u8>,
-    columns: Vec<u8>,
-    values: Vec<u8>,
-    movements: Vec<u8>,
-    order: Vec<u8>,
-    groups: Vec<u8>,
-    group_count: u32,
-    /// Picks that take a fresh run to its end, and the states halfway and at the end.
-    schedule: Vec<u8>,
-    halfway: At,
-    finished: At,
-}
-
-impl Given {
-    /// The lists of a net.
-    fn new(matrix: &Matrix) -> Given {
-        let plan = planner::plan(matrix.rows(), 16, 60);
-        let movements = vec![-999_999; matrix.n as usize];
-        let mut given = Given {
-            text: text::write(matrix),
-            n: matrix.n,
-            row_starts: bytes(&matrix.starts, u32::to_le_bytes),
-            columns: bytes(&matrix.columns, u32::to_le_bytes),
-            values: bytes(&matrix.values, i32::to_le_bytes),
-            movements: bytes(&movements, i32::to_le_bytes),
-            order: bytes(&plan.order, u32::to_le_bytes),
-            groups: bytes(&plan.flat(), u32::to_le_bytes),
-            group_count: plan.group_count(),
-            schedule: Vec::new(),
-            halfway: At::fresh(matrix.n),
-            finished: At::fresh(matrix.n),
-        };
-        given.schedule = given.whole_schedule();
-        given.halfway = given.after(given.schedule.len() / 2);
-        given.finished = given.after(given.schedule.len());
-        given
-    }
-
-    /// The lists of the matrix.
-    fn matrix(&self) -> MatrixLists<'_> {
-        MatrixLists {
-            n: self.n,
-            row_starts: &self.row_starts,
-            columns: &self.columns,
-            values: &self.values,
-        }
-    }
-
-    /// The lists of the plan.
-    fn plan(&self) -> PlanLists<'_> {
-        PlanLists {
-            order: &self.order,
-            groups: &self.groups,
-            group_count: self.group_count,
-        }
-    }
-
-    /// The lists of the run.
-    fn run(&self) -> RunLists<'_> {
-        RunLists {
-            matrix: self.matrix(),
-            movements: &self.movements,
-            plan: self.plan(),
-        }
-    }
-
-    /// The picks of a whole run: all ready workers in turn, until one of them waits or ends, and so on.
-    fn whole_schedule(&self) -> Vec<u8> {
-        let mut schedule = Vec::new();
-        let mut at = At::fresh(self.n);
-        loop {
-            let set = calls::ready(self.run(), &at.state, &at.sums);
-            let ready: Vec<u8> = (0..16).filter(|worker| set >> worker & 1 == 1).collect();
-            if ready.is_empty() {
-                return schedule;
-            }
-            let picks = ready.repeat(10_000);
-            let taken = calls::picks(self.run(), &mut at.state, &mut at.sums, &picks) as u32;
-            schedule.extend(&picks[..taken as usize]);
-        }
-    }
-
-    /// The state after so many picks of the schedule.
-    fn after(&self, picks: usize) -> At {
-        let mut at = At::fresh(self.n);
-        let picks = &self.schedule[..picks];
-        calls::picks(self.run(), &mut at.state, &mut at.sums, picks);
-        at
-    }
-
-    /// The schedule in many lists.
-    fn lists(&self) -> impl Iterator<Item = &[u8]> {
-        self.schedule.chunks(self.schedule.len().div_ceil(LISTS))
-    }
-}
 
 /// What calls write.
 struct Lent {
@@ -219,7 +102,7 @@ const WORKS: [(&str, Work); 9] = [
     ("read", |by, given, lent| (by.read)(&given.text, &mut lent.row_starts, &mut lent.columns, &mut lent.values)),
     ("write", |by, given, lent| (by.write)(given.matrix(), &mut lent.text)),
     ("product", |by, given, lent| (by.product)(given.matrix(), &given.movements, &mut lent.forces)),
-    ("plan", |by, given, lent| (by.plan)(given.matrix(), 16, 60, &mut lent.order, &mut lent.groups)),
+    ("plan", |by, given, lent| (by.plan)(given.matrix(), 16, given.p, &mut lent.order, &mut lent.groups)),
     ("check", |by, given, _| (by.check)(given.matrix(), given.plan())),
     ("picks, a run in 1 list", |by, given, lent| {
         let At { state, sums } = lent.fresh();
@@ -258,18 +141,17 @@ fn least_times(work: Work, given: &Given) -> [f64; 2] {
     least
 }
 
-/// Prints the lines of a net, with the growth from a net of half its size if there is one.
-fn print_net(name: &str, net: &Matrix, half: Option<&Matrix>) {
-    let given = Given::new(net);
-    let half = half.map(Given::new);
-    for (call, work) in WORKS {
-        let [ours, theirs] = least_times(work, &given);
-        let growth = half.as_ref().map(|half| ours / least_times(work, half)[0]);
-        let growth = growth.map_or(String::new(), |growth| format!("{growth:.2}"));
-        let ratio = ours / theirs;
-        println!("| {name} | {call} | {ours:.0} | {theirs:.0} | {ratio:.2} | {growth} |");
-    }
-}
+/// A net by name, what the table calls it, and how it is made: with one of half its size, if there is one.
+type Net = (&'static str, &'static str, fn() -> (Matrix, Option<Matrix>));
+
+/// All nets that calls are timed on.
+#[rustfmt::skip]
+const NETS: [Net; 4] = [
+    ("roof", "roof of 3,900 rows", || (roof(52), Some(roof(26)))),
+    ("bcsstk14", "bcsstk14", || (files::read(&files::folder().join("bcsstk14.mtx")).1, None)),
+    ("chain", "chain of 4,096", || (nets::chain(4_096), Some(nets::chain(2_048)))),
+    ("unjoined", "4,096 unjoined rows", || (nets::unjoined(4_096), Some(nets::unjoined(2_048)))),
+];
 
 /// A roof of so many spokes, 75 freedoms each.
 fn roof(spokes: usize) -> Matrix {
@@ -280,21 +162,82 @@ fn roof(spokes: usize) -> Matrix {
     nets::roof(&mut Prng::new(1), roof)
 }
 
-/// Prints the table.
-fn print_table() {
+/// The call that a work is of.
+fn call_of(work: &str) -> &str {
+    work.split(',').next().unwrap_or(work)
+}
+
+/// What is asked for by name: calls and nets, all of a kind if none of it is named.
+struct Asked(Vec<String>);
+
+impl Asked {
+    /// The arguments, if each names a call or a net.
+    fn new(arguments: Vec<String>) -> Option<Asked> {
+        let is_known = |name: &String| Asked::names().contains(&name.as_str());
+        arguments.iter().all(is_known).then_some(Asked(arguments))
+    }
+
+    /// The calls, each once.
+    fn calls() -> Vec<&'static str> {
+        let mut calls: Vec<&str> = WORKS.iter().map(|(work, _)| call_of(work)).collect();
+        calls.dedup();
+        calls
+    }
+
+    /// The calls and the nets.
+    fn names() -> Vec<&'static str> {
+        let nets = NETS.iter().map(|(name, _, _)| *name);
+        Asked::calls().into_iter().chain(nets).collect()
+    }
+
+    /// Whether a name is asked for, among those of its kind.
+    fn has(&self, name: &str, kind: &[&str]) -> bool {
+        let named: Vec<&String> = self
+            .0
+            .iter()
+            .filter(|name| kind.contains(&name.as_str()))
+            .collect();
+        named.is_empty() || named.iter().any(|&asked| asked == name)
+    }
+}
+
+/// Prints the lines of a net, with the growth from a net of half its size if there is one.
+fn print_net(asked: &Asked, name: &str, net: &Matrix, half: Option<&Matrix>) {
+    let given = Given::new(net, 60);
+    let half = half.map(|half| Given::new(half, 60));
+    for (call, work) in WORKS {
+        if !asked.has(call_of(call), &Asked::calls()) {
+            continue;
+        }
+        let [ours, theirs] = least_times(work, &given);
+        let growth = half.as_ref().map(|half| ours / least_times(work, half)[0]);
+        let growth = growth.map_or(String::new(), |growth| format!("{growth:.2}"));
+        let ratio = ours / theirs;
+        println!("| {name} | {call} | {ours:.0} | {theirs:.0} | {ratio:.2} | {growth} |");
+    }
+}
+
+/// Prints the table of what is asked for.
+fn print_table(asked: &Asked) {
     println!("| net | call | library µs | Rust µs | ratio | growth from half |");
     println!("|---|---|---:|---:|---:|---:|");
-    print_net("roof of 3,900 rows", &roof(52), Some(&roof(26)));
-    let (_, bcsstk14) = files::read(&files::folder().join("bcsstk14.mtx"));
-    print_net("bcsstk14", &bcsstk14, None);
-    let (chain, half) = (nets::chain(4_096), nets::chain(2_048));
-    print_net("chain of 4,096", &chain, Some(&half));
-    let (unjoined, half) = (nets::unjoined(4_096), nets::unjoined(2_048));
-    print_net("4,096 unjoined rows", &unjoined, Some(&half));
+    for (name, title, make) in NETS {
+        if asked.has(name, &NETS.map(|(name, _, _)| name)) {
+            let (net, half) = make();
+            print_net(asked, title, &net, half.as_ref());
+        }
+    }
 }
 
 fn main() {
-    let thread = thread::Builder::new().stack_size(STACK).spawn(print_table);
-    let ended = thread.expect("a thread can be started").join();
+    let Some(asked) = Asked::new(std::env::args().skip(1).collect()) else {
+        eprintln!("usage: bench [NAME ..] ({})", Asked::names().join(", "));
+        std::process::exit(2);
+    };
+    let thread = thread::Builder::new().stack_size(STACK);
+    let ended = thread
+        .spawn(move || print_table(&asked))
+        .expect("a thread can be started")
+        .join();
     ended.expect("the table is printed");
 }

@@ -15,6 +15,7 @@ use crate::guarded::{Twin, STACK};
 use crate::lists::{bytes, refusal_number};
 use crate::oracle::matrix::Matrix;
 use crate::oracle::prng::Prng;
+use crate::progress::Progress;
 
 /// How often each refusal's number was met; at 0, how many calls were accepted.
 #[derive(Default)]
@@ -92,10 +93,14 @@ fn numbered(
     let cores = thread::available_parallelism().map_or(1, |cores| cores.get());
     let share = |core: usize| {
         let mut seen = Seen::default();
+        let mut progress = Progress::new(false);
         for number in numbers.clone().skip(core).step_by(cores) {
             let _named = Case { seed, number };
             let mut rng = Prng::new((seed << 32) + number);
             case(number, &mut rng, &mut seen);
+            if core == 0 {
+                progress.tell(|| format!("seed {seed}: case {number} of {numbers:?}"));
+            }
         }
         seen
     };

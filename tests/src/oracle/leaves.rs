@@ -1,7 +1,8 @@
 //! The leaves of a sound plan as workers run them: their moves, and what must be finished before each.
 
-use super::matrix::Rows;
-use super::soundness::{SoundPlan, BLUE, RED};
+use super::matrix::{Matrix, Rows};
+use super::planner::Plan;
+use super::soundness::{self, SoundPlan, BLUE, RED};
 use super::WORKERS;
 
 /// A leaf, run by its first worker.
@@ -67,6 +68,46 @@ impl Leaves {
         }
     }
 
+    /// The moves of the longest chain of leaves that must follow each other: what a run takes if all move that can.
+    pub fn longest_chain(&self) -> u32 {
+        let mut ends = vec![None; self.leaves.len()];
+        let leaves = 0..self.leaves.len();
+        leaves
+            .map(|leaf| self.chain_to(leaf, &mut ends))
+            .max()
+            .unwrap_or(0)
+    }
+
+    /// The moves of the longest chain up to a leaf's end; `ends` has those that are known.
+    fn chain_to(&self, index: usize, ends: &mut [Option<u32>]) -> u32 {
+        if let Some(end) = ends[index] {
+            return end;
+        }
+        let leaf = &self.leaves[index];
+        let own = self.leaves[..index]
+            .iter()
+            .rposition(|one| one.worker == leaf.worker);
+        let red = |(worker, &moves): (usize, &u32)| {
+            let ended = |one: &Leaf| one.worker == worker && one.moves_end == moves;
+            self.leaves.iter().position(ended).filter(|_| moves > 0)
+        };
+        let reds = leaf.awaited.iter().enumerate().filter_map(red);
+        let before: Vec<usize> = reds.chain(own).collect();
+        let start = before
+            .into_iter()
+            .map(|leaf| self.chain_to(leaf, ends))
+            .max();
+        let end = start.unwrap_or(0) + leaf.moves_end - leaf.moves_before;
+        ends[index] = Some(end);
+        end
+    }
+
+    /// The share of its workers' time that a plan uses: all its moves, by those of the longest chain for each worker.
+    pub fn efficiency(&self) -> f64 {
+        let moves: u32 = self.moves.iter().sum();
+        f64::from(moves) / f64::from(self.longest_chain()) / self.workers as f64
+    }
+
     /// The index of the leaf of a worker's next move, from leaf `from` on; a leaf without moves has none.
     pub fn next_leaf(&self, worker: usize, made: u32, from: usize) -> Option<usize> {
         let leaves = &self.leaves[from..];
@@ -88,6 +129,13 @@ impl Leaves {
         }
         (row, made - before(row))
     }
+}
+
+/// The leaves of a plan that is known to be sound.
+pub fn leaves_of(matrix: &Matrix, plan: &Plan) -> Leaves {
+    let (groups, count) = (plan.flat(), plan.group_count());
+    let sound = soundness::check(matrix.rows(), &plan.order, &groups, count);
+    Leaves::of(matrix.rows(), &sound.expect("the plan is sound"))
 }
 
 /// The moves of the rows from one plan position up to another: two a row, four for each joined row later.

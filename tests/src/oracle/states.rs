@@ -1,4 +1,5 @@
-//! Generators of made-up states: any counts up to each worker's moves, with held numbers and sums at the ends of 64 bits.
+//! Generators of made-up states: any counts up to each worker's moves, with held numbers and sums at the ends of 64
+//! bits.
 
 use super::leaves::Leaves;
 use super::machine::State;

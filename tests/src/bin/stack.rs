@@ -1,0 +1,106 @@
+//! A call on a stack of so many bytes: `stack CALL BYTES` makes the call on the largest nets, each time with no more
+//! stack than that, and ends well; if it needs more, it meets memory that may not be touched and ends by a signal.
+//!
+//! The bytes are counted from the frame of `on_stack` down to the next page, so the frames of this program between it
+//! and the call, of some hundred bytes, are the call's.
+
+use std::ffi::{c_int, c_void};
+use std::process::exit;
+use std::thread;
+
+use mazhoketh_tests::given::{At, Given};
+use mazhoketh_tests::library;
+use mazhoketh_tests::lists::refusal_number;
+use mazhoketh_tests::oracle::matrix::MOST_ENTRIES;
+use mazhoketh_tests::oracle::nets::{self, Roof};
+use mazhoketh_tests::oracle::prng::Prng;
+
+/// A page, and the memory below the stack that may not be touched.
+const PAGE: usize = 4_096;
+const FENCE: usize = 1 << 20;
+/// What the thread has beside the call's stack and the fence.
+const OWN: usize = 2 << 20;
+
+const PROT_NONE: c_int = 0;
+const PROT_READ_WRITE: c_int = 3;
+
+extern "C" {
+    fn mprotect(address: *mut c_void, length: usize, protection: c_int) -> c_int;
+}
+
+/// Opens or closes the fence that ends at an address.
+fn protect(end: usize, protection: c_int) {
+    let done = unsafe { mprotect((end - FENCE) as *mut c_void, FENCE, protection) };
+    assert_eq!(done, 0, "the stack can be fenced");
+}
+
+/// What a call answers with no more than so many bytes of stack below this frame.
+#[inline(never)]
+fn on_stack(bytes: usize, call: impl FnOnce() -> u64) -> u64 {
+    let here = std::ptr::from_ref(&bytes) as usize;
+    let end = (here - bytes).next_multiple_of(PAGE);
+    protect(end, PROT_NONE);
+    let word = call();
+    protect(end, PROT_READ_WRITE);
+    word
+}
+
+/// Makes a call on so many bytes of stack; its word, or None if no call has this name.
+#[rustfmt::skip]
+fn make(call: &str, stack: usize, given: &Given) -> Option<u64> {
+    let blank = |list: &[u8]| vec![0; list.len()];
+    let (mut order, mut groups, mut text) = (blank(&given.order), blank(&given.groups), blank(&given.text));
+    let (mut starts, mut columns, mut values) = (blank(&given.row_starts), blank(&given.columns), blank(&given.values));
+    let At { mut state, mut sums } = At::fresh(given.n);
+    let mut forces = blank(&sums);
+    let end = &given.finished;
+    Some(match call {
+        "read" => on_stack(stack, || library::read(&given.text, &mut starts, &mut columns, &mut values)),
+        "write" => on_stack(stack, || library::write(given.matrix(), &mut text)),
+        "product" => on_stack(stack, || library::product(given.matrix(), &given.movements, &mut forces)),
+        "plan" => on_stack(stack, || library::plan(given.matrix(), 16, given.p, &mut order, &mut groups)),
+        "check" => on_stack(stack, || library::check(given.matrix(), given.plan())),
+        "picks" => on_stack(stack, || library::picks(given.run(), &mut state, &mut sums, &given.schedule)),
+        "ready" => on_stack(stack, || library::ready(given.run(), &state, &sums)),
+        "forces" => on_stack(stack, || library::forces(given.run(), &end.state, &end.sums, &mut forces)),
+        _ => return None,
+    })
+}
+
+/// Makes a call for nets with the most levels, components and entries, and for a roof, planned with the least and the
+/// largest p.
+fn run(call: &str, stack: usize) {
+    let nets = [
+        nets::chain(4_096),
+        nets::unjoined(4_096),
+        nets::filled_band(4_096, MOST_ENTRIES),
+        nets::roof(&mut Prng::new(1), Roof::default()),
+    ];
+    for (net, p) in nets.iter().flat_map(|net| [(net, 50), (net, 99)]) {
+        let word = make(call, stack, &Given::new(net, p)).unwrap_or_else(|| usage());
+        assert_eq!(refusal_number(word), 0, "{call} is accepted");
+    }
+}
+
+/// Says how the program is called.
+fn usage() -> ! {
+    eprintln!(
+        "usage: stack CALL BYTES (read, write, product, plan, check, picks, ready or forces)"
+    );
+    exit(2);
+}
+
+fn main() {
+    let arguments: Vec<String> = std::env::args().skip(1).collect();
+    let [call, stack] = &arguments[..] else {
+        usage()
+    };
+    let Ok(stack) = stack.parse() else { usage() };
+    let call = call.clone();
+    let thread = thread::Builder::new().stack_size(stack + FENCE + OWN);
+    let ended = thread
+        .spawn(move || run(&call, stack))
+        .expect("a thread can be started")
+        .join();
+    exit(i32::from(ended.is_err()));
+}

@@ -1,0 +1,126 @@
+//! A net, its plan and its run as the byte lists that calls read: what is timed, and what stacks are measured on.
+
+use crate::lists::{bytes, MatrixLists, PlanLists, RunLists};
+use crate::oracle::matrix::Matrix;
+use crate::oracle::{calls, planner, text};
+
+/// The lists that a whole run is cut into.
+const LISTS: usize = 1_000;
+
+/// A state of a run and its sums, as bytes.
+pub struct At {
+    pub state: Vec<u8>,
+    pub sums: Vec<u8>,
+}
+
+impl At {
+    /// The fresh state of a run.
+    pub fn fresh(n: u32) -> At {
+        At {
+            state: vec![0; calls::STATE_BYTES],
+            sums: vec![0; 8 * n as usize],
+        }
+    }
+}
+
+/// What calls read: the lists of a net, of its plan for 16 workers and of a run.
+pub struct Given {
+    pub text: Vec<u8>,
+    pub n: u32,
+    pub row_starts: Vec<u8>,
+    pub columns: Vec<u8>,
+    pub values: Vec<u8>,
+    pub movements: Vec<u8>,
+    pub p: u32,
+    pub order: Vec<u8>,
+    pub groups: Vec<u8>,
+    pub group_count: u32,
+    /// Picks that take a fresh run to its end, and the states halfway and at the end.
+    pub schedule: Vec<u8>,
+    pub halfway: At,
+    pub finished: At,
+}
+
+impl Given {
+    /// The lists of a net that is planned with this p.
+    pub fn new(matrix: &Matrix, p: u32) -> Given {
+        let plan = planner::plan(matrix.rows(), 16, p);
+        let movements = vec![-999_999; matrix.n as usize];
+        let mut given = Given {
+            text: text::write(matrix),
+            n: matrix.n,
+            row_starts: bytes(&matrix.starts, u32::to_le_bytes),
+            columns: bytes(&matrix.columns, u32::to_le_bytes),
+            values: bytes(&matrix.values, i32::to_le_bytes),
+            movements: bytes(&movements, i32::to_le_bytes),
+            p,
+            order: bytes(&plan.order, u32::to_le_bytes),
+            groups: bytes(&plan.flat(), u32::to_le_bytes),
+            group_count: plan.group_count(),
+            schedule: Vec::new(),
+            halfway: At::fresh(matrix.n),
+            finished: At::fresh(matrix.n),
+        };
+        given.schedule = given.whole_schedule();
+        given.halfway = given.after(given.schedule.len() / 2);
+        given.finished = given.after(given.schedule.len());
+        given
+    }
+
+    /// The lists of the matrix.
+    pub fn matrix(&self) -> MatrixLists<'_> {
+        MatrixLists {
+            n: self.n,
+            row_starts: &self.row_starts,
+            columns: &self.columns,
+            values: &self.values,
+        }
+    }
+
+    /// The lists of the plan.
+    pub fn plan(&self) -> PlanLists<'_> {
+        PlanLists {
+            order: &self.order,
+            groups: &self.groups,
+            group_count: self.group_count,
+        }
+    }
+
+    /// The lists of the run.
+    pub fn run(&self) -> RunLists<'_> {
+        RunLists {
+            matrix: self.matrix(),
+            movements: &self.movements,
+            plan: self.plan(),
+        }
+    }
+
+    /// The picks of a whole run: all ready workers in turn, until one of them waits or ends, and so on.
+    fn whole_schedule(&self) -> Vec<u8> {
+        let mut schedule = Vec::new();
+        let mut at = At::fresh(self.n);
+        loop {
+            let set = calls::ready(self.run(), &at.state, &at.sums);
+            let ready: Vec<u8> = (0..16).filter(|worker| set >> worker & 1 == 1).collect();
+            if ready.is_empty() {
+                return schedule;
+            }
+            let picks = ready.repeat(10_000);
+            let taken = calls::picks(self.run(), &mut at.state, &mut at.sums, &picks) as u32;
+            schedule.extend(&picks[..taken as usize]);
+        }
+    }
+
+    /// The state after so many picks of the schedule.
+    fn after(&self, picks: usize) -> At {
+        let mut at = At::fresh(self.n);
+        let picks = &self.schedule[..picks];
+        calls::picks(self.run(), &mut at.state, &mut at.sums, picks);
+        at
+    }
+
+    /// The schedule in many lists.
+    pub fn lists(&self) -> impl Iterator<Item = &[u8]> {
+        self.schedule.chunks(self.schedule.len().div_ceil(LISTS))
+    }
+}

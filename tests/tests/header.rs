@@ -1,0 +1,62 @@
+//! The C header: compiled as C99 and as C++, its macros, sizes and names against what the library answers.
+
+use std::path::Path;
+use std::process::Command;
+
+use mazhoketh_tests::built;
+
+/// Builds a C file of the tests by a compiler with these arguments, and runs it; what it printed.
+fn build_and_run(name: &str, compiler: &str, arguments: &[&str]) -> String {
+    let program = Path::new(env!("CARGO_TARGET_TMPDIR")).join(format!("{name} by {compiler}"));
+    built::compile(compiler, arguments, &format!("tests/c/{name}.c"), &program);
+    let output = Command::new(program).output();
+    let output = output.expect("the program can be run");
+    let printed = String::from_utf8_lossy(&output.stdout).to_string();
+    assert!(output.status.success(), "{compiler}: {printed}");
+    printed
+}
+
+#[test]
+fn as_c99() {
+    build_and_run("header", "gcc", &["-std=c99", "-pedantic"]);
+}
+
+#[test]
+fn as_cpp() {
+    build_and_run("header", "g++", &["-x", "c++"]);
+}
+
+/// Every refusal has a sentence of its own, which ends in its number; a later one is said to be unknown.
+#[test]
+fn sentences() {
+    let printed = build_and_run("refusals", "gcc", &["-std=c99", "-pedantic"]);
+    let mut sentences: Vec<&str> = printed.lines().collect();
+    assert_eq!(sentences.len(), 16);
+    for (number, sentence) in (1..).zip(&sentences) {
+        assert!(sentence.starts_with("FILE:"), "{sentence}");
+        assert!(
+            sentence.ends_with(&format!(" (refusal {number})")),
+            "{sentence}"
+        );
+        assert_eq!(
+            sentence.contains("does not know"),
+            number == 16,
+            "{sentence}"
+        );
+    }
+    for (number, place) in [
+        (4, "FILE:7: entry "),
+        (9, ", it needs 7 "),
+        (13, ", at index 7 "),
+    ] {
+        assert!(
+            sentences[number - 1].contains(place),
+            "{}",
+            sentences[number - 1]
+        );
+    }
+    let text = |sentence: &mut &str| sentence.rfind(" (").map(|end| sentence[..end].to_string());
+    sentences.sort_unstable();
+    sentences.dedup_by_key(text);
+    assert_eq!(sentences.len(), 16, "two sentences are the same");
+}

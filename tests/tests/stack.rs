@@ -1,0 +1,58 @@
+//! The stack that each call is said to need, in include/mazhoketh.h: no call uses more, on the largest inputs.
+
+use std::os::unix::process::ExitStatusExt;
+use std::process::Command;
+
+/// The header's sentence, and its figures in tenths of a MiB.
+const SENTENCE: &str =
+    "mzk_read uses up to 2 MiB, mzk_picks, mzk_ready and mzk_forces up to 1.3 MiB, mzk_plan up to \
+                        1 MiB, the others up to 0.6 MiB.";
+const TENTHS: [(&str, usize); 8] = [
+    ("read", 20),
+    ("picks", 13),
+    ("ready", 13),
+    ("forces", 13),
+    ("plan", 10),
+    ("write", 6),
+    ("product", 6),
+    ("check", 6),
+];
+
+/// The signal by which a call on too little stack ends, or None if it ends well.
+fn run(call: &str, bytes: usize) -> Option<i32> {
+    let mut program = Command::new(env!("CARGO_BIN_EXE_stack"));
+    let output = program.args([call, &bytes.to_string()]).output();
+    let output = output.expect("the program can be run");
+    let ended = output.status;
+    let told = String::from_utf8_lossy(&output.stderr);
+    assert!(ended.success() || ended.signal().is_some(), "{told}");
+    ended.signal()
+}
+
+#[test]
+fn is_enough() {
+    for (call, tenths) in TENTHS {
+        let bytes = tenths * (1 << 20) / 10;
+        assert_eq!(run(call, bytes), None, "{call} needs more than {bytes}");
+    }
+}
+
+/// Half of it is not: the measure would notice.
+#[test]
+fn half_is_too_little() {
+    for (call, tenths) in TENTHS {
+        let bytes = tenths * (1 << 20) / 20;
+        assert!(run(call, bytes).is_some(), "{call} needs less than {bytes}");
+    }
+}
+
+#[test]
+fn is_what_the_header_says() {
+    let path = concat!(env!("CARGO_MANIFEST_DIR"), "/../include/mazhoketh.h");
+    let header = std::fs::read_to_string(path).expect("the header can be read");
+    let words: Vec<&str> = header
+        .split_whitespace()
+        .filter(|&word| word != "*")
+        .collect();
+    assert!(words.join(" ").contains(SENTENCE));
+}
