@@ -10,7 +10,7 @@ use lib.Seq.{length-take-le}
 use borrow.Author.Tests.{lt-ltb, le-ltb, le-leb, lt-leb}
 use Rattle.base.specs.Lists.{sum, distance, fromFirst}
 use Rattle.levels.specs.Levels.{reach}
-use Rattle.extents.specs.Extents.{Rule, End, endsFrom, best, nearest, off, serves, extent, extentFrom, extentOf, cut, cutAt}
+use Rattle.extents.specs.Extents.{Policy, End, endsFrom, best, nearest, off, serves, extent, extentFrom, extentOf, cut, cutAt}
 use Rattle.extents.specs.Scans.{endsOn, nearestEnd}
 use Rattle.extents.proofs.Ends.{endAt, sum-split, ends-after, ends-on}
 
@@ -21,11 +21,11 @@ ends-none k qs l = rw (ends-after (k - 1) qs, drop-of-length-le qs {i = k - 1} (
 
 -- ---- a pair's extent
 
-module _ (w R : ℕ) (rule : Rule) (free : ℕ) (qs : List ℕ) (k : ℕ)
-    (first : fromFirst (λ e. serves (e .load) w R (rule .p)) (endsOn (2 * reach) qs) ≡ endsOn k qs) where
+module _ (w R : ℕ) (policy : Policy) (free : ℕ) (qs : List ℕ) (k : ℕ)
+    (first : fromFirst (λ e. serves (e .load) w R (policy .p)) (endsOn (2 * reach) qs) ≡ endsOn k qs) where
   -- the pair takes l levels and v workers
   abbrev Takes : (l v : ℕ) → Type 0
-  Takes l v = (l ≡ extent w R rule free qs .levels) × (v ≡ extent w R rule free qs .workers)
+  Takes l v = (l ≡ extent w R policy free qs .levels) × (v ≡ extent w R policy free qs .workers)
 
   pub extent-none : length qs < k → Takes (length qs) free
   unfolding extent extentFrom
@@ -33,7 +33,7 @@ module _ (w R : ℕ) (rule : Rule) (free : ℕ) (qs : List ℕ) (k : ℕ)
 
   module _ (b r : ℕ) (some : 1 ≤ k) (most : k ≤ length qs) (b-is : b ≡ nearest (sum (take k qs)) w R) (r-is : r ≡ nearestEnd w (b * R) (endsOn k qs)) where
     extent-is : (short full : Bool) → ltb (length qs - r) (2 * reach) ≡ short → leb free b ≡ full
-        → extent w R rule free qs ≡ cond (short || full) (record { levels = length qs; workers = free }) (record { levels = r; workers = b })
+        → extent w R policy free qs ≡ cond (short || full) (record { levels = length qs; workers = free }) (record { levels = r; workers = b })
     unfolding extent extentFrom extentOf nearestEnd off
     extent-is short full e f =
         let on : endsOn k qs ≡ endAt k qs ∷ endsFrom k (sum (take k qs)) (drop k qs) = ends-on k qs (omega arith) most in

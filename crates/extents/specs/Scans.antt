@@ -4,12 +4,12 @@ use Prim.Native.Nat.{ℕ, _*_, _-_, _≤_, _<_, _^_}
 use lib.ListN.{drop}
 use Rattle.base.specs.Lists.{distance}
 use Rattle.plan.specs.Sound.{maxWorkers}
-use Rattle.extents.specs.Extents.{Rule, End, endsFrom, best}
-use Rattle.extents.specs.declared.Rule as code
+use Rattle.extents.specs.Extents.{Policy, End, endsFrom, best}
+use Rattle.extents.specs.declared.Policy as code
 
--- the rule that a struct stands for
-abbrev pub ruleOf : code.Rule → Rule
-ruleOf r = record { p = r .p }
+-- the policy that a struct stands for
+abbrev pub policyOf : code.Policy → Policy
+policyOf r = record { p = r .p }
 
 -- no group has more load: what the scans compute then has at most 32 bits
 abbrev pub maxLoad : ℕ

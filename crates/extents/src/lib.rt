@@ -6,10 +6,10 @@ ghost use Rattle.base.specs.Lists.{sum, distance, fromFirst};
 ghost use Rattle.plan.specs.Sound.{maxWorkers};
 ghost use Rattle.levels.specs.Levels.{reach};
 ghost use Rattle.extents.specs.Extents.{nearest, serves, extent, cut};
-ghost use Rattle.extents.specs.Scans.{maxLoad, ruleOf, endsOn, nearestEnd, Scale};
+ghost use Rattle.extents.specs.Scans.{maxLoad, policyOf, endsOn, nearestEnd, Scale};
 
 // What the rules take: closeness is to be above p per cent.
-pub struct Rule {
+pub struct Policy {
     pub p: u32,
 }
 
@@ -103,14 +103,14 @@ fn nearest_end(loads: &[u32], k: usize, x: u32, y: u32) -> usize
 }
 
 // The next pair's levels and workers.
-pub fn next_extent(loads: &[u32], w: u32, load: u32, rule: Rule, free: u32) -> Extent
-    requires { ⌜ Scale w load × (sum (now loads) ≤ load) × (2 * reach ≤ length (now loads)) × (rule .p ≤ 100) ⌝ }
-    ensures { λ r. ⌜ (r .levels ≡ extent w load (ruleOf rule) free (now (loads .entry)) .levels)
-        × (r .workers ≡ extent w load (ruleOf rule) free (now (loads .entry)) .workers) ⌝ }
+pub fn next_extent(loads: &[u32], w: u32, load: u32, policy: Policy, free: u32) -> Extent
+    requires { ⌜ Scale w load × (sum (now loads) ≤ load) × (2 * reach ≤ length (now loads)) × (policy .p ≤ 100) ⌝ }
+    ensures { λ r. ⌜ (r .levels ≡ extent w load (policyOf policy) free (now (loads .entry)) .levels)
+        × (r .workers ≡ extent w load (policyOf policy) free (now (loads .entry)) .workers) ⌝ }
 {
     let all = loads.len();
     let least = 2 * REACH;
-    let k = first_end(loads, least, w, load, rule.p);
+    let k = first_end(loads, least, w, load, policy.p);
     if all < k {
         return Extent {
             levels: all,

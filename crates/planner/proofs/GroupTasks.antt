@@ -16,7 +16,7 @@ use Rattle.sort.specs.Sorted.{Sorted}
 use Rattle.levels.proofs.Proper.{proper-same}
 use Rattle.levels.proofs.Own.{own-same}
 use Rattle.plan.specs.Groups.{width, fieldsOf}
-use Rattle.extents.specs.Extents.{Rule}
+use Rattle.extents.specs.Extents.{Policy}
 use Rattle.race.specs.Loads.{loadOf}
 use Rattle.race.specs.Planner.{planGroup}
 use Rattle.planner.specs.Stretches.{levelsIn, Levelled, Loaded}
@@ -30,7 +30,7 @@ use Rattle.planner.proofs.Weights.{load-concat, load-some, load-few}
 use Rattle.planner.proofs.Stretches.{ends-are, levels-in}
 use Rattle.planner.proofs.GroupPlans.{own-few, own-some, groups-some, pairsBelow, count-split, holds-split}
 
-module _ {n : ℕ} {rule : Rule} {stages index : ℕ} {starts columns T records : List ℕ} {g : Group} (task : GroupTask n rule stages index starts columns T records g) where
+module _ {n : ℕ} {policy : Policy} {stages index : ℕ} {starts columns T records : List ℕ} {g : Group} (task : GroupTask n policy stages index starts columns T records g) where
   abbrev adj : ℕ → List ℕ
   adj = adjOf n starts columns
 
@@ -40,7 +40,7 @@ module _ {n : ℕ} {rule : Rule} {stages index : ℕ} {starts columns T records 
 
   -- there is room for its record
   pub record-room : width * (index + 1) ≤ length records
-  record-room = omega (arith, task .room, groups-some adj n rule stages index (groupOf g) T)
+  record-room = omega (arith, task .room, groups-some adj n policy stages index (groupOf g) T)
 
   pub index-few : index + 1 < 2 ^ 32
   index-few = omega (arith, record-room, task .few)
@@ -99,13 +99,13 @@ module _ {n : ℕ} {rule : Rule} {stages index : ℕ} {starts columns T records 
         all-is = loaded .all-is ∙ ap (loadOf adj) stretch-is
 
         -- the plan of all its pairs
-        pairs-are : (k : ℕ) → pairsPlan adj n rule k parentOf wholeLeft (levelsIn 0 (take m ends) stretch) ≡ pairsBelow adj n rule k index (groupOf g) ls
+        pairs-are : (k : ℕ) → pairsPlan adj n policy k parentOf wholeLeft (levelsIn 0 (take m ends) stretch) ≡ pairsBelow adj n policy k index (groupOf g) ls
         pairs-are k =
             let start : g .start + 0 ≡ g .start = omega arith in
             rw (levels-are, start, all-is)
 
         module _ (stages-left : stages ≡ 0 → ⊥) (workers : 2 ≤ g .workers) {records′ : List ℕ} (long : length records′ ≡ length records) where
-          pub pairs-task : PairsTask n rule (stages - 1) starts columns stretch (take m ends) (take m loads) records′ parentOf wholeLeft (levelsIn 0 (take m ends) stretch)
+          pub pairs-task : PairsTask n policy (stages - 1) starts columns stretch (take m ends) (take m loads) records′ parentOf wholeLeft (levelsIn 0 (take m ends) stretch)
           pairs-task = record {
             rows = task .rows;
             proper = stretch-proper;
@@ -123,12 +123,12 @@ module _ {n : ℕ} {rule : Rule} {stages index : ℕ} {starts columns T records 
             inside = omega (arith, task .inside, ap length stretch-is, same-length (concat ls) T (own-same adj n T (task .proper)));
             workers = task .workers;
             few = omega (arith, task .few);
-            room = rw (pairs-are (stages - 1)) (omega (arith, task .room, count-split adj n rule stages index (groupOf g) T stages-left workers (omega (arith, s .levels-are))));
+            room = rw (pairs-are (stages - 1)) (omega (arith, task .room, count-split adj n policy stages index (groupOf g) T stages-left workers (omega (arith, s .levels-are))));
           }
 
           -- what the lists hold after its pairs
           pub split-holds : take (width * (index + 1)) records′ ≡ take (width * index) records ++ fieldsOf (groupOf g) → {order after : List ℕ} {count : ℕ}
-              → Holds (pairsPlan adj n rule (stages - 1) parentOf wholeLeft (levelsIn 0 (take m ends) stretch)) (index + 1) records′ order after count
-              → Holds (planGroup adj n rule stages index (groupOf g) T) index records order after count
+              → Holds (pairsPlan adj n policy (stages - 1) parentOf wholeLeft (levelsIn 0 (take m ends) stretch)) (index + 1) records′ order after count
+              → Holds (planGroup adj n policy stages index (groupOf g) T) index records order after count
           split-holds put {order} {after} {count} h =
-              holds-split adj n rule stages index (groupOf g) T records records′ put stages-left workers (omega (arith, s .levels-are)) order after count (rw (pairs-are (stages - 1)) at h)
+              holds-split adj n policy stages index (groupOf g) T records records′ put stages-left workers (omega (arith, s .levels-are)) order after count (rw (pairs-are (stages - 1)) at h)

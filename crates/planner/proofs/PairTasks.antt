@@ -13,7 +13,7 @@ use Rattle.levels.proofs.Proper.{proper-left, proper-right}
 use Rattle.plan.specs.Groups.{Plan}
 use Rattle.race.specs.Loads.{loadOf}
 use Rattle.race.specs.Planner.{pairs, planPairs, _then_, planGroup}
-use Rattle.extents.specs.Extents.{Rule}
+use Rattle.extents.specs.Extents.{Policy}
 use Rattle.extents.specs.Scans.{Scale}
 use Rattle.planner.specs.Stretches.{levelsIn, endsOf, Levelled}
 use Rattle.plan.specs.Checks.{groupOf}
@@ -37,8 +37,8 @@ map-drop f zero ls = refl
 map-drop f (suc k) [] = refl
 map-drop f (suc k) (l ∷ ls) = map-drop f k ls
 
-module _ {n : ℕ} {rule : Rule} {stages : ℕ} {starts columns stretch ends loads records : List ℕ} {up : Parent} {left : Left} {ls : List (List ℕ)}
-    (task : PairsTask n rule stages starts columns stretch ends loads records up left ls) where
+module _ {n : ℕ} {policy : Policy} {stages : ℕ} {starts columns stretch ends loads records : List ℕ} {up : Parent} {left : Left} {ls : List (List ℕ)}
+    (task : PairsTask n policy stages starts columns stretch ends loads records up left ls) where
   pub ends-count : length ends ≡ length ls
   ends-count = ap length (task .levelled .ends-are) ∙ length-ends (left .done) ls
 
@@ -46,7 +46,7 @@ module _ {n : ℕ} {rule : Rule} {stages : ℕ} {starts columns stretch ends loa
   loads-count = ap length (task .loads-are) ∙ length-map ls (loadOf (adjOf n starts columns))
 
   -- what the search for the next pair asks
-  pub next-asked : Scale (up .workers) (up .load) × (sum loads ≤ up .load) × (2 * reach ≤ length loads) × (rule .p ≤ 100) × (1 ≤ left .free) × (length ends ≡ length loads)
+  pub next-asked : Scale (up .workers) (up .load) × (sum loads ≤ up .load) × (2 * reach ≤ length loads) × (policy .p ≤ 100) × (1 ≤ left .free) × (length ends ≡ length loads)
       × ((j : ℕ) → j < length ends → left .done ≤ getD ends j 0)
   next-asked = (
     task .scale,
@@ -58,8 +58,8 @@ module _ {n : ℕ} {rule : Rule} {stages : ℕ} {starts columns stretch ends loa
     λ j l. rw (task .levelled .ends-are, ends-at (left .done) ls j (omega (arith, ends-count))) (omega arith),
   )
 
-module _ {n : ℕ} {rule : Rule} {stages : ℕ} {starts columns stretch ends loads records : List ℕ} {up : Parent} {left : Left} {ls : List (List ℕ)}
-    (task : PairsTask n rule stages starts columns stretch ends loads records up left ls) {pair : Pair} (found : Found rule up left ends loads pair) where
+module _ {n : ℕ} {policy : Policy} {stages : ℕ} {starts columns stretch ends loads records : List ℕ} {up : Parent} {left : Left} {ls : List (List ℕ)}
+    (task : PairsTask n policy stages starts columns stretch ends loads records up left ls) {pair : Pair} (found : Found policy up left ends loads pair) where
   abbrev adj : ℕ → List ℕ
   adj = adjOf n starts columns
 
@@ -71,7 +71,7 @@ module _ {n : ℕ} {rule : Rule} {stages : ℕ} {starts columns stretch ends loa
 
   -- the plan of the pairs that are left
   abbrev plan : Plan
-  plan = pairsPlan adj n rule stages up left ls
+  plan = pairsPlan adj n policy stages up left ls
 
   -- ---- the red group
 
@@ -99,7 +99,7 @@ module _ {n : ℕ} {rule : Rule} {stages : ℕ} {starts columns stretch ends loa
   pub pair-fits : Fits up left pair
   pair-fits = record { parts = parts-in .0; inside = omega (arith, parts-in, task .inside); some = workers-most task found; workers = task .workers }
 
-  pub red-task : GroupTask n rule stages (left .index) starts columns (take a stretch) records (redGroup up left pair)
+  pub red-task : GroupTask n policy stages (left .index) starts columns (take a stretch) records (redGroup up left pair)
   red-task = rw red-part (record {
     rows = task .rows;
     proper = proper-left n (reds task found) (blues task found ++ later task found) parts-proper;
@@ -113,7 +113,7 @@ module _ {n : ℕ} {rule : Rule} {stages : ℕ} {starts columns stretch ends loa
 
   -- ---- the blue group, once the red one is planned
 
-  module _ {xs records₁ : List ℕ} {i : ℕ} (red-held : Holds (planGroup adj n rule stages (left .index) (groupOf (redGroup up left pair)) (take a stretch)) (left .index) records xs records₁ i)
+  module _ {xs records₁ : List ℕ} {i : ℕ} (red-held : Holds (planGroup adj n policy stages (left .index) (groupOf (redGroup up left pair)) (take a stretch)) (left .index) records xs records₁ i)
       (xs-long : length xs ≡ length (take a stretch)) (long₁ : length records₁ ≡ length records) where
     red-held′ : Holds (redPlan task found) (left .index) records xs records₁ i
     red-held′ = rw red-part at red-held
@@ -136,7 +136,7 @@ module _ {n : ℕ} {rule : Rule} {stages : ℕ} {starts columns stretch ends loa
     i-is : i ≡ blueIndex task found
     i-is = red-held′ .count-is
 
-    pub blue-task : GroupTask n rule stages i starts columns (part one a b) records₁ (blueGroup up left pair)
+    pub blue-task : GroupTask n policy stages i starts columns (part one a b) records₁ (blueGroup up left pair)
     blue-task = rw (blue-part, i-is) (record {
       rows = task .rows;
       proper = proper-left n (blues task found) (later task found) rest-proper;
@@ -150,7 +150,7 @@ module _ {n : ℕ} {rule : Rule} {stages : ℕ} {starts columns stretch ends loa
 
     -- ---- the pairs after it, once both are planned
 
-    module _ {ys records₂ : List ℕ} {j : ℕ} (blue-held : Holds (planGroup adj n rule stages i (groupOf (blueGroup up left pair)) (part one a b)) i records₁ ys records₂ j)
+    module _ {ys records₂ : List ℕ} {j : ℕ} (blue-held : Holds (planGroup adj n policy stages i (groupOf (blueGroup up left pair)) (part one a b)) i records₁ ys records₂ j)
         (ys-long : length ys ≡ length (part one a b)) (long₂ : length records₂ ≡ length records₁) where
       blue-held′ : Holds (bluePlan task found (blueIndex task found)) (blueIndex task found) records₁ ys records₂ j
       blue-held′ = rw (blue-part, i-is) at blue-held
@@ -213,7 +213,7 @@ module _ {n : ℕ} {rule : Rule} {stages : ℕ} {starts columns stretch ends loa
         over : (pair .levels + 2 * reach ≤ length ls) × (pair .workers < left .free)
         over = left-over task found (λ e. some (e ∙ sym (ends-count task)))
 
-        pub rest-task : PairsTask n rule stages starts columns (part two b (length two)) (part ends (pair .levels) (length ends)) (part loads (pair .levels) (length loads)) records₂ up (leftAfter left pair j)
+        pub rest-task : PairsTask n policy stages starts columns (part two b (length two)) (part ends (pair .levels) (length ends)) (part loads (pair .levels) (length loads)) records₂ up (leftAfter left pair j)
             (levelsIn (left .done + b) (part ends (pair .levels) (length ends)) (part two b (length two)))
         rest-task = rw rest-levels (record {
           rows = task .rows;
@@ -232,7 +232,7 @@ module _ {n : ℕ} {rule : Rule} {stages : ℕ} {starts columns stretch ends loa
         })
 
         pub next-held : {zs after : List ℕ} {count : ℕ}
-            → Holds (pairsPlan adj n rule stages up (leftAfter left pair j) (levelsIn (left .done + b) (part ends (pair .levels) (length ends)) (part two b (length two)))) j records₂ zs after count
+            → Holds (pairsPlan adj n policy stages up (leftAfter left pair j) (levelsIn (left .done + b) (part ends (pair .levels) (length ends)) (part two b (length two)))) j records₂ zs after count
             → Holds plan (left .index) records (patched two b (length two) zs) after count
         next-held {zs} h =
             rw (two-is, third-back xs ys (later task found) a b xs-length rows-length′ zs) (held-next (rw rest-levels at h))

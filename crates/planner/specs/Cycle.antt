@@ -12,7 +12,7 @@ use Rattle.plan.specs.Groups.{Plan, red, blue, width}
 use Rattle.plan.specs.Sound.{maxWorkers, maxGroups}
 use Rattle.race.specs.Loads.{loadOf}
 use Rattle.race.specs.Planner.{pairs, planPairs, planGroup}
-use Rattle.extents.specs.Extents.{Rule}
+use Rattle.extents.specs.Extents.{Policy}
 use Rattle.extents.specs.Scans.{Scale}
 use Rattle.planner.specs.Stretches.{Levelled}
 use Rattle.plan.specs.Checks.{groupOf}
@@ -46,29 +46,29 @@ pub record Fits (up : Parent) (left : Left) (pair : Pair) : Type 0 where
   pub workers : left .first + left .free ≤ maxWorkers
 
 -- the plan of the pairs that are left: levels ls and the workers that are free
-abbrev pub pairsPlan : (adj : ℕ → List ℕ) (n : ℕ) (rule : Rule) (stages : ℕ) (up : Parent) (left : Left) → List (List ℕ) → Plan
-pairsPlan adj n rule stages up left ls =
-    planPairs (planGroup adj n rule stages) (up .index) (up .start + left .done) (left .first) (left .index)
-    (pairs adj (length ls) (up .workers) (up .load) rule (left .free) ls)
+abbrev pub pairsPlan : (adj : ℕ → List ℕ) (n : ℕ) (policy : Policy) (stages : ℕ) (up : Parent) (left : Left) → List (List ℕ) → Plan
+pairsPlan adj n policy stages up left ls =
+    planPairs (planGroup adj n policy stages) (up .index) (up .start + left .done) (left .first) (left .index)
+    (pairs adj (length ls) (up .workers) (up .load) policy (left .free) ls)
 
 -- a stretch that a group's planner takes: the group's rows, its workers, and room for the records of its plan
-pub record GroupTask (n : ℕ) (rule : Rule) (stages index : ℕ) (starts columns stretch records : List ℕ) (g : Group) : Type 0 where
+pub record GroupTask (n : ℕ) (policy : Policy) (stages index : ℕ) (starts columns stretch records : List ℕ) (g : Group) : Type 0 where
   pub rows : Rows n starts columns
   pub proper : Proper n stretch
-  pub share : rule .p ≤ 100
+  pub share : policy .p ≤ 100
   pub size : g .length ≡ length stretch
   pub inside : g .start + length stretch ≤ maxRows
   pub workers : g .first + g .workers ≤ maxWorkers
   pub few : length records ≤ width * maxGroups
-  pub room : width * (index + length (planGroup (adjOf n starts columns) n rule stages index (groupOf g) stretch .groups)) ≤ length records
+  pub room : width * (index + length (planGroup (adjOf n starts columns) n policy stages index (groupOf g) stretch .groups)) ≤ length records
 
 -- a stretch that a pair's planner takes: the levels that are left, their loads, the workers that are free, and room for the records of their plan
-pub record PairsTask (n : ℕ) (rule : Rule) (stages : ℕ) (starts columns stretch ends loads records : List ℕ) (up : Parent) (left : Left) (ls : List (List ℕ)) : Type 0 where
+pub record PairsTask (n : ℕ) (policy : Policy) (stages : ℕ) (starts columns stretch ends loads records : List ℕ) (up : Parent) (left : Left) (ls : List (List ℕ)) : Type 0 where
   pub rows : Rows n starts columns
   pub proper : Proper n stretch
   pub levelled : Levelled (left .done) ends stretch ls
   pub loads-are : loads ≡ map (loadOf (adjOf n starts columns)) ls
-  pub share : rule .p ≤ 100
+  pub share : policy .p ≤ 100
   pub scale : Scale (up .workers) (up .load)
   pub within : sum loads ≤ up .load
   pub levels : 2 * reach ≤ length ls
@@ -76,4 +76,4 @@ pub record PairsTask (n : ℕ) (rule : Rule) (stages : ℕ) (starts columns stre
   pub inside : up .start + left .done + length stretch ≤ maxRows
   pub workers : left .first + left .free ≤ maxWorkers
   pub few : length records ≤ width * maxGroups
-  pub room : width * (left .index + length (pairsPlan (adjOf n starts columns) n rule stages up left ls .groups)) ≤ length records
+  pub room : width * (left .index + length (pairsPlan (adjOf n starts columns) n policy stages up left ls .groups)) ≤ length records

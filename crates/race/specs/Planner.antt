@@ -12,7 +12,7 @@ use Rattle.plan.specs.Groups.{Group, Plan, whole, red, blue, width}
 use Rattle.plan.specs.Sound.{maxWorkers, maxDepth}
 use Rattle.levels.specs.Levels.{reach, ownLevels}
 use Rattle.race.specs.Loads.{loadOf}
-use Rattle.extents.specs.Extents.{Rule, extent, cut}
+use Rattle.extents.specs.Extents.{Policy, extent, cut}
 
 unfoldable pub nothing : Plan
 nothing = record { order = []; groups = [] }
@@ -44,15 +44,15 @@ abbrev pub wholeOf : (n w : ℕ) → Group
 wholeOf n w = record { start = 0; length = n; first = 0; workers = w; colour = whole; parent = 0 }
 
 -- The pairs of a group of w workers and load R, in the levels ls and the free workers that are left: "The pair gets b workers, the next ones free". k bounds how many
-unfoldable pub pairs : (adj : ℕ → List ℕ) (k w R : ℕ) (rule : Rule) (free : ℕ) → List (List ℕ) → List Pair
-pairs adj zero w R rule free ls = []
-pairs adj (suc k) w R rule free [] = []
-pairs adj (suc k) w R rule free (l ∷ ls) =
-    let e = extent w R rule free (map (loadOf adj) (l ∷ ls)) in
+unfoldable pub pairs : (adj : ℕ → List ℕ) (k w R : ℕ) (policy : Policy) (free : ℕ) → List (List ℕ) → List Pair
+pairs adj zero w R policy free ls = []
+pairs adj (suc k) w R policy free [] = []
+pairs adj (suc k) w R policy free (l ∷ ls) =
+    let e = extent w R policy free (map (loadOf adj) (l ∷ ls)) in
     let mine = take (e .levels) (l ∷ ls) in
     let c = cut (map (loadOf adj) mine) in
     record { reds = concat (take c mine); blues = concat (drop c mine); workers = e .workers }
-    ∷ pairs adj k w R rule (free - e .workers) (drop (e .levels) (l ∷ ls))
+    ∷ pairs adj k w R policy (free - e .workers) (drop (e .levels) (l ∷ ls))
 
 -- The children of the group at index up: "Within a pair red comes first", each child with all below it
 unfoldable pub planPairs : (child : Planner) (up start first index : ℕ) → List Pair → Plan
@@ -69,22 +69,22 @@ unfoldable pub splits : Group → List (List ℕ) → Bool
 splits g ls = leb 2 (g .workers) && leb (2 * reach) (length ls)
 
 -- "A group is planned by planning its pairs"
-unfoldable pub split : (adj : ℕ → List ℕ) (child : Planner) (rule : Rule) (index : ℕ) → Group → List (List ℕ) → Plan
-split adj child rule index g ls =
+unfoldable pub split : (adj : ℕ → List ℕ) (child : Planner) (policy : Policy) (index : ℕ) → Group → List (List ℕ) → Plan
+split adj child policy index g ls =
     leaf g [] then
-    planPairs child index (g .start) (g .first) (index + 1) (pairs adj (length ls) (g .workers) (loadOf adj (concat ls)) rule (g .workers) ls)
+    planPairs child index (g .start) (g .first) (index + 1) (pairs adj (length ls) (g .workers) (loadOf adj (concat ls)) policy (g .workers) ls)
 
 -- stages: 4 less the depth
-unfoldable pub planGroup : (adj : ℕ → List ℕ) (n : ℕ) (rule : Rule) (stages : ℕ) → Planner
-planGroup adj n rule zero index g T = leaf g T
-planGroup adj n rule (suc s) index g T =
+unfoldable pub planGroup : (adj : ℕ → List ℕ) (n : ℕ) (policy : Policy) (stages : ℕ) → Planner
+planGroup adj n policy zero index g T = leaf g T
+planGroup adj n policy (suc s) index g T =
     let ls = ownLevels adj n T in
-    elim (splits g ls) [ true ↦ split adj (planGroup adj n rule s) rule index g ls | false ↦ leaf g T ]
+    elim (splits g ls) [ true ↦ split adj (planGroup adj n policy s) policy index g ls | false ↦ leaf g T ]
 
 -- "the whole is sorted even as a leaf"
-unfoldable pub planRows : (adj : ℕ → List ℕ) (n : ℕ) (rule : Rule) (w : ℕ) → Plan
-planRows adj n rule w =
-    planGroup adj n rule maxDepth 0 (wholeOf n w) (concat (ownLevels adj n (range 0 n)))
+unfoldable pub planRows : (adj : ℕ → List ℕ) (n : ℕ) (policy : Policy) (w : ℕ) → Plan
+planRows adj n policy w =
+    planGroup adj n policy maxDepth 0 (wholeOf n w) (concat (ownLevels adj n (range 0 n)))
 
 -- the plan of a matrix for w workers
 unfoldable pub plan : Matrix → (w p : ℕ) → Plan

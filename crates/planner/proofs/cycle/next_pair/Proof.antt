@@ -6,7 +6,7 @@ use borrow.Author.Needs.{needs}
 use lib.ListN.{length}
 use lib.Seq.{length-take-le}
 use Rattle.levels.specs.Levels.{reach}
-use Rattle.extents.specs.Scans.{ruleOf}
+use Rattle.extents.specs.Scans.{policyOf}
 use Rattle.extents.proofs.Ends.{sum-split}
 use Rattle.extents.proofs.Extents.{extent-taken}
 use Rattle.planner.proofs.PairPlans.{taken-most, Bounds, pair-bounds}
@@ -17,14 +17,14 @@ use Rattle.planner.proofs.cycle.next_pair.Tie as tie
 levels-in : (c : tie.After-next-extent) → (2 * reach ≤ c .next-extent .result .levels) × (c .next-extent .result .levels ≤ length (c .before .before .before .args .loads .now))
 levels-in c =
     let a = c .before .before .before .args in
-    let t = extent-taken (a .up .workers) (a .up .load) (ruleOf (a .rule)) (a .left .free) (a .loads .now) (omega arith) (omega arith) in
+    let t = extent-taken (a .up .workers) (a .up .load) (policyOf (a .policy)) (a .left .free) (a .loads .now) (omega arith) (omega arith) in
     (omega (arith, t .long, c .next-extent .ensures .0), omega (arith, taken-most t, c .next-extent .ensures .0))
 
 -- .. and how many are red
 bounds : (c : tie.After-cut) → Bounds (length (c .before .before .before .before .before .args .loads .now)) (c .before .before .next-extent .result .levels) (c .cut .result)
 bounds c =
     let a = c .before .before .before .before .before .args in
-    pair-bounds (a .up .workers) (a .up .load) (ruleOf (a .rule)) (a .left .free) (a .loads .now) (c .before .before .next-extent .result .levels) (c .cut .result)
+    pair-bounds (a .up .workers) (a .up .load) (policyOf (a .policy)) (a .left .free) (a .loads .now) (c .before .before .next-extent .result .levels) (c .cut .result)
     (omega arith) (omega arith) (c .before .before .next-extent .ensures .0) (c .cut .ensures)
 
 next-extent-requires : tie.Need-next-extent-requires

@@ -9,7 +9,7 @@ use lib.Seq.{length-take-le}
 use Rattle.levels.specs.Levels.{reach}
 use Rattle.levels.specs.Rows.{adjOf}
 use Rattle.plan.specs.Checks.{groupOf}
-use Rattle.extents.specs.Scans.{ruleOf}
+use Rattle.extents.specs.Scans.{policyOf}
 use Rattle.race.specs.Planner.{planGroup}
 use Rattle.planner.specs.Records.{Holds}
 use Rattle.planner.specs.Cycle.{redGroup, blueGroup, Fits}
@@ -90,7 +90,7 @@ module _ (t : ℕ) where
     one = let n = next (both c) in fronted (start n .args .order .now) (pair n .reds) red-rows
 
     red-held : let n = next (both c) in let a = start n .args in
-        Holds (planGroup (adjOf (a .n) (a .starts .now) (a .columns .now)) (a .n) (ruleOf (a .rule)) (a .stages) (a .left .index) (groupOf (redGroup (a .up) (a .left) (pair n))) (take (pair n .reds) (a .order .now)))
+        Holds (planGroup (adjOf (a .n) (a .starts .now) (a .columns .now)) (a .n) (policyOf (a .policy)) (a .stages) (a .left .index) (groupOf (redGroup (a .up) (a .left) (pair n))) (take (pair n .reds) (a .order .now)))
         (a .left .index) (a .records .now) red-rows (c .plan-group .last .1 .1 .1 .0) (c .plan-group .result)
     red-held = rw (both c .before .red-of .ensures) at (c .plan-group .ensures)
 
@@ -111,7 +111,7 @@ module _ (t : ℕ) where
     two = patched (one (red c)) (pair pairAt .reds) (pair pairAt .rows) blue-rows
 
     blue-held : let a = start pairAt .args in
-        Holds (planGroup (adjOf (a .n) (a .starts .now) (a .columns .now)) (a .n) (ruleOf (a .rule)) (a .stages) (red c .plan-group .result) (groupOf (blueGroup (a .up) (a .left) (pair pairAt))) (part (one (red c)) (pair pairAt .reds) (pair pairAt .rows)))
+        Holds (planGroup (adjOf (a .n) (a .starts .now) (a .columns .now)) (a .n) (policyOf (a .policy)) (a .stages) (red c .plan-group .result) (groupOf (blueGroup (a .up) (a .left) (pair pairAt))) (part (one (red c)) (pair pairAt .reds) (pair pairAt .rows)))
         (red c .plan-group .result) (red c .plan-group .last .1 .1 .1 .0) blue-rows (c .plan-group2 .last .1 .1 .1 .0) (c .plan-group2 .result)
     blue-held = rw (both (red c) .blue-of .ensures) at (c .plan-group2 .ensures)
 
