@@ -1,20 +1,21 @@
 -- Laws of loads of levels and of their ends: what has at most 32 bits, and how a scan over ends goes on by one level.
 use mathlib.Core.Path.{_≡_, refl, sym, ap, _∙_}
 use mathlib.Core.List.{List, [], _∷_, _++_}
-use Prim.Native.Nat.{ℕ, zero, suc, _+_, _*_, _-_, _/_, _≤_, _<_, _^_, max}
+use Prim.Native.Nat.{ℕ, zero, suc, _+_, _*_, _-_, _/_, _≤_, _<_, max}
 use native.Mathlib.Nat.{mul-le-mul, div-mul-le-self}
 use native.Mathlib.Numerals.{add-one}
 use native.Mathlib.Omega.{arith}
 use lib.ListN.{length, take, drop, getD, take-append-drop}
 use lib.Seq.{take-suc, drop-cons}
 use Rattle.base.specs.Lists.{sum}
+use Rattle.plan.specs.Sound.{maxWorkers}
 use Rattle.extents.specs.Extents.{End, endsFrom, nearest}
 use Rattle.extents.specs.Scans.{maxLoad, endsOn}
 
 -- ---- at most 32 bits
 
 -- the load of some levels times the workers of a group
-pub product-few : (q x : ℕ) → q ≤ maxLoad → x ≤ 16 → q * x ≤ 2 ^ 24
+pub product-few : (q x : ℕ) → q ≤ maxLoad → x ≤ maxWorkers → q * x ≤ maxLoad * maxWorkers
 product-few q x a b = mul-le-mul a b
 
 -- a share of a load

@@ -12,7 +12,7 @@ use Rattle.base.specs.Lists.{fromFirst, sum, distance}
 use Rattle.base.proofs.Booleans.{or-left-false, or-right-false}
 use Rattle.base.proofs.Each.{Each, each-map}
 use Rattle.levels.specs.Levels.{reach}
-use Rattle.extents.specs.Extents.{End, Extent, endsFrom, best, nearest, off, serves, extentOf, extentFrom, extent, cutAt, cut}
+use Rattle.extents.specs.Extents.{Policy, End, Extent, endsFrom, best, nearest, off, serves, extentOf, extentFrom, extent, cutAt, cut}
 
 -- ---- ends
 
@@ -87,11 +87,11 @@ extentOf-taken b all free e f long pos h = go (ltb (all - e .levels) (2 * reach)
         record { long = h .0; some = pos; rest = inr (omega arith, y) }
 
 -- the next pair
-pub extent-taken : (w R p free : ℕ) (qs : List ℕ) → 1 ≤ free → 2 * reach ≤ length qs → Taken (length qs) free (extent w R p free qs)
+pub extent-taken : (w R : ℕ) (policy : Policy) (free : ℕ) (qs : List ℕ) → 1 ≤ free → 2 * reach ≤ length qs → Taken (length qs) free (extent w R policy free qs)
 unfolding extent extentFrom nearest
-extent-taken w R p free qs f long =
-    go (fromFirst (λ e. serves (e .load) w R p) (drop (2 * reach - 1) (endsFrom 0 0 qs)))
-    (each-fromFirst (Between (0 + (2 * reach - 1) + 1) (0 + length qs)) (λ e. serves (e .load) w R p) (drop (2 * reach - 1) (endsFrom 0 0 qs)) (ends-between (2 * reach - 1) 0 0 qs))
+extent-taken w R policy free qs f long =
+    go (fromFirst (λ e. serves (e .load) w R (policy .p)) (drop (2 * reach - 1) (endsFrom 0 0 qs)))
+    (each-fromFirst (Between (0 + (2 * reach - 1) + 1) (0 + length qs)) (λ e. serves (e .load) w R (policy .p)) (drop (2 * reach - 1) (endsFrom 0 0 qs)) (ends-between (2 * reach - 1) 0 0 qs))
   where
     go : (es : List End) → Each (Between (0 + (2 * reach - 1) + 1) (0 + length qs)) es → Taken (length qs) free (extentFrom w R (length qs) free es)
     go [] h = record { long = long; some = f; rest = inl (refl, refl) }

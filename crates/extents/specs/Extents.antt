@@ -7,6 +7,10 @@ use lib.ListN.{length, take, drop}
 use Rattle.base.specs.Lists.{fromFirst, sum, distance}
 use Rattle.levels.specs.Levels.{reach}
 
+-- what the rules take besides a group's levels, loads and workers: "p is 50 to 99"
+pub record Policy : Type 0 where
+  pub p : ℕ
+
 -- some first levels: how many, and their load
 pub record End : Type 0 where
   pub levels : ℕ
@@ -54,8 +58,8 @@ extentFrom w R all free (e ∷ es) =
     extentOf b all free (best (λ f. off b (f .load) w R) e es)
 
 -- the next pair: "From the first free level, at least four levels are taken, then more until closeness is above p per cent"
-unfoldable pub extent : (w R p free : ℕ) → List ℕ → Extent
-extent w R p free qs = extentFrom w R (length qs) free (fromFirst (λ e. serves (e .load) w R p) (drop (2 * reach - 1) (endsFrom 0 0 qs)))
+unfoldable pub extent : (w R : ℕ) (policy : Policy) (free : ℕ) → List ℕ → Extent
+extent w R policy free qs = extentFrom w R (length qs) free (fromFirst (λ e. serves (e .load) w R (policy .p)) (drop (2 * reach - 1) (endsFrom 0 0 qs)))
 
 unfoldable pub cutAt : ℕ → List End → ℕ
 cutAt R [] = reach

@@ -3,7 +3,13 @@ use mathlib.Core.List.{List, [], _∷_}
 use Prim.Native.Nat.{ℕ, _*_, _-_, _≤_, _<_, _^_}
 use lib.ListN.{drop}
 use Rattle.base.specs.Lists.{distance}
-use Rattle.extents.specs.Extents.{End, endsFrom, best}
+use Rattle.plan.specs.Sound.{maxWorkers}
+use Rattle.extents.specs.Extents.{Policy, End, endsFrom, best}
+use Rattle.extents.specs.declared.Policy as code
+
+-- the policy that a struct stands for
+abbrev pub policyOf : code.Policy → Policy
+policyOf r = record { p = r .p }
 
 -- no group has more load: what the scans compute then has at most 32 bits
 abbrev pub maxLoad : ℕ
@@ -18,9 +24,8 @@ unfoldable pub nearestEnd : (x y : ℕ) → List End → ℕ
 nearestEnd x y [] = 0
 nearestEnd x y (e ∷ es) = best (λ f. distance (f .load * x) y) e es .levels
 
--- the load of a group of w workers, and a share p
-pub record Scale (w R p : ℕ) : Type 0 where
+-- the load of a group of w workers
+pub record Scale (w R : ℕ) : Type 0 where
   pub some : 0 < R
   pub few : R ≤ maxLoad
-  pub workers : w ≤ 16
-  pub share : p ≤ 100
+  pub workers : w ≤ maxWorkers

@@ -3,8 +3,15 @@ ghost use mathlib.Core.Path.{_≡_};
 ghost use Prim.Native.Nat.{_+_, _-_, _*_, _<_, _≤_};
 ghost use lib.ListN.{length};
 ghost use Rattle.base.specs.Lists.{sum, distance, fromFirst};
+ghost use Rattle.plan.specs.Sound.{maxWorkers};
+ghost use Rattle.levels.specs.Levels.{reach};
 ghost use Rattle.extents.specs.Extents.{nearest, serves, extent, cut};
-ghost use Rattle.extents.specs.Scans.{maxLoad, endsOn, nearestEnd, Scale};
+ghost use Rattle.extents.specs.Scans.{maxLoad, policyOf, endsOn, nearestEnd, Scale};
+
+// What the rules take: closeness is to be above p per cent.
+pub struct Policy {
+    pub p: u32,
+}
 
 // How many levels and workers a pair takes.
 pub struct Extent {
@@ -37,8 +44,8 @@ fn total(loads: &[u32]) -> u32
 }
 
 // The whole number nearest to q × w / load, half going up, but at least 1.
-fn nearest(q: u32, w: u32, load: u32, p: u32) -> u32
-    requires { ⌜ Scale w load p × (q ≤ load) ⌝ }
+fn nearest(q: u32, w: u32, load: u32) -> u32
+    requires { ⌜ Scale w load × (q ≤ load) ⌝ }
     ensures { λ r. ⌜ r ≡ nearest q w load ⌝ }
 {
     let b = (2 * (q * w) + load) / (2 * load);
@@ -47,19 +54,19 @@ fn nearest(q: u32, w: u32, load: u32, p: u32) -> u32
 
 // Levels of load q are close enough to a whole number of workers.
 fn serves(q: u32, w: u32, load: u32, p: u32) -> bool
-    requires { ⌜ Scale w load p × (q ≤ load) ⌝ }
+    requires { ⌜ Scale w load × (q ≤ load) × (p ≤ 100) ⌝ }
     ensures { λ r. ⌜ r ≡ serves q w load p ⌝ }
 {
-    let b = nearest(q, w, load, p);
+    let b = nearest(q, w, load);
     100 * off(q * w, b * load) < (100 - p) * load
 }
 
-// How many levels the first end has that serves, of those with at least four; one more than there are, if none does.
-fn first_end(loads: &[u32], w: u32, load: u32, p: u32) -> usize
-    requires { ⌜ Scale w load p × (sum (now loads) ≤ load) × (4 ≤ length (now loads)) ⌝ }
-    ensures { λ r. ⌜ (fromFirst (λ e. serves (e .load) w load p) (endsOn 4 (now (loads .entry))) ≡ endsOn r (now (loads .entry))) × (4 ≤ r) ⌝ }
+// How many levels the first end has that serves, of those with at least so many; one more than there are, if none does.
+fn first_end(loads: &[u32], least: usize, w: u32, load: u32, p: u32) -> usize
+    requires { ⌜ Scale w load × (sum (now loads) ≤ load) × (1 ≤ least) × (least ≤ length (now loads)) × (p ≤ 100) ⌝ }
+    ensures { λ r. ⌜ (fromFirst (λ e. serves (e .load) w load p) (endsOn least (now (loads .entry))) ≡ endsOn r (now (loads .entry))) × (least ≤ r) ⌝ }
 {
-    let mut k = 2 * REACH - 1;
+    let mut k = least - 1;
     let mut q = total(&loads[..k]);
     while k < loads.len() {
         q += loads[k];
@@ -73,7 +80,7 @@ fn first_end(loads: &[u32], w: u32, load: u32, p: u32) -> usize
 
 // How many levels that end has, of k or more, whose load times x is nearest to y; the shorter wins a tie.
 fn nearest_end(loads: &[u32], k: usize, x: u32, y: u32) -> usize
-    requires { ⌜ (sum (now loads) ≤ maxLoad) × (x ≤ 16) × (1 ≤ k) × (k ≤ length (now loads)) ⌝ }
+    requires { ⌜ (sum (now loads) ≤ maxLoad) × (x ≤ maxWorkers) × (1 ≤ k) × (k ≤ length (now loads)) ⌝ }
     ensures { λ r. ⌜ (r ≡ nearestEnd x y (endsOn k (now (loads .entry)))) × (k ≤ r) × (r ≤ length (now (loads .entry))) ⌝ }
 {
     let mut q = total(&loads[..k]);
@@ -96,21 +103,23 @@ fn nearest_end(loads: &[u32], k: usize, x: u32, y: u32) -> usize
 }
 
 // The next pair's levels and workers.
-pub fn next_extent(loads: &[u32], w: u32, load: u32, p: u32, free: u32) -> Extent
-    requires { ⌜ Scale w load p × (sum (now loads) ≤ load) × (4 ≤ length (now loads)) ⌝ }
-    ensures { λ r. ⌜ (r .levels ≡ extent w load p free (now (loads .entry)) .levels) × (r .workers ≡ extent w load p free (now (loads .entry)) .workers) ⌝ }
+pub fn next_extent(loads: &[u32], w: u32, load: u32, policy: Policy, free: u32) -> Extent
+    requires { ⌜ Scale w load × (sum (now loads) ≤ load) × (2 * reach ≤ length (now loads)) × (policy .p ≤ 100) ⌝ }
+    ensures { λ r. ⌜ (r .levels ≡ extent w load (policyOf policy) free (now (loads .entry)) .levels)
+        × (r .workers ≡ extent w load (policyOf policy) free (now (loads .entry)) .workers) ⌝ }
 {
     let all = loads.len();
-    let k = first_end(loads, w, load, p);
+    let least = 2 * REACH;
+    let k = first_end(loads, least, w, load, policy.p);
     if all < k {
         return Extent {
             levels: all,
             workers: free,
         };
     }
-    let b = nearest(total(&loads[..k]), w, load, p);
+    let b = nearest(total(&loads[..k]), w, load);
     let e = nearest_end(loads, k, w, b * load);
-    if all - e < 2 * REACH {
+    if all - e < least {
         return Extent {
             levels: all,
             workers: free,
@@ -130,7 +139,7 @@ pub fn next_extent(loads: &[u32], w: u32, load: u32, p: u32, free: u32) -> Exten
 
 // How many of a pair's levels are red.
 pub fn cut(loads: &[u32]) -> usize
-    requires { ⌜ (sum (now loads) ≤ maxLoad) × (4 ≤ length (now loads)) ⌝ }
+    requires { ⌜ (sum (now loads) ≤ maxLoad) × (2 * reach ≤ length (now loads)) ⌝ }
     ensures { λ r. ⌜ r ≡ cut (now (loads .entry)) ⌝ }
 {
     let end = loads.len() - REACH;

@@ -6,7 +6,7 @@ use native.Mathlib.Numerals.{add-one}
 use native.Mathlib.Omega.{arith}
 use lib.ListN.{length, take, getD}
 use lib.Seq.{take-suc}
-use Rattle.plan.specs.Groups.{width, fields, flat}
+use Rattle.plan.specs.Groups.{width, fieldsOf, flat}
 use Rattle.plan.specs.Sound.{maxGroups}
 use Rattle.plan.specs.Checks.{groupOf}
 use Rattle.plan.specs.declared.fields.Group.{Group}
@@ -29,15 +29,15 @@ no-record gs numbers = refl
 abbrev pub begin : (gs : List Group) (numbers : List ℕ) → Begun gs
 begin gs numbers = record { k = 0; numbers = numbers; within = omega arith; in-plan = omega arith; is = no-record gs numbers }
 
-pub one-more : (gs : List Group) (k : ℕ) (d : Group) → k < length gs → flat (map groupOf (take (k + 1) gs)) ≡ flat (map groupOf (take k gs)) ++ fields (groupOf (getD gs k d))
+pub one-more : (gs : List Group) (k : ℕ) (d : Group) → k < length gs → flat (map groupOf (take (k + 1) gs)) ≡ flat (map groupOf (take k gs)) ++ fieldsOf (groupOf (getD gs k d))
 unfolding flat
 one-more gs k d l =
     rw (add-one k, take-suc gs k d l, map-append groupOf (take k gs) (getD gs k d ∷ []), flat-append (map groupOf (take k gs)) (groupOf (getD gs k d) ∷ []))
-    (rw (append-nil (fields (groupOf (getD gs k d)))))
+    (rw (append-nil (fieldsOf (groupOf (getD gs k d)))))
 
 -- with one more
 abbrev pub next : {gs : List Group} (t : Begun gs) (d : Group) → t .k < length gs → t .k < maxGroups → (ns : List ℕ)
-    → take (width * (t .k + 1)) ns ≡ take (width * t .k) (t .numbers) ++ fields (groupOf (getD gs (t .k) d)) → Begun gs
+    → take (width * (t .k + 1)) ns ≡ take (width * t .k) (t .numbers) ++ fieldsOf (groupOf (getD gs (t .k) d)) → Begun gs
 next {gs} t d l f ns e = record {
   k = t .k + 1;
   numbers = ns;

@@ -7,13 +7,13 @@ use plan::fields::Group;
 use plan::fields::MAX_FIELDS;
 use plan::fields::WIDTH;
 ghost use mathlib.Core.Path.{_≡_};
-ghost use mathlib.Core.List.{List, _++_, map};
+ghost use mathlib.Core.List.{_++_, map};
 ghost use Prim.Native.Nat.{_+_, _*_, _≤_, _<_, min};
 ghost use lib.ListN.{length, take};
 ghost use Rattle.base.specs.Replies.{lent};
 ghost use Rattle.base.specs.Answers.{replyOf};
 ghost use Rattle.matrix.specs.Checks.{matrixOf};
-ghost use Rattle.plan.specs.Groups.{width, fields, flat};
+ghost use Rattle.plan.specs.Groups.{width, fieldsOf, flat};
 ghost use Rattle.plan.specs.Sound.{maxGroups, checkReply, maxFields};
 ghost use Rattle.plan.specs.Checks.{recordAt, groupOf};
 ghost use Rattle.race.specs.Planner.{plan, planReply};
@@ -25,7 +25,7 @@ const TOO_MANY: u32 = MAX_GROUPS as u32 + 1;
 // Writes a group's record at an index of a flat list.
 fn put(numbers: &mut [u32; MAX_FIELDS], k: usize, g: Group)
     requires { ⌜ k < maxGroups ⌝ }
-    ensures { λ _. ⌜ take (width * (k + 1)) (now (numbers .exit)) ≡ take (width * k) (now (numbers .entry)) ++ fields (groupOf g) ⌝ }
+    ensures { λ _. ⌜ take (width * (k + 1)) (now (numbers .exit)) ≡ take (width * k) (now (numbers .entry)) ++ fieldsOf (groupOf g) ⌝ }
 {
     fields::put(numbers, k, g);
 }

@@ -1,5 +1,5 @@
 -- The lines of the listing, number by number and record by record, and how long they are.
-use mathlib.Core.Path.{_≡_, refl, ap, _∙_}
+use mathlib.Core.Path.{_≡_, ap, _∙_}
 use mathlib.Core.List.{List, [], _∷_, _++_, append-assoc}
 use Prim.Native.Nat.{ℕ, suc, _+_, _-_, _*_, _≤_, _<_}
 use native.Mathlib.Numerals.{add-one}
@@ -11,7 +11,7 @@ use Rattle.market.specs.Text.{natural}
 use Rattle.writer.specs.Puts.{Put}
 use Rattle.writer.proofs.puts.Digits.{natural-few}
 use Rattle.writer.proofs.puts.Putting.{Next}
-use Rattle.plan.specs.Groups.{Group, width, fields, ofFields, records}
+use Rattle.plan.specs.Groups.{Group, width, fieldsOf, ofFields, records}
 use Rattle.plan.specs.Checks.{recordAt}
 use Rattle.plan.proofs.FlatRecords.{fields-read, records-at, records-none}
 use Rattle.listing.specs.Listing.{maxNumber, maxLine, titles, spaced, orderLine, titleLine, groupLines}
@@ -43,15 +43,15 @@ pub fields-few : (ns : List ℕ) → length (fieldsLine ns) ≤ maxNumber * leng
 fields-few ns = rw length-append (omega (arith, spaced-few ns))
 
 -- the record at an index is a part of the flat list
-pub record-part : (ns : List ℕ) (i from : ℕ) → from ≡ width * i → from + width ≤ length ns → take (from + width - from) (drop from ns) ≡ fields (recordAt ns i)
+pub record-part : (ns : List ℕ) (i from : ℕ) → from ≡ width * i → from + width ≤ length ns → take (from + width - from) (drop from ns) ≡ fieldsOf (recordAt ns i)
 unfolding recordAt
 record-part ns i from e l =
     let z : from + width - from ≡ width = omega arith in
-    rw z (fields-read (drop from ns) (rw length-drop (omega arith)) ∙ ap (λ (k : ℕ). fields (ofFields (drop k ns))) e)
+    rw z (fields-read (drop from ns) (rw length-drop (omega arith)) ∙ ap (λ (k : ℕ). fieldsOf (ofFields (drop k ns))) e)
 
 -- the next record's line
 pub groups-next : (ns : List ℕ) (count i : ℕ) → i < count
-    → Next (groupLines i (drop i (records count ns))) (natural i ++ fieldsLine (fields (recordAt ns i))) (groupLines (i + 1) (drop (i + 1) (records count ns)))
+    → Next (groupLines i (drop i (records count ns))) (natural i ++ fieldsLine (fieldsOf (recordAt ns i))) (groupLines (i + 1) (drop (i + 1) (records count ns)))
 unfolding groupLines
 groups-next ns count i l = record { is = rw (add-one, records-at) (simp append-assoc) }
 
@@ -61,11 +61,11 @@ groups-end ns count i l = rw (records-none count i ns l)
 
 -- at most so many bytes a record
 pub groups-few : (i : ℕ) (gs : List Group) → length (groupLines i gs) ≤ maxLine * length gs
-unfolding groupLines fields
+unfolding groupLines fieldsOf
 groups-few i [] = omega arith
 groups-few i (g ∷ gs) =
     let h = groups-few (suc i) gs in
-    simp length-append (omega (arith, natural-few i, spaced-few (fields g)))
+    simp length-append (omega (arith, natural-few i, spaced-few (fieldsOf g)))
 
 -- the order's line and the title line
 pub order-few : (order : List ℕ) → length (orderLine order ++ titleLine) ≤ titles + maxNumber * length order

@@ -14,7 +14,7 @@ use Rattle.market.specs.Fields.{Scan, got, none, number}
 use Rattle.market.specs.Parse.{Parsed, matrixText, rejected, parse}
 use Rattle.market.specs.FullRows.{ofTriplets}
 use Rattle.market.specs.Text.{natural}
-use Rattle.plan.specs.Groups.{Group, Plan, width, fields}
+use Rattle.plan.specs.Groups.{Group, Plan, width, fieldsOf}
 use Rattle.plan.specs.Sound.{maxGroups}
 use Rattle.race.specs.Planner.{areParameters, plan}
 
@@ -85,7 +85,7 @@ titleLine = ascii "group start length first workers colour parent\n"
 -- "each later line a record's six fields after its index"
 unfoldable pub groupLines : ℕ → List Group → List ℕ
 groupLines i [] = []
-groupLines i (g ∷ gs) = natural i ++ spaced (fields g) ++ lineFeed ∷ groupLines (suc i) gs
+groupLines i (g ∷ gs) = natural i ++ spaced (fieldsOf g) ++ lineFeed ∷ groupLines (suc i) gs
 
 unfoldable pub planListing : Plan → List ℕ
 planListing p = orderLine (p .order) ++ titleLine ++ groupLines 0 (p .groups)

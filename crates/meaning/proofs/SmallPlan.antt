@@ -11,7 +11,7 @@ use Rattle.base.specs.Lists.{keep}
 use Rattle.base.proofs.Booleans.{and-left, and-right}
 use Rattle.base.proofs.Each.{Each, each-map}
 use Rattle.matrix.specs.Limits.{maxRows}
-use Rattle.plan.specs.Groups.{Group, fields, flat}
+use Rattle.plan.specs.Groups.{Group, fieldsOf, flat}
 use Rattle.plan.specs.Sound.{maxWorkers, maxGroups, children, tiled, likeApart, childrenSound, sound}
 use Rattle.plan.proofs.Once.{Low, once}
 use Rattle.plan.proofs.Pair.{pair-of, tiled-le}
@@ -87,8 +87,8 @@ parents-low i (g ∷ gs) d =
 abbrev Fine : ℕ → Group → Type 0
 Fine n g = Inside n g × (g .parent < maxGroups)
 
-fields-small : (n : ℕ) → n ≤ maxRows → (g : Group) → Fine n g → Each (Holds 4) (fields g)
-unfolding fields
+fields-small : (n : ℕ) → n ≤ maxRows → (g : Group) → Fine n g → Each (Holds 4) (fieldsOf g)
+unfolding fieldsOf
 fields-small n few g (i, p) = (omega (arith, i .rows), (omega (arith, i .rows), (omega (arith, i .crew), (omega (arith, i .crew), (omega (arith, i .coloured), (omega arith, tt))))))
 
 both-each : (P Q : Group → Type 0) (gs : List Group) → Each P gs → Each Q gs → Each (λ g. P g × Q g) gs
@@ -115,4 +115,4 @@ sound-small adj n order (g ∷ gs) few h =
     let below : Each (Inside n) gs = all-inside adj order n 1 gs (f .down) (f .under .1) first in
     let parents : Each (λ h. h .parent < maxGroups) gs = each-map (λ h. h .parent < 1 + length gs) (λ h. h .parent < maxGroups) (λ h l. omega (arith, f .short)) gs (parents-low 1 gs (f .down)) in
     let fine : Each (Fine n) (g ∷ gs) = ((top, omega (arith, f .parent)), both-each (Inside n) (λ h. h .parent < maxGroups) gs below parents) in
-    record { rows = low-small n order few (once n order (f .once) .low); numbers = each-concat (Holds 4) (Fine n) fields (fields-small n few) (g ∷ gs) fine }
+    record { rows = low-small n order few (once n order (f .once) .low); numbers = each-concat (Holds 4) (Fine n) fieldsOf (fields-small n few) (g ∷ gs) fine }

@@ -1,4 +1,4 @@
-// Entries of a matrix, the check of displacements, and the product of both on one core.
+// The check of displacements, and the product of a matrix and displacements on one core.
 mod limits;
 mod row;
 
@@ -13,31 +13,14 @@ use matrix::row::columns_of;
 use matrix::row::values_of;
 use symmetric::is_matrix;
 ghost use mathlib.Core.Path.{_≡_};
-ghost use mathlib.Core.Bool.{true};
 ghost use mathlib.Core.List.{[], _∷_, _++_};
 ghost use lib.ListN.{length, drop};
 ghost use Rattle.base.specs.Replies.{accepted, refused, inTurn, lent};
 ghost use Rattle.base.specs.Answers.{replyOf};
-ghost use Rattle.matrix.specs.Matrix.{isMatrix, entry, displacementCheck};
+ghost use Rattle.matrix.specs.Matrix.{entry, displacementCheck};
 ghost use Rattle.matrix.specs.Checks.{matrixOf};
 ghost use Rattle.matrix.specs.Product.{product, productReply};
 ghost use Rattle.multiply.specs.Loaded.{Loaded};
-
-// Entry (i, j) of a matrix, 0 if there is none.
-pub fn entry_at(n: u32, starts: &[u32], columns: &[u32], values: &[i32], i: u32, j: u32) -> i64
-    requires { ⌜ isMatrix (matrixOf n (now starts) (now columns) (now values)) ≡ true ⌝ }
-    ensures { λ r. ⌜ r ≡ entry (matrixOf n (now (starts .entry)) (now (columns .entry)) (now (values .entry))) i j ⌝ }
-{
-    if n <= i {
-        return 0;
-    }
-    let place = i as usize;
-    row::entry(
-        columns_of(starts, columns, place),
-        values_of(starts, values, place),
-        j,
-    )
-}
 
 // Whether there are n displacements, each within its limit.
 pub fn check_displacements(n: u32, displacements: &[i32]) -> Answer

@@ -12,7 +12,7 @@ use Rattle.matrix.specs.Limits.{maxRows}
 use Rattle.matrix.specs.Matrix.{Matrix, isMatrix, matrixCheck}
 use Rattle.matrix.proofs.Cut.{cut, cut-matrix, cut-neighbours}
 use Rattle.plan.specs.Groups.{Plan, flat, width}
-use Rattle.race.specs.Planner.{planRows, plan, planReply}
+use Rattle.race.specs.Planner.{plan, planReply}
 use Rattle.race.proofs.Rooms.{rooms-cut, planned}
 use Rattle.words.specs.LittleEndian.{bytesOf, unsignedBytes, stored}
 use Rattle.plan.specs.Sound.{maxFields}
@@ -26,7 +26,7 @@ module _ (m : Matrix) (w p : ℕ) where
   -- a matrix whose lists are cut has the same plan
   plan-cut : isMatrix m ≡ true → plan (cut m) w p ≡ plan m w p
   unfolding plan
-  plan-cut ok = ap (λ (adj : ℕ → List ℕ). planRows adj (m .n) p w) (cut-neighbours m ok)
+  plan-cut ok = rw (cut-neighbours m ok)
 
   reply-cut : (a b : ℕ) → planReply (cut m) w p a b ≡ planReply m w p a b
   unfolding planReply matrixCheck

@@ -10,9 +10,9 @@ use Rattle.base.proofs.Each.{Pairwise, each-map}
 use Rattle.matrix.specs.Matrix.{pattern, neighbours}
 use Rattle.matrix.specs.Limits.{maxRows}
 use Rattle.plan.specs.Groups.{Group, records}
-use Rattle.plan.specs.Sound.{maxGroups, children, rowsOf, likeApart}
+use Rattle.plan.specs.Sound.{maxGroups, children, stretchOf, likeApart}
 use Rattle.plan.specs.declared.fields.Record.{Record}
-use Rattle.plan.specs.Checks.{recordAt, ofRecord, Reads, belowWhole, NextChild, tiles, InOrder}
+use Rattle.plan.specs.Checks.{recordAt, ofRecord, Reads, belowWhole, NextChild, tiles, PlanLists}
 use Rattle.plan.specs.Marks.{OfMatrix, touchedBy, ofColour, touchedLike, Stamped, Touched, UpTo}
 use Rattle.plan.proofs.Once.{once}
 use Rattle.plan.proofs.Nested.{children-at, children-over}
@@ -28,7 +28,7 @@ module _ (n : ℕ) (starts columns order groups : List ℕ) (count k colour low 
 
   -- what a group touches
   abbrev touched : Group → List ℕ
-  touched g = touchedBy n starts columns (rowsOf (take n order) g)
+  touched g = touchedBy n starts columns (stretchOf (take n order) g)
 
   -- the children from index i on
   abbrev from : ℕ → List Group
@@ -47,7 +47,7 @@ module _ (n : ℕ) (starts columns order groups : List ℕ) (count k colour low 
     pub same : answer ≡ leftApart adj (take n order) touched low marks (ofColour colour (from i))
     pub in-turn : Pairwise After (from i)
 
-  module _ (of : OfMatrix n starts columns) (o : InOrder n order groups count) where
+  module _ (of : OfMatrix n starts columns) (o : PlanLists n order groups count) where
     pub comparing-first : (marks : List ℕ) (i : ℕ) → tiles (recordAt groups k) (children k (belowWhole count groups)) ≡ true → UpTo low marks → NextChild count groups k (k + 1) i
         → Comparing marks i
     comparing-first marks i t u next =
@@ -100,7 +100,7 @@ module _ (n : ℕ) (starts columns order groups : List ℕ) (count k colour low 
             same = c .same ∙ ap (λ (ks : List Group). leftApart adj (take n order) touched low marks (ofColour colour ks)) (next-is ∙ ap (λ (ks : List Group). g ∷ ks) (next .same))
                 ∙ colour-next adj (take n order) touched low mine (omega (arith, c .past)) colour g (from r) marks marks′
                 (each-map (After g) (Overlaps adj (take n order) touched g)
-                (λ x after. overlap n starts columns (rows-graph of) (rowsOf (take n order) g) (rowsOf (take n order) x) (after-disjoint n (take n order) (once n (take n order) (o .once)) g x after)) (from r) (all-after .0))
+                (λ x after. overlap n starts columns (rows-graph of) (stretchOf (take n order) g) (stretchOf (take n order) x) (after-disjoint n (take n order) (once n (take n order) (o .once)) g x after)) (from r) (all-after .0))
                 (free true t) s;
             in-turn = all-after .1;
           }

@@ -5,7 +5,7 @@ use Prim.Native.Nat.{ℕ, zero, suc, _+_, _*_, _≤_, _<_}
 use native.Mathlib.Omega.{arith}
 use lib.ListN.{length, getD, take, drop, drop-of-length-le}
 use lib.Seq.{drop-drop, drop-cons, getD-drop, take-at}
-use Rattle.plan.specs.Groups.{Group, Plan, width, fields, ofFields, flat, records, planOf}
+use Rattle.plan.specs.Groups.{Group, Plan, width, fieldsOf, ofFields, flat, records, planOf}
 use Rattle.plan.specs.Checks.{recordAt}
 
 pub length-records : (count : ℕ) (ns : List ℕ) → length (records count ns) ≡ count
@@ -56,21 +56,21 @@ part-reads ns i zero l = refl
 part-reads ns i (suc k) l = rw (drop-cons ns i 0 (omega arith)) (ap (λ (xs : List ℕ). getD ns i 0 ∷ xs) (part-reads ns (suc i) k (omega arith)))
 
 -- the numbers in front of a list are the fields of the record that is read there
-pub fields-read : (ns : List ℕ) → width ≤ length ns → take width ns ≡ fields (ofFields ns)
-unfolding fields ofFields
+pub fields-read : (ns : List ℕ) → width ≤ length ns → take width ns ≡ fieldsOf (ofFields ns)
+unfolding fieldsOf ofFields
 fields-read ns l = part-reads ns 0 width (omega arith)
 
 -- ---- records that were flattened
 
 -- how many numbers they have
 pub length-flat : (gs : List Group) → length (flat gs) ≡ width * length gs
-unfolding flat fields
+unfolding flat fieldsOf
 length-flat [] = refl
 length-flat (g ∷ gs) = omega (arith, length-flat gs)
 
 -- they are read back, whatever stands after them
 pub records-flat : (gs : List Group) (rest : List ℕ) → records (length gs) (flat gs ++ rest) ≡ gs
-unfolding records flat fields ofFields
+unfolding records flat fieldsOf ofFields
 records-flat [] rest = refl
 records-flat (g ∷ gs) rest = ap (λ (hs : List Group). g ∷ hs) (records-flat gs rest)
 

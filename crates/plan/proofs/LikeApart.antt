@@ -14,7 +14,7 @@ use Rattle.base.proofs.Lists.{any-ext}
 use Rattle.base.proofs.Each.{Each, each-map}
 use Rattle.base.proofs.Left.{all-same}
 use Rattle.plan.specs.Groups.{Group, red, blue}
-use Rattle.plan.specs.Sound.{apart, rowsOf, likeApart}
+use Rattle.plan.specs.Sound.{apart, stretchOf, likeApart}
 use Rattle.plan.specs.Marks.{ofColour, clashes, Stamped}
 
 -- ---- tests
@@ -34,7 +34,7 @@ any-or p q (x ∷ xs) = rw (any-or p q xs) (swap (p x) (q x) (any p xs) (any q x
 module _ (adj : ℕ → List ℕ) (order : List ℕ) where
   -- a child that is like g and not apart from it
   abbrev like : Group → Group → Bool
-  like g h = eqb (g .colour) (h .colour) && not (apart adj (rowsOf order g) (rowsOf order h))
+  like g h = eqb (g .colour) (h .colour) && not (apart adj (stretchOf order g) (stretchOf order h))
 
   -- who is like g has its colour
   like-colour : (g : Group) (c : ℕ) (hs : List Group) → g .colour ≡ c → any (like g) (ofColour c hs) ≡ any (like g) hs
@@ -122,7 +122,7 @@ leftApart adj order touched low marks gs = all (λ g. clear low marks (touched g
 
 -- two groups that touch a common row are not apart
 abbrev pub Overlaps : (adj : ℕ → List ℕ) (order : List ℕ) (touched : Group → List ℕ) → Group → Group → Type 0
-Overlaps adj order touched g h = any (isIn (touched g)) (touched h) ≡ not (apart adj (rowsOf order g) (rowsOf order h))
+Overlaps adj order touched g h = any (isIn (touched g)) (touched h) ≡ not (apart adj (stretchOf order g) (stretchOf order h))
 
 module _ (adj : ℕ → List ℕ) (order : List ℕ) (touched : Group → List ℕ) (low mine : ℕ) (up : low < mine) where
   abbrev left : List ℕ → List Group → Bool
@@ -138,7 +138,7 @@ module _ (adj : ℕ → List ℕ) (order : List ℕ) (touched : Group → List �
     all-stamped [] s each = refl
     all-stamped (h ∷ hs) s each =
         rw (clear-stamped low mine (touched g) marks marks′ (touched h) up s, all-stamped hs s (each .1), eq-eqb (g .colour) (h .colour) (sym (each .0 .0)), each .0 .1)
-        (merge (not (apart adj (rowsOf order g) (rowsOf order h))) (any (like adj order g) hs) (clear low marks (touched h)) (all (λ h. clear low marks (touched h)) hs))
+        (merge (not (apart adj (stretchOf order g) (stretchOf order h))) (any (like adj order g) hs) (clear low marks (touched h)) (all (λ h. clear low marks (touched h)) hs))
       where
         merge : (x y c a : Bool) → (not x && c) && (not y && a) ≡ not (x || y) && (c && a)
         merge true y c a = refl

@@ -12,7 +12,7 @@ use Rattle.base.proofs.Booleans.{and-left, and-right}
 use Rattle.base.proofs.Each.{Each, Pairwise, each-map}
 use Rattle.base.proofs.Lists.{get-in}
 use Rattle.plan.specs.Groups.{Group, red, blue}
-use Rattle.plan.specs.Sound.{rowsOf}
+use Rattle.plan.specs.Sound.{stretchOf}
 use Rattle.plan.specs.Checks.{fitting, pending, laid, tiles}
 use Rattle.plan.proofs.Laid.{fits, tiled-laid}
 use Rattle.plan.proofs.Once.{Once, injective}
@@ -46,9 +46,9 @@ tiles-spread g [] h = record { from-on = tt; in-turn = tt; colours = tt }
 tiles-spread g (k ∷ ks) h = laid-spread g (g .start) (g .first) 0 (k ∷ ks) (sym (tiled-laid g (g .start) (g .first) (k ∷ ks)) ∙ h)
 
 -- the place in the order of a row of a group
-place : (order : List ℕ) (g : Group) (v : ℕ) → isIn (rowsOf order g) v ≡ true
+place : (order : List ℕ) (g : Group) (v : ℕ) → isIn (stretchOf order g) v ≡ true
     → (p : ℕ) × (g .start ≤ p) × (p < g .start + g .length) × (p < length order) × (getD order p 0 ≡ v)
-unfolding rowsOf
+unfolding stretchOf
 place order g v h =
     let (i, l, e) = get-in (take (g .length) (drop (g .start) order)) v h in
     let long = length-take (g .length) (drop (g .start) order) in
@@ -56,7 +56,7 @@ place order g v h =
     (g .start + i, omega arith, omega arith, omega (arith, length-drop (g .start) order), sym (getD-take (g .length) (drop (g .start) order) i 0 short ∙ getD-drop (g .start) order i 0) ∙ e)
 
 -- stretches one after the other have no row in common
-pub after-disjoint : (n : ℕ) (order : List ℕ) → Once n order → (x y : Group) → After x y → (v : ℕ) → isIn (rowsOf order x) v ≡ true → isIn (rowsOf order y) v ≡ true → ⊥
+pub after-disjoint : (n : ℕ) (order : List ℕ) → Once n order → (x y : Group) → After x y → (v : ℕ) → isIn (stretchOf order x) v ≡ true → isIn (stretchOf order y) v ≡ true → ⊥
 after-disjoint n order once x y after v a b =
     let (p, p₁, p₂, p₃, p₄) = place order x v a in
     let (q, q₁, q₂, q₃, q₄) = place order y v b in

@@ -93,7 +93,7 @@ tiles g (k ∷ ks) = tiled g (g .start) (g .first) (k ∷ ks)
 -- ---- the lists of a plan
 
 -- the first n of the order are each row once, and the records, which are not too many, stand depth first
-pub record InOrder (n : ℕ) (order groups : List ℕ) (count : ℕ) : Type 0 where
+pub record PlanLists (n : ℕ) (order groups : List ℕ) (count : ℕ) : Type 0 where
   pub order-long : n ≤ length order
   pub once : eachOnce n (take n order) ≡ true
   pub groups-long : width * count ≤ length groups

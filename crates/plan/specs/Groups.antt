@@ -31,15 +31,15 @@ pub record Plan : Type 0 where
 abbrev pub width : ℕ
 width = 6
 
-unfoldable pub fields : Group → List ℕ
-fields g = g .start ∷ g .length ∷ g .first ∷ g .workers ∷ g .colour ∷ g .parent ∷ []
+unfoldable pub fieldsOf : Group → List ℕ
+fieldsOf g = g .start ∷ g .length ∷ g .first ∷ g .workers ∷ g .colour ∷ g .parent ∷ []
 
 unfoldable pub ofFields : List ℕ → Group
 ofFields ns = record { start = getD ns 0 0; length = getD ns 1 0; first = getD ns 2 0; workers = getD ns 3 0; colour = getD ns 4 0; parent = getD ns 5 0 }
 
 -- the records as one flat list
 unfoldable pub flat : List Group → List ℕ
-flat gs = concat (map fields gs)
+flat gs = concat (map fieldsOf gs)
 
 -- the first `count` records of a flat list
 unfoldable pub records : (count : ℕ) → List ℕ → List Group

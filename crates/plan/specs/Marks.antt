@@ -11,7 +11,7 @@ use Rattle.matrix.specs.Limits.{maxRows}
 use Rattle.matrix.specs.Matrix.{isMatrix, pattern, columnsOf}
 use Rattle.matrix.specs.Checks.{matrixOf}
 use Rattle.plan.specs.Groups.{Group}
-use Rattle.plan.specs.Sound.{rowsOf}
+use Rattle.plan.specs.Sound.{stretchOf}
 
 -- the row starts and columns are those of a matrix
 pub record OfMatrix (n : ℕ) (starts columns : List ℕ) : Type 0 where
@@ -32,7 +32,7 @@ ofColour colour gs = filter (λ g. eqb (g .colour) colour) gs
 
 -- what a group of a colour touches; nothing if the group has another
 unfoldable pub touchedLike : (n : ℕ) (starts columns order : List ℕ) (colour : ℕ) → Group → List ℕ
-touchedLike n starts columns order colour g = cond (eqb (g .colour) colour) (touchedBy n starts columns (rowsOf order g)) []
+touchedLike n starts columns order colour g = cond (eqb (g .colour) colour) (touchedBy n starts columns (stretchOf order g)) []
 
 -- The mark of z is another child's: marks above low are of the children that are compared, and mine is of the one at hand
 unfoldable pub clashes : (low mine : ℕ) (marks : List ℕ) → ℕ → Bool

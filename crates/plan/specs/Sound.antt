@@ -57,14 +57,14 @@ unfoldable pub apart : (adj : ℕ → List ℕ) (xs ys : List ℕ) → Bool
 apart adj xs ys = not (any (λ u. any (λ v. isIn (adj v) u || any (isIn (adj u)) (adj v)) ys) xs)
 
 -- a group's rows: its stretch of the order
-unfoldable pub rowsOf : List ℕ → Group → List ℕ
-rowsOf order g = take (g .length) (drop (g .start) order)
+unfoldable pub stretchOf : List ℕ → Group → List ℕ
+stretchOf order g = take (g .length) (drop (g .start) order)
 
 -- "no freedoms of two like-coloured children of one parent are joined or have a common joined freedom"
 unfoldable pub likeApart : (adj : ℕ → List ℕ) (order : List ℕ) → List Group → Bool
 likeApart adj order [] = true
 likeApart adj order (g ∷ gs) =
-    not (any (λ h. eqb (g .colour) (h .colour) && not (apart adj (rowsOf order g) (rowsOf order h))) gs)
+    not (any (λ h. eqb (g .colour) (h .colour) && not (apart adj (stretchOf order g) (stretchOf order h))) gs)
     && likeApart adj order gs
 
 -- the children ks of g: none (a leaf), or tiling it and apart

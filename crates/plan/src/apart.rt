@@ -11,12 +11,12 @@ use base::numbers::least;
 use matrix::limits::MAX_ROWS;
 ghost use mathlib.Core.Path.{_≡_};
 ghost use mathlib.Core.Bool.{true};
-ghost use Prim.Native.Nat.{ℕ, _+_, _^_, _≤_, _<_, min};
+ghost use Prim.Native.Nat.{ℕ, _+_, _^_, _≤_, _<_};
 ghost use lib.ListN.{length, getD, take};
 ghost use Rattle.matrix.specs.Matrix.{pattern, neighbours};
 ghost use Rattle.plan.specs.Groups.{records};
 ghost use Rattle.plan.specs.Sound.{maxGroups, children, likeApart, childrenSound, allSound};
-ghost use Rattle.plan.specs.Checks.{recordAt, ofRecord, Small, belowWhole, tiles, InOrder};
+ghost use Rattle.plan.specs.Checks.{recordAt, ofRecord, Small, belowWhole, tiles, PlanLists};
 ghost use Rattle.plan.specs.Marks.{OfMatrix, touchedLike, Touched, ofColour, UpTo, Judged};
 ghost use Rattle.matrix.specs.Limits.{maxRows};
 
@@ -61,7 +61,7 @@ pub fn apart_below(
     colour: u32,
     low: u32,
 ) -> bool
-    requires { ⌜ OfMatrix n (now starts) (now columns) × InOrder n (now order) (now groups) count × (k < count)
+    requires { ⌜ OfMatrix n (now starts) (now columns) × PlanLists n (now order) (now groups) count × (k < count)
         × (tiles (recordAt (now groups) k) (children k (belowWhole count (now groups))) ≡ true) × UpTo low (now marks) × (low + maxGroups < 2 ^ 32) ⌝ }
     ensures { λ r. ⌜ Judged (likeApart (neighbours (pattern n (now (starts .entry)) (now (columns .entry)))) (take n (now (order .entry)))
         (ofColour colour (children k (belowWhole count (now (groups .entry)))))) (low + maxGroups) (now (marks .exit)) r ⌝ }
@@ -99,7 +99,7 @@ fn sound_below(
     k: usize,
     low: u32,
 ) -> bool
-    requires { ⌜ OfMatrix n (now starts) (now columns) × InOrder n (now order) (now groups) count × (k < count) × UpTo low (now marks) × (low + maxGroups + maxGroups < 2 ^ 32) ⌝ }
+    requires { ⌜ OfMatrix n (now starts) (now columns) × PlanLists n (now order) (now groups) count × (k < count) × UpTo low (now marks) × (low + maxGroups + maxGroups < 2 ^ 32) ⌝ }
     ensures { λ r. ⌜ Judged (childrenSound (neighbours (pattern n (now (starts .entry)) (now (columns .entry)))) (take n (now (order .entry)))
         (recordAt (now (groups .entry)) k) (children k (belowWhole count (now (groups .entry))))) (low + maxGroups + maxGroups) (now (marks .exit)) r ⌝ }
 {
@@ -132,7 +132,7 @@ pub fn all_sound(
     groups: &[u32],
     count: usize,
 ) -> bool
-    requires { ⌜ OfMatrix n (now starts) (now columns) × InOrder n (now order) (now groups) count ⌝ }
+    requires { ⌜ OfMatrix n (now starts) (now columns) × PlanLists n (now order) (now groups) count ⌝ }
     ensures { λ r. ⌜ r ≡ allSound (neighbours (pattern n (now (starts .entry)) (now (columns .entry)))) (take n (now (order .entry)))
         (belowWhole count (now (groups .entry))) 0 (records count (now (groups .entry))) ⌝ }
 {

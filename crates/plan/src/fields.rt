@@ -5,7 +5,7 @@ ghost use mathlib.Core.Path.{_≡_};
 ghost use mathlib.Core.List.{_++_};
 ghost use Prim.Native.Nat.{_+_, _*_, _≤_};
 ghost use lib.ListN.{length, take};
-ghost use Rattle.plan.specs.Groups.{width, fields};
+ghost use Rattle.plan.specs.Groups.{width, fieldsOf};
 ghost use Rattle.plan.specs.Checks.{recordAt, groupOf, Reads};
 
 // How many numbers a record has, and a list of all that a plan may have.
@@ -59,7 +59,7 @@ pub fn get(numbers: &[u32], i: usize) -> Group
 // Writes a record at an index.
 pub fn put(numbers: &mut [u32], i: usize, g: Group)
     requires { ⌜ width * (i + 1) ≤ length (now numbers) ⌝ }
-    ensures { λ _. ⌜ take (width * (i + 1)) (now (numbers .exit)) ≡ take (width * i) (now (numbers .entry)) ++ fields (groupOf g) ⌝ }
+    ensures { λ _. ⌜ take (width * (i + 1)) (now (numbers .exit)) ≡ take (width * i) (now (numbers .entry)) ++ fieldsOf (groupOf g) ⌝ }
 {
     let at = WIDTH * i;
     numbers[at] = g.start;

@@ -6,10 +6,8 @@ ghost use lib.ListN.{length};
 ghost use Rattle.base.specs.Lists.{fromFirst};
 ghost use Rattle.plan.specs.Groups.{width};
 ghost use Rattle.plan.specs.Checks.{pathOf, standsDepthFirst};
+use crate::MAX_DEPTH;
 use crate::fields::record_at;
-
-// "depth is at most 4"
-const MAX_DEPTH: usize = 4;
 
 // How long the path is up to the parent, of the first t of the array; 0 if it is not there.
 fn up_to(path: &[usize; 5], t: usize, parent: usize) -> usize

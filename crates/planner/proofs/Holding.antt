@@ -6,19 +6,19 @@ use native.Mathlib.Omega.{arith}
 use lib.ListN.{take, length-append}
 use Rattle.base.specs.Lists.{concat}
 use Rattle.base.proofs.Lists.{concat-append}
-use Rattle.plan.specs.Groups.{Group, Plan, width, fields, flat}
+use Rattle.plan.specs.Groups.{Group, Plan, width, fieldsOf, flat}
 use Rattle.race.specs.Planner.{nothing, _then_, leaf}
 use Rattle.planner.specs.Records.{Holds}
 
 pub flat-append : (gs hs : List Group) → flat (gs ++ hs) ≡ flat gs ++ flat hs
 unfolding flat
-flat-append gs hs = ap concat (map-append fields gs hs) ∙ concat-append (map fields gs) (map fields hs)
+flat-append gs hs = ap concat (map-append fieldsOf gs hs) ∙ concat-append (map fieldsOf gs) (map fieldsOf hs)
 
 -- a leaf, once its record is written
 pub holds-leaf : (g : Group) (T : List ℕ) (index : ℕ) (before records : List ℕ)
-    → take (width * (index + 1)) records ≡ take (width * index) before ++ fields g → Holds (leaf g T) index before T records (index + 1)
+    → take (width * (index + 1)) records ≡ take (width * index) before ++ fieldsOf g → Holds (leaf g T) index before T records (index + 1)
 unfolding leaf flat
-holds-leaf g T index before records e = record { order-is = refl; count-is = omega arith; records-are = rw (append-nil (fields g)) e }
+holds-leaf g T index before records e = record { order-is = refl; count-is = omega arith; records-are = rw (append-nil (fieldsOf g)) e }
 
 -- no group at all
 pub holds-nothing : (index : ℕ) (records order : List ℕ) → order ≡ [] → Holds nothing index records order records index

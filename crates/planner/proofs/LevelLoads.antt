@@ -10,7 +10,7 @@ use Rattle.base.specs.Lists.{concat}
 use Rattle.levels.specs.Group.{Proper}
 use Rattle.sort.specs.Sort.{maxLevels}
 use Rattle.levels.proofs.Proper.{proper-left, proper-right}
-use Rattle.race.specs.Loads.{load}
+use Rattle.race.specs.Loads.{loadOf}
 use Rattle.planner.specs.Stretches.{Levelled, Loaded}
 use Rattle.planner.proofs.Stretches.{rowsIn, length-ends, ends-at, rows-next, rows-le, level-at}
 use Rattle.planner.proofs.Weights.{load-append}
@@ -26,16 +26,16 @@ pub record Loading (adj : ℕ → List ℕ) (ends stretch : List ℕ) (ls : List
   pub within : k ≤ length ends
   pub inside : from ≤ length stretch
   pub from-is : from ≡ rowsIn k ls
-  pub sum-is : sum ≡ load adj (take from stretch)
+  pub sum-is : sum ≡ loadOf adj (take from stretch)
   pub long : length loads ≡ maxLevels
-  pub done : take k loads ≡ map (load adj) (take k ls)
+  pub done : take k loads ≡ map (loadOf adj) (take k ls)
 
 module _ (adj : ℕ → List ℕ) (ends stretch : List ℕ) (ls : List (List ℕ)) (h : Levelled 0 ends stretch ls) (few : length ends ≤ maxLevels) where
   levels-count : length ends ≡ length ls
   levels-count = ap length (h .ends-are) ∙ length-ends 0 ls
 
   pub loading-start : (loads : List ℕ) → length loads ≡ maxLevels → Loading adj ends stretch ls loads 0 0 0
-  unfolding load
+  unfolding loadOf
   loading-start loads e = record { within = omega arith; inside = omega arith; from-is = refl; sum-is = refl; long = e; done = refl }
 
   module _ (loads : List ℕ) (sum from k : ℕ) (s : Loading adj ends stretch ls loads sum from k) (lt : k < length ends) where
@@ -62,12 +62,12 @@ module _ (adj : ℕ → List ℕ) (ends stretch : List ℕ) (ls : List (List ℕ
     level-is = rw (to-is, s .from-is, h .rows-are) (level-at ls k lt-levels)
 
     -- the load of one level more
-    pub sum-level : (q : ℕ) → q ≡ load adj level → sum + q ≡ load adj (take to stretch)
+    pub sum-level : (q : ℕ) → q ≡ loadOf adj level → sum + q ≡ loadOf adj (take to stretch)
     sum-level q e =
         let up : from + (to - from) ≡ to = omega (arith, level-start) in
-        rw (s .sum-is, e) (sym (load-append adj (take from stretch) level) ∙ ap (load adj) (sym (take-add from (to - from) stretch) ∙ ap (λ (j : ℕ). take j stretch) up))
+        rw (s .sum-is, e) (sym (load-append adj (take from stretch) level) ∙ ap (loadOf adj) (sym (take-add from (to - from) stretch) ∙ ap (λ (j : ℕ). take j stretch) up))
 
-    pub loading-next : (q : ℕ) → q ≡ load adj level → Loading adj ends stretch ls (set loads k q) (sum + q) to (k + 1)
+    pub loading-next : (q : ℕ) → q ≡ loadOf adj level → Loading adj ends stretch ls (set loads k q) (sum + q) to (k + 1)
     loading-next q e = record {
       within = omega arith;
       inside = level-end;
@@ -75,8 +75,8 @@ module _ (adj : ℕ → List ℕ) (ends stretch : List ℕ) (ls : List (List ℕ
       sum-is = sum-level q e;
       long = length-set loads k q ∙ s .long;
       done =
-          rw (add-one k, take-suc-set loads k q (omega (arith, s .long)), s .done, e ∙ ap (load adj) level-is, take-suc ls k [] lt-levels)
-          (sym (map-append (load adj) (take k ls) (getD ls k [] ∷ [])));
+          rw (add-one k, take-suc-set loads k q (omega (arith, s .long)), s .done, e ∙ ap (loadOf adj) level-is, take-suc ls k [] lt-levels)
+          (sym (map-append (loadOf adj) (take k ls) (getD ls k [] ∷ [])));
     }
 
   pub loading-end : (loads : List ℕ) (sum from k : ℕ) → Loading adj ends stretch ls loads sum from k → length ends ≤ k → Loaded adj stretch ls sum loads
@@ -84,7 +84,7 @@ module _ (adj : ℕ → List ℕ) (ends stretch : List ℕ) (ls : List (List ℕ
       let all : k ≡ length ls = omega (arith, s .within, levels-count) in
       let rows : length stretch ≤ from = omega (arith, ap length (h .rows-are), s .from-is, ap (λ (x : List (List ℕ)). length (concat x)) (take-all k ls (omega arith))) in
       record {
-        all-is = s .sum-is ∙ ap (load adj) (take-all from stretch rows);
+        all-is = s .sum-is ∙ ap (loadOf adj) (take-all from stretch rows);
         long = s .long;
-        loads-are = rw (← all) (s .done ∙ ap (map (load adj)) (take-all k ls (omega arith)));
+        loads-are = rw (← all) (s .done ∙ ap (map (loadOf adj)) (take-all k ls (omega arith)));
       }

@@ -8,8 +8,8 @@ use lib.ListN.{length, take, drop, length-map, length-drop, drop-of-length-le}
 use lib.Seq.{length-take-le}
 use Rattle.base.specs.Lists.{concat}
 use Rattle.levels.specs.Levels.{reach}
-use Rattle.race.specs.Loads.{load}
-use Rattle.extents.specs.Extents.{Extent, extent, cut}
+use Rattle.race.specs.Loads.{loadOf}
+use Rattle.extents.specs.Extents.{Policy, Extent, extent, cut}
 use Rattle.race.specs.Planner.{pairs}
 use Rattle.extents.proofs.Extents.{Taken, extent-taken, cut-levels}
 
@@ -28,41 +28,41 @@ pub record Bounds (all levels red : ℕ) : Type 0 where
   pub reds : reach ≤ red
   pub blues : red + reach ≤ levels
 
-pub pair-bounds : (w R p free : ℕ) (qs : List ℕ) (levels c : ℕ) → 1 ≤ free → 2 * reach ≤ length qs → levels ≡ extent w R p free qs .levels → c ≡ cut (take levels qs)
+pub pair-bounds : (w R : ℕ) (policy : Policy) (free : ℕ) (qs : List ℕ) (levels c : ℕ) → 1 ≤ free → 2 * reach ≤ length qs → levels ≡ extent w R policy free qs .levels → c ≡ cut (take levels qs)
     → Bounds (length qs) levels c
-pair-bounds w R p free qs levels c f l e d =
-    let t = extent-taken w R p free qs f l in
+pair-bounds w R policy free qs levels c f l e d =
+    let t = extent-taken w R policy free qs f l in
     let most : levels ≤ length qs = omega (arith, taken-most t) in
     let long : length (take levels qs) ≡ levels = length-take-le levels qs most in
     let b = cut-levels (take levels qs) (omega (arith, t .long)) in
     record { some = omega (arith, t .long); most = most; reds = omega arith; blues = omega arith }
 
-module _ (adj : ℕ → List ℕ) (w R p : ℕ) where
+module _ (adj : ℕ → List ℕ) (w R : ℕ) (policy : Policy) where
   -- the next pair's extent
   abbrev pub extentOf : (free : ℕ) → List (List ℕ) → Extent
-  extentOf free ls = extent w R p free (map (load adj) ls)
+  extentOf free ls = extent w R policy free (map (loadOf adj) ls)
 
   -- how many of its levels are red
   abbrev pub cutOf : (levels : ℕ) → List (List ℕ) → ℕ
-  cutOf levels ls = cut (map (load adj) (take levels ls))
+  cutOf levels ls = cut (map (loadOf adj) (take levels ls))
 
   -- it takes at least four levels and a worker, and leaves as much or nothing
   pub extent-of : (free : ℕ) (ls : List (List ℕ)) → 1 ≤ free → 2 * reach ≤ length ls → Taken (length ls) free (extentOf free ls)
-  extent-of free ls f l = rw (length-map ls (load adj)) at (extent-taken w R p free (map (load adj) ls) f (rw (length-map ls (load adj)) l))
+  extent-of free ls f l = rw (length-map ls (loadOf adj)) at (extent-taken w R policy free (map (loadOf adj) ls) f (rw (length-map ls (loadOf adj)) l))
 
-  pairs-none : (k free : ℕ) → pairs adj k w R p free [] ≡ []
+  pairs-none : (k free : ℕ) → pairs adj k w R policy free [] ≡ []
   unfolding pairs
   pairs-none zero free = refl
   pairs-none (suc k) free = refl
 
   -- what two bounds give for the levels past a pair
   rest-enough : (j k free : ℕ) (ls : List (List ℕ)) (e : Extent) → Taken (length ls) free e → length (drop (e .levels) ls) ≤ j → length (drop (e .levels) ls) ≤ k
-      → ((free : ℕ) (ls : List (List ℕ)) → length ls ≤ j → length ls ≤ k → 1 ≤ free → 2 * reach ≤ length ls → pairs adj j w R p free ls ≡ pairs adj k w R p free ls)
-      → pairs adj j w R p (free - e .workers) (drop (e .levels) ls) ≡ pairs adj k w R p (free - e .workers) (drop (e .levels) ls)
+      → ((free : ℕ) (ls : List (List ℕ)) → length ls ≤ j → length ls ≤ k → 1 ≤ free → 2 * reach ≤ length ls → pairs adj j w R policy free ls ≡ pairs adj k w R policy free ls)
+      → pairs adj j w R policy (free - e .workers) (drop (e .levels) ls) ≡ pairs adj k w R policy (free - e .workers) (drop (e .levels) ls)
   rest-enough j k free ls e t a b same = go (t .rest)
     where
       go : ((e .levels ≡ length ls) × (e .workers ≡ free)) ⊎ ((e .levels + 2 * reach ≤ length ls) × (e .workers < free))
-          → pairs adj j w R p (free - e .workers) (drop (e .levels) ls) ≡ pairs adj k w R p (free - e .workers) (drop (e .levels) ls)
+          → pairs adj j w R policy (free - e .workers) (drop (e .levels) ls) ≡ pairs adj k w R policy (free - e .workers) (drop (e .levels) ls)
       go (inl h) =
           rw (drop-of-length-le ls {i = e .levels} (omega arith)) (pairs-none j (free - e .workers) ∙ sym (pairs-none k (free - e .workers)))
       go (inr h) =
@@ -71,7 +71,7 @@ module _ (adj : ℕ → List ℕ) (w R p : ℕ) where
 
   -- how many pairs there may be does not matter
   pairs-enough : (j k free : ℕ) (ls : List (List ℕ)) → length ls ≤ j → length ls ≤ k → 1 ≤ free → 2 * reach ≤ length ls
-      → pairs adj j w R p free ls ≡ pairs adj k w R p free ls
+      → pairs adj j w R policy free ls ≡ pairs adj k w R policy free ls
   unfolding pairs
   pairs-enough zero k free ls a b f l = absurd (omega arith)
   pairs-enough (suc j) zero free ls a b f l = absurd (omega arith)
@@ -88,8 +88,8 @@ module _ (adj : ℕ → List ℕ) (w R p : ℕ) where
       let mine = take (e .levels) ls in
       let c = cutOf (e .levels) ls in
       let rest = drop (e .levels) ls in
-      pairs adj (length ls) w R p free ls
-      ≡ record { reds = concat (take c mine); blues = concat (drop c mine); workers = e .workers } ∷ pairs adj (length rest) w R p (free - e .workers) rest
+      pairs adj (length ls) w R policy free ls
+      ≡ record { reds = concat (take c mine); blues = concat (drop c mine); workers = e .workers } ∷ pairs adj (length rest) w R policy (free - e .workers) rest
   unfolding pairs
   pairs-next free [] f l = absurd (omega arith)
   pairs-next free (x ∷ ls) f l =

@@ -1,19 +1,19 @@
 -- A pair's planner: what it hands to the planners of its red and its blue group and to itself, and what the lists hold after it.
 use mathlib.Core.Path.{_≡_, refl, sym, ap, _∙_}
 use mathlib.Core.List.{List, [], _∷_, _++_, map}
-use Prim.Native.Nat.{ℕ, zero, suc, _+_, _-_, _≤_, _<_}
+use Prim.Native.Nat.{ℕ, zero, suc, _+_, _*_, _-_, _≤_, _<_}
 use native.Mathlib.Omega.{arith}
 use lib.ListN.{length, take, drop, getD, length-drop, length-map, drop-of-length-le}
 use lib.Seq.{take-all}
 use Rattle.base.specs.Lists.{sum}
-use Rattle.matrix.specs.Limits.{maxRows}
+use Rattle.levels.specs.Levels.{reach}
 use Rattle.levels.specs.Group.{Proper}
 use Rattle.levels.specs.Rows.{adjOf}
 use Rattle.levels.proofs.Proper.{proper-left, proper-right}
 use Rattle.plan.specs.Groups.{Plan}
-use Rattle.plan.specs.Sound.{maxWorkers}
-use Rattle.race.specs.Loads.{load}
+use Rattle.race.specs.Loads.{loadOf}
 use Rattle.race.specs.Planner.{pairs, planPairs, _then_, planGroup}
+use Rattle.extents.specs.Extents.{Policy}
 use Rattle.extents.specs.Scans.{Scale}
 use Rattle.planner.specs.Stretches.{levelsIn, endsOf, Levelled}
 use Rattle.plan.specs.Checks.{groupOf}
@@ -37,28 +37,29 @@ map-drop f zero ls = refl
 map-drop f (suc k) [] = refl
 map-drop f (suc k) (l ∷ ls) = map-drop f k ls
 
-module _ {n p stages : ℕ} {starts columns stretch ends loads records : List ℕ} {up : Parent} {left : Left} {ls : List (List ℕ)}
-    (task : PairsTask n p stages starts columns stretch ends loads records up left ls) where
+module _ {n : ℕ} {policy : Policy} {stages : ℕ} {starts columns stretch ends loads records : List ℕ} {up : Parent} {left : Left} {ls : List (List ℕ)}
+    (task : PairsTask n policy stages starts columns stretch ends loads records up left ls) where
   pub ends-count : length ends ≡ length ls
   ends-count = ap length (task .levelled .ends-are) ∙ length-ends (left .done) ls
 
   pub loads-count : length loads ≡ length ls
-  loads-count = ap length (task .loads-are) ∙ length-map ls (load (adjOf n starts columns))
+  loads-count = ap length (task .loads-are) ∙ length-map ls (loadOf (adjOf n starts columns))
 
   -- what the search for the next pair asks
-  pub next-asked : Scale (up .workers) (up .load) p × (sum loads ≤ up .load) × (4 ≤ length loads) × (1 ≤ left .free) × (length ends ≡ length loads)
+  pub next-asked : Scale (up .workers) (up .load) × (sum loads ≤ up .load) × (2 * reach ≤ length loads) × (policy .p ≤ 100) × (1 ≤ left .free) × (length ends ≡ length loads)
       × ((j : ℕ) → j < length ends → left .done ≤ getD ends j 0)
   next-asked = (
     task .scale,
     task .within,
     omega (arith, loads-count, task .levels),
+    task .share,
     task .free,
     ends-count ∙ sym loads-count,
     λ j l. rw (task .levelled .ends-are, ends-at (left .done) ls j (omega (arith, ends-count))) (omega arith),
   )
 
-module _ {n p stages : ℕ} {starts columns stretch ends loads records : List ℕ} {up : Parent} {left : Left} {ls : List (List ℕ)}
-    (task : PairsTask n p stages starts columns stretch ends loads records up left ls) {pair : Pair} (found : Found p up left ends loads pair) where
+module _ {n : ℕ} {policy : Policy} {stages : ℕ} {starts columns stretch ends loads records : List ℕ} {up : Parent} {left : Left} {ls : List (List ℕ)}
+    (task : PairsTask n policy stages starts columns stretch ends loads records up left ls) {pair : Pair} (found : Found policy up left ends loads pair) where
   abbrev adj : ℕ → List ℕ
   adj = adjOf n starts columns
 
@@ -70,7 +71,7 @@ module _ {n p stages : ℕ} {starts columns stretch ends loads records : List �
 
   -- the plan of the pairs that are left
   abbrev plan : Plan
-  plan = pairsPlan adj n p stages up left ls
+  plan = pairsPlan adj n policy stages up left ls
 
   -- ---- the red group
 
@@ -91,18 +92,18 @@ module _ {n p stages : ℕ} {starts columns stretch ends loads records : List �
   parts-in = (omega (arith, rows-length task found), omega (arith, stretch-length))
 
   -- its levels are among those that are left
-  pub levels-in-ends : (4 ≤ pair .levels) × (pair .levels ≤ length ends) × (pair .levels ≤ length loads)
+  pub levels-in-ends : (2 * reach ≤ pair .levels) × (pair .levels ≤ length ends) × (pair .levels ≤ length loads)
   levels-in-ends = let k = bounds task found in (k .some, omega (arith, ends-count task), omega (arith, loads-count task))
 
   -- its numbers are small
   pub pair-fits : Fits up left pair
   pair-fits = record { parts = parts-in .0; inside = omega (arith, parts-in, task .inside); some = workers-most task found; workers = task .workers }
 
-  pub red-task : GroupTask n p stages (left .index) starts columns (take a stretch) records (redGroup up left pair)
+  pub red-task : GroupTask n policy stages (left .index) starts columns (take a stretch) records (redGroup up left pair)
   red-task = rw red-part (record {
     rows = task .rows;
     proper = proper-left n (reds task found) (blues task found ++ later task found) parts-proper;
-    share = task .scale .share;
+    share = task .share;
     size = sym (reds-length task found);
     inside = omega (arith, task .inside, stretch-length, reds-length task found, rows-length task found);
     workers = omega (arith, task .workers, workers-most task found);
@@ -112,7 +113,7 @@ module _ {n p stages : ℕ} {starts columns stretch ends loads records : List �
 
   -- ---- the blue group, once the red one is planned
 
-  module _ {xs records₁ : List ℕ} {i : ℕ} (red-held : Holds (planGroup adj n p stages (left .index) (groupOf (redGroup up left pair)) (take a stretch)) (left .index) records xs records₁ i)
+  module _ {xs records₁ : List ℕ} {i : ℕ} (red-held : Holds (planGroup adj n policy stages (left .index) (groupOf (redGroup up left pair)) (take a stretch)) (left .index) records xs records₁ i)
       (xs-long : length xs ≡ length (take a stretch)) (long₁ : length records₁ ≡ length records) where
     red-held′ : Holds (redPlan task found) (left .index) records xs records₁ i
     red-held′ = rw red-part at red-held
@@ -135,11 +136,11 @@ module _ {n p stages : ℕ} {starts columns stretch ends loads records : List �
     i-is : i ≡ blueIndex task found
     i-is = red-held′ .count-is
 
-    pub blue-task : GroupTask n p stages i starts columns (part one a b) records₁ (blueGroup up left pair)
+    pub blue-task : GroupTask n policy stages i starts columns (part one a b) records₁ (blueGroup up left pair)
     blue-task = rw (blue-part, i-is) (record {
       rows = task .rows;
       proper = proper-left n (blues task found) (later task found) rest-proper;
-      share = task .scale .share;
+      share = task .share;
       size = sym (blues-length task found);
       inside = omega (arith, task .inside, stretch-length, rows-length task found);
       workers = omega (arith, task .workers, workers-most task found);
@@ -149,7 +150,7 @@ module _ {n p stages : ℕ} {starts columns stretch ends loads records : List �
 
     -- ---- the pairs after it, once both are planned
 
-    module _ {ys records₂ : List ℕ} {j : ℕ} (blue-held : Holds (planGroup adj n p stages i (groupOf (blueGroup up left pair)) (part one a b)) i records₁ ys records₂ j)
+    module _ {ys records₂ : List ℕ} {j : ℕ} (blue-held : Holds (planGroup adj n policy stages i (groupOf (blueGroup up left pair)) (part one a b)) i records₁ ys records₂ j)
         (ys-long : length ys ≡ length (part one a b)) (long₂ : length records₂ ≡ length records₁) where
       blue-held′ : Holds (bluePlan task found (blueIndex task found)) (blueIndex task found) records₁ ys records₂ j
       blue-held′ = rw (blue-part, i-is) at blue-held
@@ -209,16 +210,17 @@ module _ {n p stages : ℕ} {starts columns stretch ends loads records : List �
         rest-levels : levelsIn (left .done + b) (part ends (pair .levels) (length ends)) (part two b (length two)) ≡ drop (pair .levels) ls
         rest-levels = levels-in rest-levelled
 
-        over : (pair .levels + 4 ≤ length ls) × (pair .workers < left .free)
+        over : (pair .levels + 2 * reach ≤ length ls) × (pair .workers < left .free)
         over = left-over task found (λ e. some (e ∙ sym (ends-count task)))
 
-        pub rest-task : PairsTask n p stages starts columns (part two b (length two)) (part ends (pair .levels) (length ends)) (part loads (pair .levels) (length loads)) records₂ up (leftAfter left pair j)
+        pub rest-task : PairsTask n policy stages starts columns (part two b (length two)) (part ends (pair .levels) (length ends)) (part loads (pair .levels) (length loads)) records₂ up (leftAfter left pair j)
             (levelsIn (left .done + b) (part ends (pair .levels) (length ends)) (part two b (length two)))
         rest-task = rw rest-levels (record {
           rows = task .rows;
           proper = rw rest-part (proper-right n (blues task found) (later task found) rest-proper);
           levelled = rest-levelled;
-          loads-are = part-to-end loads (pair .levels) ∙ ap (drop (pair .levels)) (task .loads-are) ∙ map-drop (load adj) (pair .levels) ls;
+          loads-are = part-to-end loads (pair .levels) ∙ ap (drop (pair .levels)) (task .loads-are) ∙ map-drop (loadOf adj) (pair .levels) ls;
+          share = task .share;
           scale = task .scale;
           within = omega (arith, task .within, ap sum (part-to-end loads (pair .levels)), sum-split (pair .levels) loads);
           levels = omega (arith, length-drop (pair .levels) ls, over);
@@ -230,7 +232,7 @@ module _ {n p stages : ℕ} {starts columns stretch ends loads records : List �
         })
 
         pub next-held : {zs after : List ℕ} {count : ℕ}
-            → Holds (pairsPlan adj n p stages up (leftAfter left pair j) (levelsIn (left .done + b) (part ends (pair .levels) (length ends)) (part two b (length two)))) j records₂ zs after count
+            → Holds (pairsPlan adj n policy stages up (leftAfter left pair j) (levelsIn (left .done + b) (part ends (pair .levels) (length ends)) (part two b (length two)))) j records₂ zs after count
             → Holds plan (left .index) records (patched two b (length two) zs) after count
         next-held {zs} h =
             rw (two-is, third-back xs ys (later task found) a b xs-length rows-length′ zs) (held-next (rw rest-levels at h))

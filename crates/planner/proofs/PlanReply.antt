@@ -63,7 +63,7 @@ module _ (m : Matrix) (w p : ℕ) (order groups : List ℕ) where
 
       -- once all is planned
       module _ (long : m .n ≤ length order) {before list records : List ℕ} {count : ℕ}
-          (held : Holds (planRows (adjOf (m .n) (m .starts) (m .columns)) (m .n) p w) 0 before list records count) where
+          (held : Holds (planRows (adjOf (m .n) (m .starts) (m .columns)) (m .n) (record { p = p }) w) 0 before list records count) where
         held′ : Holds made 0 before list records count
         unfolding plan
         held′ = rw (pattern-neighbours m) at held
@@ -72,7 +72,7 @@ module _ (m : Matrix) (w p : ℕ) (order groups : List ℕ) where
         count-is = held′ .count-is ∙ omega arith
 
         pub count-few : w ≤ maxWorkers → count ≤ 481
-        count-few l = rw (held .count-is) (omega (arith, rows-few (adjOf (m .n) (m .starts) (m .columns)) (m .n) (rows-graph rows) p w l))
+        count-few l = rw (held .count-is) (omega (arith, rows-few (adjOf (m .n) (m .starts) (m .columns)) (m .n) (rows-graph rows) (record { p = p }) w l))
 
         pub refuses-groups : length groups / width < count → Replied (refused 9 count) order groups
         unfolding planReply matrixCheck inTurn

@@ -10,39 +10,39 @@ use Rattle.base.specs.Lists.{concat, sum}
 use Rattle.levels.specs.Group.{Proper}
 use Rattle.levels.specs.Rows.{Rows, adjOf}
 use Rattle.levels.proofs.Members.{proper-short}
-use Rattle.race.specs.Loads.{weight, load}
+use Rattle.race.specs.Loads.{weight, loadOf}
 use Rattle.extents.specs.Scans.{maxLoad}
 use Rattle.extents.proofs.Ends.{sum-append}
 
 module _ (adj : ℕ → List ℕ) where
-  pub load-append : (us vs : List ℕ) → load adj (us ++ vs) ≡ load adj us + load adj vs
-  unfolding load
+  pub load-append : (us vs : List ℕ) → loadOf adj (us ++ vs) ≡ loadOf adj us + loadOf adj vs
+  unfolding loadOf
   load-append us vs = ap sum (map-append (weight adj) us vs) ∙ sum-append (map (weight adj) us) (map (weight adj) vs)
 
-  pub load-split : (i : ℕ) (vs : List ℕ) → load adj (take i vs) + load adj (drop i vs) ≡ load adj vs
-  load-split i vs = sym (load-append (take i vs) (drop i vs)) ∙ ap (load adj) (take-append-drop i vs)
+  pub load-split : (i : ℕ) (vs : List ℕ) → loadOf adj (take i vs) + loadOf adj (drop i vs) ≡ loadOf adj vs
+  load-split i vs = sym (load-append (take i vs) (drop i vs)) ∙ ap (loadOf adj) (take-append-drop i vs)
 
   -- one row more
-  pub load-next : (vs : List ℕ) (i : ℕ) → i < length vs → load adj (take (i + 1) vs) ≡ load adj (take i vs) + weight adj (getD vs i 0)
-  unfolding load
+  pub load-next : (vs : List ℕ) (i : ℕ) → i < length vs → loadOf adj (take (i + 1) vs) ≡ loadOf adj (take i vs) + weight adj (getD vs i 0)
+  unfolding loadOf
   load-next vs i l = rw (add-one, take-suc vs i 0) (load-append (take i vs) (getD vs i 0 ∷ []) ∙ omega arith)
 
   -- levels have the load of their rows
-  pub load-concat : (ls : List (List ℕ)) → load adj (concat ls) ≡ sum (map (load adj) ls)
-  unfolding load
+  pub load-concat : (ls : List (List ℕ)) → loadOf adj (concat ls) ≡ sum (map (loadOf adj) ls)
+  unfolding loadOf
   load-concat [] = refl
   load-concat (l ∷ ls) = load-append l (concat ls) ∙ omega (arith, load-concat ls)
 
   -- every row counts
-  load-length : (vs : List ℕ) → load adj vs ≡ length vs
-  unfolding load weight
+  load-length : (vs : List ℕ) → loadOf adj vs ≡ length vs
+  unfolding loadOf weight
   load-length [] = refl
   load-length (v ∷ vs) = omega (arith, load-length vs)
 
   -- some rows have some load
-  pub load-some : (vs : List ℕ) → 1 ≤ length vs → 1 ≤ load adj vs
+  pub load-some : (vs : List ℕ) → 1 ≤ length vs → 1 ≤ loadOf adj vs
   load-some vs l = omega (arith, load-length vs)
 
 -- a group's load is within its limit
-pub load-few : (n : ℕ) (starts columns T : List ℕ) → Rows n starts columns → Proper n T → load (adjOf n starts columns) T ≤ maxLoad
+pub load-few : (n : ℕ) (starts columns T : List ℕ) → Rows n starts columns → Proper n T → loadOf (adjOf n starts columns) T ≤ maxLoad
 load-few n starts columns T rows pr = omega (arith, load-length (adjOf n starts columns) T, proper-short pr, rows .small)

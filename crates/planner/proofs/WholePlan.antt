@@ -17,7 +17,8 @@ use Rattle.levels.proofs.Proper.{proper-range}
 use Rattle.levels.proofs.Own.{sorted-levels}
 use Rattle.levels.proofs.Rows.{rows-graph}
 use Rattle.plan.specs.Groups.{Plan, width, whole, flat}
-use Rattle.plan.specs.Sound.{maxWorkers, maxGroups}
+use Rattle.plan.specs.Sound.{maxWorkers, maxDepth, maxGroups}
+use Rattle.extents.specs.Extents.{Policy}
 use Rattle.race.specs.Planner.{leaf, planGroup, planRows}
 use Rattle.plan.specs.Checks.{groupOf}
 use Rattle.planner.specs.Records.{Holds}
@@ -49,22 +50,22 @@ module _ (n : ℕ) (starts columns : List ℕ) (rows : Rows n starts columns) wh
   abbrev pub wholeGroup : (workers : ℕ) → Group
   wholeGroup workers = record { start = 0; length = n; first = 0; workers = workers; colour = whole; parent = 0 }
 
-  module _ (p workers : ℕ) where
+  module _ (policy : Policy) (workers : ℕ) where
     -- its plan by the group planner, its rows by their numbers
     abbrev pub numberedPlan : Plan
-    numberedPlan = planGroup adj n p 4 0 (groupOf (wholeGroup workers)) (range 0 n)
+    numberedPlan = planGroup adj n policy maxDepth 0 (groupOf (wholeGroup workers)) (range 0 n)
 
     -- a leaf, or the plan of all rows
     abbrev Cases : Type 0
     Cases =
-        ((numberedPlan ≡ leaf (groupOf (wholeGroup workers)) (range 0 n)) × (planRows adj n p workers ≡ leaf (groupOf (wholeGroup workers)) sorted))
-        ⊎ ((numberedPlan ≡ planRows adj n p workers) × (2 ≤ length (numberedPlan .groups)))
+        ((numberedPlan ≡ leaf (groupOf (wholeGroup workers)) (range 0 n)) × (planRows adj n policy workers ≡ leaf (groupOf (wholeGroup workers)) sorted))
+        ⊎ ((numberedPlan ≡ planRows adj n policy workers) × (2 ≤ length (numberedPlan .groups)))
 
     cases : Cases
     unfolding planRows
-    cases = two-orders adj n p 3 0 (groupOf (wholeGroup workers)) (range 0 n) sorted (sym (sorted-levels adj n (range 0 n) (proper-range n)))
+    cases = two-orders adj n policy 3 0 (groupOf (wholeGroup workers)) (range 0 n) sorted (sym (sorted-levels adj n (range 0 n) (proper-range n)))
 
-    pub whole-task : (records : List ℕ) → p ≤ 100 → workers ≤ maxWorkers → length records ≡ width * maxGroups → GroupTask n p 4 0 starts columns (range 0 n) records (wholeGroup workers)
+    pub whole-task : (records : List ℕ) → policy .p ≤ 100 → workers ≤ maxWorkers → length records ≡ width * maxGroups → GroupTask n policy maxDepth 0 starts columns (range 0 n) records (wholeGroup workers)
     unfolding leaf
     whole-task records a b c = record {
       rows = rows;
@@ -79,16 +80,16 @@ module _ (n : ℕ) (starts columns : List ℕ) (rows : Rows n starts columns) wh
       where
         go : Cases → width * (0 + length (numberedPlan .groups)) ≤ length records
         go (inl (e, _)) = rw e (omega arith)
-        go (inr (e, _)) = rw e (omega (arith, rows-few adj n (rows-graph rows) p workers b))
+        go (inr (e, _)) = rw e (omega (arith, rows-few adj n (rows-graph rows) policy workers b))
 
     module _ {count : ℕ} {order before records : List ℕ} (h : Holds numberedPlan 0 before order records count) where
       -- one group: the rows are left to be sorted
-      pub leaf-held : count ≡ 1 → (order ≡ range 0 n) × ((order′ : List ℕ) → order′ ≡ sorted → Holds (planRows adj n p workers) 0 before order′ records count)
+      pub leaf-held : count ≡ 1 → (order ≡ range 0 n) × ((order′ : List ℕ) → order′ ≡ sorted → Holds (planRows adj n policy workers) 0 before order′ records count)
       unfolding leaf
       leaf-held one = go cases
         where
           go : Cases
-              → (order ≡ range 0 n) × ((order′ : List ℕ) → order′ ≡ sorted → Holds (planRows adj n p workers) 0 before order′ records count)
+              → (order ≡ range 0 n) × ((order′ : List ℕ) → order′ ≡ sorted → Holds (planRows adj n policy workers) 0 before order′ records count)
           go (inl (e, f)) = (
             h .order-is ∙ ap (λ (o : Plan). o .order) e,
             λ order′ s. rw f (record { order-is = s; count-is = one; records-are = h .records-are ∙ ap (λ (o : Plan). take (width * 0) before ++ flat (o .groups)) e }),
@@ -96,10 +97,10 @@ module _ (n : ℕ) (starts columns : List ℕ) (rows : Rows n starts columns) wh
           go (inr (e, l)) = absurd (omega (arith, h .count-is))
 
       -- several: the plan is that of all rows
-      pub split-held : (count ≡ 1 → ⊥) → Holds (planRows adj n p workers) 0 before order records count
+      pub split-held : (count ≡ 1 → ⊥) → Holds (planRows adj n policy workers) 0 before order records count
       unfolding leaf
       split-held more = go cases
         where
-          go : Cases → Holds (planRows adj n p workers) 0 before order records count
+          go : Cases → Holds (planRows adj n policy workers) 0 before order records count
           go (inl (e, f)) = absurd (more (h .count-is ∙ ap (λ (o : Plan). 0 + length (o .groups)) e))
           go (inr (e, l)) = rw e at h

@@ -5,12 +5,14 @@ use Prim.Native.Nat.{ℕ, _+_, _-_, _*_, _≤_}
 use lib.ListN.{length}
 use Rattle.base.specs.Lists.{sum}
 use Rattle.matrix.specs.Limits.{maxRows}
+use Rattle.levels.specs.Levels.{reach}
 use Rattle.levels.specs.Group.{Proper}
 use Rattle.levels.specs.Rows.{Rows, adjOf}
 use Rattle.plan.specs.Groups.{Plan, red, blue, width}
 use Rattle.plan.specs.Sound.{maxWorkers, maxGroups}
-use Rattle.race.specs.Loads.{load}
+use Rattle.race.specs.Loads.{loadOf}
 use Rattle.race.specs.Planner.{pairs, planPairs, planGroup}
+use Rattle.extents.specs.Extents.{Policy}
 use Rattle.extents.specs.Scans.{Scale}
 use Rattle.planner.specs.Stretches.{Levelled}
 use Rattle.plan.specs.Checks.{groupOf}
@@ -44,33 +46,34 @@ pub record Fits (up : Parent) (left : Left) (pair : Pair) : Type 0 where
   pub workers : left .first + left .free ≤ maxWorkers
 
 -- the plan of the pairs that are left: levels ls and the workers that are free
-abbrev pub pairsPlan : (adj : ℕ → List ℕ) (n p stages : ℕ) (up : Parent) (left : Left) → List (List ℕ) → Plan
-pairsPlan adj n p stages up left ls =
-    planPairs (planGroup adj n p stages) (up .index) (up .start + left .done) (left .first) (left .index)
-    (pairs adj (length ls) (up .workers) (up .load) p (left .free) ls)
+abbrev pub pairsPlan : (adj : ℕ → List ℕ) (n : ℕ) (policy : Policy) (stages : ℕ) (up : Parent) (left : Left) → List (List ℕ) → Plan
+pairsPlan adj n policy stages up left ls =
+    planPairs (planGroup adj n policy stages) (up .index) (up .start + left .done) (left .first) (left .index)
+    (pairs adj (length ls) (up .workers) (up .load) policy (left .free) ls)
 
 -- a stretch that a group's planner takes: the group's rows, its workers, and room for the records of its plan
-pub record GroupTask (n p stages index : ℕ) (starts columns stretch records : List ℕ) (g : Group) : Type 0 where
+pub record GroupTask (n : ℕ) (policy : Policy) (stages index : ℕ) (starts columns stretch records : List ℕ) (g : Group) : Type 0 where
   pub rows : Rows n starts columns
   pub proper : Proper n stretch
-  pub share : p ≤ 100
+  pub share : policy .p ≤ 100
   pub size : g .length ≡ length stretch
   pub inside : g .start + length stretch ≤ maxRows
   pub workers : g .first + g .workers ≤ maxWorkers
   pub few : length records ≤ width * maxGroups
-  pub room : width * (index + length (planGroup (adjOf n starts columns) n p stages index (groupOf g) stretch .groups)) ≤ length records
+  pub room : width * (index + length (planGroup (adjOf n starts columns) n policy stages index (groupOf g) stretch .groups)) ≤ length records
 
 -- a stretch that a pair's planner takes: the levels that are left, their loads, the workers that are free, and room for the records of their plan
-pub record PairsTask (n p stages : ℕ) (starts columns stretch ends loads records : List ℕ) (up : Parent) (left : Left) (ls : List (List ℕ)) : Type 0 where
+pub record PairsTask (n : ℕ) (policy : Policy) (stages : ℕ) (starts columns stretch ends loads records : List ℕ) (up : Parent) (left : Left) (ls : List (List ℕ)) : Type 0 where
   pub rows : Rows n starts columns
   pub proper : Proper n stretch
   pub levelled : Levelled (left .done) ends stretch ls
-  pub loads-are : loads ≡ map (load (adjOf n starts columns)) ls
-  pub scale : Scale (up .workers) (up .load) p
+  pub loads-are : loads ≡ map (loadOf (adjOf n starts columns)) ls
+  pub share : policy .p ≤ 100
+  pub scale : Scale (up .workers) (up .load)
   pub within : sum loads ≤ up .load
-  pub levels : 4 ≤ length ls
+  pub levels : 2 * reach ≤ length ls
   pub free : 1 ≤ left .free
   pub inside : up .start + left .done + length stretch ≤ maxRows
   pub workers : left .first + left .free ≤ maxWorkers
   pub few : length records ≤ width * maxGroups
-  pub room : width * (left .index + length (pairsPlan (adjOf n starts columns) n p stages up left ls .groups)) ≤ length records
+  pub room : width * (left .index + length (pairsPlan (adjOf n starts columns) n policy stages up left ls .groups)) ≤ length records

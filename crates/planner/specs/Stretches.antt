@@ -5,7 +5,7 @@ use Prim.Native.Nat.{ℕ, _+_, _-_}
 use lib.ListN.{length, take, drop}
 use Rattle.base.specs.Lists.{concat}
 use Rattle.sort.specs.Sort.{maxLevels}
-use Rattle.race.specs.Loads.{load}
+use Rattle.race.specs.Loads.{loadOf}
 
 -- the levels that end at ends in a stretch, done rows before it
 unfoldable pub levelsIn : (done : ℕ) (ends stretch : List ℕ) → List (List ℕ)
@@ -24,6 +24,6 @@ pub record Levelled (done : ℕ) (ends stretch : List ℕ) (ls : List (List ℕ)
 
 -- the load of a stretch, and in front of an array those of its levels
 pub record Loaded (adj : ℕ → List ℕ) (stretch : List ℕ) (ls : List (List ℕ)) (all : ℕ) (loads : List ℕ) : Type 0 where
-  pub all-is : all ≡ load adj stretch
+  pub all-is : all ≡ loadOf adj stretch
   pub long : length loads ≡ maxLevels
-  pub loads-are : take (length ls) loads ≡ map (load adj) ls
+  pub loads-are : take (length ls) loads ≡ map (loadOf adj) ls

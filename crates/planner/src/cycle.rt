@@ -1,5 +1,6 @@
 // The group planner and the pair planner, which call each other.
 use crate::loads::level_loads;
+use extents::Policy;
 use extents::REACH;
 use extents::cut;
 use extents::next_extent;
@@ -13,11 +14,11 @@ ghost use mathlib.Core.Path.{_≡_};
 ghost use Prim.Native.Nat.{ℕ, _+_, _-_, _*_, _<_, _≤_};
 ghost use lib.ListN.{length, take, getD};
 ghost use Rattle.base.specs.Lists.{sum};
+ghost use Rattle.levels.specs.Levels.{reach};
 ghost use Rattle.levels.specs.Rows.{adjOf};
-ghost use Rattle.race.specs.Loads.{load};
 ghost use Rattle.extents.specs.Extents.{extent, cut};
 ghost use Rattle.race.specs.Planner.{planGroup};
-ghost use Rattle.extents.specs.Scans.{Scale};
+ghost use Rattle.extents.specs.Scans.{policyOf, Scale};
 ghost use Rattle.planner.specs.Stretches.{levelsIn};
 ghost use Rattle.plan.specs.Checks.{groupOf};
 ghost use Rattle.planner.specs.Records.{Holds};
@@ -48,15 +49,15 @@ pub struct Pair {
 }
 
 // The next pair.
-fn next_pair(ends: &[u32], loads: &[u32], p: u32, up: Parent, left: Left) -> Pair
-    requires { ⌜ Scale (up .workers) (up .load) p × (sum (now loads) ≤ up .load) × (4 ≤ length (now loads)) × (1 ≤ left .free) × (length (now ends) ≡ length (now loads))
+fn next_pair(ends: &[u32], loads: &[u32], policy: Policy, up: Parent, left: Left) -> Pair
+    requires { ⌜ Scale (up .workers) (up .load) × (sum (now loads) ≤ up .load) × (2 * reach ≤ length (now loads)) × (policy .p ≤ 100) × (1 ≤ left .free) × (length (now ends) ≡ length (now loads))
         × ((j : ℕ) → j < length (now ends) → left .done ≤ getD (now ends) j 0) ⌝ }
-    ensures { λ r. ⌜ (r .levels ≡ extent (up .workers) (up .load) p (left .free) (now (loads .entry)) .levels)
-        × (r .workers ≡ extent (up .workers) (up .load) p (left .free) (now (loads .entry)) .workers)
+    ensures { λ r. ⌜ (r .levels ≡ extent (up .workers) (up .load) (policyOf policy) (left .free) (now (loads .entry)) .levels)
+        × (r .workers ≡ extent (up .workers) (up .load) (policyOf policy) (left .free) (now (loads .entry)) .workers)
         × (r .reds ≡ getD (now (ends .entry)) (cut (take (r .levels) (now (loads .entry))) - 1) 0 - left .done)
         × (r .rows ≡ getD (now (ends .entry)) (r .levels - 1) 0 - left .done) ⌝ }
 {
-    let e = next_extent(loads, up.workers, up.load, p, left.free);
+    let e = next_extent(loads, up.workers, up.load, policy, left.free);
     let levels = e.levels;
     let c = cut(&loads[..levels]);
     let red_end = ends[c - 1];
@@ -119,13 +120,13 @@ pub fn plan_group(
     order: &mut [u32],
     records: &mut [u32],
     n: usize,
-    p: u32,
+    policy: Policy,
     stages: u32,
     index: u32,
     g: Group,
 ) -> u32
-    requires { ⌜ GroupTask n p stages index (now starts) (now columns) (now order) (now records) g ⌝ }
-    ensures { λ r. ⌜ Holds (planGroup (adjOf n (now (starts .entry)) (now (columns .entry))) n p stages index (groupOf g) (now (order .entry)))
+    requires { ⌜ GroupTask n (policyOf policy) stages index (now starts) (now columns) (now order) (now records) g ⌝ }
+    ensures { λ r. ⌜ Holds (planGroup (adjOf n (now (starts .entry)) (now (columns .entry))) n (policyOf policy) stages index (groupOf g) (now (order .entry)))
         index (now (records .entry)) (now (order .exit)) (now (records .exit)) r ⌝ }
 {
     put(records, index as usize, g);
@@ -162,7 +163,7 @@ pub fn plan_group(
         &loads[..m],
         records,
         n,
-        p,
+        policy,
         stages - 1,
         up,
         left,
@@ -178,16 +179,16 @@ fn plan_pairs(
     loads: &[u32],
     records: &mut [u32],
     n: usize,
-    p: u32,
+    policy: Policy,
     stages: u32,
     up: Parent,
     left: Left,
 ) -> u32
-    requires { ⌜ PairsTask n p stages (now starts) (now columns) (now order) (now ends) (now loads) (now records) up left (levelsIn (left .done) (now ends) (now order)) ⌝ }
-    ensures { λ r. ⌜ Holds (pairsPlan (adjOf n (now (starts .entry)) (now (columns .entry))) n p stages up left (levelsIn (left .done) (now (ends .entry)) (now (order .entry))))
+    requires { ⌜ PairsTask n (policyOf policy) stages (now starts) (now columns) (now order) (now ends) (now loads) (now records) up left (levelsIn (left .done) (now ends) (now order)) ⌝ }
+    ensures { λ r. ⌜ Holds (pairsPlan (adjOf n (now (starts .entry)) (now (columns .entry))) n (policyOf policy) stages up left (levelsIn (left .done) (now (ends .entry)) (now (order .entry))))
         (left .index) (now (records .entry)) (now (order .exit)) (now (records .exit)) r ⌝ }
 {
-    let pair = next_pair(ends, loads, p, up, left);
+    let pair = next_pair(ends, loads, policy, up, left);
     let red = red_of(up, left, pair);
     let blue = blue_of(up, left, pair);
     let levels = pair.levels;
@@ -199,7 +200,7 @@ fn plan_pairs(
         &mut order[..a],
         records,
         n,
-        p,
+        policy,
         stages,
         left.index,
         red,
@@ -210,7 +211,7 @@ fn plan_pairs(
         &mut order[a..b],
         records,
         n,
-        p,
+        policy,
         stages,
         i,
         blue,
@@ -227,7 +228,7 @@ fn plan_pairs(
         &loads[levels..],
         records,
         n,
-        p,
+        policy,
         stages,
         up,
         rest,

@@ -5,6 +5,7 @@ use base::MATRIX;
 use base::PARAMETER;
 use base::SHORT;
 use base::slices::copy;
+use extents::Policy;
 use matrix::limits::MAX_ROWS;
 use plan::MAX_WORKERS;
 use plan::fields::MAX_FIELDS;
@@ -77,7 +78,7 @@ pub fn plan(
         &mut list[..rows],
         &mut records,
         rows,
-        p,
+        Policy { p },
         workers,
     );
     let room = groups.len() / WIDTH;

@@ -6,7 +6,7 @@ ghost use lib.ListN.{length};
 ghost use Rattle.levels.specs.Group.{Proper};
 ghost use Rattle.levels.specs.Rows.{Rows, adjOf};
 ghost use Rattle.sort.specs.Sort.{maxLevels};
-ghost use Rattle.race.specs.Loads.{weight, load};
+ghost use Rattle.race.specs.Loads.{weight, loadOf};
 ghost use Rattle.planner.specs.Stretches.{levelsIn, Levelled, Loaded};
 
 // What row v adds to its group's load.
@@ -20,7 +20,7 @@ fn weight(starts: &[u32], columns: &[u32], n: usize, v: u32) -> u32
 // The load of some rows.
 fn load(starts: &[u32], columns: &[u32], n: usize, rows: &[u32]) -> u32
     requires { ⌜ Rows n (now starts) (now columns) × Proper n (now rows) ⌝ }
-    ensures { λ r. ⌜ r ≡ load (adjOf n (now (starts .entry)) (now (columns .entry))) (now (rows .entry)) ⌝ }
+    ensures { λ r. ⌜ r ≡ loadOf (adjOf n (now (starts .entry)) (now (columns .entry))) (now (rows .entry)) ⌝ }
 {
     let mut sum = 0;
     let mut i = 0;

@@ -1,5 +1,7 @@
 // The whole: all rows, sorted by level, and their plan.
 use crate::cycle::plan_group;
+use extents::Policy;
+use plan::MAX_DEPTH;
 use plan::fields::Group;
 use plan::fields::WHOLE;
 use sort::MAX_LEVELS;
@@ -12,9 +14,13 @@ ghost use Rattle.levels.specs.Levels.{ownLevels};
 ghost use Rattle.levels.specs.Rows.{Rows, adjOf};
 ghost use Rattle.plan.specs.Groups.{width};
 ghost use Rattle.plan.specs.Sound.{maxWorkers, maxGroups};
+ghost use Rattle.extents.specs.Scans.{policyOf};
 ghost use Rattle.race.specs.Planner.{planRows};
 ghost use Rattle.planner.specs.Records.{Holds};
 ghost use Rattle.matrix.specs.Limits.{maxRows};
+
+// A group at depth 0 may be split so often.
+const STAGES: u32 = MAX_DEPTH as u32;
 
 // The rows by their numbers.
 fn number(order: &mut [u32])
@@ -44,11 +50,11 @@ pub fn plan_rows(
     order: &mut [u32],
     records: &mut [u32],
     n: usize,
-    p: u32,
+    policy: Policy,
     workers: u32,
 ) -> u32
-    requires { ⌜ Rows n (now starts) (now columns) × (length (now order) ≡ n) × (length (now records) ≡ width * maxGroups) × (p ≤ 100) × (workers ≤ maxWorkers) ⌝ }
-    ensures { λ r. ⌜ Holds (planRows (adjOf n (now (starts .entry)) (now (columns .entry))) n p workers) 0 (now (records .entry)) (now (order .exit)) (now (records .exit)) r ⌝ }
+    requires { ⌜ Rows n (now starts) (now columns) × (length (now order) ≡ n) × (length (now records) ≡ width * maxGroups) × (policy .p ≤ 100) × (workers ≤ maxWorkers) ⌝ }
+    ensures { λ r. ⌜ Holds (planRows (adjOf n (now (starts .entry)) (now (columns .entry))) n (policyOf policy) workers) 0 (now (records .entry)) (now (order .exit)) (now (records .exit)) r ⌝ }
 {
     number(order);
     let whole = Group {
@@ -59,7 +65,7 @@ pub fn plan_rows(
         colour: WHOLE,
         parent: 0,
     };
-    let count = plan_group(starts, columns, order, records, n, p, 4, 0, whole);
+    let count = plan_group(starts, columns, order, records, n, policy, STAGES, 0, whole);
     if count == 1 {
         sort_rows(starts, columns, order, n);
     }

@@ -12,7 +12,7 @@ use Rattle.base.proofs.Booleans.{or-cases}
 use Rattle.base.proofs.Lists.{any-get}
 use Rattle.base.proofs.Each.{Each, Pairwise}
 use Rattle.levels.proofs.Own.{Apart}
-use Rattle.plan.specs.Sound.{apart, rowsOf, likeApart}
+use Rattle.plan.specs.Sound.{apart, stretchOf, likeApart}
 use Rattle.race.proofs.Parts.{Part, recordOf, recordsOf}
 use Rattle.race.proofs.Colours.{Across, Like}
 use Rattle.race.proofs.Placed.{Sub, Covers}
@@ -37,8 +37,8 @@ module _ (adj : ℕ → List ℕ) where
   module _ (O : List ℕ) (up : ℕ) where
     -- no later part of the same colour is near x
     none-near : (x : Part) (s : ℕ) → Sub (take (length (x .rows)) (drop s O)) (x .rows) → (t : ℕ) (ys : List Part) → Covers O t ys → Each (Like (Apart adj) x) ys
-        → any (λ h. eqb (x .colour) (h .colour) && not (apart adj (rowsOf O (recordOf up s x)) (rowsOf O h))) (recordsOf up t ys) ≡ false
-    unfolding rowsOf
+        → any (λ h. eqb (x .colour) (h .colour) && not (apart adj (stretchOf O (recordOf up s x)) (stretchOf O h))) (recordsOf up t ys) ≡ false
+    unfolding stretchOf
     none-near x s sub t [] c l = refl
     none-near x s sub t (y ∷ ys) c l = rw (go (eqb (x .colour) (y .colour)) refl) (none-near x s sub (t + length (y .rows)) ys (c .1) (l .1))
       where

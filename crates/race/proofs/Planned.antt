@@ -19,7 +19,8 @@ use Rattle.levels.proofs.Own.{Apart, own-same, own-apart}
 use Rattle.plan.specs.Groups.{Group, Plan, whole}
 use Rattle.plan.specs.Sound.{maxWorkers, maxDepth, maxGroups, eachOnce, depthFirst, allSound, sound}
 use Rattle.plan.proofs.Once.{same-once}
-use Rattle.race.specs.Loads.{load}
+use Rattle.extents.specs.Extents.{Policy}
+use Rattle.race.specs.Loads.{loadOf}
 use Rattle.race.specs.Planner.{Planner, nothing, _then_, leaf, pairs, planPairs, splits, split, planGroup, wholeOf, planRows}
 use Rattle.race.proofs.Tiles.{Tiles, pairs-tile}
 use Rattle.race.proofs.Parts.{Part, parts, allRows, recordOf, planParts, planPairs-parts, tiles-rows, tiles-tiled, tiles-groups}
@@ -50,17 +51,17 @@ module _ (adj : ℕ → List ℕ) (n : ℕ) where
       (kids-more adj stages up start index x xs (a .order) (r .order) below (r .groups) lt fine
       (subst (λ (gs : List Group). Kids adj stages up (start + length (x .rows)) (index + length gs) xs (r .order) (r .groups)) shape rest))
 
-  module _ (graph : Graph adj n) (p : ℕ) where
+  module _ (graph : Graph adj n) (policy : Policy) where
     -- a group that is split
     split-planned : (stages : ℕ) (child : Planner) → Plans stages child → (index : ℕ) (g : Group) (T : List ℕ) → Proper n T → g .length ≡ length T
-        → splits g (ownLevels adj n T) ≡ true → Planned (suc stages) index g T (split adj child p index g (ownLevels adj n T))
+        → splits g (ownLevels adj n T) ≡ true → Planned (suc stages) index g T (split adj child policy index g (ownLevels adj n T))
     unfolding splits split leaf _then_
     split-planned stages child plans index g T pr len ok =
         let ls = ownLevels adj n T in
         let w : 2 ≤ g .workers = leb-true 2 (g .workers) (and-left (leb 2 (g .workers)) (leb (2 * reach) (length ls)) ok) in
         let long : 2 * reach ≤ length ls = leb-true (2 * reach) (length ls) (and-right (leb 2 (g .workers)) (leb (2 * reach) (length ls)) ok) in
-        let cs = pairs adj (length ls) (g .workers) (load adj (concat ls)) p (g .workers) ls in
-        let tile : Tiles (g .workers) ls cs = pairs-tile adj (length ls) (g .workers) (load adj (concat ls)) p (g .workers) ls (omega arith) long (omega arith) in
+        let cs = pairs adj (length ls) (g .workers) (loadOf adj (concat ls)) policy (g .workers) ls in
+        let tile : Tiles (g .workers) ls cs = pairs-tile adj (length ls) (g .workers) (loadOf adj (concat ls)) policy (g .workers) ls (omega arith) long (omega arith) in
         let xs = parts (g .first) cs in
         let same : Same (allRows xs) T = λ v. ap (λ (l : List ℕ). count v l) (tiles-rows (g .first) tile) ∙ own-same adj n T pr v in
         let kids = parts-kids stages child plans index (g .start) (index + 1) xs (omega arith) (proper-same n (allRows xs) T same pr) in
@@ -74,14 +75,14 @@ module _ (adj : ℕ → List ℕ) (n : ℕ) where
         (pl .groups, refl, fine)
 
     -- every group
-    group-planned : (stages : ℕ) → Plans stages (planGroup adj n p stages)
+    group-planned : (stages : ℕ) → Plans stages (planGroup adj n policy stages)
     unfolding planGroup leaf
     group-planned zero index g T pr len = ([], refl, fine-leaf adj zero index g T)
     group-planned (suc s) index g T pr len = go (splits g (ownLevels adj n T)) refl (group-planned s)
       where
-        go : (b : Bool) → splits g (ownLevels adj n T) ≡ b → Plans s (planGroup adj n p s)
-            → Planned (suc s) index g T (elim b as (λ x. Plan) [ true ↦ split adj (planGroup adj n p s) p index g (ownLevels adj n T) | false ↦ leaf g T ])
-        go true ok plans = split-planned s (planGroup adj n p s) plans index g T pr len ok
+        go : (b : Bool) → splits g (ownLevels adj n T) ≡ b → Plans s (planGroup adj n policy s)
+            → Planned (suc s) index g T (elim b as (λ x. Plan) [ true ↦ split adj (planGroup adj n policy s) policy index g (ownLevels adj n T) | false ↦ leaf g T ])
+        go true ok plans = split-planned s (planGroup adj n policy s) plans index g T pr len ok
         go false ok plans = ([], refl, fine-leaf adj (suc s) index g T)
 
     -- ---- the whole
@@ -94,22 +95,22 @@ module _ (adj : ℕ → List ℕ) (n : ℕ) where
     sorted-same = own-same adj n (range 0 n) (proper-range n)
 
     -- the whole
-    rows-planned : (w : ℕ) → Planned maxDepth 0 (wholeOf n w) sorted (planRows adj n p w)
+    rows-planned : (w : ℕ) → Planned maxDepth 0 (wholeOf n w) sorted (planRows adj n policy w)
     unfolding planRows
     rows-planned w =
         group-planned maxDepth 0 (wholeOf n w) sorted (proper-same n sorted (range 0 n) sorted-same (proper-range n))
         (sym (same-length sorted (range 0 n) sorted-same ∙ length-range 0 n))
 
     -- at most 1 + 16 × 30 groups
-    pub rows-few : (w : ℕ) → w ≤ maxWorkers → length (planRows adj n p w .groups) ≤ 481
+    pub rows-few : (w : ℕ) → w ≤ maxWorkers → length (planRows adj n policy w .groups) ≤ 481
     rows-few w hi = let (below, shape, fine) = rows-planned w in omega (arith, ap (λ (gs : List Group). length gs) shape, fine .few)
 
     -- the plan passes the test of soundness
-    pub rows-sound : (w : ℕ) → 1 ≤ w → w ≤ maxWorkers → sound adj n (planRows adj n p w .order) (planRows adj n p w .groups) ≡ true
+    pub rows-sound : (w : ℕ) → 1 ≤ w → w ≤ maxWorkers → sound adj n (planRows adj n policy w .order) (planRows adj n policy w .groups) ≡ true
     unfolding sound depthFirst
     rows-sound w lo hi =
         let (below, shape, fine) = rows-planned w in
-        let O = planRows adj n p w .order in
+        let O = planRows adj n policy w .order in
         let each : eachOnce n O ≡ true = same-once n O (λ v. fine .same v ∙ sorted-same v) in
         let all : allSound adj O below 0 (wholeOf n w ∷ below) ≡ true = fine .sound O below (take-length O) (λ i a b. refl) in
         let (out, above, walk) = fine .walked [] [] (omega arith) in

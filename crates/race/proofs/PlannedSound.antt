@@ -34,11 +34,11 @@ module _ (m : Matrix) (w p : ℕ) where
   module _ (ok : isMatrix m ≡ true) (given : areParameters w p ≡ true) where
     made-sound : isSound m made ≡ true
     unfolding isSound plan
-    made-sound = let (lo, hi) = workers-between w p given in rows-sound (neighbours m) (m .n) (graph m ok) p w lo hi
+    made-sound = let (lo, hi) = workers-between w p given in rows-sound (neighbours m) (m .n) (graph m ok) (record { p = p }) w lo hi
 
     made-few : length (made .groups) ≤ 481
     unfolding plan
-    made-few = rows-few (neighbours m) (m .n) (graph m ok) p w (workers-between w p given .1)
+    made-few = rows-few (neighbours m) (m .n) (graph m ok) (record { p = p }) w (workers-between w p given .1)
 
     -- the plan's order has all rows
     pub made-long : length (made .order) ≡ m .n

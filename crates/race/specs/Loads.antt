@@ -7,5 +7,5 @@ use Rattle.base.specs.Lists.{sum}
 unfoldable pub weight : (adj : ℕ → List ℕ) → ℕ → ℕ
 weight adj v = 1
 
-unfoldable pub load : (adj : ℕ → List ℕ) → List ℕ → ℕ
-load adj vs = sum (map (weight adj) vs)
+unfoldable pub loadOf : (adj : ℕ → List ℕ) → List ℕ → ℕ
+loadOf adj vs = sum (map (weight adj) vs)

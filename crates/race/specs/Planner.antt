@@ -11,8 +11,8 @@ use Rattle.matrix.specs.Matrix.{Matrix, neighbours, matrixCheck}
 use Rattle.plan.specs.Groups.{Group, Plan, whole, red, blue, width}
 use Rattle.plan.specs.Sound.{maxWorkers, maxDepth}
 use Rattle.levels.specs.Levels.{reach, ownLevels}
-use Rattle.race.specs.Loads.{load}
-use Rattle.extents.specs.Extents.{extent, cut}
+use Rattle.race.specs.Loads.{loadOf}
+use Rattle.extents.specs.Extents.{Policy, extent, cut}
 
 unfoldable pub nothing : Plan
 nothing = record { order = []; groups = [] }
@@ -44,15 +44,15 @@ abbrev pub wholeOf : (n w : ℕ) → Group
 wholeOf n w = record { start = 0; length = n; first = 0; workers = w; colour = whole; parent = 0 }
 
 -- The pairs of a group of w workers and load R, in the levels ls and the free workers that are left: "The pair gets b workers, the next ones free". k bounds how many
-unfoldable pub pairs : (adj : ℕ → List ℕ) (k w R p free : ℕ) → List (List ℕ) → List Pair
-pairs adj zero w R p free ls = []
-pairs adj (suc k) w R p free [] = []
-pairs adj (suc k) w R p free (l ∷ ls) =
-    let e = extent w R p free (map (load adj) (l ∷ ls)) in
+unfoldable pub pairs : (adj : ℕ → List ℕ) (k w R : ℕ) (policy : Policy) (free : ℕ) → List (List ℕ) → List Pair
+pairs adj zero w R policy free ls = []
+pairs adj (suc k) w R policy free [] = []
+pairs adj (suc k) w R policy free (l ∷ ls) =
+    let e = extent w R policy free (map (loadOf adj) (l ∷ ls)) in
     let mine = take (e .levels) (l ∷ ls) in
-    let c = cut (map (load adj) mine) in
+    let c = cut (map (loadOf adj) mine) in
     record { reds = concat (take c mine); blues = concat (drop c mine); workers = e .workers }
-    ∷ pairs adj k w R p (free - e .workers) (drop (e .levels) (l ∷ ls))
+    ∷ pairs adj k w R policy (free - e .workers) (drop (e .levels) (l ∷ ls))
 
 -- The children of the group at index up: "Within a pair red comes first", each child with all below it
 unfoldable pub planPairs : (child : Planner) (up start first index : ℕ) → List Pair → Plan
@@ -69,26 +69,26 @@ unfoldable pub splits : Group → List (List ℕ) → Bool
 splits g ls = leb 2 (g .workers) && leb (2 * reach) (length ls)
 
 -- "A group is planned by planning its pairs"
-unfoldable pub split : (adj : ℕ → List ℕ) (child : Planner) (p index : ℕ) → Group → List (List ℕ) → Plan
-split adj child p index g ls =
+unfoldable pub split : (adj : ℕ → List ℕ) (child : Planner) (policy : Policy) (index : ℕ) → Group → List (List ℕ) → Plan
+split adj child policy index g ls =
     leaf g [] then
-    planPairs child index (g .start) (g .first) (index + 1) (pairs adj (length ls) (g .workers) (load adj (concat ls)) p (g .workers) ls)
+    planPairs child index (g .start) (g .first) (index + 1) (pairs adj (length ls) (g .workers) (loadOf adj (concat ls)) policy (g .workers) ls)
 
 -- stages: 4 less the depth
-unfoldable pub planGroup : (adj : ℕ → List ℕ) (n p stages : ℕ) → Planner
-planGroup adj n p zero index g T = leaf g T
-planGroup adj n p (suc s) index g T =
+unfoldable pub planGroup : (adj : ℕ → List ℕ) (n : ℕ) (policy : Policy) (stages : ℕ) → Planner
+planGroup adj n policy zero index g T = leaf g T
+planGroup adj n policy (suc s) index g T =
     let ls = ownLevels adj n T in
-    elim (splits g ls) [ true ↦ split adj (planGroup adj n p s) p index g ls | false ↦ leaf g T ]
+    elim (splits g ls) [ true ↦ split adj (planGroup adj n policy s) policy index g ls | false ↦ leaf g T ]
 
 -- "the whole is sorted even as a leaf"
-unfoldable pub planRows : (adj : ℕ → List ℕ) (n p w : ℕ) → Plan
-planRows adj n p w =
-    planGroup adj n p maxDepth 0 (wholeOf n w) (concat (ownLevels adj n (range 0 n)))
+unfoldable pub planRows : (adj : ℕ → List ℕ) (n : ℕ) (policy : Policy) (w : ℕ) → Plan
+planRows adj n policy w =
+    planGroup adj n policy maxDepth 0 (wholeOf n w) (concat (ownLevels adj n (range 0 n)))
 
 -- the plan of a matrix for w workers
 unfoldable pub plan : Matrix → (w p : ℕ) → Plan
-plan m w p = planRows (neighbours m) (m .n) p w
+plan m w p = planRows (neighbours m) (m .n) (record { p = p }) w
 
 -- "all workers, 1 to 16", "p is 50 to 99"
 unfoldable pub areParameters : (w p : ℕ) → Bool

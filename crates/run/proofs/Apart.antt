@@ -14,7 +14,7 @@ use Rattle.base.proofs.Booleans.{or-true, clash}
 use Rattle.base.proofs.Graph.{Graph}
 use Rattle.base.proofs.Lists.{any-of}
 use Rattle.plan.specs.Groups.{Group}
-use Rattle.plan.specs.Sound.{apart, rowsOf}
+use Rattle.plan.specs.Sound.{apart, stretchOf}
 use Rattle.run.specs.Tree.{holds}
 use Rattle.run.proofs.Holds.{holds-in}
 
@@ -37,8 +37,8 @@ module _ (adj : ℕ → List ℕ) (order : List ℕ) where
   clear-sym p q h t a b = sym (h t b a)
 
   -- the row at a position that a group holds is a row of the group
-  in-rows : (g : Group) (q : ℕ) → holds g q ≡ true → q < length order → isIn (rowsOf order g) (getD order q 0) ≡ true
-  unfolding rowsOf
+  in-rows : (g : Group) (q : ℕ) → holds g q ≡ true → q < length order → isIn (stretchOf order g) (getD order q 0) ≡ true
+  unfolding stretchOf
   in-rows g q h l =
       let (a, b) = holds-in g q h in
       let i : ℕ = q - g .start in
@@ -48,7 +48,7 @@ module _ (adj : ℕ → List ℕ) (order : List ℕ) where
       subst (λ (y : ℕ). isIn rows y ≡ true) c (getD-in rows i (omega (arith, length-take (g .length) (drop (g .start) order), length-drop (g .start) order)))
 
   -- positions of two groups that are apart
-  pub apart-clear : {n : ℕ} → Graph adj n → (g h : Group) (p q : ℕ) → apart adj (rowsOf order g) (rowsOf order h) ≡ true
+  pub apart-clear : {n : ℕ} → Graph adj n → (g h : Group) (p q : ℕ) → apart adj (stretchOf order g) (stretchOf order h) ≡ true
       → holds g p ≡ true → p < length order → holds h q ≡ true → q < length order → Clear p q
   unfolding apart
   apart-clear G g h p q e hp lp hq lq t x y = go x y
@@ -63,7 +63,7 @@ module _ (adj : ℕ → List ℕ) (order : List ℕ) where
       test u v = isIn (adj v) u || any (isIn (adj u)) (adj v)
 
       never : test u v ≡ true → ⊥
-      never z = clash (any-of (λ u. any (test u) (rowsOf order h)) (rowsOf order g) u (in-rows g p hp lp) (any-of (test u) (rowsOf order h) v (in-rows h q hq lq) z)) (not-true _ e)
+      never z = clash (any-of (λ u. any (test u) (stretchOf order h)) (stretchOf order g) u (in-rows g p hp lp) (any-of (test u) (stretchOf order h) v (in-rows h q hq lq) z)) (not-true _ e)
 
       go : Touch p t → Touch q t → p ≡ q
       go (inl e) (inl f) = sym e ∙ f

@@ -12,7 +12,7 @@ use Rattle.base.specs.Lists.{any}
 use Rattle.base.proofs.Booleans.{and-left, and-right, or-true, or-left-false, or-right-false, clash}
 use Rattle.base.proofs.Graph.{Graph}
 use Rattle.plan.specs.Groups.{Group, red, blue}
-use Rattle.plan.specs.Sound.{apart, rowsOf, likeApart}
+use Rattle.plan.specs.Sound.{apart, stretchOf, likeApart}
 use Rattle.run.specs.Tree.{Tree, none, node, holds, ownerIn, unfinished, redOpen, blocked}
 use Rattle.run.proofs.Holds.{holds-in, holds-past, owner-here, owner-next}
 use Rattle.run.proofs.Open.{red-here, red-next}
@@ -91,7 +91,7 @@ module _ (adj : ℕ → List ℕ) (order : List ℕ) (fin : Group → Bool) wher
     cross : (g : Group) (p : ℕ) → holds g p ≡ true → p < length order → Coloured g
         → (all : Tree) → (g .colour ≡ red → redOpen fin all ≡ true) → (g .colour ≡ blue → redOpen fin all ≡ false)
         → (T : Tree) (leader s e q w : ℕ) → Tiles adj order T s e
-        → any (λ h. eqb (g .colour) (h .colour) && not (apart adj (rowsOf order g) (rowsOf order h))) (tops T) ≡ false
+        → any (λ h. eqb (g .colour) (h .colour) && not (apart adj (stretchOf order g) (stretchOf order h))) (tops T) ≡ false
         → (redOpen fin T ≡ true → redOpen fin all ≡ true) → Active T all leader s e q w → Clear adj order p q
     unfolding tops
     cross g p hp lp cg all red blue none leader s e q w t k up a = absurd (omega (arith, a .low, a .high))
@@ -101,12 +101,12 @@ module _ (adj : ℕ → List ℕ) (order : List ℕ) (fin : Group → Bool) wher
         (λ z. up (red-next fin h below next z)) b)
       where
         like : Group → Bool
-        like h = eqb (g .colour) (h .colour) && not (apart adj (rowsOf order g) (rowsOf order h))
+        like h = eqb (g .colour) (h .colour) && not (apart adj (stretchOf order g) (stretchOf order h))
 
         alike : holds h q ≡ true → g .colour ≡ h .colour → Clear adj order p q
         alike hq c =
-            let e : apart adj (rowsOf order g) (rowsOf order h) ≡ true =
-            not-false _ (sym (ap (λ (b : Bool). b && not (apart adj (rowsOf order g) (rowsOf order h))) (eq-eqb (g .colour) (h .colour) c)) ∙ or-left-false (like h) (any like (tops next)) k) in
+            let e : apart adj (stretchOf order g) (stretchOf order h) ≡ true =
+            not-false _ (sym (ap (λ (b : Bool). b && not (apart adj (stretchOf order g) (stretchOf order h))) (eq-eqb (g .colour) (h .colour) c)) ∙ or-left-false (like h) (any like (tops next)) k) in
             apart-clear adj order G g h p q e hp lp hq (a .inside)
 
         held : holds h q ≡ true → Coloured g → Coloured h → Clear adj order p q
@@ -131,7 +131,7 @@ module _ (adj : ℕ → List ℕ) (order : List ℕ) (fin : Group → Bool) wher
         (λ x y. clear next all leader (s + g .length) e p q v w (t .3) apart-next up-next d x y)
       where
         like : Group → Bool
-        like h = eqb (g .colour) (h .colour) && not (apart adj (rowsOf order g) (rowsOf order h))
+        like h = eqb (g .colour) (h .colour) && not (apart adj (stretchOf order g) (stretchOf order h))
 
         apart-here : any like (tops next) ≡ false
         apart-here = not-true _ (and-left (not (any like (tops next))) (likeApart adj order (tops next)) k)

@@ -5,8 +5,8 @@ use mathlib.Core.List.{List, [], _∷_, _++_, map}
 use Prim.Native.Nat.{ℕ, zero, suc, _+_, _-_}
 use Prim.Native.String.{String}
 use lib.IntN.{ℤ, pos, negsuc}
-use lib.ListN.{length, take, replicate}
-use Rattle.base.specs.Lists.{concat, range, sumBelow, bit}
+use lib.ListN.{length, take, drop, replicate}
+use Rattle.base.specs.Lists.{concat, range, sum, sumBelow, bit}
 use Rattle.base.specs.Ascii.{ascii}
 use Rattle.base.specs.Integers.{sumℤ, within, same, fits64}
 use Rattle.base.specs.Replies.{Reply, accepted, refused, inTurn}
@@ -17,11 +17,11 @@ use Rattle.market.specs.Fields.{digits, isNumber, valueOf, number, spaces, fiel
 use Rattle.market.specs.Parse.{Triplet, Parsed, matrixText, rejected, entries, sizeLine, comments, parse}
 use Rattle.market.specs.FullRows.{full, cell, rowOf, rowsOf, startsFrom, rowStarts, columns, values, ofTriplets, readMatrix}
 use Rattle.market.specs.Text.{decimal, textOf, columnOf, lower, written}
-use Rattle.plan.specs.Groups.{Plan, fields as groupFields, flat}
-use Rattle.plan.specs.Sound.{eachOnce, depthFirst, children, tiled, apart, rowsOf as groupRows, likeApart, childrenSound, allSound, sound, isSound}
+use Rattle.plan.specs.Groups.{Plan, fieldsOf, flat}
+use Rattle.plan.specs.Sound.{eachOnce, depthFirst, children, tiled, apart, stretchOf, likeApart, childrenSound, allSound, sound, isSound}
 use Rattle.levels.specs.Levels.{near, region, root, isNext, levelsFrom, levels, ownLevels}
 use Rattle.extents.specs.Extents.{Extent, endsFrom, best, nearest, off, serves, extentOf, extentFrom, extent, cutAt, cut}
-use Rattle.race.specs.Loads.{weight, load}
+use Rattle.race.specs.Loads.{weight, loadOf}
 use Rattle.race.specs.Planner.{nothing, _then_, leaf, pairs, planPairs, splits, split, planGroup, planRows, plan, areParameters, planReply}
 use Rattle.run.specs.Job.{Job, rowAt}
 use Rattle.run.specs.Tree.{forest, tree, leaves, holds, ownerIn, unfinished, redOpen, blocked}
@@ -172,8 +172,10 @@ samples =
     -- P: "two joined freedoms, 16 workers: one leaf"
     ∷ (ofPlan (plan two 16 60) is numbers (0 ∷ 1 ∷ 0 ∷ 2 ∷ 0 ∷ 16 ∷ 0 ∷ 0 ∷ []))
     -- P: "level loads 1, 2, .. 16, 15, .. 1, w = 8, p = 60: first pair is levels 0 to 6 (28 of 256), cut before level 5 (15 against 13)"
-    ∷ (ofExtent (extent 8 256 60 8 hill) is numbers (7 ∷ 1 ∷ []))
+    ∷ (ofExtent (extent 8 (sum hill) (record { p = 60 }) 8 hill) is numbers (7 ∷ 1 ∷ []))
+    ∷ (numbers (sum (take 7 hill) ∷ sum hill ∷ []) is numbers (28 ∷ 256 ∷ []))
     ∷ (numbers (cut (take 7 hill) ∷ []) is numbers (5 ∷ []))
+    ∷ (numbers (sum (take 5 hill) ∷ sum (drop 5 (take 7 hill)) ∷ []) is numbers (15 ∷ 13 ∷ []))
     -- P: "a = 1.5 gives b = 2". P: "a = 0.6 at p = 60 doesn't serve"
     ∷ (numbers (nearest 3 1 2 ∷ []) is numbers (2 ∷ []))
     ∷ (ofTest (serves 3 1 5 60) is ofTest false)
@@ -199,6 +201,48 @@ samples =
     ∷ (ofMatrix (readMatrix (parse (written chain))) is ofMatrix chain)
     ∷ []
 
+-- ---- what the rows compute with, room by room: to unfold one of these is to unfold all that its line names
+
+base : Unit {0}
+unfolding sumBelow sumℤ within same fits64 inTurn
+base = tt
+
+matrices : Unit {0}
+unfolding partOf columnsOf valuesOf lookup entry neighbours adjacent adjacentPairs ascending mirrored isRow lowerEntries isMatrix matrixCheck displacement areDisplacements forceAt product
+matrices = tt
+
+lines : Unit {0}
+unfolding classOf header digits isNumber valueOf number spaces field value valueField fields entries sizeLine comments parse
+lines = tt
+
+texts : Unit {0}
+unfolding full cell rowOf rowsOf startsFrom rowStarts columns values ofTriplets readMatrix decimal textOf columnOf lower written
+texts = tt
+
+plans : Unit {0}
+unfolding fieldsOf flat eachOnce depthFirst children tiled apart stretchOf likeApart childrenSound allSound sound isSound
+plans = tt
+
+planners : Unit {0}
+unfolding near region root isNext levelsFrom levels ownLevels weight loadOf endsFrom best nearest off serves extentOf extentFrom extent cutAt cut nothing _then_ leaf pairs planPairs splits split planGroup planRows plan areParameters planReply
+planners = tt
+
+updating : Unit {0}
+unfolding rowAt forest tree leaves holds ownerIn unfinished redOpen blocked entryAt displacementAt later withEach rowUpdates owner when upTo updates accesses finished noUpdate next waits
+updating = tt
+
+machines : Unit {0}
+unfolding fresh workersOf workers reason refusal onward loadSum total store access move stepIf step oneMore steps readyBelow ready bits allMade over positionOf original countsFine isState
+machines = tt
+
+calls : Unit {0}
+unfolding placeOf pickedOf readyOf forcesOf answerOf afterOf stateCheck answer after noCounts oneNoted note modelAnswer modelAfter modelAnswers modelCounts takenOf takenIn wholeRun answersFrom added ending able isFinished runAnswers
+calls = tt
+
+listings : Unit {0}
+unfolding firstLine restOf last second parametersOf spaced refusedLine orderLine titleLine groupLines planListing planned judged listing
+listings = tt
+
 -- the places of the tests that fail
 abbrev failing : ℕ → List Bool → List ℕ
 failing k [] = []
@@ -206,5 +250,5 @@ failing k (true ∷ bs) = failing (suc k) bs
 failing k (false ∷ bs) = k ∷ failing (suc k) bs
 
 all-hold : failing 0 samples ≡ []
-unfolding sumBelow sumℤ within same fits64 inTurn partOf columnsOf valuesOf lookup entry neighbours adjacent adjacentPairs ascending mirrored isRow lowerEntries isMatrix matrixCheck displacement areDisplacements forceAt product classOf header digits isNumber valueOf number spaces field value valueField fields entries sizeLine comments parse full cell rowOf rowsOf startsFrom rowStarts columns values ofTriplets readMatrix decimal textOf columnOf lower written groupFields flat eachOnce depthFirst children tiled apart groupRows likeApart childrenSound allSound sound isSound near region root isNext levelsFrom levels ownLevels weight load endsFrom best nearest off serves extentOf extentFrom extent cutAt cut nothing _then_ leaf pairs planPairs splits split planGroup planRows plan areParameters planReply rowAt forest tree leaves holds ownerIn unfinished redOpen blocked entryAt displacementAt later withEach rowUpdates owner when upTo updates accesses finished noUpdate next waits fresh workersOf workers reason refusal onward loadSum total store access move stepIf step oneMore steps readyBelow ready bits allMade over positionOf original countsFine isState placeOf pickedOf readyOf forcesOf answerOf afterOf stateCheck answer after answersFrom noCounts added ending oneNoted note able isFinished modelAnswer modelAfter modelAnswers modelCounts takenOf takenIn runAnswers wholeRun firstLine restOf last second parametersOf spaced refusedLine orderLine titleLine groupLines planListing planned judged listing
+unfolding base matrices lines texts plans planners updating machines calls listings
 all-hold = refl

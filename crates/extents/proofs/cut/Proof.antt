@@ -5,6 +5,7 @@ use native.Mathlib.Omega.{arith}
 use borrow.Author.Needs.{needs}
 use lib.ListN.{length}
 use lib.Seq.{length-take-le}
+use Rattle.levels.specs.Levels.{reach}
 use Rattle.extents.proofs.Ends.{sum-split}
 use Rattle.extents.proofs.PairEnd.{cut-is}
 use Rattle.extents.proofs.cut.Statement.{statement}
@@ -14,7 +15,7 @@ sub-end : tie.Need-sub-end
 sub-end c = search needs
 
 slice-aggregate-nearest-end : tie.Need-slice-aggregate-nearest-end
-slice-aggregate-nearest-end c = let qs = c .before .before .args .loads .now in sym (length-take-le (length qs - 2) qs (omega arith))
+slice-aggregate-nearest-end c = let qs = c .before .before .args .loads .now in sym (length-take-le (length qs - reach) qs (omega arith))
 
 total-requires : tie.Need-total-requires
 total-requires c κs = search needs
@@ -22,7 +23,7 @@ total-requires c κs = search needs
 nearest-end-requires : tie.Need-nearest-end-requires
 nearest-end-requires c κs =
     let qs = c .before .before .before .args .loads .now in
-    (omega (arith, sum-split (length qs - 2) qs), search needs, search needs, rw (length-take-le (length qs - 2) qs (omega arith)) (omega arith))
+    (omega (arith, sum-split (length qs - reach) qs), search needs, search needs, rw (length-take-le (length qs - reach) qs (omega arith)) (omega arith))
 
 returns : tie.Need-returns
 returns c =

@@ -1,4 +1,4 @@
--- `first_end` meets its contract: no end of four to k levels serves.
+-- `first_end` meets its contract: no end of least to k levels serves.
 use mathlib.Core.Path.{sym, _∙_}
 use Prim.Native.Nat.{_+_, _-_}
 use native.Mathlib.Omega.{arith}
@@ -12,25 +12,22 @@ use Rattle.extents.proofs.first_end.Statement.{statement}
 use Rattle.extents.proofs.first_end.Tie as tie
 
 abbrev Inv-loop : tie.InvT-loop
-Inv-loop loads w load p k₀ q₀ k q = Seeking (λ e. serves (e .load) w load p) loads k q
+Inv-loop loads least w load p k₀ q₀ k q = Seeking (λ e. serves (e .load) w load p) loads least k q
 
 abbrev μ-loop : tie.MeasureT-loop
-μ-loop loads w load p k₀ q₀ k q = length loads - k
-
-mul-k : tie.Need-mul-k Inv-loop μ-loop
-mul-k c = search needs
+μ-loop loads least w load p k₀ q₀ k q = length loads - k
 
 sub-k : tie.Need-sub-k Inv-loop μ-loop
 sub-k c = search needs
 
 slice-aggregate-total : tie.Need-slice-aggregate-total Inv-loop μ-loop
-slice-aggregate-total c = sym (length-take-le 3 (c .before .before .args .loads .now) (omega arith))
+slice-aggregate-total c = let a = c .before .before .args in sym (length-take-le (a .least - 1) (a .loads .now) (omega arith))
 
 total-requires : tie.Need-total-requires Inv-loop μ-loop
-total-requires c κs = omega (arith, sum-split 3 (c .before .before .args .loads .now))
+total-requires c κs = let a = c .before .before .args in omega (arith, sum-split (a .least - 1) (a .loads .now))
 
 loop-holds : tie.Need-loop-holds Inv-loop μ-loop
-loop-holds c = let a = c .before .before .before .args in seek-start (λ e. serves (e .load) (a .w) (a .load) (a .p)) (a .loads .now) (c .total .result) (omega arith) (c .total .ensures)
+loop-holds c = let a = c .before .before .before .args in seek-start (λ e. serves (e .load) (a .w) (a .load) (a .p)) (a .loads .now) (a .least) (c .total .result) (omega arith) (omega arith) (c .total .ensures)
 
 mul-q : tie.Need-mul-q Inv-loop μ-loop
 mul-q c = search needs
@@ -51,13 +48,13 @@ serves-requires : tie.Need-serves-requires Inv-loop μ-loop
 serves-requires c κs =
     let a = c .before .before .before .before .before .before .args in
     let l = c .before .before .loop in
-    (c .before .before .before .before .before .before .pre .0, omega (arith, sum-next (a .loads .now) (l .k) (omega arith), sum-split (l .k + 1) (a .loads .now)))
+    (c .before .before .before .before .before .before .pre .0, omega (arith, sum-next (a .loads .now) (l .k) (omega arith), sum-split (l .k + 1) (a .loads .now)), omega arith)
 
 returns : tie.Need-returns Inv-loop μ-loop
 returns c =
     let a = c .before .before .before .before .before .before .before .before .args in
     let l = c .before .before .before .before .loop in
-    (seek-found (λ e. serves (e .load) (a .w) (a .load) (a .p)) (a .loads .now) (l .k) (l .q) (l .inv) (omega arith) (sym (c .before .serves .ensures) ∙ c .if1 .taken), omega (arith, l .inv .some))
+    (seek-found (λ e. serves (e .load) (a .w) (a .load) (a .p)) (a .loads .now) (a .least) (l .k) (l .q) (l .inv) (omega arith) (sym (c .before .serves .ensures) ∙ c .if1 .taken), omega (arith, l .inv .some))
 
 loop-less : tie.Need-loop-less Inv-loop μ-loop
 loop-less c = search needs
@@ -66,7 +63,7 @@ loop-again : tie.Need-loop-again Inv-loop μ-loop
 loop-again c =
     let a = c .before .before .before .before .before .before .before .before .args in
     let l = c .before .before .before .before .loop in
-    seek-next (λ e. serves (e .load) (a .w) (a .load) (a .p)) (a .loads .now) (l .k) (l .q) (l .inv) (omega arith) (sym (c .before .serves .ensures) ∙ c .if1 .left)
+    seek-next (λ e. serves (e .load) (a .w) (a .load) (a .p)) (a .loads .now) (a .least) (l .k) (l .q) (l .inv) (omega arith) (sym (c .before .serves .ensures) ∙ c .if1 .left)
 
 add-result : tie.Need-add-result Inv-loop μ-loop
 add-result c = search needs
@@ -75,7 +72,7 @@ returns-2 : tie.Need-returns-2 Inv-loop μ-loop
 returns-2 c =
     let a = c .before .before .before .before .before .args in
     let l = c .before .loop in
-    (seek-none (λ e. serves (e .load) (a .w) (a .load) (a .p)) (a .loads .now) (l .k) (l .q) (l .inv) (omega arith), omega (arith, l .inv .some))
+    (seek-none (λ e. serves (e .load) (a .w) (a .load) (a .p)) (a .loads .now) (a .least) (l .k) (l .q) (l .inv) (omega arith), omega (arith, l .inv .some))
 
 pub first-end-spec : {M : Type 1} → statement M
 first-end-spec =
@@ -83,7 +80,6 @@ first-end-spec =
     (tie.spec
     Inv-loop
     μ-loop
-    mul-k
     sub-k
     slice-aggregate-total
     total-requires

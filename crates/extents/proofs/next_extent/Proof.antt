@@ -5,10 +5,14 @@ use Prim.Native.Nat.{ℕ}
 use borrow.Author.Needs.{needs}
 use lib.Seq.{length-take-le}
 use Rattle.extents.specs.Extents.{nearest}
+use Rattle.extents.specs.Scans.{policyOf}
 use Rattle.extents.proofs.Ends.{product-few, nearest-few, sum-split}
 use Rattle.extents.proofs.PairEnd.{extent-none, extent-short, extent-full, extent-part}
 use Rattle.extents.proofs.next_extent.Statement.{statement}
 use Rattle.extents.proofs.next_extent.Tie as tie
+
+mul-least : tie.Need-mul-least
+mul-least c = search needs
 
 first-end-requires : tie.Need-first-end-requires
 first-end-requires c κs = search needs
@@ -16,7 +20,7 @@ first-end-requires c κs = search needs
 returns : tie.Need-returns
 returns c =
     let a = c .before .before .before .args in
-    extent-none (a .w) (a .load) (a .p) (a .free) (a .loads .now) (c .before .first-end .result) (c .before .first-end .ensures .0) (c .if1 .taken)
+    extent-none (a .w) (a .load) (policyOf (a .policy)) (a .free) (a .loads .now) (c .before .first-end .result) (c .before .first-end .ensures .0) (c .if1 .taken)
 
 slice-aggregate-total : tie.Need-slice-aggregate-total
 slice-aggregate-total c = sym (length-take-le (c .before .before .first-end .result) (c .before .before .before .before .args .loads .now) (omega arith))
@@ -40,34 +44,32 @@ nearest-end-requires c κs = search needs
 sub-if2 : tie.Need-sub-if2
 sub-if2 c = search needs
 
-mul-if2 : tie.Need-mul-if2
-mul-if2 c = search needs
-
 returns-2 : tie.Need-returns-2
 returns-2 c =
     let a = c .before .before .before .before .before .before .before .before .args in
     let k = c .before .before .before .before .before .before .first-end in
-    extent-short (a .w) (a .load) (a .p) (a .free) (a .loads .now) (k .result) (k .ensures .0) (c .before .before .nearest .result) (c .before .nearest-end .result) (k .ensures .1) (search needs)
+    extent-short (a .w) (a .load) (policyOf (a .policy)) (a .free) (a .loads .now) (k .result) (k .ensures .0) (c .before .before .nearest .result) (c .before .nearest-end .result) (omega (arith, k .ensures .1)) (search needs)
     (c .before .before .nearest .ensures ∙ ap (λ (q : ℕ). nearest q (a .w) (a .load)) (c .before .before .before .total .ensures)) (c .before .nearest-end .ensures .0) (c .if2 .taken)
 
 returns-3 : tie.Need-returns-3
 returns-3 c =
     let a = c .before .before .before .before .before .before .before .before .before .args in
     let k = c .before .before .before .before .before .before .before .first-end in
-    extent-full (a .w) (a .load) (a .p) (a .free) (a .loads .now) (k .result) (k .ensures .0) (c .before .before .before .nearest .result) (c .before .before .nearest-end .result) (k .ensures .1) (search needs)
+    extent-full (a .w) (a .load) (policyOf (a .policy)) (a .free) (a .loads .now) (k .result) (k .ensures .0) (c .before .before .before .nearest .result) (c .before .before .nearest-end .result) (omega (arith, k .ensures .1)) (search needs)
     (c .before .before .before .nearest .ensures ∙ ap (λ (q : ℕ). nearest q (a .w) (a .load)) (c .before .before .before .before .total .ensures)) (c .before .before .nearest-end .ensures .0) (c .before .if2 .left) (c .if3 .taken)
 
 returns-4 : tie.Need-returns-4
 returns-4 c =
     let a = c .before .before .before .before .before .before .before .before .before .args in
     let k = c .before .before .before .before .before .before .before .first-end in
-    extent-part (a .w) (a .load) (a .p) (a .free) (a .loads .now) (k .result) (k .ensures .0) (c .before .before .before .nearest .result) (c .before .before .nearest-end .result) (k .ensures .1) (search needs)
+    extent-part (a .w) (a .load) (policyOf (a .policy)) (a .free) (a .loads .now) (k .result) (k .ensures .0) (c .before .before .before .nearest .result) (c .before .before .nearest-end .result) (omega (arith, k .ensures .1)) (search needs)
     (c .before .before .before .nearest .ensures ∙ ap (λ (q : ℕ). nearest q (a .w) (a .load)) (c .before .before .before .before .total .ensures)) (c .before .before .nearest-end .ensures .0) (c .before .if2 .left) (c .if3 .left)
 
 pub next-extent-spec : {M : Type 1} → statement M
 next-extent-spec =
     tie.close
     (tie.spec
+    mul-least
     first-end-requires
     returns
     slice-aggregate-total
@@ -76,7 +78,6 @@ next-extent-spec =
     mul-nearest-end
     nearest-end-requires
     sub-if2
-    mul-if2
     returns-2
     returns-3
     returns-4)

@@ -44,7 +44,7 @@ use denote.Triple.Clauses.{lasts}
 use denote.Triple.Table.{entered, cited}
 use denote.Triple.Walked.{says, Stays, stay-dropped, walkOf, Walks, ends-at, walked, walk-meets}
 use denote.Exit.{yes}
-use Rattle.plan.specs.Groups.{width, fields}
+use Rattle.plan.specs.Groups.{width, fieldsOf}
 use Rattle.plan.specs.Sound.{maxGroups, maxFields}
 use Rattle.plan.specs.Checks.{groupOf}
 use Rattle.plan.specs.declared.fields.Group.{Group}
@@ -146,7 +146,7 @@ module _ {M : Type 1} (𝓤 : URA M) (H : Heap 𝓤) (A : Atoms 𝓤) (W : Given
       lent-list δ = record { ptr = (l₂, 0); name = δ; now = t .numbers }
 
       abbrev Stored : List ℕ → Type 0
-      Stored ns = take (width * (t .k + 1)) ns ≡ take (width * t .k) (t .numbers) ++ fields (groupOf g)
+      Stored ns = take (width * (t .k + 1)) ns ≡ take (width * t .k) (t .numbers) ++ fieldsOf (groupOf g)
 
       abbrev passed : GName → RefT (List ℕ) × (ℕ × (Group × Unit {0}))
       passed δ = (lent-list δ, (t .k, (g, tt)))

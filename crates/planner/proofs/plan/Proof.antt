@@ -1,10 +1,10 @@
 -- `plan` meets its contract: the checks in turn, then the plan is made in two lists of its own and copied.
-use mathlib.Core.Path.{_≡_, refl, sym, ap, _∙_}
-use mathlib.Core.Bool.{true, false}
+use mathlib.Core.Path.{_≡_, refl, sym, _∙_}
+use mathlib.Core.Bool.{true}
 use mathlib.Core.List.{List, _++_}
 use Prim.Native.Nat.{ℕ, _*_, _≤_}
 use native.Mathlib.Omega.{arith}
-use lib.ListN.{length, take, drop, replicate, length-append}
+use lib.ListN.{length, take, drop, replicate, length-append, length-take}
 use lib.Seq.{length-take-le, take-at}
 use Rattle.base.proofs.Booleans.{fails, holds}
 use Rattle.matrix.specs.Matrix.{Matrix, isMatrix}
@@ -151,10 +151,10 @@ array-share-prefix-list : tie.Need-array-share-prefix-list
 array-share-prefix-list c = let w = made c in omega (arith, planned-length w, length-append (planned w) (drop (n w) (replicate maxRows 0)))
 
 slice-aggregate-copy : tie.Need-slice-aggregate-copy
-slice-aggregate-copy c = let w = made (c .before) in sym (ap length (front w) ∙ planned-length w)
+slice-aggregate-copy c = let w = made (c .before) in omega (arith, array-share-prefix-list (c .before), length-take (n w) (list w))
 
 copy-requires : tie.Need-copy-requires
-copy-requires c κs = let w = made (c .before .before) in rw (front w) (omega (arith, planned-length w, roomy w .if3 .left))
+copy-requires c κs = let w = made (c .before .before) in omega (arith, slice-aggregate-copy (c .before), roomy w .if3 .left)
 
 array-share-prefix-records : tie.Need-array-share-prefix-records
 array-share-prefix-records c = room (made (listed (c .before .before)))

@@ -7,7 +7,7 @@ use native.Mathlib.Omega.{arith}
 use lib.ListN.{length, take, drop, length-append}
 use Rattle.market.specs.Text.{natural}
 use Rattle.writer.proofs.puts.Putting.{Putting, Next, put-then, putting-start, putting-room, putting-more, putting-end}
-use Rattle.plan.specs.Groups.{fields, records, width}
+use Rattle.plan.specs.Groups.{fieldsOf, records, width}
 use Rattle.plan.specs.Checks.{recordAt}
 use Rattle.plan.proofs.FlatRecords.{length-records}
 use Rattle.listing.specs.Listing.{groupLines}
@@ -23,11 +23,11 @@ abbrev μ-loop : tie.MeasureT-loop
 
 -- what is left begins with the next record's line, and there is room for it
 next : (c : tie.In-loop Inv-loop μ-loop) → let l = c .before in let a = l .before .before .before .args in
-    Next (groupLines (l .loop .i) (drop (l .loop .i) (records (a .count) (a .groups .now)))) (natural (l .loop .i) ++ fieldsLine (fields (recordAt (a .groups .now) (l .loop .i)))) (groupLines (l .loop .i + 1) (drop (l .loop .i + 1) (records (a .count) (a .groups .now))))
+    Next (groupLines (l .loop .i) (drop (l .loop .i) (records (a .count) (a .groups .now)))) (natural (l .loop .i) ++ fieldsLine (fieldsOf (recordAt (a .groups .now) (l .loop .i)))) (groupLines (l .loop .i + 1) (drop (l .loop .i + 1) (records (a .count) (a .groups .now))))
 next c = let l = c .before in let a = l .before .before .before .args in groups-next (a .groups .now) (a .count) (l .loop .i) (c .loop-test .taken)
 
 room : (c : tie.In-loop Inv-loop μ-loop) → let l = c .before in let g = recordAt (l .before .before .before .args .groups .now) (l .loop .i) in
-    l .loop .p + (length (natural (l .loop .i)) + length (fieldsLine (fields g))) ≤ length (l .loop .output)
+    l .loop .p + (length (natural (l .loop .i)) + length (fieldsLine (fieldsOf g))) ≤ length (l .loop .output)
 room c = rw length-append at (putting-room (c .before .loop .inv .2) (next c))
 
 -- its record is a part of the list
@@ -35,7 +35,7 @@ inside : (c : tie.In-loop Inv-loop μ-loop) → let l = c .before in l .loop .fr
 inside c = let l = c .before in omega (arith, l .before .before .before .pre .0)
 
 part : (c : tie.In-loop Inv-loop μ-loop) → let l = c .before in let ns = l .before .before .before .args .groups .now in
-    take (l .loop .from + width - l .loop .from) (drop (l .loop .from) ns) ≡ fields (recordAt ns (l .loop .i))
+    take (l .loop .from + width - l .loop .from) (drop (l .loop .from) ns) ≡ fieldsOf (recordAt ns (l .loop .i))
 part c = let l = c .before in record-part (l .before .before .before .args .groups .now) (l .loop .i) (l .loop .from) (l .loop .inv .1) (inside c)
 
 loop-holds : tie.Need-loop-holds Inv-loop μ-loop

@@ -4,7 +4,7 @@ use native.Mathlib.Numerals.{add-one, add-two, add-three, add-four, add-five}
 use native.Mathlib.Omega.{arith}
 use borrow.Author.Needs.{needs}
 use lib.ListN.{length-set}
-use Rattle.plan.specs.Groups.{width, fields}
+use Rattle.plan.specs.Groups.{width, fieldsOf}
 use Rattle.plan.specs.Checks.{groupOf}
 use Rattle.base.proofs.Stored.{stored-record}
 use Rattle.plan.proofs.fields.put.Statement.{statement}
@@ -68,10 +68,10 @@ same-length : tie.Need-same-length
 same-length c = search needs
 
 returns : tie.Need-returns
-unfolding fields
+unfolding fieldsOf
 returns c =
     let a = c .args in
-    let vs = fields (groupOf (a .g)) in
+    let vs = fieldsOf (groupOf (a .g)) in
     rw (add-one (width * a .i), add-two (width * a .i), add-three (width * a .i), add-four (width * a .i), add-five (width * a .i))
     (stored-record vs (a .numbers .now) (a .i) (search needs))
 

@@ -1,10 +1,12 @@
 -- `next_pair` meets its contract.
 use mathlib.Core.Path.{refl, sym}
-use Prim.Native.Nat.{_-_, _≤_}
+use Prim.Native.Nat.{_*_, _-_, _≤_}
 use native.Mathlib.Omega.{arith}
 use borrow.Author.Needs.{needs}
 use lib.ListN.{length}
 use lib.Seq.{length-take-le}
+use Rattle.levels.specs.Levels.{reach}
+use Rattle.extents.specs.Scans.{policyOf}
 use Rattle.extents.proofs.Ends.{sum-split}
 use Rattle.extents.proofs.Extents.{extent-taken}
 use Rattle.planner.proofs.PairPlans.{taken-most, Bounds, pair-bounds}
@@ -12,17 +14,17 @@ use Rattle.planner.proofs.cycle.next_pair.Statement.{statement}
 use Rattle.planner.proofs.cycle.next_pair.Tie as tie
 
 -- how many levels the pair takes
-levels-in : (c : tie.After-next-extent) → (4 ≤ c .next-extent .result .levels) × (c .next-extent .result .levels ≤ length (c .before .before .before .args .loads .now))
+levels-in : (c : tie.After-next-extent) → (2 * reach ≤ c .next-extent .result .levels) × (c .next-extent .result .levels ≤ length (c .before .before .before .args .loads .now))
 levels-in c =
     let a = c .before .before .before .args in
-    let t = extent-taken (a .up .workers) (a .up .load) (a .p) (a .left .free) (a .loads .now) (omega arith) (omega arith) in
+    let t = extent-taken (a .up .workers) (a .up .load) (policyOf (a .policy)) (a .left .free) (a .loads .now) (omega arith) (omega arith) in
     (omega (arith, t .long, c .next-extent .ensures .0), omega (arith, taken-most t, c .next-extent .ensures .0))
 
 -- .. and how many are red
 bounds : (c : tie.After-cut) → Bounds (length (c .before .before .before .before .before .args .loads .now)) (c .before .before .next-extent .result .levels) (c .cut .result)
 bounds c =
     let a = c .before .before .before .before .before .args in
-    pair-bounds (a .up .workers) (a .up .load) (a .p) (a .left .free) (a .loads .now) (c .before .before .next-extent .result .levels) (c .cut .result)
+    pair-bounds (a .up .workers) (a .up .load) (policyOf (a .policy)) (a .left .free) (a .loads .now) (c .before .before .next-extent .result .levels) (c .cut .result)
     (omega arith) (omega arith) (c .before .before .next-extent .ensures .0) (c .cut .ensures)
 
 next-extent-requires : tie.Need-next-extent-requires
@@ -60,13 +62,13 @@ sub-t16 : tie.Need-sub-t16
 sub-t16 c =
     let b = bounds (c .before .before .before) in
     let s = c .before .before .before .before .before .before .before .before in
-    s .pre .5 (c .before .before .before .cut .result - 1) (omega (arith, s .pre .4))
+    s .pre .6 (c .before .before .before .cut .result - 1) (omega (arith, s .pre .5))
 
 sub-t18 : tie.Need-sub-t18
 sub-t18 c =
     let b = bounds (c .before .before .before .before) in
     let s = c .before .before .before .before .before .before .before .before .before in
-    s .pre .5 (c .before .before .before .before .before .before .next-extent .result .levels - 1) (omega (arith, s .pre .4))
+    s .pre .6 (c .before .before .before .before .before .before .next-extent .result .levels - 1) (omega (arith, s .pre .5))
 
 returns : tie.Need-returns
 returns c = (c .before .before .before .before .before .before .next-extent .ensures .0, c .before .before .before .before .before .before .next-extent .ensures .1, rw (c .before .before .before .before .cut .ensures) refl, refl)

@@ -7,19 +7,19 @@ use lib.ListN.{length, take, getD}
 use lib.Seq.{take-all}
 use Rattle.base.proofs.Lists.{in-get}
 use Rattle.levels.specs.Rows.{adjOf}
-use Rattle.race.specs.Loads.{load}
+use Rattle.race.specs.Loads.{loadOf}
 use Rattle.planner.proofs.Weights.{load-split, load-next, load-few}
 use Rattle.planner.proofs.loads.load.Statement.{statement}
 use Rattle.planner.proofs.loads.load.Tie as tie
 
 abbrev Inv-loop : tie.InvT-loop
-Inv-loop starts columns n rows sum₀ i₀ sum i = (i ≤ length rows) × (sum ≡ load (adjOf n starts columns) (take i rows))
+Inv-loop starts columns n rows sum₀ i₀ sum i = (i ≤ length rows) × (sum ≡ loadOf (adjOf n starts columns) (take i rows))
 
 abbrev μ-loop : tie.MeasureT-loop
 μ-loop starts columns n rows sum₀ i₀ sum i = length rows - i
 
 loop-holds : tie.Need-loop-holds Inv-loop μ-loop
-unfolding load
+unfolding loadOf
 loop-holds c = (search needs, refl)
 
 mul-weight : tie.Need-mul-weight Inv-loop μ-loop
@@ -66,7 +66,7 @@ returns : tie.Need-returns Inv-loop μ-loop
 returns c =
     let a = c .before .before .before .before .before .args in
     let l = c .before .loop in
-    l .inv .1 ∙ ap (load (adjOf (a .n) (a .starts .now) (a .columns .now))) (take-all (l .i) (a .rows .now) (omega arith))
+    l .inv .1 ∙ ap (loadOf (adjOf (a .n) (a .starts .now) (a .columns .now))) (take-all (l .i) (a .rows .now) (omega arith))
 
 pub load-spec : {M : Type 1} → statement M
 load-spec =

@@ -2,6 +2,7 @@
 use mathlib.Core.Path.{_≡_, ap, _∙_}
 use native.Mathlib.Omega.{arith}
 use Rattle.base.specs.Lists.{range}
+use Rattle.extents.specs.Scans.{policyOf}
 use Rattle.planner.specs.Records.{Holds}
 use Rattle.planner.proofs.WholePlan.{numberedPlan, whole-task, leaf-held, split-held}
 use Rattle.planner.proofs.whole.plan_rows.Statement.{statement}
@@ -17,7 +18,7 @@ module _ (w : tie.After-plan-group) where
   start = w .before .before .before .before .before .before .before .before .before .before .before
 
   held : let a = start .args in
-      Holds (numberedPlan (a .n) (a .starts .now) (a .columns .now) (start .pre .0) (a .p) (a .workers)) 0 (a .records .now) (w .plan-group .last .1 .1 .0) (w .plan-group .last .1 .1 .1 .0) (w .plan-group .result)
+      Holds (numberedPlan (a .n) (a .starts .now) (a .columns .now) (start .pre .0) (policyOf (a .policy)) (a .workers)) 0 (a .records .now) (w .plan-group .last .1 .1 .0) (w .plan-group .last .1 .1 .1 .0) (w .plan-group .result)
   held = rw (numbers (w .before .before .before .before .before)) at (w .plan-group .ensures)
 
 number-requires : tie.Need-number-requires
@@ -30,14 +31,14 @@ plan-group-requires : tie.Need-plan-group-requires
 plan-group-requires c κs =
     let s = c .before .before .before .before .before .before .before .before .before .before in
     let a = s .args in
-    rw (numbers (c .before .before .before .before)) (whole-task (a .n) (a .starts .now) (a .columns .now) (s .pre .0) (a .p) (a .workers) (a .records .now) (s .pre .3) (s .pre .4) (s .pre .2))
+    rw (numbers (c .before .before .before .before)) (whole-task (a .n) (a .starts .now) (a .columns .now) (s .pre .0) (policyOf (a .policy)) (a .workers) (a .records .now) (s .pre .3) (s .pre .4) (s .pre .2))
 
 sort-rows-requires : tie.Need-sort-rows-requires
 sort-rows-requires c κs =
     let w = c .before .before .before .before .before .before in
     let s = start w in
     let a = s .args in
-    (s .pre .0, leaf-held (a .n) (a .starts .now) (a .columns .now) (s .pre .0) (a .p) (a .workers) (held w) (c .before .if1 .taken) .0)
+    (s .pre .0, leaf-held (a .n) (a .starts .now) (a .columns .now) (s .pre .0) (policyOf (a .policy)) (a .workers) (held w) (c .before .if1 .taken) .0)
 
 same-length : tie.Need-same-length
 same-length c = c .before .before .sort-rows .kept .1 .1 .0 ∙ c .before .before .before .before .before .before .before .before .before .plan-group .kept .1 .1 .0 ∙ c .before .before .before .before .before .before .before .before .before .before .before .before .before .before .number .kept .0
@@ -50,7 +51,7 @@ returns c =
     let w = c .before .before .before .before .before .before .before .before .before in
     let s = start w in
     let a = s .args in
-    leaf-held (a .n) (a .starts .now) (a .columns .now) (s .pre .0) (a .p) (a .workers) (held w) (c .before .before .before .before .if1 .taken) .1 (c .before .before .sort-rows .last .1 .1 .0) (c .before .before .sort-rows .ensures)
+    leaf-held (a .n) (a .starts .now) (a .columns .now) (s .pre .0) (policyOf (a .policy)) (a .workers) (held w) (c .before .before .before .before .if1 .taken) .1 (c .before .before .sort-rows .last .1 .1 .0) (c .before .before .sort-rows .ensures)
 
 same-length-3 : tie.Need-same-length-3
 same-length-3 c = c .before .before .before .before .before .plan-group .kept .1 .1 .0 ∙ c .before .before .before .before .before .before .before .before .before .before .number .kept .0
@@ -63,7 +64,7 @@ returns-2 c =
     let w = c .before .before .before .before .before in
     let s = start w in
     let a = s .args in
-    split-held (a .n) (a .starts .now) (a .columns .now) (s .pre .0) (a .p) (a .workers) (held w) (c .if1 .left)
+    split-held (a .n) (a .starts .now) (a .columns .now) (s .pre .0) (policyOf (a .policy)) (a .workers) (held w) (c .if1 .left)
 
 pub plan-rows-spec : {M : Type 1} → statement M
 plan-rows-spec =

@@ -8,6 +8,7 @@ use lib.Seq.{length-take-le}
 use Rattle.levels.specs.Rows.{adjOf}
 use Rattle.plan.specs.Checks.{groupOf}
 use Rattle.sort.specs.Sort.{maxLevels}
+use Rattle.extents.specs.Scans.{policyOf}
 use Rattle.base.proofs.Lists.{getD-zeros}
 use Rattle.race.specs.Planner.{planGroup, leaf}
 use Rattle.planner.specs.Records.{Holds}
@@ -61,7 +62,7 @@ module _ (t : ℕ) where
     abbrev adj : ℕ → List ℕ
     adj = let a = s .args in adjOf (a .n) (a .starts .now) (a .columns .now)
 
-    task : let a = s .args in GroupTask (a .n) (a .p) (a .stages) (a .index) (a .starts .now) (a .columns .now) (a .order .now) (a .records .now) (a .g)
+    task : let a = s .args in GroupTask (a .n) (policyOf (a .policy)) (a .stages) (a .index) (a .starts .now) (a .columns .now) (a .order .now) (a .records .now) (a .g)
     task = s .pre .1
 
   -- ---- once the record is written
@@ -73,9 +74,9 @@ module _ (t : ℕ) where
 
     -- a leaf
     leaf-held : let a = start c .args in
-        planGroup (adj (start c)) (a .n) (a .p) (a .stages) (a .index) (groupOf (a .g)) (a .order .now) ≡ leaf (groupOf (a .g)) (a .order .now)
-        → Holds (planGroup (adj (start c)) (a .n) (a .p) (a .stages) (a .index) (groupOf (a .g)) (a .order .now)) (a .index) (a .records .now) (a .order .now) (c .put .last .0) (a .index + 1)
-    leaf-held e = let a = start c .args in holds-unsplit (adj (start c)) (a .n) (a .p) (a .stages) (a .index) (groupOf (a .g)) (a .order .now) (a .records .now) (c .put .last .0) (c .put .ensures) e
+        planGroup (adj (start c)) (a .n) (policyOf (a .policy)) (a .stages) (a .index) (groupOf (a .g)) (a .order .now) ≡ leaf (groupOf (a .g)) (a .order .now)
+        → Holds (planGroup (adj (start c)) (a .n) (policyOf (a .policy)) (a .stages) (a .index) (groupOf (a .g)) (a .order .now)) (a .index) (a .records .now) (a .order .now) (c .put .last .0) (a .index + 1)
+    leaf-held e = let a = start c .args in holds-unsplit (adj (start c)) (a .n) (policyOf (a .policy)) (a .stages) (a .index) (groupOf (a .g)) (a .order .now) (a .records .now) (c .put .last .0) (c .put .ensures) e
 
   -- ---- once the group is sorted
 
@@ -127,7 +128,7 @@ module _ (t : ℕ) where
   returns c =
       let w = c .before .before .before in
       let a = start w .args in
-      leaf-held w (leaf-stages (adj (start w)) (a .n) (a .p) (a .stages) (a .index) (groupOf (a .g)) (a .order .now) (c .if1 .taken))
+      leaf-held w (leaf-stages (adj (start w)) (a .n) (policyOf (a .policy)) (a .stages) (a .index) (groupOf (a .g)) (a .order .now) (c .if1 .taken))
 
   add-result-2 : lts.Need-add-result-2 (plan-group-calls t) (plan-group-at t) plan-group.Post
   add-result-2 c = let i = index-next (c .before .before .before .before .before) in omega arith
@@ -139,7 +140,7 @@ module _ (t : ℕ) where
   returns-2 c =
       let w = c .before .before .before .before .before in
       let a = start w .args in
-      leaf-held w (leaf-workers (adj (start w)) (a .n) (a .p) (a .stages) (a .index) (groupOf (a .g)) (a .order .now) (c .if2 .taken))
+      leaf-held w (leaf-workers (adj (start w)) (a .n) (policyOf (a .policy)) (a .stages) (a .index) (groupOf (a .g)) (a .order .now) (c .if2 .taken))
 
   mul-level-sort : lts.Need-mul-level-sort (plan-group-calls t) (plan-group-at t) plan-group.Post
   mul-level-sort c = omega arith
@@ -166,9 +167,9 @@ module _ (t : ℕ) where
       let s = start w in
       let a = s .args in
       let e = o .level-sort .ensures in
-      subst (λ (xs : List ℕ). Holds (planGroup (adj s) (a .n) (a .p) (a .stages) (a .index) (groupOf (a .g)) (a .order .now)) (a .index) (a .records .now) xs (w .put .last .0) (a .index + 1))
+      subst (λ (xs : List ℕ). Holds (planGroup (adj s) (a .n) (policyOf (a .policy)) (a .stages) (a .index) (groupOf (a .g)) (a .order .now)) (a .index) (a .records .now) xs (w .put .last .0) (a .index + 1))
       (sym (unsorted (task s) e (c .if3 .taken)))
-      (leaf-held w (leaf-levels (adj s) (a .n) (a .p) (a .stages) (a .index) (groupOf (a .g)) (a .order .now) (omega (arith, e .levels-are, c .if3 .taken))))
+      (leaf-held w (leaf-levels (adj s) (a .n) (policyOf (a .policy)) (a .stages) (a .index) (groupOf (a .g)) (a .order .now) (omega (arith, e .levels-are, c .if3 .taken))))
 
   array-share-prefix-ends : lts.Need-array-share-prefix-ends (plan-group-calls t) (plan-group-at t) plan-group.Post
   array-share-prefix-ends c = ends-in (sort (c .before))

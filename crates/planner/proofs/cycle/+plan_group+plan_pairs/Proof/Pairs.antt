@@ -1,17 +1,18 @@
 -- The answers of `plan_pairs`. A need goes back to the last milestone, and from there by their names: next, red, blue, rest, done.
 use mathlib.Core.Path.{_≡_, sym, ap, _∙_}
 use mathlib.Core.List.{List}
-use Prim.Native.Nat.{ℕ, _≤_, _+_}
+use Prim.Native.Nat.{ℕ, _≤_, _*_}
 use native.Mathlib.Omega.{arith}
 use borrow.Author.Needs.{needs}
 use lib.ListN.{length, take, length-drop}
 use lib.Seq.{length-take-le}
+use Rattle.levels.specs.Levels.{reach}
 use Rattle.levels.specs.Rows.{adjOf}
 use Rattle.plan.specs.Checks.{groupOf}
+use Rattle.extents.specs.Scans.{policyOf}
 use Rattle.race.specs.Planner.{planGroup}
 use Rattle.planner.specs.Records.{Holds}
-use Rattle.planner.specs.Cycle.{redGroup, blueGroup, leftAfter, Fits, GroupTask, PairsTask}
-use Rattle.planner.specs.Stretches.{levelsIn}
+use Rattle.planner.specs.Cycle.{redGroup, blueGroup, Fits}
 use Rattle.planner.specs.declared.cycle.Pair.{Pair}
 use Rattle.planner.proofs.Thirds.{fronted, part, patched}
 use Rattle.planner.proofs.PairTasks.{next-asked, parts-in, levels-in-ends, pair-fits, red-task, blue-task, one-length, two-length, last-held, rest-task, next-held, whole-length, part-to-end}
@@ -72,7 +73,7 @@ module _ (t : ℕ) where
     inside : (pair .reds ≤ pair .rows) × (pair .rows ≤ length (start c .args .order .now))
     inside = parts-in (start c .pre .1) (c .next-pair .ensures)
 
-    among : (4 ≤ pair .levels) × (pair .levels ≤ length (start c .args .ends .now)) × (pair .levels ≤ length (start c .args .loads .now))
+    among : (2 * reach ≤ pair .levels) × (pair .levels ≤ length (start c .args .ends .now)) × (pair .levels ≤ length (start c .args .loads .now))
     among = levels-in-ends (start c .pre .1) (c .next-pair .ensures)
 
     fits : Fits (start c .args .up) (start c .args .left) pair
@@ -89,7 +90,7 @@ module _ (t : ℕ) where
     one = let n = next (both c) in fronted (start n .args .order .now) (pair n .reds) red-rows
 
     red-held : let n = next (both c) in let a = start n .args in
-        Holds (planGroup (adjOf (a .n) (a .starts .now) (a .columns .now)) (a .n) (a .p) (a .stages) (a .left .index) (groupOf (redGroup (a .up) (a .left) (pair n))) (take (pair n .reds) (a .order .now)))
+        Holds (planGroup (adjOf (a .n) (a .starts .now) (a .columns .now)) (a .n) (policyOf (a .policy)) (a .stages) (a .left .index) (groupOf (redGroup (a .up) (a .left) (pair n))) (take (pair n .reds) (a .order .now)))
         (a .left .index) (a .records .now) red-rows (c .plan-group .last .1 .1 .1 .0) (c .plan-group .result)
     red-held = rw (both c .before .red-of .ensures) at (c .plan-group .ensures)
 
@@ -110,7 +111,7 @@ module _ (t : ℕ) where
     two = patched (one (red c)) (pair pairAt .reds) (pair pairAt .rows) blue-rows
 
     blue-held : let a = start pairAt .args in
-        Holds (planGroup (adjOf (a .n) (a .starts .now) (a .columns .now)) (a .n) (a .p) (a .stages) (red c .plan-group .result) (groupOf (blueGroup (a .up) (a .left) (pair pairAt))) (part (one (red c)) (pair pairAt .reds) (pair pairAt .rows)))
+        Holds (planGroup (adjOf (a .n) (a .starts .now) (a .columns .now)) (a .n) (policyOf (a .policy)) (a .stages) (red c .plan-group .result) (groupOf (blueGroup (a .up) (a .left) (pair pairAt))) (part (one (red c)) (pair pairAt .reds) (pair pairAt .rows)))
         (red c .plan-group .result) (red c .plan-group .last .1 .1 .1 .0) blue-rows (c .plan-group2 .last .1 .1 .1 .0) (c .plan-group2 .result)
     blue-held = rw (both (red c) .blue-of .ensures) at (c .plan-group2 .ensures)
 
