@@ -2,7 +2,7 @@
 use crate::Response;
 use base::EARLY;
 use base::SHORT;
-use plan::fields::wide_at;
+use base::slices::wide_at;
 ghost use mathlib.Core.Path.{_≡_};
 ghost use mathlib.Core.Bool.{true};
 ghost use Prim.Native.Nat.{_≤_};
