@@ -4,16 +4,15 @@ use mathlib.Core.Path.{_≡_, refl, ap, _∙_}
 use mathlib.Core.List.{List, [], _∷_}
 use Prim.Native.Nat.{ℕ, zero, suc, _+_, _*_, _-_, _^_, _≤_, _<_}
 use native.Mathlib.Omega.{arith}
-use lib.ListN.{length, set, length-append, length-set}
+use lib.ListN.{length, set, length-set}
 use lib.Seq.{getD-set-same, getD-set-other}
 use Rattle.base.specs.Lists.{sumBelow}
 use Rattle.base.proofs.Sums.{sum-below-more, sum-below-bound}
 use Rattle.plan.specs.Sound.{maxWorkers}
 use Rattle.run.specs.Job.{Job, Accepted}
-use Rattle.run.specs.Updates.{count, upTo, updates, accesses}
+use Rattle.run.specs.Updates.{count, updates, accesses}
 use Rattle.run.specs.Machine.{State, workers, refusal, Outcome, moved, halted, onward, step, oneMore, steps}
 use Rattle.tables.specs.Laid.{maxUpdates}
-use Rattle.layout.specs.UpdateTable.{before}
 use Rattle.run.proofs.Able.{able}
 use Rattle.run.proofs.Accepted.{facts}
 use Rattle.run.proofs.Schedule.{step-end, steps-on, steps-end, step-made}
@@ -50,7 +49,7 @@ module _ (j : Job) (ok : Accepted j) where
   -- no worker has more than the tables have room for
   accesses-few : (w : ℕ) → w < workers j → accesses j w ≤ 2 * maxUpdates
   unfolding accesses updates
-  accesses-few w l = omega (arith, room j ok w (j .matrix .n) (omega (arith, facts j ok .few)) (omega arith), length-append (before j w) (upTo j w (j .matrix .n)))
+  accesses-few w l = omega (arith, room j ok w (j .matrix .n) (omega (arith, facts j ok .few)) (omega arith))
 
   pub taken-few : (s : State) (ws : List ℕ) → length (s .made) ≡ maxWorkers → steps j s ws .taken < 2 ^ 32
   taken-few s ws long =

@@ -1,20 +1,21 @@
-// A call on a run, by the lists that a caller lends: the checks, the tables of the job, then what is asked.
+// A call on a run, by the lists that a caller lends: the checks, how many accesses each worker makes, then what is asked.
 mod checks;
 mod force_list;
+mod picks;
 mod ready_set;
 
 use base::STATE;
 use checks::check_job;
 use force_list::force_list;
-use layout::lay;
+use layout::counts::first_updates;
 use machine::state::Rule;
 use machine::state::State;
 use matrix::limits::MAX_ROWS;
-use plan::MAX_GROUPS;
-use plan::MAX_WORKERS;
+use picks::take_picks;
 use plan::fields::record_at;
 use ready_set::ready_set;
-use tables::MAX_UPDATES;
+use upper::order::positions;
+use upper::sizes::sizes_of;
 ghost use mathlib.Core.Path.{_≡_};
 ghost use lib.ListN.{length, take};
 ghost use Rattle.matrix.specs.Checks.{matrixOf};
@@ -93,58 +94,35 @@ pub fn perform(
             answer: Response::Refused(STATE, 0),
         };
     }
-    let mut counts = [0u32; MAX_WORKERS];
-    let mut first = [0u32; MAX_WORKERS];
-    let mut row = [0u16; MAX_UPDATES];
-    let mut begins = [0u32; MAX_ROWS];
-    let mut leaves = [0u16; MAX_ROWS];
-    let mut ends = [0u32; MAX_GROUPS];
-    let mut at = [0u16; MAX_UPDATES];
-    let mut beside = [0i32; MAX_UPDATES];
-    lay(
-        n as usize,
-        starts,
-        columns,
-        values,
-        order,
-        groups,
-        count as usize,
-        &mut counts,
-        &mut first,
-        &mut row,
-        &mut begins,
-        &mut leaves,
-        &mut ends,
-        &mut at,
-        &mut beside,
-    );
-    if !state.is_fine(counts) {
+    let rows = n as usize;
+    let mut position = [0u32; MAX_ROWS];
+    let mut sizes = [0u32; MAX_ROWS];
+    positions(order, rows, &mut position);
+    sizes_of(rows, starts, columns, order, &position, &mut sizes);
+    let first = first_updates(groups, count as usize, &sizes);
+    if !state.is_fine(first) {
         return Done {
             state: state,
             answer: Response::Refused(STATE, 0),
         };
     }
-    let whole = record_at(groups, 0);
     match call {
         Call::Picks => {
-            let walked = state.take(
+            let walked = take_picks(
+                starts,
+                columns,
+                values,
+                displacements,
+                order,
+                groups,
+                count as usize,
+                &position,
+                &sizes,
+                first,
+                state,
                 sums,
                 schedule,
                 Rule::Stop,
-                whole.workers,
-                groups,
-                count as usize,
-                &counts,
-                &first,
-                &row,
-                &begins,
-                &leaves,
-                &ends,
-                starts,
-                displacements,
-                order,
-                &at,
-                &beside,
             );
             let after = walked.state;
             let taken = walked.taken;
@@ -156,24 +134,15 @@ pub fn perform(
             }
         }
         Call::ReadySet => {
-            let answer = ready_set(
-                state,
-                whole.workers,
-                groups,
-                count as usize,
-                &counts,
-                &first,
-                &row,
-                &leaves,
-                &ends,
-            );
+            let answer = ready_set(state, groups, count as usize, &sizes, first);
             Done {
                 state: state,
                 answer: answer,
             }
         }
         Call::ForceList => {
-            let is_over = state.is_finished(counts, whole.workers);
+            let whole = record_at(groups, 0);
+            let is_over = state.is_finished(first, whole.workers);
             let answer = force_list(n, is_over, order, sums, forces);
             Done {
                 state: state,

@@ -1,19 +1,18 @@
 -- What the lists of an accepted job give to the tables.
-use mathlib.Core.Path.{refl, sym, ap, _∙_}
+use mathlib.Core.Path.{refl, ap, _∙_}
 use mathlib.Core.List.{List}
 use Prim.Native.Nat.{ℕ, _≤_}
 use lib.IntN.{ℤ}
-use lib.ListN.{length, getD, take}
-use lib.Seq.{getD-take}
+use lib.ListN.{length, take}
 use Rattle.matrix.specs.Limits.{maxRows}
 use Rattle.matrix.specs.Checks.{matrixOf}
 use Rattle.matrix.proofs.Matrix.{matrix-facts}
 use Rattle.plan.specs.Groups.{planOf}
 use Rattle.run.specs.Job.{Job, jobOf}
 use Rattle.run.proofs.Accepted.{tree-of}
-use Rattle.upper.specs.Upper.{Lent, Upper}
-use Rattle.layout.specs.UpdateTable.{Given, Sized}
+use Rattle.upper.specs.Upper.{Lent, Sizes}
 use Rattle.upper.proofs.UpperRows.{upper-whole}
+use Rattle.layout.specs.UpdateTable.{Given, Planned}
 
 module _ {n : ℕ} {starts columns : List ℕ} {values x : List ℤ} {order groups : List ℕ} {count : ℕ} (g : Given n starts columns values x order groups count) where
   abbrev j : Job
@@ -28,12 +27,10 @@ module _ {n : ℕ} {starts columns : List ℕ} {values x : List ℤ} {order grou
   few-rows = matrix-facts (j .matrix) (g .accepted .matrix) .few
 
   -- the sizes of the rows of the whole upper triangle
-  pub sized-of : {sizes at : List ℕ} {beside : List ℤ} → Upper (matrixOf n starts columns values) (take n order) n sizes at beside → Sized j order groups count sizes
+  pub planned-of : {sizes : List ℕ} → Sizes (matrixOf n starts columns values) (take n order) n sizes → Planned j groups count sizes
   unfolding jobOf planOf
-  sized-of {sizes} t = record {
-    accepted = g .accepted;
-    plan = refl;
-    order-long = g .order-long;
+  planned-of t = record {
+    sized = record { accepted = g .accepted; is = λ p l. t .is p l ∙ ap length (upper-whole j p l) };
+    groups-are = refl;
     groups-long = g .groups-long;
-    sized = λ p l. ap (λ (i : ℕ). getD sizes i 0) (sym (getD-take n order p 0 l)) ∙ t .sized p l ∙ ap length (upper-whole j p l);
   }

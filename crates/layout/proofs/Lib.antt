@@ -1,7 +1,8 @@
 pub mod Reached
 pub mod NextRecord
-pub mod ListedRows
+pub mod PutRows
 pub mod UpdateRoom
-pub mod WorkerTable
-pub mod AllWorkers
+pub mod LeafRows
+pub mod CountRows
+pub mod FilledRows
 pub mod GivenRows

@@ -1,19 +1,18 @@
 -- What the tables of updates hold while they are made: the updates of each worker after those of the workers before it, leaf by leaf.
 use mathlib.Core.Path.{_≡_}
-use mathlib.Core.Logic.{_⊎_}
 use mathlib.Core.Bool.{cond}
-use mathlib.Core.List.{List, [], _++_}
+use mathlib.Core.List.{List}
 use Prim.Native.Nat.{ℕ, zero, suc, _+_, _*_, _≤_, _<_}
 use lib.ListN.{length, getD}
 use lib.IntN.{ℤ}
 use Rattle.matrix.specs.Limits.{maxRows}
 use Rattle.matrix.specs.Checks.{matrixOf}
-use Rattle.plan.specs.Groups.{width, planOf}
+use Rattle.plan.specs.Groups.{width, records}
 use Rattle.plan.specs.Sound.{maxWorkers, maxGroups}
 use Rattle.plan.specs.Checks.{recordAt, belowWhole}
 use Rattle.run.specs.Job.{Job, jobOf, Accepted}
-use Rattle.run.specs.Updates.{Update, later, owner, upTo, updates, noUpdate}
-use Rattle.tables.specs.Laid.{hasChild, groupAt, Leaf, LeafOf, endOf, maxUpdates}
+use Rattle.run.specs.Updates.{later, rowUpdates, owner, upTo, updates}
+use Rattle.tables.specs.Laid.{hasChild, Leaf, LeafOf, endOf, maxUpdates, nextOf, beginOf}
 
 -- ---- what they are made of
 
@@ -23,20 +22,38 @@ pub record Given (n : ℕ) (starts columns : List ℕ) (values displacements : L
   pub order-long : n ≤ length order
   pub groups-long : width * count ≤ length groups
 
--- lists that hold the plan of an accepted job, and for each row how many entries it has in the upper triangle: its diagonal one, and those of the later adjacent rows
-pub record Sized (j : Job) (order groups : List ℕ) (count : ℕ) (sizes : List ℕ) : Type 0 where
+-- an accepted job, and for each position how many entries its row has in the upper triangle: its diagonal one, and those of the later adjacent rows
+pub record Sized (j : Job) (sizes : List ℕ) : Type 0 where
   pub accepted : Accepted j
-  pub plan : j .plan ≡ planOf (j .matrix .n) order groups count
-  pub order-long : j .matrix .n ≤ length order
+  pub is : (p : ℕ) → p < j .matrix .n → getD sizes p 0 ≡ suc (length (later j p))
+
+-- .. and its records
+pub record Planned (j : Job) (groups : List ℕ) (count : ℕ) (sizes : List ℕ) : Type 0 where
+  pub sized : Sized j sizes
+  pub groups-are : j .plan .groups ≡ records count groups
   pub groups-long : width * count ≤ length groups
-  pub sized : (p : ℕ) → p < j .matrix .n → getD sizes (getD order p 0) 0 ≡ suc (length (later j p))
 
 -- the position that the leaves before record i reach
 unfoldable pub reached : (count : ℕ) (groups : List ℕ) → ℕ → ℕ
 reached count groups zero = 0
 reached count groups (suc i) = cond (hasChild i (belowWhole count groups)) (reached count groups i) (reached count groups i + recordAt groups i .length)
 
+-- the rows from position s on and before e are those of the leaf i, and worker w's
+pub record Stretch (j : Job) (i w s e : ℕ) : Type 0 where
+  pub rises : s ≤ e
+  pub inside : e ≤ j .matrix .n
+  pub worker : w < maxWorkers
+  pub record-low : i < maxGroups
+  pub mine : (p : ℕ) → s ≤ p → p < e → owner j p ≡ w
+  pub of : (p : ℕ) → s ≤ p → p < e → LeafOf j i p
+
 -- ---- what they hold
+
+-- how many updates each worker has in the rows before position e, at the place after its own
+pub record Numbers (j : Job) (e : ℕ) (first : List ℕ) : Type 0 where
+  pub long : length first ≡ suc maxWorkers
+  pub none : getD first 0 0 ≡ 0
+  pub is : (w : ℕ) → w < maxWorkers → getD first (w + 1) 0 ≡ length (upTo j w e)
 
 -- places from a on and before b now have p, the others what they had
 pub record Put (p a b : ℕ) (row row′ : List ℕ) : Type 0 where
@@ -45,23 +62,24 @@ pub record Put (p a b : ℕ) (row row′ : List ℕ) : Type 0 where
   pub here : (k : ℕ) → a ≤ k → k < b → getD row′ k 0 ≡ p
   pub after : (k : ℕ) → b ≤ k → getD row′ k 0 ≡ getD row k 0
 
--- the rows of the updates us from place 0 on
-pub record Listed (j : Job) (us : List Update) (row : List ℕ) : Type 0 where
-  pub long : length row ≡ maxUpdates
-  pub rows : (k : ℕ) → k < length us → getD row k 0 ≡ getD us k noUpdate .row
-  pub low : (k : ℕ) → getD row k 0 < j .matrix .n
-
--- number k of worker v comes before number i of worker w
-abbrev pub Earlier : (v k w i : ℕ) → Type 0
-Earlier v k w i = (v < w) ⊎ ((v ≡ w) × (k < i))
-
--- where the updates of a row begin, and its leaf: for the rows of the workers before w, and for w's before position p
-pub record Marked (j : Job) (w p : ℕ) (begins leaves : List ℕ) : Type 0 where
+-- the rows before position e: where their updates begin, their places, and their leaves
+pub record Filled (j : Job) (e : ℕ) (row begins leaves : List ℕ) : Type 0 where
+  pub row-long : length row ≡ maxUpdates
   pub begins-long : length begins ≡ maxRows
   pub leaves-long : length leaves ≡ maxRows
-  pub begun : (q : ℕ) → q < j .matrix .n → Earlier (owner j q) q w p → getD begins q 0 ≡ length (upTo j (owner j q) q)
-  pub leaf : (q : ℕ) → q < j .matrix .n → Earlier (owner j q) q w p → LeafOf j (getD leaves q 0) q
-  pub low : (q : ℕ) → getD leaves q 0 < maxGroups
+  pub begun : (p : ℕ) → p < e → getD begins p 0 ≡ beginOf j p
+  pub rows : (p c : ℕ) → p < e → c < length (rowUpdates j p) → getD row (beginOf j p + c) 0 ≡ p
+  pub leaf : (p : ℕ) → p < e → LeafOf j (getD leaves p 0) p
+  pub row-low : (k : ℕ) → getD row k 0 < j .matrix .n
+  pub leaf-low : (p : ℕ) → getD leaves p 0 < maxGroups
+
+-- .. the next place of each worker, and the ends of the leaves before record i
+pub record Walked (j : Job) (e i : ℕ) (next row begins leaves ends : List ℕ) : Type 0 where
+  pub filled : Filled j e row begins leaves
+  pub next-long : length next ≡ suc maxWorkers
+  pub nexts : (w : ℕ) → w < maxWorkers → getD next w 0 ≡ nextOf j w e
+  pub ends-long : length ends ≡ maxGroups
+  pub ended : (k : ℕ) → Leaf j k → k < i → getD ends k 0 ≡ endOf j k
 
 -- tables to write them into: room for all, and nothing that is no row or no record
 pub record Blank (n : ℕ) (row begins leaves ends : List ℕ) : Type 0 where
@@ -71,32 +89,3 @@ pub record Blank (n : ℕ) (row begins leaves ends : List ℕ) : Type 0 where
   pub ends-long : length ends ≡ maxGroups
   pub row-low : (k : ℕ) → getD row k 0 < n
   pub leaf-low : (q : ℕ) → getD leaves q 0 < maxGroups
-
--- the updates of the workers before w
-unfoldable pub before : Job → ℕ → List Update
-before j zero = []
-before j (suc w) = before j w ++ updates j w
-
--- those, and worker w's before position p: w's first one's place is f, the next one's e
-pub record Filled (j : Job) (w f p e : ℕ) (row begins leaves : List ℕ) : Type 0 where
-  pub first : f ≡ length (before j w)
-  pub next : e ≡ f + length (upTo j w p)
-  pub listed : Listed j (before j w ++ upTo j w p) row
-  pub marked : Marked j w p begins leaves
-
--- the ends of the leaves of the workers before w, and of w's before record i
-pub record Ended (j : Job) (w i : ℕ) (ends : List ℕ) : Type 0 where
-  pub long : length ends ≡ maxGroups
-  pub is : (k : ℕ) → Leaf j k → Earlier (groupAt j k .first) k w i → getD ends k 0 ≡ endOf j k
-
--- both: the rows before position p, the records before i
-pub record Walked (j : Job) (w f p i e : ℕ) (row begins leaves ends : List ℕ) : Type 0 where
-  pub filled : Filled j w f p e row begins leaves
-  pub ended : Ended j w i ends
-
--- how many updates each worker before w has, and where the first stands
-pub record Counted (j : Job) (w : ℕ) (counts first : List ℕ) : Type 0 where
-  pub counts-long : length counts ≡ maxWorkers
-  pub first-long : length first ≡ maxWorkers
-  pub counted : (v : ℕ) → v < w → getD counts v 0 ≡ length (updates j v)
-  pub firsts : (v : ℕ) → v < w → getD first v 0 ≡ length (before j v)

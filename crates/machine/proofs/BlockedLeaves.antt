@@ -17,6 +17,7 @@ use Rattle.plan.proofs.FlatRecords.{length-records}
 use Rattle.plan.proofs.Nested.{children-later}
 use Rattle.plan.proofs.Sound.{SoundFacts, sound-facts}
 use Rattle.run.specs.Job.{Job, Accepted}
+use Rattle.run.specs.Machine.{workersOf, workers}
 use Rattle.run.specs.Updates.{finished, upTo}
 use Rattle.tables.specs.Laid.{hasChild, groupAt, Leaf, Laid, Waits}
 use Rattle.waits.specs.Waits.{Recorded, Ended, Blocks}
@@ -47,6 +48,16 @@ recorded adj n order (suc c) groups ok l = record {
     at i a b =
         let e : i - 1 + 1 ≡ i = omega arith in
         subst (λ (k : ℕ). recordAt groups k .parent < k) e (parent-before (suc c) groups (facts .inOrder) (i - 1) (omega arith))
+
+-- the first of some groups is the whole, with all workers
+first-crew : (count : ℕ) (groups : List ℕ) → 1 ≤ count → recordAt groups 0 .workers ≡ workersOf (records count groups)
+unfolding workersOf records recordAt
+first-crew zero groups l = absurd (omega arith)
+first-crew (suc k) groups l = refl
+
+pub whole-crew : (j : Job) (count : ℕ) (groups : List ℕ) → 1 ≤ count → j .plan .groups ≡ records count groups → recordAt groups 0 .workers ≡ workers j
+unfolding workers
+whole-crew j count groups l is = first-crew count groups l ∙ ap workersOf (sym is)
 
 -- ---- a job with these groups
 
@@ -85,7 +96,7 @@ module _ (j : Job) (ok : Accepted j) (count : ℕ) (groups : List ℕ) (is : j .
         ∙ sym (has-child i (drop (i + 1) (records count groups))) ∙ ap (λ (k : ℕ). hasChild i (drop k (records count groups))) (add-one i) ∙ h;
   }
 
-  module _ {counts first row begins leaves ends : List ℕ} (laid : Laid j counts first row begins leaves ends) (made : List ℕ) where
+  module _ {first row begins leaves ends : List ℕ} (laid : Laid j first row begins leaves ends) (made : List ℕ) where
     -- its leaves are finished when the counts reach the ends in the table
     pub ended-of : Ended count groups ends made (finished j made)
     unfolding finished

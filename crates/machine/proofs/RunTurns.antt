@@ -29,19 +29,19 @@ use Rattle.machine.specs.declared.state.Rule.{Rule}
 use Rattle.run.proofs.Able.{able}
 use Rattle.machine.proofs.TableWaits.{table-reason}
 use Rattle.steps.proofs.TableUpdates.{table-update}
-use Rattle.machine.proofs.BlockedLeaves.{waits-of}
+use Rattle.machine.proofs.BlockedLeaves.{whole-crew, waits-of}
 use Rattle.machine.proofs.ScheduleLoop.{Left, left-start, left-step, left-past, left-halt, left-none}
 
 -- ---- a step is the machine's
 
-module _ (j : Job) {counts first row begins leaves ends : List ℕ} (laid : Laid j counts first row begins leaves ends)
-    {starts : List ℕ} {x : List ℤ} {order at : List ℕ} {beside : List ℤ} (t : Triangle j starts x order at beside) where
+module _ (j : Job) {first row begins leaves ends : List ℕ} (laid : Laid j first row begins leaves ends)
+    {displaced : List ℤ} {at : List ℕ} {beside : List ℤ} (t : Triangle j begins displaced at beside) where
   -- the update of worker w's next access
   abbrev nextUpdate : (made : List ℕ) → ℕ → Update
-  nextUpdate made w = updateIn starts x order at beside (rowNext first row made w) (numberNext first row begins made w)
+  nextUpdate made w = updateIn begins displaced at beside (rowNext first row made w) (numberNext first row begins made w)
 
   table-step : (crew : ℕ) → crew ≡ workers j → crew ≤ maxWorkers → (s : State) (blocks : List ℕ) → Waits j (s .made) blocks → (w : ℕ)
-      → stepIf (reasonAt crew counts first row leaves blocks (s .made) w) s w (nextUpdate (s .made) w) ≡ step j s w
+      → stepIf (reasonAt crew first row leaves blocks (s .made) w) s w (nextUpdate (s .made) w) ≡ step j s w
   unfolding step stepIf next accesses
   table-step crew e few s blocks waiting w = rw (table-reason j laid (s .made) blocks waiting crew e few w) (go (refusal j (s .made) w) refl)
     where
@@ -49,10 +49,10 @@ module _ (j : Job) {counts first row begins leaves ends : List ℕ} (laid : Laid
       go (suc k) y = refl
       go zero y =
           let a = able j (s .made) w y in
-          ap (λ (v : Update). stepIf 0 s w v) (table-update j laid w (count (s .made) w / 2) (omega (arith, a .inPlan)) (omega (arith, a .left)) t)
+          ap (λ (v : Update). stepIf 0 s w v) (table-update j laid w (omega (arith, a .inPlan)) (count (s .made) w / 2) (omega (arith, a .left)) t)
 
   module _ {crew : ℕ} (e : crew ≡ workers j) (few : crew ≤ maxWorkers) {s : State} {blocks : List ℕ} (waiting : Waits j (s .made) blocks) {w : ℕ} {answer : Pick} {sums : List ℤ}
-      (h : StepMade (reasonAt crew counts first row leaves blocks (s .made) w) s w (nextUpdate (s .made) w) answer sums) where
+      (h : StepMade (reasonAt crew first row leaves blocks (s .made) w) s w (nextUpdate (s .made) w) answer sums) where
     -- what the code answers is the machine's outcome
     step-answer : {given : Pick} → answer ≡ given → step j s w ≡ outcomeOf given s w sums
     step-answer q = sym (table-step crew e few s blocks waiting w) ∙ sym (h .is) ∙ ap (λ (y : Pick). outcomeOf y s w sums) q
@@ -118,20 +118,17 @@ module _ (count : ℕ) (groups ends made new stops : List ℕ) (w : ℕ) (inside
 
 -- ---- the loop
 
--- the tables that the steps are taken by, and the lists that they are made of
+-- the tables that the steps are taken by
 pub record Tables : Type 0 where
   pub crew : ℕ
   pub count : ℕ
   pub groups : List ℕ
-  pub counts : List ℕ
+  pub ends : List ℕ
   pub first : List ℕ
   pub row : List ℕ
   pub begins : List ℕ
   pub leaves : List ℕ
-  pub ends : List ℕ
-  pub starts : List ℕ
-  pub displacements : List ℤ
-  pub order : List ℕ
+  pub displaced : List ℤ
   pub at : List ℕ
   pub beside : List ℤ
 
@@ -139,15 +136,16 @@ module _ (T : Tables) where
   -- of every job that they stand for
   abbrev EachJob : (Job → Type 0) → Type 0
   EachJob P =
-      (j : Job) → Accepted j → T .crew ≡ workers j → j .plan .groups ≡ records (T .count) (T .groups)
-      → Laid j (T .counts) (T .first) (T .row) (T .begins) (T .leaves) (T .ends) → Triangle j (T .starts) (T .displacements) (T .order) (T .at) (T .beside) → P j
+      (j : Job) → Accepted j → j .plan .groups ≡ records (T .count) (T .groups)
+      → Laid j (T .first) (T .row) (T .begins) (T .leaves) (T .ends) → Triangle j (T .begins) (T .displaced) (T .at) (T .beside) → P j
 
   -- the update of worker w's next access
   abbrev updateOf : (made : List ℕ) → ℕ → Update
-  updateOf made w = updateIn (T .starts) (T .displacements) (T .order) (T .at) (T .beside) (rowNext (T .first) (T .row) made w) (numberNext (T .first) (T .row) (T .begins) made w)
+  updateOf made w = updateIn (T .begins) (T .displaced) (T .at) (T .beside) (rowNext (T .first) (T .row) made w) (numberNext (T .first) (T .row) (T .begins) made w)
 
   -- k picks of the schedule, n of them taken, led from s₀ to s; these groups are blocked now, and until a count reaches its stop
   pub record Running (rule : Rule) (s₀ : State) (schedule : List ℕ) (n k : ℕ) (s : State) (blocks stops : List ℕ) : Type 0 where
+    pub crew : T .crew ≡ recordAt (T .groups) 0 .workers
     pub long : length (s .made) ≡ maxWorkers
     pub blocked : Blocks (T .count) (T .groups) (T .ends) (s .made) blocks
     pub ahead : Ahead (T .count) (T .groups) (T .ends) (s .made) stops
@@ -155,22 +153,22 @@ module _ (T : Tables) where
 
 module _ {T : Tables} {rule : Rule} {s₀ : State} {schedule : List ℕ} where
   -- at first
-  pub running-start : {blocks stops : List ℕ} → length (s₀ .made) ≡ maxWorkers → Blocks (T .count) (T .groups) (T .ends) (s₀ .made) blocks → Ahead (T .count) (T .groups) (T .ends) (s₀ .made) stops → Running T rule s₀ schedule 0 0 s₀ blocks stops
-  running-start e b a = record { long = e; blocked = b; ahead = a; left = λ j ok e is laid t. left-start rule j s₀ schedule }
+  pub running-start : {blocks stops : List ℕ} → T .crew ≡ recordAt (T .groups) 0 .workers → length (s₀ .made) ≡ maxWorkers → Blocks (T .count) (T .groups) (T .ends) (s₀ .made) blocks → Ahead (T .count) (T .groups) (T .ends) (s₀ .made) stops → Running T rule s₀ schedule 0 0 s₀ blocks stops
+  running-start c e b a = record { crew = c; long = e; blocked = b; ahead = a; left = λ j ok is laid t. left-start rule j s₀ schedule }
 
   module _ {n k : ℕ} {s : State} {blocks stops : List ℕ} (r : Running T rule s₀ schedule n k s blocks stops) where
     -- all picks are gone through
     pub running-none : k ≡ length schedule → EachJob T (λ j. record { state = s; taken = n; past = k; number = 0 } ≡ walk rule j s₀ schedule)
-    running-none l j ok e is laid t = left-none rule j s₀ schedule n k s (r .left j ok e is laid t) l
+    running-none l j ok is laid t = left-none rule j s₀ schedule n k s (r .left j ok is laid t) l
 
     -- the next step
     module _ (few : T .crew ≤ maxWorkers) (R : Recorded (T .count) (T .groups)) (l : k < length schedule) {answer : Pick} {sums : List ℤ}
-        (h : StepMade (reasonAt (T .crew) (T .counts) (T .first) (T .row) (T .leaves) blocks (s .made) (getD schedule k 0)) s (getD schedule k 0) (updateOf T (s .made) (getD schedule k 0)) answer sums) where
+        (h : StepMade (reasonAt (T .crew) (T .first) (T .row) (T .leaves) blocks (s .made) (getD schedule k 0)) s (getD schedule k 0) (updateOf T (s .made) (getD schedule k 0)) answer sums) where
       abbrev w : ℕ
       w = getD schedule k 0
 
       is-step : {given : Pick} → answer ≡ given → EachJob T (λ j. step j s w ≡ outcomeOf given s w sums)
-      is-step q j ok e is laid t = step-answer j laid t e few (waits-of j ok (T .count) (T .groups) is laid (s .made) blocks (r .blocked) R) h q
+      is-step q j ok is laid t = step-answer j laid t (r .crew ∙ whole-crew j (T .count) (T .groups) (R .some) is) few (waits-of j ok (T .count) (T .groups) is laid (s .made) blocks (r .blocked) R) h q
 
       module _ {number : ℕ} (q : answer ≡ Refused number) where
         abbrev old : State
@@ -182,21 +180,22 @@ module _ {T : Tables} {rule : Rule} {s₀ : State} {schedule : List ℕ} where
         -- it is refused, and ends the schedule
         pub running-halt : passesOver rule number ≡ false → EachJob T (λ j. record { state = old; taken = n; past = k; number = number } ≡ walk rule j s₀ schedule)
         unfolding outcomeOf
-        running-halt p j ok e is laid t =
+        running-halt p j ok is laid t =
             ap (λ (y : State). record { state = y; taken = n; past = k; number = number }) (sym same-state)
-            ∙ left-halt rule j s₀ schedule n k s (r .left j ok e is laid t) l number (is-step q j ok e is laid t) p
+            ∙ left-halt rule j s₀ schedule n k s (r .left j ok is laid t) l number (is-step q j ok is laid t) p
 
         -- .. or is passed over
         pub running-past : passesOver rule number ≡ true → Running T rule s₀ schedule n (k + 1) old blocks stops
         unfolding outcomeOf
         running-past p = subst (λ (y : State). Running T rule s₀ schedule n (k + 1) y blocks stops) same-state (record {
+          crew = r .crew;
           long = r .long;
           blocked = r .blocked;
           ahead = r .ahead;
-          left = λ j ok e is laid t.
+          left = λ j ok is laid t.
               (let more : n + 0 ≡ n = omega arith in
               subst (λ (y : ℕ). Left rule j s₀ schedule n y s) (sym (add-one k))
-              (subst (λ (y : ℕ). Left rule j s₀ schedule y (suc k) s) more (left-past rule j s₀ schedule n k s (r .left j ok e is laid t) l number (is-step q j ok e is laid t) p)));
+              (subst (λ (y : ℕ). Left rule j s₀ schedule y (suc k) s) more (left-past rule j s₀ schedule n k s (r .left j ok is laid t) l number (is-step q j ok is laid t) p)));
         })
 
       module _ {z : ℤ} (q : answer ≡ Taken z) where
@@ -213,15 +212,16 @@ module _ {T : Tables} {rule : Rule} {s₀ : State} {schedule : List ℕ} where
 
         next-left : EachJob T (λ j. Left rule j s₀ schedule (n + 1) (k + 1) new)
         unfolding outcomeOf
-        next-left j ok e is laid t = subst (λ (y : ℕ). Left rule j s₀ schedule (n + 1) y new) (sym (add-one k)) (left-step rule j s₀ schedule n k s (r .left j ok e is laid t) l new (is-step q j ok e is laid t))
+        next-left j ok is laid t = subst (λ (y : ℕ). Left rule j s₀ schedule (n + 1) y new) (sym (add-one k)) (left-step rule j s₀ schedule n k s (r .left j ok is laid t) l new (is-step q j ok is laid t))
 
         -- the blocked groups are found anew
         pub running-renewed : {blocks′ stops′ : List ℕ} → Blocks (T .count) (T .groups) (T .ends) (new .made) blocks′ → Ahead (T .count) (T .groups) (T .ends) (new .made) stops′ → Running T rule s₀ schedule (n + 1) (k + 1) new blocks′ stops′
-        running-renewed b a = record { long = next-long; blocked = b; ahead = a; left = next-left }
+        running-renewed b a = record { crew = r .crew; long = next-long; blocked = b; ahead = a; left = next-left }
 
         -- .. or are as they were
         pub running-on : w < length (s .made) → getD (new .made) w 0 < getD stops w 0 → Running T rule s₀ schedule (n + 1) (k + 1) new blocks stops
         running-on inside below = record {
+          crew = r .crew;
           long = next-long;
           blocked = blocks-kept (T .count) (T .groups) (T .ends) (s .made) (new .made) stops w inside one-more below (r .ahead) blocks (r .blocked);
           ahead = ahead-kept (T .count) (T .groups) (T .ends) (s .made) (new .made) stops w inside one-more below (r .ahead);

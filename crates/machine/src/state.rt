@@ -4,8 +4,11 @@ use base::WAITING;
 use matrix::limits::MAX_ROWS;
 use plan::MAX_GROUPS;
 use plan::MAX_WORKERS;
+use plan::fields::record_at;
 use steps::Pick;
+use steps::accesses;
 use steps::step;
+use tables::FIRSTS;
 use tables::MAX_UPDATES;
 use waits::blocked_groups;
 use waits::next_ends;
@@ -16,11 +19,12 @@ ghost use lib.IntN.{pos};
 ghost use lib.ListN.{length, replicate};
 ghost use Rattle.plan.specs.Sound.{maxWorkers};
 ghost use Rattle.plan.specs.Groups.{records};
+ghost use Rattle.plan.specs.Checks.{recordAt};
 ghost use Rattle.run.specs.Job.{Job, Accepted};
 ghost use Rattle.run.specs.Updates.{count};
 ghost use Rattle.run.specs.Machine as machine;
-ghost use Rattle.machine.specs.Record.{stateOf, allBelow, fine, done, Halves};
-ghost use Rattle.tables.specs.Laid.{Laid, Waits};
+ghost use Rattle.machine.specs.Record.{stateOf, allBelow, fine, done};
+ghost use Rattle.tables.specs.Laid.{Rising, Laid, Waits};
 ghost use Rattle.waits.specs.Waits.{Recorded};
 ghost use Rattle.steps.specs.Updates.{Triangle};
 ghost use Rattle.steps.specs.Steps.{StepTables};
@@ -91,23 +95,20 @@ impl State {
         sums: &mut [i64],
         w: usize,
         workers: usize,
-        counts: &[u32; MAX_WORKERS],
-        first: &[u32; MAX_WORKERS],
+        first: &[u32; FIRSTS],
         row: &[u16; MAX_UPDATES],
         begins: &[u32; MAX_ROWS],
         leaves: &[u16; MAX_ROWS],
         blocks: &[u8; MAX_GROUPS],
-        starts: &[u32],
-        displacements: &[i32],
-        order: &[u32],
+        displaced: &[i32; MAX_ROWS],
         at: &[u16; MAX_UPDATES],
         beside: &[i32; MAX_UPDATES],
     ) -> Outcome
         requires { ⌜ (workers ≤ maxWorkers)
-            × StepTables (length (now sums)) (now counts) (now first) (now row) (now begins) (now leaves) (now starts) (now displacements) (now order) (now at) ⌝ }
+            × StepTables (length (now sums)) (now first) (now row) (now begins) (now leaves) (now at) ⌝ }
         ensures { λ r. ⌜ ((j : Job) (ends : List ℕ) → workers ≡ machine.workers j
-            → Laid j (now (counts .entry)) (now (first .entry)) (now (row .entry)) (now (begins .entry)) (now (leaves .entry)) ends
-            → Triangle j (now (starts .entry)) (now (displacements .entry)) (now (order .entry)) (now (at .entry)) (now (beside .entry))
+            → Laid j (now (first .entry)) (now (row .entry)) (now (begins .entry)) (now (leaves .entry)) ends
+            → Triangle j (now (begins .entry)) (now (displaced .entry)) (now (at .entry)) (now (beside .entry))
             → Waits j (self .made) (now (blocks .entry))
             → (stateOf (r .state) (now (sums .exit)), r .number) ≡ comesTo (stateOf self (now (sums .entry))) (machine.step j (stateOf self (now (sums .entry))) w)) ⌝ }
     {
@@ -117,15 +118,12 @@ impl State {
             sums,
             w,
             workers,
-            counts,
             first,
             row,
             begins,
             leaves,
             blocks,
-            starts,
-            displacements,
-            order,
+            displaced,
             at,
             beside,
         );
@@ -153,28 +151,26 @@ impl State {
         sums: &mut [i64],
         schedule: &[u8],
         rule: Rule,
-        workers: usize,
         groups: &[u32],
         count: usize,
-        counts: &[u32; MAX_WORKERS],
-        first: &[u32; MAX_WORKERS],
+        ends: &[u32; MAX_GROUPS],
+        first: &[u32; FIRSTS],
         row: &[u16; MAX_UPDATES],
         begins: &[u32; MAX_ROWS],
         leaves: &[u16; MAX_ROWS],
-        ends: &[u32; MAX_GROUPS],
-        starts: &[u32],
-        displacements: &[i32],
-        order: &[u32],
+        displaced: &[i32; MAX_ROWS],
         at: &[u16; MAX_UPDATES],
         beside: &[i32; MAX_UPDATES],
     ) -> Walked
-        requires { ⌜ (workers ≤ maxWorkers) × Recorded count (now groups)
-            × StepTables (length (now sums)) (now counts) (now first) (now row) (now begins) (now leaves) (now starts) (now displacements) (now order) (now at) ⌝ }
-        ensures { λ r. ⌜ ((j : Job) → Accepted j → workers ≡ machine.workers j → j .plan .groups ≡ records count (now (groups .entry))
-            → Laid j (now (counts .entry)) (now (first .entry)) (now (row .entry)) (now (begins .entry)) (now (leaves .entry)) (now (ends .entry))
-            → Triangle j (now (starts .entry)) (now (displacements .entry)) (now (order .entry)) (now (at .entry)) (now (beside .entry))
+        requires { ⌜ (recordAt (now groups) 0 .workers ≤ maxWorkers) × Recorded count (now groups)
+            × StepTables (length (now sums)) (now first) (now row) (now begins) (now leaves) (now at) ⌝ }
+        ensures { λ r. ⌜ ((j : Job) → Accepted j → j .plan .groups ≡ records count (now (groups .entry))
+            → Laid j (now (first .entry)) (now (row .entry)) (now (begins .entry)) (now (leaves .entry)) (now (ends .entry))
+            → Triangle j (now (begins .entry)) (now (displaced .entry)) (now (at .entry)) (now (beside .entry))
             → walkedOf r (now (sums .exit)) ≡ walk rule j (stateOf self (now (sums .entry))) (now (schedule .entry))) ⌝ }
     {
+        let whole = record_at(groups, 0);
+        let workers = whole.workers;
         let mut blocks = blocked_groups(groups, count, ends, &self.made);
         let mut stops = next_ends(groups, count, ends, &self.made);
         let mut taken = 0;
@@ -187,15 +183,12 @@ impl State {
                 sums,
                 w,
                 workers,
-                counts,
                 first,
                 row,
                 begins,
                 leaves,
                 &blocks,
-                starts,
-                displacements,
-                order,
+                displaced,
                 at,
                 beside,
             );
@@ -229,15 +222,15 @@ impl State {
         self.made[w]
     }
 
-    // No worker has made more than its accesses, two for each of its updates.
-    pub fn is_fine(self, updates: [u32; MAX_WORKERS]) -> bool
-        requires { ⌜ Halves updates ⌝ }
-        ensures { λ r. ⌜ r ≡ allBelow (fine updates (self .made)) maxWorkers ⌝ }
+    // No worker has made more than its accesses.
+    pub fn is_fine(self, first: [u32; FIRSTS]) -> bool
+        requires { ⌜ Rising first ⌝ }
+        ensures { λ r. ⌜ r ≡ allBelow (fine first (self .made)) maxWorkers ⌝ }
     {
         let mut w = MAX_WORKERS;
         while 0 < w {
             w -= 1;
-            if 2 * updates[w] < self.moves(w) {
+            if accesses(&first, w) < self.moves(w) {
                 return false;
             }
         }
@@ -245,14 +238,14 @@ impl State {
     }
 
     // Every worker of the plan has made all its accesses.
-    pub fn is_finished(self, updates: [u32; MAX_WORKERS], workers: usize) -> bool
-        requires { ⌜ (workers ≤ maxWorkers) × Halves updates ⌝ }
-        ensures { λ r. ⌜ r ≡ allBelow (done updates (self .made)) workers ⌝ }
+    pub fn is_finished(self, first: [u32; FIRSTS], workers: usize) -> bool
+        requires { ⌜ (workers ≤ maxWorkers) × Rising first ⌝ }
+        ensures { λ r. ⌜ r ≡ allBelow (done first (self .made)) workers ⌝ }
     {
         let mut w = workers;
         while 0 < w {
             w -= 1;
-            if self.moves(w) < 2 * updates[w] {
+            if self.moves(w) < accesses(&first, w) {
                 return false;
             }
         }

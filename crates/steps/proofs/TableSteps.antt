@@ -3,7 +3,7 @@ use mathlib.Core.Path.{_≡_, refl, sym, ap, _∙_}
 use mathlib.Core.Logic.{_≢_}
 use mathlib.Core.Bool.{Bool, true, false}
 use mathlib.Core.List.{List}
-use Prim.Native.Nat.{ℕ, zero, suc, _*_, _%_, _≤_, _<_}
+use Prim.Native.Nat.{ℕ, zero, suc, _+_, _*_, _%_, _≤_, _<_}
 use native.Mathlib.Numerals.{add-one}
 use native.Mathlib.Omega.{arith}
 use lib.Dec.{leb, ltb}
@@ -14,13 +14,14 @@ use borrow.Author.Tests.{ltb-true, leb-false, eq-eqb, ne-eqb}
 use Rattle.base.specs.Integers.{fits64}
 use Rattle.base.specs.Refusals as no
 use Rattle.plan.specs.Sound.{maxWorkers}
+use Rattle.tables.specs.Laid.{updatesIn, Bounded}
 use Rattle.run.specs.Updates.{Update, count}
 use Rattle.run.specs.Machine.{State, reason, moved, halted, onward, load, total, store, access, move, stepIf}
 use Rattle.steps.specs.Sum.{sumIf, sumOf}
 use Rattle.steps.specs.declared.sum.Sum.the-variants.{Fits, Passes}
 use Rattle.steps.specs.declared.Pick.{Pick}
 use Rattle.steps.specs.declared.Pick.the-variants.{Taken, Refused}
-use Rattle.steps.specs.Steps.{stateWith, reasonAt, Inside, stepTaken, outcomeOf, StepMade}
+use Rattle.steps.specs.Steps.{stateWith, reasonAt, stepTaken, outcomeOf, StepMade}
 
 -- what it is that no reason refuses a step
 pub reason-none : (w workers made all : ℕ) (waiting : Bool) → reason (ltb w workers) (leb all made) waiting ≡ 0 → (w < workers) × (made < all)
@@ -43,14 +44,14 @@ pub record Bounds (w made : ℕ) : Type 0 where
   pub worker : w < 16
   pub few : made < 139264
 
-pub step-bounds : {crew : ℕ} {counts first row leaves : List ℕ} → crew ≤ maxWorkers → Inside counts first row leaves → (blocks : List ℕ) {s : State} {w : ℕ} {u : Update} {answer : Pick} {sums : List ℤ}
-    → StepMade (reasonAt crew counts first row leaves blocks (s .made) w) s w u answer sums → {z : ℤ} → answer ≡ Taken z → Bounds w (getD (s .made) w 0)
+pub step-bounds : {crew n : ℕ} {first row leaves : List ℕ} → crew ≤ maxWorkers → Bounded n first row leaves → (blocks : List ℕ) {s : State} {w : ℕ} {u : Update} {answer : Pick} {sums : List ℤ}
+    → StepMade (reasonAt crew first row leaves blocks (s .made) w) s w u answer sums → {z : ℤ} → answer ≡ Taken z → Bounds w (getD (s .made) w 0)
 unfolding outcomeOf
-step-bounds {crew} {counts} few inside blocks {s} {w} {u} {answer} {sums} h {z} q =
+step-bounds {crew} {n} {first} few b blocks {s} {w} {u} {answer} {sums} h {z} q =
     let none = moved-none s w u _ (stepTaken s w z sums) (ap (λ (y : Pick). outcomeOf y s w sums) (sym q) ∙ h .is) in
-    let (mine, left) = reason-none w crew (getD (s .made) w 0) (2 * getD counts w 0) _ none in
+    let (mine, left) = reason-none w crew (getD (s .made) w 0) (2 * updatesIn first w) _ none in
     let low : w < 16 = omega (arith, mine, few) in
-    record { worker = low; few = omega (arith, left, inside .few w low) }
+    record { worker = low; few = omega (arith, left, b .rising .few (w + 1) (omega arith)) }
 
 -- a step that is refused leaves the sums
 pub step-refused : (why number : ℕ) (s : State) (w : ℕ) (u : Update) → number ≡ why → number ≢ 0 → StepMade why s w u (Refused number) (s .sums)

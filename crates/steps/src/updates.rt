@@ -1,11 +1,11 @@
 // The updates of a row, found in the upper triangle of the matrix in plan order.
 use base::shorts::wide;
-use base::slices::wide_at;
+use matrix::limits::MAX_ROWS;
 use tables::MAX_UPDATES;
 ghost use mathlib.Core.Path.{_≡_};
-ghost use Prim.Native.Nat.{_<_};
+ghost use Prim.Native.Nat.{ℕ, _<_};
 ghost use lib.IntN.{_*ℤ_};
-ghost use lib.ListN.{length, getD};
+ghost use Rattle.matrix.specs.Limits.{maxRows};
 ghost use Rattle.tables.specs.Laid.{maxUpdates};
 ghost use Rattle.steps.specs.Updates.{byTurns, entryPlace, targetIn, amountIn, Readable};
 
@@ -24,42 +24,39 @@ fn product(entry: i32, displacement: i32) -> i64
 }
 
 // Where update number k of the row at position p has its entry, beside the other row's position.
-fn entry_place(starts: &[u32], order: &[u32], p: usize, k: usize) -> usize
-    requires { ⌜ (p < length (now order)) × (getD (now order) p 0 < length (now starts)) × (entryPlace (now starts) (now order) p k < maxUpdates) ⌝ }
-    ensures { λ r. ⌜ r ≡ entryPlace (now (starts .entry)) (now (order .entry)) p k ⌝ }
+fn entry_place(begins: &[u32; MAX_ROWS], p: usize, k: usize) -> usize
+    requires { ⌜ (p < maxRows) × (entryPlace (now begins) p k < maxUpdates) ⌝ }
+    ensures { λ r. ⌜ r ≡ entryPlace (now (begins .entry)) p k ⌝ }
 {
-    let row = wide_at(order, p);
-    wide_at(starts, row) + row + (k + 1) / 2
+    begins[p] as usize + (k + 1) / 2
 }
 
 // The position of its sum: the other row's, then the row's own.
 pub(crate) fn target_of(
-    starts: &[u32],
-    order: &[u32],
+    begins: &[u32; MAX_ROWS],
     at: &[u16; MAX_UPDATES],
     p: usize,
     k: usize,
 ) -> usize
-    requires { ⌜ (p < length (now order)) × (getD (now order) p 0 < length (now starts)) × (entryPlace (now starts) (now order) p k < maxUpdates) ⌝ }
-    ensures { λ r. ⌜ r ≡ targetIn (now (starts .entry)) (now (order .entry)) (now (at .entry)) p k ⌝ }
+    requires { ⌜ (p < maxRows) × (entryPlace (now begins) p k < maxUpdates) ⌝ }
+    ensures { λ r. ⌜ r ≡ targetIn (now (begins .entry)) (now (at .entry)) p k ⌝ }
 {
-    by_turns(k, wide(at[entry_place(starts, order, p, k)]), p)
+    by_turns(k, wide(at[entry_place(begins, p, k)]), p)
 }
 
 // What it adds: the entry times the displacement of the row whose sum it is not.
 pub(crate) fn amount_of(
-    starts: &[u32],
-    displacements: &[i32],
-    order: &[u32],
+    begins: &[u32; MAX_ROWS],
+    displaced: &[i32; MAX_ROWS],
     at: &[u16; MAX_UPDATES],
     beside: &[i32; MAX_UPDATES],
     p: usize,
     k: usize,
 ) -> i64
-    requires { ⌜ Readable (now starts) (now displacements) (now order) (now at) p k ⌝ }
-    ensures { λ r. ⌜ r ≡ amountIn (now (starts .entry)) (now (displacements .entry)) (now (order .entry)) (now (at .entry)) (now (beside .entry)) p k ⌝ }
+    requires { ⌜ ((n : ℕ) × Readable n (now begins) (now at) p k) ⌝ }
+    ensures { λ r. ⌜ r ≡ amountIn (now (begins .entry)) (now (displaced .entry)) (now (at .entry)) (now (beside .entry)) p k ⌝ }
 {
-    let place = entry_place(starts, order, p, k);
+    let place = entry_place(begins, p, k);
     let row = by_turns(k, p, wide(at[place]));
-    product(beside[place], displacements[wide_at(order, row)])
+    product(beside[place], displaced[row])
 }

@@ -9,7 +9,7 @@ use Rattle.base.proofs.Booleans.{or-false}
 use Rattle.plan.specs.Groups.{Group, blue}
 use Rattle.plan.specs.Sound.{sound}
 use Rattle.plan.proofs.Sound.{SoundFacts, sound-facts}
-use Rattle.run.specs.Tree.{forest, tree, holds, blocked}
+use Rattle.run.specs.Tree.{forest, tree, blocked}
 use Rattle.run.proofs.Holds.{in-holds}
 use Rattle.tables.proofs.FlatOpen.{openReds, red-flat}
 use Rattle.tables.proofs.WayDown.{blockedFrom, blocked-from}

@@ -2,16 +2,16 @@
 use mathlib.Core.Path.{_≡_}
 use mathlib.Core.Bool.{Bool, true, false, _||_}
 use mathlib.Core.List.{List, [], _∷_}
-use Prim.Native.Nat.{ℕ, _+_, _*_, _≤_, _<_}
+use Prim.Native.Nat.{ℕ, suc, _+_, _*_, _-_, _≤_, _<_}
 use lib.Dec.{eqb}
 use lib.ListN.{length, getD, drop}
-use Rattle.base.specs.Lists.{bit}
+use Rattle.base.specs.Lists.{bit, sumBelow}
 use Rattle.matrix.specs.Limits.{maxRows, maxEntries}
 use Rattle.plan.specs.Groups.{Group, ofFields}
 use Rattle.plan.specs.Sound.{maxWorkers, maxGroups}
 use Rattle.run.specs.Job.{Job}
 use Rattle.run.specs.Tree.{tree, holds, blocked}
-use Rattle.run.specs.Updates.{Update, owner, upTo, updates, finished, noUpdate}
+use Rattle.run.specs.Updates.{Update, rowUpdates, owner, upTo, updates, finished, noUpdate}
 
 -- ---- leaves
 
@@ -48,24 +48,45 @@ maxUpdates = maxRows + 2 * maxEntries
 abbrev pub updateAt : Job → (w k : ℕ) → Update
 updateAt j w k = getD (updates j w) k noUpdate
 
--- Worker w has counts[w] updates. Number k is made by the row at position row[first[w] + k]. The updates of the row at p begin at number begins[p] of its worker's, and leaves[p] is the record number of its leaf.
--- A leaf i ends at access ends[i] of its worker.
-pub record Laid (j : Job) (counts first row begins leaves ends : List ℕ) : Type 0 where
-  pub counted : (w : ℕ) → w < maxWorkers → getD counts w 0 ≡ length (updates j w)
-  pub rows : (w k : ℕ) → w < maxWorkers → k < length (updates j w) → getD row (getD first w 0 + k) 0 ≡ updateAt j w k .row
-  pub begun : (p : ℕ) → p < j .matrix .n → getD begins p 0 ≡ length (upTo j (owner j p) p)
+-- the place of worker w's first update: after those of the workers before it
+abbrev pub firstOf : Job → ℕ → ℕ
+firstOf j w = sumBelow (λ v. length (updates j v)) w
+
+-- .. of its first update in the rows from position e on
+abbrev pub nextOf : Job → (w e : ℕ) → ℕ
+nextOf j w e = firstOf j w + length (upTo j w e)
+
+-- .. of the first update of the row at p
+abbrev pub beginOf : Job → ℕ → ℕ
+beginOf j p = nextOf j (owner j p) p
+
+-- worker w's updates stand from place first[w] on and before first[w + 1]
+pub record Counted (j : Job) (first : List ℕ) : Type 0 where
+  pub long : length first ≡ suc maxWorkers
+  pub is : (w : ℕ) → w ≤ maxWorkers → getD first w 0 ≡ firstOf j w
+
+-- how many updates worker w has by these
+abbrev pub updatesIn : (first : List ℕ) → ℕ → ℕ
+updatesIn first w = getD first (w + 1) 0 - getD first w 0
+
+-- The updates of the row at p begin at place begins[p], each of their places has p in row, and leaves[p] is the record number of its leaf. A leaf i ends at access ends[i] of its worker.
+pub record Laid (j : Job) (first row begins leaves ends : List ℕ) : Type 0 where
+  pub counted : Counted j first
+  pub begins-long : length begins ≡ maxRows
+  pub begun : (p : ℕ) → p < j .matrix .n → getD begins p 0 ≡ beginOf j p
+  pub rows : (p c : ℕ) → p < j .matrix .n → c < length (rowUpdates j p) → getD row (beginOf j p + c) 0 ≡ p
   pub leaf : (p : ℕ) → p < j .matrix .n → LeafOf j (getD leaves p 0) p
   pub ended : (i : ℕ) → Leaf j i → getD ends i 0 ≡ endOf j i
 
--- what the code needs of those tables for n rows, whatever the job: every worker's updates stand inside, every row is one of the n, every leaf a record
-pub record Bounded (n : ℕ) (counts first row begins leaves ends : List ℕ) : Type 0 where
-  pub counts-long : length counts ≡ maxWorkers
-  pub first-long : length first ≡ maxWorkers
-  pub row-long : length row ≡ maxUpdates
-  pub begins-long : length begins ≡ maxRows
-  pub leaves-long : length leaves ≡ maxRows
-  pub ends-long : length ends ≡ maxGroups
-  pub inside : (w : ℕ) → w < maxWorkers → getD first w 0 + getD counts w 0 ≤ maxUpdates
+-- what the code needs whatever the job: every worker's updates stand inside
+pub record Rising (first : List ℕ) : Type 0 where
+  pub rises : (w : ℕ) → w < maxWorkers → getD first w 0 ≤ getD first (w + 1) 0
+  pub few : (w : ℕ) → w ≤ maxWorkers → getD first w 0 ≤ maxUpdates
+
+-- .. and every row is one of n, every leaf a record
+pub record Bounded (n : ℕ) (first row leaves : List ℕ) : Type 0 where
+  pub rising : Rising first
+  pub rows-few : n ≤ maxRows
   pub row-low : (k : ℕ) → getD row k 0 < n
   pub leaf-low : (p : ℕ) → getD leaves p 0 < maxGroups
 

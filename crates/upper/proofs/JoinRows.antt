@@ -25,9 +25,10 @@ use Rattle.plan.proofs.Once.{Once, once, injective}
 use Rattle.run.specs.Machine.{positionOf}
 use Rattle.run.proofs.Positions.{position-at}
 use Rattle.tables.specs.Laid.{maxUpdates}
-use Rattle.upper.specs.Upper.{Positions, Ordered, upperTo, partAt, Placed, Upper}
-use Rattle.upper.proofs.UpperRows.{upper-before, upper-next, upper-few}
-use Rattle.upper.proofs.PlacedRows.{grown, row-low, rows-apart, part-rises, first-below, next-below, placed-written, placed-grown, placed-same}
+use Rattle.matrix.specs.Limits.{maxRows}
+use Rattle.upper.specs.Upper.{Positions, Ordered, upperTo, upperOf, Parts, Placed, Upper}
+use Rattle.upper.proofs.UpperRows.{upper-before, upper-next, upper-part, upper-own}
+use Rattle.upper.proofs.PlacedRows.{grown, row-low, next-below, placed-written, placed-grown, placed-same}
 
 -- a column of an ascending row is not among those before it
 new-column : (cs : List ℕ) (k : ℕ) → ascending cs ≡ true → k < length cs → isIn (take k cs) (getD cs k 0) ≡ false
@@ -40,12 +41,12 @@ abbrev joined : Matrix → (order : List ℕ) (q : ℕ) (cs : List ℕ) (k p : �
 joined m order q cs k p = upperTo m order p (q + bit (isIn (take k cs) (getD order p 0) && ltb p q))
 
 -- .. and q stands in the first place of its own row's part, beside its diagonal entry if that column is one of them
-pub record Joined (m : Matrix) (order : List ℕ) (q : ℕ) (cs : List ℕ) (k : ℕ) (sizes at : List ℕ) (beside : List ℤ) : Type 0 where
-  pub placed : Placed m order (joined m order q cs k) sizes at beside
-  pub own : getD at (partAt (m .starts) (getD order q 0)) 0 ≡ q
-  pub diagonal : getD beside (partAt (m .starts) (getD order q 0)) (pos 0) ≡ cond (isIn (take k cs) (getD order q 0)) (entry m (getD order q 0) (getD order q 0)) (pos 0)
+pub record Joined (m : Matrix) (order begins : List ℕ) (q : ℕ) (cs : List ℕ) (k : ℕ) (next at : List ℕ) (beside : List ℤ) : Type 0 where
+  pub placed : Placed m order begins (joined m order q cs k) next at beside
+  pub own : getD at (getD begins q 0) 0 ≡ q
+  pub diagonal : getD beside (getD begins q 0) (pos 0) ≡ cond (isIn (take k cs) (getD order q 0)) (entry m (getD order q 0) (getD order q 0)) (pos 0)
 
-module _ (m : Matrix) (order position : List ℕ) (o : Ordered m order) (t : Positions (m .n) order position) where
+module _ (m : Matrix) (order position begins : List ℕ) (o : Ordered m order) (t : Positions (m .n) order position) (parts : Parts m order begins) where
   rows : Once (m .n) order
   rows = once (m .n) order (o .once)
 
@@ -62,7 +63,7 @@ module _ (m : Matrix) (order position : List ℕ) (o : Ordered m order) (t : Pos
 
     -- the first place of its part
     abbrev first : ℕ
-    first = partAt (m .starts) row
+    first = getD begins q 0
 
     stored : (i : ℕ) → isIn cs i ≡ true → isIn (columnsOf m row) i ≡ true
     stored i h = ap (λ (xs : List ℕ). isIn xs i) (sym is) ∙ h
@@ -74,8 +75,12 @@ module _ (m : Matrix) (order position : List ℕ) (o : Ordered m order) (t : Pos
     first-is : (k : ℕ) → first + length (joined m order q cs k q) ≡ first
     first-is k = omega (arith, ap length (joined-none k q (omega arith)))
 
-    room-own : (k : ℕ) → first + length (joined m order q cs k q) < partAt (m .starts) (suc row)
-    room-own k = omega (arith, first-is k, part-rises m order o q low)
+    -- every part has a place
+    some : (p : ℕ) → p < m .n → 1 ≤ length (upperOf m order p)
+    some p l = omega (arith, upper-part m order p (suc p) l, ap length (upper-own m order p))
+
+    room-own : (k : ℕ) → length (joined m order q cs k q) < length (upperOf m order q)
+    room-own k = omega (arith, first-is k, some q low)
 
     -- ---- one column
 
@@ -120,18 +125,12 @@ module _ (m : Matrix) (order position : List ℕ) (o : Ordered m order) (t : Pos
           go false e = (let x : q + 0 ≡ q = omega arith in ap (upperTo m order p) x) ∙ sym (append-nil (upperTo m order p q))
 
       -- there is room for it, whether it is or not
-      room : partAt (m .starts) (getD order p 0) + length (joined m order q cs k p) < partAt (m .starts) (suc (getD order p 0))
+      room : length (joined m order q cs k p) < length (upperOf m order p)
       room = go (ltb p q) refl up
         where
-          low-row : getD order p 0 < m .n
-          low-row = row-low m order o p (back .0)
-
-          size : getD (m .starts) (getD order p 0) 0 + length (columnsOf m (getD order p 0)) ≡ getD (m .starts) (suc (getD order p 0)) 0
-          size = omega (arith, rw add-one at (length-columns m (matrix-tidy m (o .matrix) .shape) (getD order p 0) low-row), matrix-facts m (o .matrix) .row (getD order p 0) low-row .rises)
-
-          go : (b : Bool) → ltb p q ≡ b → upperTo m order p (q + bit b) ≡ upperTo m order p q ++ keep b q [] → partAt (m .starts) (getD order p 0) + length (joined m order q cs k p) < partAt (m .starts) (suc (getD order p 0))
-          go true e u = omega (arith, ap length before, ap length u, length-append (upperTo m order p q) (q ∷ []), upper-few m order p rows (q + 1) (omega arith), size)
-          go false e u = omega (arith, ap length (joined-none k p (ltb-false p q e)), size)
+          go : (b : Bool) → ltb p q ≡ b → upperTo m order p (q + bit b) ≡ upperTo m order p q ++ keep b q [] → length (joined m order q cs k p) < length (upperOf m order p)
+          go true e u = omega (arith, ap length before, ap length u, length-append (upperTo m order p q) (q ∷ []), upper-part m order p (q + 1) (omega arith))
+          go false e u = omega (arith, ap length (joined-none k p (ltb-false p q e)), some p (back .0))
 
       -- the value beside the column is the entry of row i with the row at q
       value-is : getD vs k (pos 0) ≡ entry m (getD order p 0) row
@@ -147,7 +146,7 @@ module _ (m : Matrix) (order position : List ℕ) (o : Ordered m order) (t : Pos
 
       -- the next place of row i
       abbrev slot : ℕ
-      slot = partAt (m .starts) (getD order p 0) + length (joined m order q cs k p)
+      slot = getD begins p 0 + length (joined m order q cs k p)
 
       -- it is the first of q's part only if i is its row
       first-next : {A : Type 0} (xs : List A) (v w d : A) → slot < length xs → (p ≡ q → v ≡ w) → (p ≢ q → getD xs first d ≡ w) → getD (set xs slot v) first d ≡ w
@@ -155,10 +154,10 @@ module _ (m : Matrix) (order position : List ℕ) (o : Ordered m order) (t : Pos
         where
           go : (p ≡ q) ⊎ (p ≢ q) → getD (set xs slot v) first d ≡ w
           go (inl e) =
-              let x : slot ≡ first = ap (λ (r : ℕ). partAt (m .starts) (getD order r 0) + length (joined m order q cs k r)) e ∙ first-is k in
+              let x : slot ≡ first = ap (λ (r : ℕ). getD begins r 0 + length (joined m order q cs k r)) e ∙ first-is k in
               ap (λ (y : ℕ). getD (set xs slot v) y d) (sym x) ∙ getD-set-same xs slot v d h ∙ same e
           go (inr e) =
-              getD-set-other xs slot first v d (rows-apart m order o q p first slot low (back .0) (λ y. e (sym y)) (omega arith) (omega (arith, room-own k)) (omega arith) room) ∙ other e
+              getD-set-other xs slot first v d (λ y. parts .apart q p 0 (length (joined m order q cs k p)) low (back .0) (λ z. e (sym z)) (some q low) room (omega (arith, y))) ∙ other e
 
       diagonal-next : (values : List ℤ) → slot < length values → getD values first (pos 0) ≡ cond (isIn (take k cs) row) (entry m row row) (pos 0)
           → getD (set values slot (getD vs k (pos 0))) first (pos 0) ≡ cond (isIn (take (k + 1) cs) row) (entry m row row) (pos 0)
@@ -172,51 +171,48 @@ module _ (m : Matrix) (order position : List ℕ) (o : Ordered m order) (t : Pos
           other : p ≢ q → getD values first (pos 0) ≡ cond (isIn (take (k + 1) cs) row) (entry m row row) (pos 0)
           other e = rw (taken row, ne-eqb row i (λ x. injective (m .n) order rows p q (back .0) low e (back .1 ∙ sym x)), or-false (isIn (take k cs) row)) d
 
-      treated : {sizes at : List ℕ} {values : List ℤ} → Joined m order q cs k sizes at values
-          → Joined m order q cs (k + 1) (set sizes (getD order p 0) (length (joined m order q cs k p) + bit (ltb p q))) (set at slot q) (set values slot (getD vs k (pos 0)))
-      treated {sizes} {at} {values} d =
+      few : m .n ≤ maxRows
+      few = matrix-facts m (o .matrix) .few
+
+      treated : {next at : List ℕ} {values : List ℤ} → Joined m order begins q cs k next at values
+          → Joined m order begins q cs (k + 1) (set next p (slot + bit (ltb p q))) (set at slot q) (set values slot (getD vs k (pos 0)))
+      treated {next} {at} {values} d =
           let L = joined m order q cs k in
-          let inside = next-below m order o L p (back .0) room in
+          let inside = next-below m order begins parts L p (back .0) room in
           let at-long : slot < length at = omega (arith, inside, d .placed .at-long) in
           let values-long : slot < length values = omega (arith, inside, d .placed .beside-long) in
           record {
-            placed = placed-same m order (grown L p (ltb p q) q) (joined m order q cs (k + 1)) joined-next
-                (placed-grown m order o L p (back .0) room (placed-written m order o L p (back .0) room (d .placed) q (getD vs k (pos 0)) low) (ltb p q) q
+            placed = placed-same m order begins (grown L p (ltb p q) q) (joined m order q cs (k + 1)) joined-next
+                (placed-grown m order begins parts L p (back .0) room (placed-written m order begins parts L p (back .0) room (d .placed) q (getD vs k (pos 0)) low) few (ltb p q) q
                 (λ e. getD-set-same at slot q 0 at-long) (λ e. getD-set-same values slot (getD vs k (pos 0)) (pos 0) values-long ∙ value-is));
             own = first-next at q q 0 at-long (λ e. refl) (λ e. d .own);
             diagonal = diagonal-next values values-long (d .diagonal);
           }
 
-      -- one column more, of row r
-      pub record Turn (r : ℕ) (sizes at : List ℕ) (values : List ℤ) : Type 0 where
-        pub row-below : r < m .n
+      -- one column more, whose row stands at r
+      pub record Turn (r : ℕ) (next at : List ℕ) (values : List ℤ) : Type 0 where
+        pub inside : r < m .n
         pub beside-long : k < length vs
-        pub place : partAt (m .starts) r + getD sizes r 0 < maxUpdates
-        pub next : Joined m order q cs (k + 1)
-            (set sizes r (getD sizes r 0 + boolByte (ltb (getD position r 0) q)))
-            (set at (partAt (m .starts) r + getD sizes r 0) q)
-            (set values (partAt (m .starts) r + getD sizes r 0) (getD vs k (pos 0)))
+        pub place : getD next r 0 < maxUpdates
+        pub after : Joined m order begins q cs (k + 1) (set next r (getD next r 0 + boolByte (ltb r q))) (set at (getD next r 0) q) (set values (getD next r 0) (getD vs k (pos 0)))
 
-      pub join-turn : {r : ℕ} {sizes at : List ℕ} {values : List ℤ} → r ≡ getD cs k 0 → Joined m order q cs k sizes at values → Turn r sizes at values
-      join-turn {r} {sizes} {at} {values} e d = subst (λ (y : ℕ). Turn y sizes at values) (sym e) (record {
-        row-below = column-below;
+      pub join-turn : {r : ℕ} {next at : List ℕ} {values : List ℤ} → r ≡ p → Joined m order begins q cs k next at values → Turn r next at values
+      join-turn {r} {next} {at} {values} e d = subst (λ (y : ℕ). Turn y next at values) (sym e) (record {
+        inside = back .0;
         beside-long = omega (arith, ap length is, ap length beside, length-columns m shape row low-row, length-values m shape row low-row);
-        place = subst (λ (y : ℕ). partAt (m .starts) y + getD sizes y 0 < maxUpdates) (back .1)
-            (subst (λ (n : ℕ). partAt (m .starts) (getD order p 0) + n < maxUpdates) (sym size) (next-below m order o (joined m order q cs k) p (back .0) room));
-        next = subst (λ (y : ℕ). Next y (getD sizes y 0) (boolByte (ltb p q))) (back .1)
-            (subst (λ (n : ℕ). Next (getD order p 0) n (boolByte (ltb p q))) (sym size)
-            (subst (Next (getD order p 0) (length (joined m order q cs k p))) (byte (ltb p q)) (treated d)));
+        place = omega (arith, here, next-below m order begins parts (joined m order q cs k) p (back .0) room);
+        after = subst (λ (y : ℕ). After y (boolByte (ltb p q))) (sym here) (subst (After slot) (byte (ltb p q)) (treated d));
       })
         where
-          Next : (y n z : ℕ) → Type 0
-          Next y n z = Joined m order q cs (k + 1) (set sizes y (n + z)) (set at (partAt (m .starts) y + n) q) (set values (partAt (m .starts) y + n) (getD vs k (pos 0)))
+          After : (y z : ℕ) → Type 0
+          After y z = Joined m order begins q cs (k + 1) (set next p (y + z)) (set at y q) (set values y (getD vs k (pos 0)))
 
           byte : (x : Bool) → bit x ≡ boolByte x
           byte true = refl
           byte false = refl
 
-          size : getD sizes (getD order p 0) 0 ≡ length (joined m order q cs k p)
-          size = d .placed .sized p (back .0)
+          here : getD next p 0 ≡ slot
+          here = d .placed .ends p (back .0)
 
           shape : shaped m ≡ true
           shape = matrix-tidy m (o .matrix) .shape
@@ -224,18 +220,26 @@ module _ (m : Matrix) (order position : List ℕ) (o : Ordered m order) (t : Pos
           low-row : row < m .n
           low-row = row-low m order o q low
 
+      pub column-inside : i < m .n
+      column-inside = column-below
+
     -- ---- none, and all
 
-    -- its place is written, no column has been treated
-    pub join-begun : {sizes at : List ℕ} {values : List ℤ} → Upper m order q sizes at values → Joined m order q cs 0 sizes (set at first q) (set values first (pos 0))
-    join-begun {sizes} {at} {values} u = record {
-      placed = subst (λ (y : ℕ). Placed m order (joined m order q cs 0) sizes (set at y q) (set values y (pos 0))) (first-is 0) (placed-written m order o (joined m order q cs 0) q low (room-own 0) same q (pos 0) low);
-      own = getD-set-same at first q 0 (omega (arith, first-below m order o q low, u .at-long));
-      diagonal = getD-set-same values first (pos 0) (pos 0) (omega (arith, first-below m order o q low, u .beside-long));
+    -- its next place is where its part begins
+    pub own-next : {next at : List ℕ} {values : List ℤ} → Upper m order begins q next at values → (getD next q 0 ≡ first) × (first < maxUpdates)
+    own-next u = (omega (arith, u .ends q low, ap length (upper-before m order q q (omega arith))), omega (arith, parts .room q low, some q low))
+
+    -- that is written, no column has been treated
+    pub join-begun : {next at : List ℕ} {values : List ℤ} → Upper m order begins q next at values → Joined m order begins q cs 0 next (set at first q) (set values first (pos 0))
+    join-begun {next} {at} {values} u = record {
+      placed = subst (λ (y : ℕ). Placed m order begins (joined m order q cs 0) next (set at y q) (set values y (pos 0))) (first-is 0)
+          (placed-written m order begins parts (joined m order q cs 0) q low (room-own 0) same q (pos 0) low);
+      own = getD-set-same at first q 0 (omega (arith, own-next u .1, u .at-long));
+      diagonal = getD-set-same values first (pos 0) (pos 0) (omega (arith, own-next u .1, u .beside-long));
     }
       where
-        same : Placed m order (joined m order q cs 0) sizes at values
-        same = let e : q ≡ q + 0 = omega arith in placed-same m order (λ p. upperTo m order p q) (joined m order q cs 0) (λ p l. ap (upperTo m order p) e) u
+        same : Placed m order begins (joined m order q cs 0) next at values
+        same = let e : q ≡ q + 0 = omega arith in placed-same m order begins (λ p. upperTo m order p q) (joined m order q cs 0) (λ p l. ap (upperTo m order p) e) u
 
     -- row r is no column of q's: they are not adjacent
     far : (r : ℕ) → isIn cs (getD order r 0) ≡ false → adjacent m (getD order r 0) row ≡ false
@@ -260,14 +264,15 @@ module _ (m : Matrix) (order position : List ℕ) (o : Ordered m order) (t : Pos
             (sym (ap (upperTo m order q) (add-one q) ∙ upper-next m order q q (omega arith) ∙ rw (eq-eqb q q refl, upper-before m order q q (omega arith)) refl))
         go (inr d) = rw (ne-eqb r q d, take-length cs) (other d (isIn cs (getD order r 0)) refl (ltb r q) refl)
 
-    -- all have, and its part has a size
-    pub join-ended : {sizes at : List ℕ} {values : List ℤ} → Joined m order q cs (length cs) sizes at values → Upper m order (q + 1) (set sizes row 1) at values
-    join-ended {sizes} {at} {values} d =
+    -- all have, and its part has its first entry
+    pub join-ended : {next at : List ℕ} {values : List ℤ} → Joined m order begins q cs (length cs) next at values → Upper m order begins (q + 1) (set next q (first + 1)) at values
+    join-ended {next} {at} {values} d =
         let L = joined m order q cs (length cs) in
         let x = first-is (length cs) in
-        placed-same m order (grown L q true q) (λ p. upperTo m order p (q + 1)) joined-all
-        (subst (λ (n : ℕ). Placed m order (grown L q true q) (set sizes row (n + 1)) at values) (ap length (joined-none (length cs) q (omega arith)))
-        (placed-grown m order o L q low (room-own (length cs)) (d .placed) true q (λ e. ap (λ (y : ℕ). getD at y 0) x ∙ d .own) (λ e. ap (λ (y : ℕ). getD values y (pos 0)) x ∙ d .diagonal ∙ diagonal (isIn cs row) refl)))
+        placed-same m order begins (grown L q true q) (λ p. upperTo m order p (q + 1)) joined-all
+        (subst (λ (n : ℕ). Placed m order begins (grown L q true q) (set next q (n + 1)) at values) x
+        (placed-grown m order begins parts L q low (room-own (length cs)) (d .placed) (matrix-facts m (o .matrix) .few) true q
+        (λ e. ap (λ (y : ℕ). getD at y 0) x ∙ d .own) (λ e. ap (λ (y : ℕ). getD values y (pos 0)) x ∙ d .diagonal ∙ diagonal (isIn cs row) refl)))
       where
         diagonal : (b : Bool) → isIn cs row ≡ b → cond (isIn (take (length cs) cs) row) (entry m row row) (pos 0) ≡ entry m row row
         diagonal true e = rw (take-length cs, e) refl

@@ -2,3 +2,4 @@ pub mod UpperRows
 pub mod PositionTable
 pub mod PlacedRows
 pub mod JoinRows
+pub mod SizeRows

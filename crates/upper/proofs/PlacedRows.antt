@@ -3,7 +3,7 @@ use mathlib.Core.Path.{_≡_, refl, sym, ap, _∙_, subst}
 use mathlib.Core.Logic.{_⊎_, inl, inr, _≢_}
 use mathlib.Core.Bool.{Bool, true, false, cond}
 use mathlib.Core.List.{List, [], _++_}
-use Prim.Native.Nat.{ℕ, zero, suc, _+_, _-_, _≤_, _<_}
+use Prim.Native.Nat.{ℕ, _+_, _-_, _≤_, _<_}
 use native.Mathlib.Omega.{arith}
 use lib.Dec.{eqb, ltb}
 use lib.IntN.{ℤ, pos}
@@ -14,36 +14,11 @@ use Rattle.base.specs.Lists.{keep, bit}
 use Rattle.base.proofs.Booleans.{same-or}
 use Rattle.base.proofs.Lists.{set-each}
 use Rattle.matrix.specs.Limits.{maxRows}
-use Rattle.matrix.specs.Matrix.{Matrix, entry, isMatrix}
-use Rattle.matrix.proofs.Matrix.{matrix-facts}
-use Rattle.matrix.proofs.Entries.{few-entries}
-use Rattle.plan.proofs.Once.{Once, once, low-at, injective}
+use Rattle.matrix.specs.Matrix.{Matrix, entry}
+use Rattle.plan.proofs.Once.{once, low-at}
 use Rattle.tables.specs.Laid.{maxUpdates}
-use Rattle.upper.specs.Upper.{Ordered, upperTo, partAt, Placed, Upper}
+use Rattle.upper.specs.Upper.{Ordered, upperTo, upperOf, Parts, Placed, Upper}
 use Rattle.upper.proofs.UpperRows.{length-keep, upper-before}
-
--- ---- the parts of the rows
-
-module _ (m : Matrix) (ok : isMatrix m ≡ true) where
-  climb : (i k : ℕ) → i + k ≤ m .n → partAt (m .starts) i ≤ partAt (m .starts) (i + k)
-  climb i zero l = let e : i + 0 ≡ i = omega arith in rw e (omega arith)
-  climb i (suc k) l = let e : i + suc k ≡ suc (i + k) = omega arith in rw e (omega (arith, climb i k (omega arith), matrix-facts m ok .row (i + k) (omega arith) .rises))
-
-  -- they stand in the order of the rows
-  parts-climb : (i k : ℕ) → i ≤ k → k ≤ m .n → partAt (m .starts) i ≤ partAt (m .starts) k
-  parts-climb i k h l = let e : i + (k - i) ≡ k = omega arith in subst (λ (y : ℕ). partAt (m .starts) i ≤ partAt (m .starts) y) e (climb i (k - i) (omega arith))
-
-  -- a place of a row is one of the tables
-  pub place-below : (i s : ℕ) → i < m .n → s < partAt (m .starts) (suc i) → s < maxUpdates
-  place-below i s l h = omega (arith, parts-climb (suc i) (m .n) l (omega arith), few-entries m ok, matrix-facts m ok .few)
-
-  -- places of different rows are different
-  places-apart : (i k s t : ℕ) → i < m .n → k < m .n → i ≢ k → partAt (m .starts) i ≤ s → s < partAt (m .starts) (suc i) → partAt (m .starts) k ≤ t → t < partAt (m .starts) (suc k) → s ≢ t
-  places-apart i k s t li lk d a b x y e = go (ltb i k) refl
-    where
-      go : (c : Bool) → ltb i k ≡ c → ⊥
-      go true f = omega (arith, parts-climb (suc i) k (ltb-true i k f) (omega arith))
-      go false f = omega (arith, parts-climb (suc k) i (omega (arith, ltb-false i k f)) (omega arith))
 
 -- ---- one position more
 
@@ -55,33 +30,18 @@ bit-le false = omega arith
 abbrev pub grown : (L : ℕ → List ℕ) (p : ℕ) (b : Bool) (q : ℕ) → ℕ → List ℕ
 grown L p b q r = cond (eqb r p) (L p ++ keep b q []) (L r)
 
-module _ (m : Matrix) (order : List ℕ) (o : Ordered m order) where
-  rows : Once (m .n) order
-  rows = once (m .n) order (o .once)
+-- what stands in the order is a row
+pub row-low : (m : Matrix) (order : List ℕ) → Ordered m order → (p : ℕ) → p < m .n → getD order p 0 < m .n
+row-low m order o p l = let rows = once (m .n) order (o .once) in low-at (m .n) order p (rows .low) (omega (arith, rows .long))
 
-  -- what stands in the order is a row
-  pub row-low : (p : ℕ) → p < m .n → getD order p 0 < m .n
-  row-low p l = low-at (m .n) order p (rows .low) (omega (arith, rows .long))
-
+module _ (m : Matrix) (order begins : List ℕ) (parts : Parts m order begins) where
   -- the part of the row at p
   abbrev part : ℕ → ℕ
-  part p = partAt (m .starts) (getD order p 0)
+  part p = getD begins p 0
 
-  -- .. and the next row's
-  abbrev after : ℕ → ℕ
-  after p = partAt (m .starts) (suc (getD order p 0))
-
-  -- places of rows at different positions are different
-  pub rows-apart : (r p s t : ℕ) → r < m .n → p < m .n → r ≢ p → part r ≤ s → s < after r → part p ≤ t → t < after p → s ≢ t
-  rows-apart r p s t lr lp d = places-apart m (o .matrix) (getD order r 0) (getD order p 0) s t (row-low r lr) (row-low p lp) (injective (m .n) order rows r p lr lp d)
-
-  -- every part has a place
-  pub part-rises : (p : ℕ) → p < m .n → part p < after p
-  part-rises p l = omega (arith, matrix-facts m (o .matrix) .row (getD order p 0) (row-low p l) .rises)
-
-  -- .. of the tables
-  pub first-below : (p : ℕ) → p < m .n → part p < maxUpdates
-  first-below p l = place-below m (o .matrix) (getD order p 0) (part p) (row-low p l) (part-rises p l)
+  -- how many entries it has in the end
+  abbrev whole : ℕ → ℕ
+  whole p = length (upperOf m order p)
 
   module _ (L : ℕ → List ℕ) (p : ℕ) (low : p < m .n) where
     -- the next place of the row at p
@@ -93,7 +53,7 @@ module _ (m : Matrix) (order : List ℕ) (o : Ordered m order) where
       abbrev Holds : (ℕ → List ℕ) → List A → Type 0
       Holds K ys = (r c : ℕ) → r < m .n → c < length (K r) → getD ys (part r + c) d ≡ g r (getD (K r) c 0)
 
-      holds-written : ((r : ℕ) → r < m .n → part r + length (L r) ≤ after r) → place < after p → (v : A) → Holds L xs → Holds L (set xs place v)
+      holds-written : ((r : ℕ) → r < m .n → length (L r) ≤ whole r) → length (L p) < whole p → (v : A) → Holds L xs → Holds L (set xs place v)
       holds-written inside room v had r c l h = getD-set-other xs place (part r + c) v d (go (same-or r p)) ∙ had r c l h
         where
           go : (r ≡ p) ⊎ (r ≢ p) → part r + c ≢ place
@@ -101,7 +61,7 @@ module _ (m : Matrix) (order : List ℕ) (o : Ordered m order) where
               let k : c < length (L p) = rw e at h in
               let z : part p + c ≡ place = rw e at y in
               omega arith
-          go (inr e) y = rows-apart r p (part r + c) place l low e (omega arith) (omega (arith, inside r l)) (omega arith) room y
+          go (inr e) y = parts .apart r p c (length (L p)) l low e (omega (arith, inside r l)) room y
 
       holds-grown : (b : Bool) (q : ℕ) → (b ≡ true → getD xs place d ≡ g p q) → Holds L xs → Holds (grown L p b q) xs
       holds-grown b q is had r c l h = go (same-or r p)
@@ -118,78 +78,73 @@ module _ (m : Matrix) (order : List ℕ) (o : Ordered m order) where
           go (inr e) = let k : c < length (L r) = rw (ne-eqb r p e) at h in rw (ne-eqb r p e) (had r c l k)
 
     -- .. is one of the tables if the row's part has room
-    pub next-below : place < after p → place < maxUpdates
-    next-below = place-below m (o .matrix) (getD order p 0) place (row-low p low)
+    pub next-below : length (L p) < whole p → place < maxUpdates
+    next-below h = omega (arith, parts .room p low)
 
-    module _ (room : place < after p) {sizes at : List ℕ} {beside : List ℤ} (t : Placed m order L sizes at beside) where
-      abbrev row : ℕ
-      row = getD order p 0
-
+    module _ (room : length (L p) < whole p) {next at : List ℕ} {beside : List ℤ} (t : Placed m order begins L next at beside) where
       -- whatever stands in the next place, the lists stay
-      pub placed-written : (q : ℕ) (v : ℤ) → q < m .n → Placed m order L sizes (set at place q) (set beside place v)
+      pub placed-written : (q : ℕ) (v : ℤ) → q < m .n → Placed m order begins L next (set at place q) (set beside place v)
       placed-written q v l = record {
-        sizes-long = t .sizes-long;
+        next-long = t .next-long;
         at-long = length-set at place q ∙ t .at-long;
         beside-long = length-set beside place v ∙ t .beside-long;
         at-low = set-each (λ k x. x < m .n) at place q (omega (arith, next-below room, t .at-long)) l (λ k e. t .at-low k);
-        sized = t .sized;
+        ends = t .ends;
         inside = t .inside;
         positions = holds-written 0 (λ r c. c) at (t .inside) room q (t .positions);
         entries = holds-written (pos 0) (λ r c. entry m (getD order r 0) (getD order c 0)) beside (t .inside) room v (t .entries);
       }
 
-      module _ (b : Bool) (q : ℕ) (is : b ≡ true → getD at place 0 ≡ q) (has : b ≡ true → getD beside place (pos 0) ≡ entry m (getD order p 0) (getD order q 0)) where
-        sized : (r : ℕ) → r < m .n → (r ≡ p) ⊎ (r ≢ p) → getD (set sizes row (length (L p) + bit b)) (getD order r 0) 0 ≡ length (grown L p b q r)
-        sized r l (inl e) =
-            rw (eq-eqb r p e, e, length-append (L p) (keep b q []), length-keep b q)
-            (getD-set-same sizes row (length (L p) + bit b) 0 (omega (arith, row-low p low, matrix-facts m (o .matrix) .few, t .sizes-long)))
-        sized r l (inr e) =
-            rw (ne-eqb r p e) (getD-set-other sizes row (getD order r 0) (length (L p) + bit b) 0 (injective (m .n) order rows r p l low e) ∙ t .sized r l)
+      module _ (few : m .n ≤ maxRows) (b : Bool) (q : ℕ) (is : b ≡ true → getD at place 0 ≡ q) (has : b ≡ true → getD beside place (pos 0) ≡ entry m (getD order p 0) (getD order q 0)) where
+        ends : (r : ℕ) → r < m .n → (r ≡ p) ⊎ (r ≢ p) → getD (set next p (place + bit b)) r 0 ≡ part r + length (grown L p b q r)
+        ends r l (inl e) =
+            rw (eq-eqb r p e, e, length-append (L p) (keep b q []), length-keep b q) (getD-set-same next p (place + bit b) 0 (omega (arith, t .next-long)) ∙ omega arith)
+        ends r l (inr e) = rw (ne-eqb r p e) (getD-set-other next p r (place + bit b) 0 e ∙ t .ends r l)
 
-        inside : (r : ℕ) → r < m .n → (r ≡ p) ⊎ (r ≢ p) → part r + length (grown L p b q r) ≤ after r
+        inside : (r : ℕ) → r < m .n → (r ≡ p) ⊎ (r ≢ p) → length (grown L p b q r) ≤ whole r
         inside r l (inl e) = rw (eq-eqb r p e, e, length-append (L p) (keep b q []), length-keep b q) (omega (arith, bit-le b))
         inside r l (inr e) = rw (ne-eqb r p e) (t .inside r l)
 
         -- the list of p takes up q, which stands there, if b holds
-        pub placed-grown : Placed m order (grown L p b q) (set sizes row (length (L p) + bit b)) at beside
+        pub placed-grown : Placed m order begins (grown L p b q) (set next p (place + bit b)) at beside
         placed-grown = record {
-          sizes-long = length-set sizes row (length (L p) + bit b) ∙ t .sizes-long;
+          next-long = length-set next p (place + bit b) ∙ t .next-long;
           at-long = t .at-long;
           beside-long = t .beside-long;
           at-low = t .at-low;
-          sized = λ r l. sized r l (same-or r p);
+          ends = λ r l. ends r l (same-or r p);
           inside = λ r l. inside r l (same-or r p);
           positions = holds-grown 0 (λ r c. c) at b q is (t .positions);
           entries = holds-grown (pos 0) (λ r c. entry m (getD order r 0) (getD order c 0)) beside b q has (t .entries);
         }
 
-  -- zeros hold nothing of the upper triangle
-  pub upper-none : {sizes at : List ℕ} {beside : List ℤ} → length sizes ≡ maxRows → ((i : ℕ) → getD sizes i 0 ≡ 0) → length at ≡ maxUpdates → ((k : ℕ) → getD at k 0 ≡ 0)
-      → length beside ≡ maxUpdates → Upper m order 0 sizes at beside
-  upper-none l z a y b = record {
-    sizes-long = l;
-    at-long = a;
-    beside-long = b;
-    at-low = λ k. omega (arith, y k, matrix-facts m (o .matrix) .some);
-    sized = λ p h. z (getD order p 0) ∙ ap length (sym (none p));
-    inside = λ p h. rw (none p) (omega (arith, part-rises p h));
-    positions = λ p c h k. absurd (omega (arith, ap length (none p)));
-    entries = λ p c h k. absurd (omega (arith, ap length (none p)));
-  }
-    where
-      none : (p : ℕ) → upperTo m order p 0 ≡ []
-      none p = upper-before m order p 0 (omega arith)
+-- nothing of the upper triangle stands where the parts begin
+pub upper-none : (m : Matrix) (order : List ℕ) → 1 ≤ m .n → {begins at : List ℕ} {beside : List ℤ} → length begins ≡ maxRows → length at ≡ maxUpdates → ((k : ℕ) → getD at k 0 ≡ 0)
+    → length beside ≡ maxUpdates → Upper m order begins 0 begins at beside
+upper-none m order some l a y b = record {
+  next-long = l;
+  at-long = a;
+  beside-long = b;
+  at-low = λ k. omega (arith, y k);
+  ends = λ p h. omega (arith, ap length (none p));
+  inside = λ p h. omega (arith, ap length (none p));
+  positions = λ p c h k. absurd (omega (arith, ap length (none p)));
+  entries = λ p c h k. absurd (omega (arith, ap length (none p)));
+}
+  where
+    none : (p : ℕ) → upperTo m order p 0 ≡ []
+    none p = upper-before m order p 0 (omega arith)
 
 -- only the lists count
-pub placed-same : (m : Matrix) (order : List ℕ) (L L′ : ℕ → List ℕ) {sizes at : List ℕ} {beside : List ℤ} → ((p : ℕ) → p < m .n → L p ≡ L′ p)
-    → Placed m order L sizes at beside → Placed m order L′ sizes at beside
-placed-same m order L L′ {sizes} {at} {beside} e t = record {
-  sizes-long = t .sizes-long;
+pub placed-same : (m : Matrix) (order begins : List ℕ) (L L′ : ℕ → List ℕ) {next at : List ℕ} {beside : List ℤ} → ((p : ℕ) → p < m .n → L p ≡ L′ p)
+    → Placed m order begins L next at beside → Placed m order begins L′ next at beside
+placed-same m order begins L L′ {next} {at} {beside} e t = record {
+  next-long = t .next-long;
   at-long = t .at-long;
   beside-long = t .beside-long;
   at-low = t .at-low;
-  sized = λ p l. t .sized p l ∙ ap length (e p l);
-  inside = λ p l. subst (λ (xs : List ℕ). partAt (m .starts) (getD order p 0) + length xs ≤ partAt (m .starts) (suc (getD order p 0))) (e p l) (t .inside p l);
-  positions = λ p c l. subst (λ (xs : List ℕ). c < length xs → getD at (partAt (m .starts) (getD order p 0) + c) 0 ≡ getD xs c 0) (e p l) (t .positions p c l);
-  entries = λ p c l. subst (λ (xs : List ℕ). c < length xs → getD beside (partAt (m .starts) (getD order p 0) + c) (pos 0) ≡ entry m (getD order p 0) (getD order (getD xs c 0) 0)) (e p l) (t .entries p c l);
+  ends = λ p l. omega (arith, t .ends p l, ap length (e p l));
+  inside = λ p l. omega (arith, t .inside p l, ap length (e p l));
+  positions = λ p c l. subst (λ (xs : List ℕ). c < length xs → getD at (getD begins p 0 + c) 0 ≡ getD xs c 0) (e p l) (t .positions p c l);
+  entries = λ p c l. subst (λ (xs : List ℕ). c < length xs → getD beside (getD begins p 0 + c) (pos 0) ≡ entry m (getD order p 0) (getD order (getD xs c 0) 0)) (e p l) (t .entries p c l);
 }

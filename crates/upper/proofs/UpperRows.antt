@@ -1,23 +1,19 @@
--- The positions of a row's part of the upper triangle: one more, and no more than the row has entries and its diagonal.
+-- The positions of a row's part of the upper triangle: one more, and how many they are.
 use mathlib.Core.Path.{_≡_, refl, ap, _∙_}
-use mathlib.Core.Bool.{Bool, true, false, _||_}
+use mathlib.Core.Bool.{Bool, true, false, _&&_, _||_, and-true}
 use mathlib.Core.List.{List, [], _∷_, _++_}
 use Prim.Native.Nat.{ℕ, zero, suc, _+_, _-_, _≤_, _<_}
 use native.Mathlib.Omega.{arith}
 use lib.Dec.{eqb, ltb}
 use lib.ListN.{length, getD, length-append}
-use borrow.Author.Tests.{ltb-true, ltb-false, eq-eqb, ne-eqb}
-use Rattle.base.specs.Lists.{filter, keep, isIn, range, sumBelow, bit}
-use Rattle.base.proofs.Lists.{filter-append, filter-ext, range-snoc, range-in}
-use Rattle.base.proofs.Sums.{sum-below-le, sum-below-up}
-use Rattle.matrix.specs.Matrix.{Matrix, columnsOf, neighbours, adjacent}
-use Rattle.matrix.proofs.Matrix.{neighbour-column}
-use Rattle.plan.proofs.Once.{Once}
+use borrow.Author.Tests.{ltb-true, ltb-false, lt-ltb, le-ltb, eq-eqb, ne-eqb, eqb-true, eqb-false}
+use Rattle.base.specs.Lists.{filter, keep, range, sumBelow, bit}
+use Rattle.base.proofs.Booleans.{and-false}
+use Rattle.base.proofs.Lists.{filter-append, filter-ext, length-filter-le, length-range, range-snoc, range-in}
+use Rattle.matrix.specs.Matrix.{Matrix, adjacent}
 use Rattle.run.specs.Job.{Job, rowAt}
 use Rattle.run.specs.Updates.{later}
-use Rattle.run.proofs.OrderSums.{sum-below-order}
-use Rattle.upper.specs.Upper.{upperTo}
-use Rattle.tables.proofs.Different.{one-more, different}
+use Rattle.upper.specs.Upper.{upperTo, upperOf}
 
 pub length-keep : (b : Bool) (q : ℕ) → length (keep b q []) ≡ bit b
 length-keep true q = refl
@@ -55,34 +51,58 @@ upper-whole j p l =
 -- ---- how many there are
 
 module _ (m : Matrix) (order : List ℕ) (p : ℕ) where
-  upper-sum : (q : ℕ) → length (upperTo m order p q) ≤ sumBelow (λ r. bit (near m order p r)) q
+  -- no fewer up to a later position
+  pub upper-rises : (q k : ℕ) → length (upperTo m order p q) ≤ length (upperTo m order p (q + k))
+  upper-rises q zero = let e : q + 0 ≡ q = omega arith in rw e (omega arith)
+  upper-rises q (suc k) = let e : q + suc k ≡ suc (q + k) = omega arith in rw e (go (ltb (q + k) p) refl (upper-rises q k))
+    where
+      go : (b : Bool) → ltb (q + k) p ≡ b → length (upperTo m order p q) ≤ length (upperTo m order p (q + k)) → length (upperTo m order p q) ≤ length (upperTo m order p (suc (q + k)))
+      go true e ih = omega (arith, ap length (upper-before m order p q (omega (arith, ltb-true (q + k) p e))))
+      go false e ih = rw (upper-next m order p (q + k) (ltb-false (q + k) p e)) (omega (arith, length-append (upperTo m order p (q + k)) (keep (near m order p (q + k)) (q + k) [])))
+
+  pub upper-part : (q : ℕ) → q ≤ m .n → length (upperTo m order p q) ≤ length (upperOf m order p)
+  upper-part q l = let e : q + (m .n - q) ≡ m .n = omega arith in rw e at (upper-rises q (m .n - q))
+
+  -- at most one for each position from p on
+  pub upper-few : (q : ℕ) → length (upperTo m order p q) ≤ q
+  unfolding upperTo
+  upper-few q = omega (arith, length-filter-le (near m order p) (range p (q - p)), length-range p (q - p))
+
+  -- the row itself is one
+  pub upper-own : upperTo m order p (suc p) ≡ p ∷ []
+  upper-own = upper-next m order p p (omega arith) ∙ rw (upper-before m order p p (omega arith), eq-eqb p p refl) refl
+
+  -- position r stands after p, and its row is adjacent to the row at p
+  abbrev pub beyond : ℕ → Bool
+  beyond r = adjacent m (getD order p 0) (getD order r 0) && ltb p r
+
+  -- the row itself, and the later adjacent ones
+  pub upper-sum : (q : ℕ) → length (upperTo m order p q) ≡ bit (ltb p q) + sumBelow (λ r. bit (beyond r)) q
   unfolding sumBelow
-  upper-sum zero = rw (upper-before m order p 0 (omega arith)) (omega arith)
-  upper-sum (suc q) = go (ltb q p) refl (upper-sum q)
+  upper-sum zero = omega (arith, ap length (upper-before m order p 0 (omega arith)), ap bit (le-ltb p 0 (omega arith)))
+  upper-sum (suc q) = go (ltb q p) refl (eqb q p) refl (upper-sum q)
     where
       sum : ℕ
-      sum = sumBelow (λ r. bit (near m order p r)) q
+      sum = sumBelow (λ r. bit (beyond r)) q
 
-      go : (b : Bool) → ltb q p ≡ b → length (upperTo m order p q) ≤ sum → length (upperTo m order p (suc q)) ≤ sum + bit (near m order p q)
-      go true e ih = rw (upper-before m order p (suc q) (ltb-true q p e)) (omega arith)
-      go false e ih =
-          rw (upper-next m order p q (ltb-false q p e), length-append (upperTo m order p q) (keep (near m order p q) q []), length-keep (near m order p q) q) (omega arith)
-
-  -- beside the row itself they are rows of different columns
-  pub upper-few : Once (m .n) order → (q : ℕ) → q ≤ m .n → length (upperTo m order p q) ≤ 1 + length (columnsOf m (getD order p 0))
-  unfolding adjacent
-  upper-few once q h =
-      let i : ℕ = getD order p 0 in
-      omega (
-        arith,
-        upper-sum q,
-        sum-below-up (λ r. bit (near m order p r)) q (m .n) h,
-        one-more p (λ r. adjacent m i (getD order r 0)) (m .n),
-        sum-below-order (λ v. bit (adjacent m i v)) (m .n) order once,
-        sum-below-le (λ v. bit (adjacent m i v)) (λ v. bit (isIn (columnsOf m i) v)) (m .n) (λ v l. stored v (isIn (neighbours m i) v) refl),
-        different (m .n) (columnsOf m i),
-      )
-    where
-      stored : (v : ℕ) (b : Bool) → isIn (neighbours m (getD order p 0)) v ≡ b → bit b ≤ bit (isIn (columnsOf m (getD order p 0)) v)
-      stored v true e = rw (neighbour-column m (getD order p 0) v e) (omega arith)
-      stored v false e = omega arith
+      go : (a : Bool) → ltb q p ≡ a → (b : Bool) → eqb q p ≡ b → length (upperTo m order p q) ≡ bit (ltb p q) + sum → length (upperTo m order p (suc q)) ≡ bit (ltb p (suc q)) + (sum + bit (beyond q))
+      go true e b f ih =
+          let l = ltb-true q p e in
+          rw (upper-before m order p (suc q) l, le-ltb p (suc q) l, le-ltb p q (omega arith), and-false (adjacent m (getD order p 0) (getD order q 0)))
+          (omega (arith, ih, ap length (upper-before m order p q (omega arith)), ap bit (le-ltb p q (omega arith))))
+      go false e true f ih =
+          let l : q ≡ p = eqb-true q p f in
+          rw (l, upper-own, lt-ltb p (suc p) (omega arith), le-ltb p p (omega arith), and-false (adjacent m (getD order p 0) (getD order p 0)))
+          (omega (arith, rw (l, le-ltb p p (omega arith), upper-before m order p p (omega arith)) at ih))
+      go false e false f ih =
+          let l : p < q = omega (arith, ltb-false q p e, eqb-false q p f) in
+          rw (
+            upper-next m order p q (omega arith),
+            length-append (upperTo m order p q) (keep (near m order p q) q []),
+            length-keep (near m order p q) q,
+            f,
+            lt-ltb p (suc q) (omega arith),
+            lt-ltb p q l,
+            and-true (adjacent m (getD order p 0) (getD order q 0)),
+          )
+          (omega (arith, ih, ap bit (lt-ltb p q l)))

@@ -1,97 +1,47 @@
--- `tables::rows::put_leaf` meets its contract: the rows of the leaf before position p have their updates.
-use mathlib.Core.Path.{_≡_, sym, ap, _∙_}
-use mathlib.Core.Logic.{inl}
-use mathlib.Core.Bool.{false}
-use Prim.Native.Nat.{suc, _+_, _-_, _*_, _≤_}
+-- `put_leaf` meets its contract: the rows of the leaf before position p have their updates.
+use mathlib.Core.Path.{_≡_, subst}
+use Prim.Native.Nat.{ℕ, _+_, _*_, _-_, _≤_, _<_}
 use native.Mathlib.Omega.{arith}
-use native.Mathlib.Numerals.{add-one}
-use lib.ListN.{getD}
-use borrow.Author.Tests.{not-true, not-false}
-use Rattle.base.proofs.Booleans.{fails, holds}
-use Rattle.plan.specs.Groups.{Group}
-use Rattle.plan.specs.Checks.{recordAt, belowWhole}
+use lib.ListN.{length, getD}
 use Rattle.run.specs.Job.{Job}
-use Rattle.tables.specs.Laid.{hasChild, maxUpdates}
-use Rattle.layout.specs.UpdateTable.{Sized, Filled, reached}
-use Rattle.layout.proofs.WorkerTable.{in-order, start-is, reached-leaf, RowOf, row-of, Fitting, fitting, filled-row, filled-at, filled-skip}
+use Rattle.tables.specs.Laid.{nextOf}
+use Rattle.layout.specs.UpdateTable.{Sized, Stretch, Filled}
+use Rattle.layout.proofs.CountRows.{row-fits}
+use Rattle.layout.proofs.FilledRows.{filled-row}
 use borrow.Author.Needs.{needs}
 use Rattle.layout.proofs.put_leaf.Statement.{statement}
 use Rattle.layout.proofs.put_leaf.Tie as tie
 
 abbrev Inv-loop : tie.InvT-loop
-Inv-loop order groups count sizes i first place row₀ begins₀ leaves₀ p₀ end next₀ row begins leaves p next =
-    (reached count groups i ≤ p) × (p ≤ reached count groups (suc i))
-    × ((j : Job) → Sized j order groups count sizes → Filled j (recordAt groups i .first) first (reached count groups i) place row₀ begins₀ leaves₀
-    → Filled j (recordAt groups i .first) first p next row begins leaves)
+Inv-loop sizes i start end place row₀ begins₀ leaves₀ next₀ p₀ row begins leaves next p =
+    (start ≤ p) × (p ≤ end)
+    × ((j : Job) (w : ℕ) → Sized j sizes → Stretch j i w start end → place ≡ nextOf j w start → Filled j start row₀ begins₀ leaves₀ → (next ≡ nextOf j w p) × Filled j p row begins leaves)
 
 abbrev μ-loop : tie.MeasureT-loop
-μ-loop order groups count sizes i first place row₀ begins₀ leaves₀ p₀ end next₀ row begins leaves p next = end - p
+μ-loop sizes i start end place row₀ begins₀ leaves₀ next₀ p₀ row begins leaves next p = end - p
 
--- where it is known that the record is a leaf, and the function's entry
-abbrev start : tie.Else1 Inv-loop μ-loop → tie.Start Inv-loop μ-loop
-start c = c .before .before .before .before
+-- the rows before p, for the job that is given
+filled : (l : tie.At-loop Inv-loop μ-loop) → let s = l .before .pre in (l .loop .next ≡ nextOf (s .0) (s .1) (l .loop .p)) × Filled (s .0) (l .loop .p) (l .loop .row) (l .loop .begins) (l .loop .leaves)
+filled l = let s = l .before .pre in l .loop .inv .2 (s .0) (s .1) (s .2) (s .3) (s .4) (s .5)
 
-abbrev tested : tie.After-struct-known Inv-loop μ-loop → tie.Else1 Inv-loop μ-loop
-tested c = c .before .before
+-- what the code needs of the row at p
+record Fits (i p size next row : ℕ) : Type 0 where
+  leaf : i < 512
+  few : p < 4096
+  some : 1 ≤ size
+  room : next + 2 * size ≤ 69633
+  long : row ≡ 69632
 
-childless : (c : tie.Else1 Inv-loop μ-loop) → let a = start c .args in hasChild (a .i) (belowWhole (a .count) (a .groups .now)) ≡ false
-childless c = not-true _ (holds (c .before .is-leaf .ensures) (c .if1 .left))
-
--- the record's stretch
-starts-at : (c : tie.After-struct-known Inv-loop μ-loop) → let a = start (tested c) .args in c .before .record-at .result .start ≡ reached (a .count) (a .groups .now) (a .i)
-starts-at c = let s = start (tested c) in ap (λ (g : Group). g .start) (c .before .record-at .ensures .is) ∙ start-is (s .pre .1 .1) (s .args .i) (s .pre .0)
-
-ends-at : (c : tie.After-struct-known Inv-loop μ-loop) → let a = start (tested c) .args in
-    c .before .record-at .result .start + c .before .record-at .result .length ≡ reached (a .count) (a .groups .now) (suc (a .i))
-ends-at c =
-    let s = start (tested c) in
-    let n = ap (λ (g : Group). g .length) (c .before .record-at .ensures .is) in
-    omega (arith, n, starts-at c, reached-leaf (s .pre .1 .1) (s .args .i) (s .pre .0) (childless (tested c)))
-
--- a row of it, for any job that fits
-row : (c : tie.In-loop Inv-loop μ-loop) → let l = c .before in let e = tested (l .before) in let a = start e .args in (j : Job) (g : Sized j (a .order .now) (a .groups .now) (a .count) (a .sizes .now))
-    → RowOf g (a .i) (start e .pre .0) (childless e) (l .loop .p)
-row c j g =
-    let l = c .before in
-    let e = tested (l .before) in
-    let s = start e in
-    row-of g (s .args .i) (s .pre .0) (childless e) (l .loop .p) (l .loop .inv .0) (omega (arith, c .loop-test .taken, ends-at (l .before)))
-
--- the updates before it, for the job that is given
-filled : (c : tie.At-loop Inv-loop μ-loop) → let s = start (tested (c .before)) in
-    Filled (s .pre .1 .0) (recordAt (s .args .groups .now) (s .args .i) .first) (s .args .first) (c .loop .p) (c .loop .next) (c .loop .row) (c .loop .begins) (c .loop .leaves)
-filled c = let s = start (tested (c .before)) in c .loop .inv .2 (s .pre .1 .0) (s .pre .1 .1) (s .pre .1 .2)
-
-fits : (c : tie.In-loop Inv-loop μ-loop) → let l = c .before in let e = tested (l .before) in let s = start e in
-    Fitting (s .pre .1 .1) (s .args .i) (s .pre .0) (childless e) (row c (s .pre .1 .0) (s .pre .1 .1)) (filled l)
+fits : (c : tie.In-loop Inv-loop μ-loop) → let l = c .before in let a = l .before .args in Fits (a .i) (l .loop .p) (getD (a .sizes .now) (l .loop .p) 0) (l .loop .next) (length (l .loop .row))
 fits c =
     let l = c .before in
-    let e = tested (l .before) in
-    let s = start e in
-    fitting (s .pre .1 .1) (s .args .i) (s .pre .0) (childless e) (row c (s .pre .1 .0) (s .pre .1 .1)) (filled l)
-
-is-leaf-requires : tie.Need-is-leaf-requires Inv-loop μ-loop
-is-leaf-requires c κs = let s = c .before .before in (s .pre .1 .1 .groups-long, in-order (s .pre .1 .1) .0, s .pre .0)
-
-returns : tie.Need-returns Inv-loop μ-loop
-returns c =
-    let s = c .before .before .before .before in
-    λ j g t.
-    filled-skip g (s .args .i) (recordAt (s .args .groups .now) (s .args .i) .first) (s .pre .0) (inl (not-false _ (fails (c .before .is-leaf .ensures) (c .if1 .taken)))) t
-
-record-at-requires : tie.Need-record-at-requires Inv-loop μ-loop
-record-at-requires c κs = let s = start c in omega (arith, s .pre .1 .1 .groups-long, s .pre .0)
-
-add-end : tie.Need-add-end Inv-loop μ-loop
-add-end c = let h = c .before .record-at .ensures .small in search needs
+    let s = l .before .pre in
+    let f = row-fits (s .2) (s .3) (l .loop .p) (l .loop .inv .0) (c .loop-test .taken) in
+    let t = filled l in
+    record { leaf = s .3 .record-low; few = f .few; some = f .some; room = omega (arith, f .room-for, t .0); long = t .1 .row-long }
 
 loop-holds : tie.Need-loop-holds Inv-loop μ-loop
-loop-holds c =
-    let b = starts-at c in
-    (omega arith, omega (arith, ends-at c), λ j g t. filled-at g (sym b) t)
-
-sub-begins : tie.Need-sub-begins Inv-loop μ-loop
-sub-begins c = fits c .from
+loop-holds c = (search needs, c .pre .3 .rises, λ j w t h e f. (e, f))
 
 cast-begins : tie.Need-cast-begins Inv-loop μ-loop
 cast-begins c = let f = fits c in search needs
@@ -111,28 +61,17 @@ mul-leaves c = let f = fits c in search needs
 element-write-leaves : tie.Need-element-write-leaves Inv-loop μ-loop
 element-write-leaves c = fits c .few
 
-wide-at-requires : tie.Need-wide-at-requires Inv-loop μ-loop
-wide-at-requires c κs = fits c .in-order
-
--- room for the updates of as many entries as were read
-size : (c : tie.After-wide-at Inv-loop μ-loop) → let l = c .before .before in let a = start (tested (l .before)) .args in
-    (1 ≤ getD (a .sizes .now) (c .wide-at .result) 0) × (l .loop .next + 2 * getD (a .sizes .now) (c .wide-at .result) 0 ≤ maxUpdates + 1)
-size c = let f = fits (c .before) in rw (c .wide-at .ensures .0) (f .some, f .room)
-
 mul-put-row : tie.Need-mul-put-row Inv-loop μ-loop
-mul-put-row c = let f = fits (c .before) in search needs
+mul-put-row c = let f = fits c in search needs
 
 element-copy-out-put-row : tie.Need-element-copy-out-put-row Inv-loop μ-loop
-element-copy-out-put-row c = let f = fits (c .before) in omega (arith, c .wide-at .ensures .0, f .row-low)
+element-copy-out-put-row c = fits c .few
 
 cast-put-row : tie.Need-cast-put-row Inv-loop μ-loop
-cast-put-row c = let h = size (c .before) in search needs
+cast-put-row c = let f = fits (c .before) in search needs
 
 put-row-requires : tie.Need-put-row-requires Inv-loop μ-loop
-put-row-requires c κs =
-    let w = c .before .before in
-    let f = fits (w .before) in
-    (f .few, size w .0, size w .1, filled (w .before .before) .listed .long)
+put-row-requires c κs = let f = fits (c .before .before) in (f .few, f .some, f .room, f .long)
 
 add-p : tie.Need-add-p Inv-loop μ-loop
 add-p c = search needs
@@ -142,22 +81,18 @@ loop-less c = search needs
 
 loop-again : tie.Need-loop-again Inv-loop μ-loop
 loop-again c =
-    let w = c .before .before .before in
-    let i = w .before in
-    let l = i .before in
-    let e = tested (l .before) in
-    let s = start e in (
-      omega (arith, l .loop .inv .0),
-      omega (arith, i .loop-test .taken, ends-at (l .before)),
-      λ j g t. filled-row g (s .args .i) (s .pre .0) (childless e) (row i j g) (l .loop .inv .2 j g t) (rw (w .wide-at .ensures .0) at (c .put-row .ensures)),
+    let i = c .before .before .before in
+    let l = i .before in (
+      search needs,
+      search needs,
+      λ j w t h e f. (let u = l .loop .inv .2 j w t h e f in filled-row t h (l .loop .inv .0) (i .loop-test .taken) (u .1) (u .0) (c .put-row .ensures)),
     )
 
-returns-2 : tie.Need-returns-2 Inv-loop μ-loop
-returns-2 c =
+returns : tie.Need-returns Inv-loop μ-loop
+returns c =
     let l = c .before in
-    let s = start (tested (l .before)) in
-    let e : l .loop .p ≡ reached (s .args .count) (s .args .groups .now) (suc (s .args .i)) = omega (arith, l .loop .inv .1, c .loop-test .left, ends-at (l .before)) in
-    λ j g t. filled-at g (e ∙ ap (reached (s .args .count) (s .args .groups .now)) (sym (add-one (s .args .i)))) (l .loop .inv .2 j g t)
+    let e : l .loop .p ≡ l .before .args .end = search needs in
+    λ j w t h q f. subst (λ (p : ℕ). (l .loop .next ≡ nextOf j w p) × Filled j p (l .loop .row) (l .loop .begins) (l .loop .leaves)) e (l .loop .inv .2 j w t h q f)
 
 pub put-leaf-spec : {M : Type 1} → statement M
 put-leaf-spec =
@@ -165,19 +100,13 @@ put-leaf-spec =
     (tie.spec
     Inv-loop
     μ-loop
-    is-leaf-requires
-    returns
-    record-at-requires
-    add-end
     loop-holds
-    sub-begins
     cast-begins
     mul-begins
     element-write-begins
     cast-leaves
     mul-leaves
     element-write-leaves
-    wide-at-requires
     mul-put-row
     element-copy-out-put-row
     cast-put-row
@@ -185,4 +114,4 @@ put-leaf-spec =
     add-p
     loop-less
     loop-again
-    returns-2)
+    returns)

@@ -1,4 +1,4 @@
--- `steps::access` meets its contract.
+-- `access` meets its contract.
 use mathlib.Core.Path.{_≡_, refl, sym, _∙_}
 use Prim.Native.Nat.{_<_}
 use native.Mathlib.Omega.{arith}
@@ -16,14 +16,13 @@ use Rattle.steps.proofs.access.Statement.{statement}
 use Rattle.steps.proofs.access.Tie as tie
 
 target-of-requires : tie.Need-target-of-requires
-target-of-requires c κs = let r = c .before .before .pre .2 in (omega (arith, r .row-low, r .order-long), omega (arith, r .order-low _ (r .row-low), r .starts-long), r .inside)
+target-of-requires c κs = let r = c .pre .1 in (omega (arith, r .row-low, r .few), r .inside)
 
 -- the target is one of the sums
-low : (c : tie.After-target-of) → c .target-of .result < length (c .before .before .before .args .sums .now)
+low : (c : tie.After-target-of) → c .target-of .result < length (c .before .args .sums .now)
 low c =
-    let s = c .before .before .before in
-    let h : c .target-of .result < length (s .args .displacements .now) = rw (c .target-of .ensures) (by-low (s .args .k) _ (s .args .p) (s .pre .2 .at-low _) (s .pre .2 .row-low)) in
-    omega (arith, s .pre .1)
+    let s = c .before in
+    rw (c .target-of .ensures) (by-low (s .args .k) _ (s .args .p) (s .pre .1 .at-low _) (s .pre .1 .row-low))
 
 mul-if1 : tie.Need-mul-if1
 mul-if1 c = search needs
@@ -40,7 +39,7 @@ slice-copy-out-loaded c = let h = low (c .before .before) in search needs
 returns : tie.Need-returns
 returns c =
     let t = c .before .before .before in
-    let a = t .before .before .before .args in
+    let a = t .before .args in
     rw (toZ-ofZ {w = w64} {z = getD (a .sums .now) (t .target-of .result) (pos 0)} (sfits-of (c .loaded .given)), t .target-of .ensures)
     (step-loads 0 refl (a .made .now) (a .held .now) (a .sums .now) (a .w) _ (c .before .if1 .taken))
 
@@ -51,7 +50,7 @@ element-copy-out-loaded : tie.Need-element-copy-out-loaded
 element-copy-out-loaded c = search needs
 
 amount-of-requires : tie.Need-amount-of-requires
-amount-of-requires c κs = c .before .before .before .before .before .before .pre .2
+amount-of-requires c κs = (_, c .before .before .before .before .pre .1)
 
 add-checked-requires : tie.Need-add-checked-requires
 add-checked-requires c κs = search needs
@@ -60,10 +59,10 @@ amount-in : (c : tie.After-amount-of) → SFits w64 (c .amount-of .result)
 amount-in c = search needs
 
 -- the sum that is made of the held number and the amount
-sum-is : (c : tie.After-add-checked) → let a = c .before .before .before .before .before .before .before .before .args in
-    c .add-checked .result ≡ sumOf (getD (a .held .now) (a .w) (pos 0)) (amountIn (a .starts .now) (a .displacements .now) (a .order .now) (a .at .now) (a .beside .now) (a .p) (a .k))
+sum-is : (c : tie.After-add-checked) → let a = c .before .before .before .before .before .before .args in
+    c .add-checked .result ≡ sumOf (getD (a .held .now) (a .w) (pos 0)) (amountIn (a .begins .now) (a .displaced .now) (a .at .now) (a .beside .now) (a .p) (a .k))
 sum-is c =
-    let a = c .before .before .before .before .before .before .before .before .args in
+    let a = c .before .before .before .before .before .before .args in
     rw (
       toZ-ofZ {w = w64} {z = getD (a .held .now) (a .w) (pos 0)} (sfits-of (c .before .before .loaded2 .given)),
       toZ-ofZ (amount-in (c .before)),
@@ -81,7 +80,7 @@ returns-2 : tie.Need-returns-2
 returns-2 c =
     let x = c .before .before in
     let e = x .before .before .before in
-    let a = e .before .before .before .before .before .args in
+    let a = e .before .before .before .args in
     step-passes 0 refl (a .made .now) (a .held .now) (a .sums .now) (a .w) _ (e .if1 .left) (sym (sum-is x) ∙ c .enum-told .given .1)
 
 mul-sum : tie.Need-mul-sum
@@ -101,7 +100,7 @@ returns-3 c =
     let x = c .before .before .before in
     let e = x .before .before .before in
     let t = e .before .before in
-    let a = t .before .before .before .args in
+    let a = t .before .args in
     rw (toZ-ofZ (in-range c), toZ-ofZ {w = w64} {z = getD (a .held .now) (a .w) (pos 0)} (sfits-of (x .before .before .loaded2 .given)), t .target-of .ensures)
     (step-stores 0 refl (a .made .now) (a .held .now) (a .sums .now) (a .w) _ (e .if1 .left) (c .before .sum .given .0 .0) (sym (sum-is x) ∙ c .before .sum .given .1))
 

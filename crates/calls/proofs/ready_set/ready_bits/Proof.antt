@@ -15,11 +15,11 @@ use Rattle.calls.proofs.ready_set.ready_bits.Statement.{statement}
 use Rattle.calls.proofs.ready_set.ready_bits.Tie as tie
 
 abbrev Inv-loop : tie.InvT-loop
-Inv-loop made workers counts first row leaves blocks set₀ w₀ set w =
-    (w ≤ workers) × ((j : Job) (begins ends : List ℕ) → workers ≡ machine.workers j → Laid j counts first row begins leaves ends → Waits j made blocks → set ≡ bits (readyBelow j made w))
+Inv-loop made workers first row leaves blocks set₀ w₀ set w =
+    (w ≤ workers) × ((j : Job) (begins ends : List ℕ) → workers ≡ machine.workers j → Laid j first row begins leaves ends → Waits j made blocks → set ≡ bits (readyBelow j made w))
 
 abbrev μ-loop : tie.MeasureT-loop
-μ-loop made workers counts first row leaves blocks set₀ w₀ set w = workers - w
+μ-loop made workers first row leaves blocks set₀ w₀ set w = workers - w
 
 loop-holds : tie.Need-loop-holds Inv-loop μ-loop
 unfolding readyBelow bits

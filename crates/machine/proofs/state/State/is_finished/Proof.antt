@@ -1,7 +1,6 @@
 -- `machine::state::State::is_finished` meets its contract: the workers from w on are done, so those below w decide.
 use mathlib.Core.Path.{_≡_, _∙_}
 use Prim.Native.Nat.{_-_, _≤_}
-use native.Mathlib.Omega.{arith}
 use borrow.Author.Needs.{needs}
 use borrow.Author.Tests.{le-leb, lt-leb}
 use Rattle.machine.specs.Record.{allBelow, done}
@@ -10,10 +9,10 @@ use Rattle.machine.proofs.state.State.is_finished.Statement.{statement}
 use Rattle.machine.proofs.state.State.is_finished.Tie as tie
 
 abbrev Inv-loop : tie.InvT-loop
-Inv-loop self workers updates w₀ w = (w ≤ workers) × (allBelow (done updates (self .made)) w ≡ allBelow (done updates (self .made)) workers)
+Inv-loop self workers first w₀ w = (w ≤ workers) × (allBelow (done first (self .made)) w ≡ allBelow (done first (self .made)) workers)
 
 abbrev μ-loop : tie.MeasureT-loop
-μ-loop self workers updates w₀ w = w
+μ-loop self workers first w₀ w = w
 
 loop-holds : tie.Need-loop-holds Inv-loop μ-loop
 loop-holds c = search needs
@@ -21,32 +20,26 @@ loop-holds c = search needs
 sub-w : tie.Need-sub-w Inv-loop μ-loop
 sub-w c = search needs
 
+accesses-requires : tie.Need-accesses-requires Inv-loop μ-loop
+accesses-requires c κs = (search needs, c .before .before .before .before .pre .1)
+
 moves-requires : tie.Need-moves-requires Inv-loop μ-loop
 moves-requires c κs = search needs
 
-mul-if1 : tie.Need-mul-if1 Inv-loop μ-loop
-mul-if1 c = search needs
-
-array-read-if1 : tie.Need-array-read-if1 Inv-loop μ-loop
-array-read-if1 c = search needs
-
-mul-if1-2 : tie.Need-mul-if1-2 Inv-loop μ-loop
-mul-if1-2 c = omega (arith, c .before .before .before .pre .1 (c .before .before .loop .w - 1))
-
 returns : tie.Need-returns Inv-loop μ-loop
 returns c =
-    let l = c .before .before .before in
+    let l = c .before .before .before .before .before in
     let a = l .before .args in
-    below-fail (done (a .t2) (a .self .made)) (l .loop .w) (search needs) (lt-leb _ _ (rw (c .before .moves .ensures) at (c .if1 .taken))) ∙ l .loop .inv .1
+    below-fail (done (a .t2) (a .self .made)) (l .loop .w) (search needs) (lt-leb _ _ (rw (c .before .accesses .ensures, c .before .before .before .moves .ensures) at (c .if1 .taken))) ∙ l .loop .inv .1
 
 loop-less : tie.Need-loop-less Inv-loop μ-loop
 loop-less c = search needs
 
 loop-again : tie.Need-loop-again Inv-loop μ-loop
 loop-again c =
-    let l = c .before .before .before in
+    let l = c .before .before .before .before .before in
     let a = l .before .args in
-    (search needs, below-pass (done (a .t2) (a .self .made)) (l .loop .w) (search needs) (le-leb _ _ (rw (c .before .moves .ensures) at (c .if1 .left))) ∙ l .loop .inv .1)
+    (search needs, below-pass (done (a .t2) (a .self .made)) (l .loop .w) (search needs) (le-leb _ _ (rw (c .before .accesses .ensures, c .before .before .before .moves .ensures) at (c .if1 .left))) ∙ l .loop .inv .1)
 
 returns-2 : tie.Need-returns-2 Inv-loop μ-loop
 returns-2 c =
@@ -63,9 +56,7 @@ is-finished-spec =
     loop-holds
     sub-w
     moves-requires
-    mul-if1
-    array-read-if1
-    mul-if1-2
+    accesses-requires
     returns
     loop-less
     loop-again

@@ -11,7 +11,7 @@ use Rattle.machine.proofs.state.State.pick.Tie as tie
 
 -- from a pick that is taken back to the function's entry
 abbrev entry : tie.After-known-told2 → tie.Start
-entry c = c .before .before .before .before .before .before .before .before .before .before .before
+entry c = c .before .before .before .before .before .before .before .before .before
 
 step-requires : tie.Need-step-requires
 step-requires c κs = search needs
@@ -25,14 +25,14 @@ same-length c = search needs
 returns : tie.Need-returns
 returns c j ends e laid t waiting =
     let x = c .before .before .before .before in
-    pick-refused j laid t e (x .before .before .before .before .before .before .before .pre .0) waiting (x .step .ensures) (c .before .answer .given .1)
+    pick-refused j laid t e (x .before .before .before .before .before .pre .0) waiting (x .step .ensures) (c .before .answer .given .1)
 
 enum-known-answer-2 : tie.Need-enum-known-answer-2
 enum-known-answer-2 c = search needs
 
 -- a pick that is taken is of one of sixteen workers, and its count is inside
 bounds : (c : tie.After-known-told2) → let a = entry c .args in Bounds (a .w) (getD (a .t1 .made) (a .w) 0)
-bounds c = let s = entry c in step-bounds (s .pre .0) (s .pre .1 .inside) (s .args .blocks .now) (c .before .before .before .before .step .ensures) (c .before .answer2 .given .1)
+bounds c = let s = entry c in step-bounds (s .pre .0) (s .pre .1 .bounded) (s .args .blocks .now) (c .before .before .before .before .step .ensures) (c .before .answer2 .given .1)
 
 in-range : (c : tie.After-known-told2) → SFits w64 (c .before .answer2 .given .0 .0)
 in-range c = search needs

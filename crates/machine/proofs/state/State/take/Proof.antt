@@ -1,5 +1,5 @@
 -- `machine::state::State::take` meets its contract: k picks are gone through.
-use mathlib.Core.Path.{_≡_, refl, _∙_}
+use mathlib.Core.Path.{_≡_, refl, ap, _∙_}
 use mathlib.Core.Logic.{⊎-elim}
 use Prim.Native.Nat.{_-_, _≤_}
 use native.Mathlib.Omega.{arith}
@@ -9,6 +9,8 @@ use mir.Val.{SFits}
 use mir.Facts.{toZ-ofZ}
 use borrow.Author.Needs.{needs}
 use Rattle.base.proofs.Booleans.{fails, holds}
+use Rattle.plan.specs.Groups.{Group}
+use Rattle.plan.specs.Checks.{recordAt}
 use Rattle.machine.specs.Record.{stateOf}
 use Rattle.steps.proofs.TableSteps.{Bounds, step-bounds}
 use Rattle.machine.proofs.RunTurns.{Running, running-start, running-none, running-halt, running-past, running-renewed, running-on}
@@ -16,36 +18,46 @@ use Rattle.machine.proofs.state.State.take.Statement.{statement}
 use Rattle.machine.proofs.state.State.take.Tie as tie
 
 abbrev Inv-loop : tie.InvT-loop
-Inv-loop sums₀ schedule rule workers groups count counts first row begins leaves ends starts displacements order at beside self₀ blocks₀ stops₀ taken₀ k₀ sums self blocks stops taken k =
+Inv-loop sums₀ schedule rule groups count ends first row begins leaves displaced at beside self₀ workers blocks₀ stops₀ taken₀ k₀ sums self blocks stops taken k =
     (k ≤ length schedule) × (taken ≤ k) × (length sums ≡ length sums₀)
     × Running (record {
       crew = workers;
       count = count;
       groups = groups;
-      counts = counts;
+      ends = ends;
       first = first;
       row = row;
       begins = begins;
       leaves = leaves;
-      ends = ends;
-      starts = starts;
-      displacements = displacements;
-      order = order;
+      displaced = displaced;
       at = at;
       beside = beside;
     }) rule (stateOf self₀ sums₀) schedule taken k (stateOf self sums) blocks stops
 
 abbrev μ-loop : tie.MeasureT-loop
-μ-loop sums₀ schedule rule workers groups count counts first row begins leaves ends starts displacements order at beside self₀ blocks₀ stops₀ taken₀ k₀ sums self blocks stops taken k =
+μ-loop sums₀ schedule rule groups count ends first row begins leaves displaced at beside self₀ workers blocks₀ stops₀ taken₀ k₀ sums self blocks stops taken k =
     length schedule - k
 
 -- from a turn back to the function's entry
 abbrev entry : tie.In-loop Inv-loop μ-loop → tie.Start Inv-loop μ-loop
-entry t = t .before .before .before .before .before .before .before .before .before .before .before .before
+entry t = t .before .before .before .before .before .before .before .before .before .before .before
 
 -- from a pick that is taken back to its turn
 abbrev turn : tie.After-known-told2 Inv-loop μ-loop → tie.In-loop Inv-loop μ-loop
 turn c = c .before .before .before .before .before .before .before .before .before .before .before
+
+-- the whole group, with all workers, of whom there are at most sixteen
+abbrev whole : tie.In-loop Inv-loop μ-loop → tie.After-record-at Inv-loop μ-loop
+whole t = t .before .before .before .before .before .before .before .before
+
+crew : (r : tie.After-record-at Inv-loop μ-loop) → r .record-at .result .workers ≡ recordAt (r .before .before .before .args .groups .now) 0 .workers
+crew r = ap (λ (g : Group). g .workers) (r .record-at .ensures .is)
+
+few : (r : tie.After-record-at Inv-loop μ-loop) → r .record-at .result .workers ≤ 16
+few r = omega (arith, crew r, r .before .before .before .pre .0)
+
+record-at-requires : tie.Need-record-at-requires Inv-loop μ-loop
+record-at-requires c κs = let R = c .before .before .pre .1 in omega (arith, R .long, R .some)
 
 blocked-groups-requires : tie.Need-blocked-groups-requires Inv-loop μ-loop
 blocked-groups-requires c κs = search needs
@@ -54,18 +66,18 @@ next-ends-requires : tie.Need-next-ends-requires Inv-loop μ-loop
 next-ends-requires c κs = search needs
 
 loop-holds : tie.Need-loop-holds Inv-loop μ-loop
-loop-holds c = (search needs, search needs, refl, running-start (search needs) (c .before .before .before .blocked-groups .ensures) (c .next-ends .ensures))
+loop-holds c = (search needs, search needs, refl, running-start (crew (c .before .before .before .before .before .before)) (let g = c .before .before .before .before .before .before .before .before .before .good in search needs) (c .before .before .before .blocked-groups .ensures) (c .next-ends .ensures))
 
 shared-slice-read-w : tie.Need-shared-slice-read-w Inv-loop μ-loop
 shared-slice-read-w c = search needs
 
 cast-w : tie.Need-cast-w Inv-loop μ-loop
-cast-w c = omega (arith, c .shared-slice-known5 .given (c .before .before .loop .k))
+cast-w c = omega (arith, c .shared-slice-known3 .given (c .before .before .loop .k))
 
 step-requires : tie.Need-step-requires Inv-loop μ-loop
 step-requires c κs =
     let t = c .before .before .before .before .before .before in
-    (entry t .pre .0, rw (t .before .loop .inv .2) (entry t .pre .2))
+    (few (whole t), rw (t .before .loop .inv .2) (entry t .pre .2))
 
 enum-known-answer : tie.Need-enum-known-answer Inv-loop μ-loop
 enum-known-answer c = search needs
@@ -91,7 +103,7 @@ returns c =
     let p = c .before .before in
     let t = refused p in
     let s = entry t in
-    rw (c .ended .ensures) (running-halt (t .before .loop .inv .3) (s .pre .0) (s .pre .1) (t .loop-test .taken) (stepped p .step .ensures) (p .before .before .answer .given .1) (fails (p .passes .ensures) (c .before .if1 .taken)))
+    rw (c .ended .ensures) (running-halt (t .before .loop .inv .3) (few (whole t)) (s .pre .1) (t .loop-test .taken) (stepped p .step .ensures) (p .before .before .answer .given .1) (fails (p .passes .ensures) (c .before .if1 .taken)))
 
 add-k : tie.Need-add-k Inv-loop μ-loop
 add-k c = let t = refused (c .before) in omega (arith, t .loop-test .taken, entry t .good .1 .1 .0 .0)
@@ -108,7 +120,7 @@ loop-again c =
       omega (arith, t .loop-test .taken),
       omega (arith, l .loop .inv .1),
       stepped p .step .kept .1 .1 .0 ∙ l .loop .inv .2,
-      running-past (l .loop .inv .3) (s .pre .0) (s .pre .1) (t .loop-test .taken) (stepped p .step .ensures) (p .before .before .answer .given .1) (holds (p .passes .ensures) (c .if1 .left)),
+      running-past (l .loop .inv .3) (few (whole t)) (s .pre .1) (t .loop-test .taken) (stepped p .step .ensures) (p .before .before .answer .given .1) (holds (p .passes .ensures) (c .if1 .left)),
     )
 
 enum-known-answer-2 : tie.Need-enum-known-answer-2 Inv-loop μ-loop
@@ -119,7 +131,7 @@ bounds : (c : tie.After-known-told2 Inv-loop μ-loop) → let l = turn c .before
 bounds c =
     let t = turn c in
     let s = entry t in
-    step-bounds (s .pre .0) (s .pre .2 .inside) (t .before .loop .blocks) (c .before .before .before .before .step .ensures) (c .before .answer2 .given .1)
+    step-bounds (few (whole t)) (s .pre .2 .bounded) (t .before .loop .blocks) (c .before .before .before .before .step .ensures) (c .before .answer2 .given .1)
 
 in-range : (c : tie.After-known-told2 Inv-loop μ-loop) → SFits w64 (c .before .answer2 .given .0 .0)
 in-range c = search needs
@@ -182,8 +194,8 @@ loop-again-2 c =
       omega (arith, l .loop .inv .1),
       x .step .kept .1 .1 .0 ∙ l .loop .inv .2,
       ⊎-elim
-          (λ r. rw (r .7, r .8, held) (running-renewed (l .loop .inv .3) (s .pre .0) (s .pre .1) (t .loop-test .taken) (x .step .ensures) (o .before .answer2 .given .1) (r .3 .ensures) (r .6 .ensures)))
-          (λ r. rw (r .1, r .2, held) (running-on (l .loop .inv .3) (s .pre .0) (s .pre .1) (t .loop-test .taken) (x .step .ensures) (o .before .answer2 .given .1) (omega (arith, l .loop .inv .3 .long)) (r .0 .left)))
+          (λ r. rw (r .7, r .8, held) (running-renewed (l .loop .inv .3) (few (whole t)) (s .pre .1) (t .loop-test .taken) (x .step .ensures) (o .before .answer2 .given .1) (r .3 .ensures) (r .6 .ensures)))
+          (λ r. rw (r .1, r .2, held) (running-on (l .loop .inv .3) (few (whole t)) (s .pre .1) (t .loop-test .taken) (x .step .ensures) (o .before .answer2 .given .1) (omega (arith, l .loop .inv .3 .long)) (r .0 .left)))
           (c .if2 .came),
     )
 
@@ -202,6 +214,7 @@ take-spec =
     (tie.spec
     Inv-loop
     μ-loop
+    record-at-requires
     blocked-groups-requires
     next-ends-requires
     loop-holds

@@ -1,4 +1,4 @@
--- `tables::upper::positions` meets its contract: the rows before position p have their positions.
+-- `order::positions` meets its contract: the rows before position p have their positions.
 use mathlib.Core.Path.{_≡_, sym, subst, _∙_}
 use Prim.Native.Nat.{ℕ, _-_, _≤_}
 use lib.ListN.{getD, take}
@@ -7,8 +7,8 @@ use Rattle.plan.proofs.Once.{once}
 use Rattle.upper.specs.Upper.{Positions}
 use Rattle.upper.proofs.PositionTable.{positions-none, positions-next, row-below}
 use borrow.Author.Needs.{needs}
-use Rattle.upper.proofs.positions.Statement.{statement}
-use Rattle.upper.proofs.positions.Tie as tie
+use Rattle.upper.proofs.order.positions.Statement.{statement}
+use Rattle.upper.proofs.order.positions.Tie as tie
 use Rattle.base.proofs.slices.wide_at.Reads as wide-at-reads
 
 abbrev Inv-loop : tie.InvT-loop
