@@ -3,4 +3,4 @@ pub mod Ascii
 pub mod Integers
 pub mod Refusals
 pub mod Replies
-pub mod Answers
+pub mod Verdicts

@@ -2,61 +2,61 @@
 use Prim.Native.Nat.{ℕ}
 
 -- "line 1, its line feed included, differs"
-abbrev pub header : ℕ
-header = 1
+abbrev pub badHeader : ℕ
+badHeader = 1
 
 -- "text too long .. or a line breaks the form, is missing or too many"
-abbrev pub form : ℕ
-form = 2
+abbrev pub badForm : ℕ
+badForm = 2
 
 -- "rows differ from columns, or n or the entry count is outside its limits"
-abbrev pub size : ℕ
-size = 3
+abbrev pub badSize : ℕ
+badSize = 3
 
 -- "entry above the diagonal, outside n, row and column of an earlier line again, or value too large"
-abbrev pub entry : ℕ
-entry = 4
+abbrev pub badEntry : ℕ
+badEntry = 4
 
 -- "lent rows are no matrix as above"
-abbrev pub matrix : ℕ
-matrix = 5
+abbrev pub notMatrix : ℕ
+notMatrix = 5
 
 -- "movement list has not n numbers (0), or one is too large (its index)"
-abbrev pub displacement : ℕ
-displacement = 6
+abbrev pub badDisplacement : ℕ
+badDisplacement = 6
 
 -- "workers or p outside limits"
-abbrev pub parameter : ℕ
-parameter = 7
+abbrev pub badParameter : ℕ
+badParameter = 7
 
 -- "plan not sound for this matrix"
 abbrev pub unsound : ℕ
 unsound = 8
 
 -- "a lent list is too short (length needed ..)"
-abbrev pub short : ℕ
-short = 9
+abbrev pub tooShort : ℕ
+tooShort = 9
 
 -- "pick names no worker of the plan (pick index)"
-abbrev pub stranger : ℕ
-stranger = 10
+abbrev pub noWorker : ℕ
+noWorker = 10
 
 -- "list of sums not n long, or a worker's count past its moves"
-abbrev pub state : ℕ
-state = 11
+abbrev pub notState : ℕ
+notState = 11
 
 -- "worker has made all its moves (pick index)"
-abbrev pub done : ℕ
-done = 12
+abbrev pub allDone : ℕ
+allDone = 12
 
 -- "worker waits (pick index)"
-abbrev pub waiting : ℕ
-waiting = 13
+abbrev pub mustWait : ℕ
+mustWait = 13
 
 -- "the sum to store passes 64 bits (pick index)"
 abbrev pub overflow : ℕ
 overflow = 14
 
 -- "force list wanted before every move is made"
-abbrev pub early : ℕ
-early = 15
+abbrev pub tooEarly : ℕ
+tooEarly = 15

@@ -4,7 +4,7 @@ use mathlib.Core.List.{List, [], _∷_, _++_}
 use Prim.Native.Nat.{ℕ}
 use lib.Dec.{leb}
 use lib.ListN.{length, drop}
-use Rattle.base.specs.Refusals as no
+use Rattle.base.specs.Refusals as why
 
 -- "Each is a number and a place (0 unless named); an accepted call has number 0": accepted, with the call's count, or refused
 pub data Reply : Type 0 where
@@ -28,7 +28,7 @@ module _ {ℓ} {A : Type ℓ} where
 
 -- "9: a lent list is too short (length needed ..)"; room is the list's length
 abbrev pub roomFor : (needed room : ℕ) → Check
-roomFor needed room = record { holds = leb needed room; number = no.short; place = needed }
+roomFor needed room = record { holds = leb needed room; number = why.tooShort; place = needed }
 
 module _ {ℓ} {A : Type ℓ} where
   -- A lent list after a call: "Places past the answer are unchanged", and on a refusal the whole list is

@@ -11,7 +11,7 @@ use lib.IntN.{ℤ}
 use lib.ListN.{length, take, drop}
 use lib.Seq.{take-all, length-take-le}
 use borrow.Author.Tests.{eqb-true, ne-eqb, leb-true, leb-false}
-use Rattle.base.specs.Refusals as no
+use Rattle.base.specs.Refusals as why
 use Rattle.base.specs.Replies.{Check, inTurn}
 use Rattle.base.proofs.Booleans.{conj-at, leb-min}
 use Rattle.base.proofs.Replies.{inTurn-same}
@@ -25,7 +25,7 @@ use Rattle.plan.proofs.Cut.{cut-plan, plan-kept}
 use Rattle.words.specs.LittleEndian.{unsigned, signed}
 use Rattle.run.specs.Job.{Job, jobOf}
 use Rattle.run.specs.Machine.{State, isState}
-use Rattle.run.specs.Calls.{Call, Answer, refused, answerOf, afterOf, stateCheck, answer, after, jobChecks, answerLent, afterLent, forcesLent}
+use Rattle.run.specs.Calls.{Call, Answer, denied, answerOf, afterOf, stateCheck, answer, after, jobChecks, answerLent, afterLent, forcesLent}
 use Rattle.calls.specs.Performed.{asCall, Performed}
 use Rattle.calls.specs.declared.Call as asked
 use Rattle.calls.specs.declared.Call.the-variants.{Picks, ReadySet, ForceList}
@@ -73,7 +73,7 @@ module _ (m : Matrix) (x : List ℤ) (order groups : List ℕ) (count : ℕ) (c 
   -- cut, the lists give the same answer
   lent-cut : (s : State) → answerLent (cut m) (take maxStarts x) (take maxRows order) (take maxFields groups) count s c ≡ answerLent m x order groups count s c
   unfolding answerLent
-  lent-cut s = job-cut refused (λ j. answer j s c) (λ m ok x p. answer-same m ok x p s c) m x order groups count
+  lent-cut s = job-cut denied (λ j. answer j s c) (λ m ok x p. answer-same m ok x p s c) m x order groups count
 
   -- .. and leave the same state
   left-cut : (s : State) → afterLent (cut m) (take maxStarts x) (take maxRows order) (take maxFields groups) count s c ≡ afterLent m x order groups count s c
@@ -86,7 +86,7 @@ module _ (m : Matrix) (x : List ℤ) (order groups : List ℕ) (count : ℕ) (s 
   unfolding answerLent answer answerOf jobChecks matrixCheck jobOf
   room-cut Picks ws = refl
   room-cut ReadySet ws = refl
-  room-cut ForceList ws = inTurn-same refused (matrixCheck m) _ _ _ _ (λ ok. rw (min-comm room maxRows, leb-min (m .n) maxRows room (matrix-facts m ok .few)))
+  room-cut ForceList ws = inTurn-same denied (matrixCheck m) _ _ _ _ (λ ok. rw (min-comm room maxRows, leb-min (m .n) maxRows room (matrix-facts m ok .few)))
 
   left-room : (call : asked.Call) (ws : List ℕ) → afterLent m x order groups count s (asCall call ws (min room maxRows)) ≡ afterLent m x order groups count s (asCall call ws room)
   unfolding afterLent after afterOf
@@ -107,7 +107,7 @@ performed-whole m x order groups {count} ed ey eo eg call ws room e {s} {old} h 
 -- ---- the state
 
 -- without n sums there is none
-no-sums : (j : Job) (s : State) (c : Call) → length (s .sums) ≢ j .matrix .n → answer j s c ≡ refused no.state 0
+no-sums : (j : Job) (s : State) (c : Call) → length (s .sums) ≢ j .matrix .n → answer j s c ≡ denied why.notState 0
 unfolding answer stateCheck isState inTurn
 no-sums j s c h = rw (ne-eqb (length (s .sums)) (j .matrix .n) h)
 
@@ -118,11 +118,11 @@ module _ (m : Matrix) (x : List ℤ) (order groups : List ℕ) (count : ℕ) (c 
   -- sums that are cut to one more than any matrix has rows stay too many
   sums-cut : (made : List ℕ) (held sums : List ℤ) → with made held (take maxStarts sums) ≡ with made held sums
   unfolding answerLent jobChecks matrixCheck jobOf
-  sums-cut made held sums = inTurn-same refused (matrixCheck m) _ _ _ _ (λ ok. go (matrix-facts m ok .few) (leb (length sums) maxStarts) refl)
+  sums-cut made held sums = inTurn-same denied (matrixCheck m) _ _ _ _ (λ ok. go (matrix-facts m ok .few) (leb (length sums) maxStarts) refl)
     where
       go : m .n ≤ maxRows → (b : Bool) → leb (length sums) maxStarts ≡ b
-          → inTurn refused (displacementCheck (m .n) x ∷ planCheck m order groups count ∷ []) (answer (jobOf m x order groups count) (record { made = made; held = held; sums = take maxStarts sums }) c)
-          ≡ inTurn refused (displacementCheck (m .n) x ∷ planCheck m order groups count ∷ []) (answer (jobOf m x order groups count) (record { made = made; held = held; sums = sums }) c)
+          → inTurn denied (displacementCheck (m .n) x ∷ planCheck m order groups count ∷ []) (answer (jobOf m x order groups count) (record { made = made; held = held; sums = take maxStarts sums }) c)
+          ≡ inTurn denied (displacementCheck (m .n) x ∷ planCheck m order groups count ∷ []) (answer (jobOf m x order groups count) (record { made = made; held = held; sums = sums }) c)
       go few true e = rw (take-all maxStarts sums (leb-true (length sums) maxStarts e))
       go few false e =
           let long = leb-false (length sums) maxStarts e in
@@ -133,9 +133,9 @@ module _ (m : Matrix) (x : List ℤ) (order groups : List ℕ) (count : ℕ) (c 
           )
 
   -- with no sums there is none
-  none-lent : (made : List ℕ) (held : List ℤ) → with made held [] ≡ inTurn refused (jobChecks m x order groups count) (refused no.state 0)
+  none-lent : (made : List ℕ) (held : List ℤ) → with made held [] ≡ inTurn denied (jobChecks m x order groups count) (denied why.notState 0)
   unfolding answerLent jobChecks matrixCheck jobOf
-  none-lent made held = inTurn-same refused (matrixCheck m) _ _ _ _ (λ ok.
+  none-lent made held = inTurn-same denied (matrixCheck m) _ _ _ _ (λ ok.
       let some = matrix-facts m ok .some in
       rw (no-sums (jobOf m x order groups count) (record { made = made; held = held; sums = [] }) c (λ q. omega arith)))
 
@@ -146,17 +146,17 @@ module _ (m : Matrix) (x : List ℤ) (order groups : List ℕ) (count : ℕ) (c 
     decoded = go (eqb (length state) stateBytes) refl lent
       where
         go : (b : Bool) → eqb (length state) stateBytes ≡ b → zs ≡ cond b (take maxStarts (signed 8 sums)) []
-            → with (r .made) (r .held) zs ≡ cond b (answerLent m x order groups count (stateIn state sums) c) (inTurn refused (jobChecks m x order groups count) (refused no.state 0))
+            → with (r .made) (r .held) zs ≡ cond b (answerLent m x order groups count (stateIn state sums) c) (inTurn denied (jobChecks m x order groups count) (denied why.notState 0))
         go true e ez = let d = is (eqb-true (length state) stateBytes e) in rw (d .made, d .held, ez) (sums-cut (unsigned 4 (take countBytes state)) (signed 8 (drop countBytes state)) (signed 8 sums))
         go false e ez = rw ez (none-lent (r .made) (r .held))
 
 -- a call that ends in a refusal is refused in any case
-pub always-refused : (cs : List Check) (q p : ℕ) → (number : ℕ) × (place : ℕ) × (inTurn refused cs (refused q p) ≡ refused number place)
+pub always-refused : (cs : List Check) (q p : ℕ) → (number : ℕ) × (place : ℕ) × (inTurn denied cs (denied q p) ≡ denied number place)
 unfolding inTurn
 always-refused [] q p = (q, p, refl)
 always-refused (c ∷ cs) q p = go (c .holds) (always-refused cs q p)
   where
-    go : (b : Bool) → ((number : ℕ) × (place : ℕ) × (inTurn refused cs (refused q p) ≡ refused number place))
-        → (number : ℕ) × (place : ℕ) × (cond b (inTurn refused cs (refused q p)) (refused (c .number) (c .place)) ≡ refused number place)
+    go : (b : Bool) → ((number : ℕ) × (place : ℕ) × (inTurn denied cs (denied q p) ≡ denied number place))
+        → (number : ℕ) × (place : ℕ) × (cond b (inTurn denied cs (denied q p)) (denied (c .number) (c .place)) ≡ denied number place)
     go true r = r
     go false r = (c .number, c .place, refl)

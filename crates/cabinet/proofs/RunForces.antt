@@ -12,14 +12,14 @@ use lib.Seq.{take-all, take-append-le, length-take-le}
 use types.Run.{OneOf}
 use denote.Enum.Declared.{tagOf}
 use borrow.Author.Tests.{leb-true}
-use Rattle.base.specs.Refusals as no
+use Rattle.base.specs.Refusals as why
 use Rattle.base.specs.Replies.{Check, inTurn, lent}
 use Rattle.base.proofs.Fill.{length-made}
 use Rattle.matrix.specs.Limits.{maxRows}
 use Rattle.matrix.specs.Matrix.{Matrix}
 use Rattle.run.specs.Job.{jobOf}
 use Rattle.run.specs.Machine.{State, positionOf, over, original}
-use Rattle.run.specs.Calls.{Answer, forces, refused, pickedOf, readyOf, forcesOf, answerOf, stateCheck, answer, jobChecks, answerLent}
+use Rattle.run.specs.Calls.{Answer, forces, denied, pickedOf, readyOf, forcesOf, answerOf, stateCheck, answer, jobChecks, answerLent}
 use Rattle.calls.specs.Performed.{asCall, asAnswer, Performed}
 use Rattle.calls.specs.declared.Call as asked
 use Rattle.calls.specs.declared.Call.the-variants.{Picks, ReadySet, ForceList}
@@ -35,12 +35,12 @@ abbrev Given : (n room : ℕ) → Answer → Type 0
 Given n room a = (zs : List ℤ) → a ≡ forces zs → (length zs ≡ n) × (n ≤ room)
 
 -- checks that refuse give no others
-given-turn : (n room : ℕ) (cs : List Check) (a : Answer) → Given n room a → Given n room (inTurn refused cs a)
+given-turn : (n room : ℕ) (cs : List Check) (a : Answer) → Given n room a → Given n room (inTurn denied cs a)
 unfolding inTurn
 given-turn n room [] a g = g
 given-turn n room (c ∷ cs) a g = go (c .holds) (given-turn n room cs a g)
   where
-    go : (b : Bool) → Given n room (inTurn refused cs a) → Given n room (cond b (inTurn refused cs a) (refused (c .number) (c .place)))
+    go : (b : Bool) → Given n room (inTurn denied cs a) → Given n room (cond b (inTurn denied cs a) (denied (c .number) (c .place)))
     go true h = h
     go false h = λ zs e. absurd (let z : _≡_ {A = ℕ} 0 1 = cc in omega arith)
 

@@ -12,7 +12,7 @@ use lib.Seq.{take-at, take-all, length-take-le}
 use types.Run.{OneOf}
 use denote.Enum.Declared.{tagOf}
 use borrow.Author.Tests.{eqb-true, eq-eqb}
-use Rattle.base.specs.Refusals as no
+use Rattle.base.specs.Refusals as why
 use Rattle.base.specs.Replies as replies
 use Rattle.base.specs.Replies.{Check, inTurn}
 use Rattle.base.proofs.Booleans.{and-left}
@@ -23,7 +23,7 @@ use Rattle.matrix.proofs.Matrix.{matrix-facts}
 use Rattle.plan.specs.Sound.{maxWorkers}
 use Rattle.run.specs.Job.{Job, jobOf, Accepted}
 use Rattle.run.specs.Machine.{State, steps, over, original, isState, countsFine}
-use Rattle.run.specs.Calls.{Call, picks, readySet, forceList, Answer, picked, refused, placeOf, pickedOf, readyOf, forcesOf, answerOf, stateCheck, answer, jobChecks, answerLent, afterLent}
+use Rattle.run.specs.Calls.{Call, picks, readySet, forceList, Answer, picked, denied, placeOf, pickedOf, readyOf, forcesOf, answerOf, stateCheck, answer, jobChecks, answerLent, afterLent}
 use Rattle.machine.specs.Record.{stateOf}
 use Rattle.machine.specs.declared.state.State as code
 use Rattle.calls.specs.Performed.{asAnswer, Performed}
@@ -42,13 +42,13 @@ use Rattle.cabinet.proofs.TakenFew.{taken-few}
 -- ---- a call that took picks, or none, and was not refused
 
 -- its checks pass
-turn-picked : (cs : List Check) (a : Answer) {t q p : ℕ} → picked t q p ≡ inTurn refused cs a → (inTurn replies.refused cs (replies.accepted 0) ≡ replies.accepted 0) × (picked t q p ≡ a)
+turn-picked : (cs : List Check) (a : Answer) {t q p : ℕ} → picked t q p ≡ inTurn denied cs a → (inTurn replies.refused cs (replies.accepted 0) ≡ replies.accepted 0) × (picked t q p ≡ a)
 unfolding inTurn
 turn-picked [] a e = (refl, e)
 turn-picked (c ∷ cs) a {t} {q} {p} e = go (c .holds) (turn-picked cs a) e
   where
-    go : (b : Bool) → (picked t q p ≡ inTurn refused cs a → (inTurn replies.refused cs (replies.accepted 0) ≡ replies.accepted 0) × (picked t q p ≡ a))
-        → picked t q p ≡ cond b (inTurn refused cs a) (refused (c .number) (c .place))
+    go : (b : Bool) → (picked t q p ≡ inTurn denied cs a → (inTurn replies.refused cs (replies.accepted 0) ≡ replies.accepted 0) × (picked t q p ≡ a))
+        → picked t q p ≡ cond b (inTurn denied cs a) (denied (c .number) (c .place))
         → (cond b (inTurn replies.refused cs (replies.accepted 0)) (replies.refused (c .number) (c .place)) ≡ replies.accepted 0) × (picked t q p ≡ a)
     go true h e = h e
     go false h e = absurd (let z : _≡_ {A = ℕ} 0 1 = cc in omega arith)
@@ -118,9 +118,9 @@ module _ (m : Matrix) (x : List ℤ) (order groups : List ℕ) (count : ℕ) (c 
   whole = go (eqb (length state) stateBytes) refl e
     where
       go : (b : Bool) → eqb (length state) stateBytes ≡ b
-          → cond b (answerLent m x order groups count (stateIn state sums) c) (inTurn refused (jobChecks m x order groups count) (refused no.state 0)) ≡ picked k q p → length state ≡ stateBytes
+          → cond b (answerLent m x order groups count (stateIn state sums) c) (inTurn denied (jobChecks m x order groups count) (denied why.notState 0)) ≡ picked k q p → length state ≡ stateBytes
       go true t f = eqb-true (length state) stateBytes t
-      go false t f = let a = always-refused (jobChecks m x order groups count) no.state 0 in absurd (let g = a .2 in let z : _≡_ {A = ℕ} 0 1 = cc in omega arith)
+      go false t f = let a = always-refused (jobChecks m x order groups count) why.notState 0 in absurd (let g = a .2 in let z : _≡_ {A = ℕ} 0 1 = cc in omega arith)
 
   -- all its sums are lent on
   all-lent : zs ≡ signed 8 sums

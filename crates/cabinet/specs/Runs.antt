@@ -6,13 +6,13 @@ use Prim.Native.Nat.{ℕ, zero, suc, _+_, _*_}
 use lib.Dec.{eqb}
 use lib.IntN.{ℤ}
 use lib.ListN.{length, take, drop}
-use Rattle.base.specs.Refusals as no
+use Rattle.base.specs.Refusals as why
 use Rattle.base.specs.Replies as replies
 use Rattle.base.specs.Replies.{Reply, inTurn}
 use Rattle.matrix.specs.Matrix.{Matrix}
 use Rattle.plan.specs.Sound.{maxWorkers}
 use Rattle.run.specs.Machine.{State}
-use Rattle.run.specs.Calls.{Call, Answer, picked, isReady, forces, refused, jobChecks, answerLent}
+use Rattle.run.specs.Calls.{Call, Answer, picked, isReady, forces, denied, jobChecks, answerLent}
 use Rattle.words.specs.LittleEndian.{unsigned, signed, unsignedBytes, signedBytes, stored}
 use Rattle.lent.specs.Word.{word, Answered}
 
@@ -30,7 +30,7 @@ stateIn state sums = record { made = unsigned 4 (take countBytes state); held = 
 -- a call's answer: 5, 6, 8 come before 11, which a state of another length is refused with, too
 unfoldable pub answerIn : Matrix → List ℤ → (order groups : List ℕ) (count : ℕ) (state sums : List ℕ) → Call → Answer
 answerIn m x order groups count state sums c =
-    cond (eqb (length state) stateBytes) (answerLent m x order groups count (stateIn state sums) c) (inTurn refused (jobChecks m x order groups count) (refused no.state 0))
+    cond (eqb (length state) stateBytes) (answerLent m x order groups count (stateIn state sums) c) (inTurn denied (jobChecks m x order groups count) (denied why.notState 0))
 
 -- the reply that a call's word says: picks taken, or the number and place that ended them;
 -- sixteen bits, and above them the count of those set; 0 for forces
@@ -39,7 +39,7 @@ replyTo (picked taken zero place) = replies.accepted taken
 replyTo (picked taken (suc k) place) = replies.refused (suc k) place
 replyTo (isReady bits count) = replies.accepted (bits + count * 65536)
 replyTo (forces zs) = replies.accepted 0
-replyTo (refused number place) = replies.refused number place
+replyTo (denied number place) = replies.refused number place
 
 -- ---- what is left in the lists that a call fills
 
@@ -48,7 +48,7 @@ unfoldable pub forceBytes : Answer → List ℕ
 forceBytes (forces zs) = signedBytes 8 zs
 forceBytes (picked taken number place) = []
 forceBytes (isReady bits count) = []
-forceBytes (refused number place) = []
+forceBytes (denied number place) = []
 
 -- a force-list call with this answer: the returned word, and the lent list after it
 abbrev pub ForcesAnswered : Answer → (old : List ℕ) (returned : ℕ) (new : List ℕ) → Type 0
@@ -64,7 +64,7 @@ unfoldable pub leftBy : Answer → (new old : List ℕ) → List ℕ
 leftBy (picked taken number place) new old = stored new old
 leftBy (isReady bits count) new old = old
 leftBy (forces zs) new old = old
-leftBy (refused number place) new old = old
+leftBy (denied number place) new old = old
 
 -- a call of picks with this answer that leaves this state: the returned word, and the lent lists after it
 pub record PicksAnswered (a : Answer) (s : State) (state sums : List ℕ) (returned : ℕ) (newState newSums : List ℕ) : Type 0 where

@@ -1,5 +1,5 @@
 // The word of an answer to a call on a run.
-use base::Answer;
+use base::Verdict;
 use calls::Response;
 ghost use mathlib.Core.Path.{_≡_};
 ghost use mathlib.Core.List.{List};
@@ -19,7 +19,7 @@ fn word_of_end(taken: usize, number: u32, place: usize) -> u64
     if number == 0 {
         return taken as u64;
     }
-    lent::word::word_of(Answer::Refused(number, place as u32))
+    lent::word::word_of(Verdict::Refused(number, place as u32))
 }
 
 // .. or the bits in the low sixteen, and above them the count of those set; 0 for forces; a refusal's number and place.
@@ -31,6 +31,6 @@ pub fn word_of(answer: Response) -> u64
         Response::Picked(taken, number, place) => word_of_end(taken, number, place),
         Response::Ready(bits, count) => bits as u64 + count as u64 * 65536,
         Response::Forces => 0,
-        Response::Refused(number, place) => lent::word::word_of(Answer::Refused(number, place)),
+        Response::Refused(number, place) => lent::word::word_of(Verdict::Refused(number, place)),
     }
 }

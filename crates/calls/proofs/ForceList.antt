@@ -7,7 +7,7 @@ use lib.IntN.{ℤ, pos}
 use lib.ListN.{length, getD, take, drop}
 use lib.Seq.{take-at}
 use borrow.Author.Tests.{le-leb, lt-leb}
-use Rattle.base.specs.Refusals as no
+use Rattle.base.specs.Refusals as why
 use Rattle.base.proofs.Fill.{length-made}
 use Rattle.plan.specs.Sound.{eachOnce}
 use Rattle.plan.proofs.Once.{Once, once}
@@ -25,13 +25,13 @@ original-long j sums = length-made (λ i. getD sums (positionOf (j .plan .order)
 
 module _ (j : Job) {n : ℕ} (rows : j .matrix .n ≡ n) {isOver : Bool} (sums old : List ℤ) where
   -- the run is not over
-  pub listed-early : isOver ≡ false → Listed j isOver sums old (calls.refused no.early 0) old
+  pub listed-early : isOver ≡ false → Listed j isOver sums old (calls.denied why.tooEarly 0) old
   unfolding forcesOf forcesLent
   listed-early e = record { answers = rw e; forces = refl }
 
   module _ (over : isOver ≡ true) where
     -- the list is too short
-    pub listed-short : length old < n → Listed j isOver sums old (calls.refused no.short n) old
+    pub listed-short : length old < n → Listed j isOver sums old (calls.denied why.tooShort n) old
     unfolding forcesOf forcesLent
     listed-short l = record { answers = rw (over, rows, lt-leb n (length old) l); forces = refl }
 

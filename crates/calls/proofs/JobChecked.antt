@@ -7,7 +7,7 @@ use lib.IntN.{ℤ}
 use lib.Dec.{leb}
 use lib.ListN.{length}
 use borrow.Author.Tests.{leb-true}
-use Rattle.base.specs.Refusals as no
+use Rattle.base.specs.Refusals as why
 use Rattle.base.specs.Replies.{Reply, accepted, refused, Check, inTurn}
 use Rattle.base.proofs.Booleans.{conj-first, conj-at}
 use Rattle.base.proofs.Replies.{inTurn-pass, inTurn-fail, checked, checked-accepted, accepted-all}
@@ -27,7 +27,7 @@ module _ (m : Matrix) (x : List ℤ) (order groups : List ℕ) (count : ℕ) whe
   later = displacementCheck (m .n) x ∷ planCheck m order groups count ∷ []
 
   -- no matrix
-  pub job-unmade : isMatrix m ≡ false → reply ≡ refused no.matrix 0
+  pub job-unmade : isMatrix m ≡ false → reply ≡ refused why.notMatrix 0
   unfolding jobChecks matrixCheck
   job-unmade h = inTurn-fail refused (matrixCheck m) later (accepted 0) h
 
@@ -46,7 +46,7 @@ module _ (m : Matrix) (x : List ℤ) (order groups : List ℕ) (count : ℕ) whe
       moved-pass = matrix-pass ∙ inTurn-pass refused (displacementCheck (m .n) x) (planCheck m order groups count ∷ []) (accepted 0) (checked-accepted (displacementCheck (m .n) x) k e)
 
       -- no plan for it
-      pub job-unsound : isPlan m order groups count ≡ false → reply ≡ refused no.unsound 0
+      pub job-unsound : isPlan m order groups count ≡ false → reply ≡ refused why.unsound 0
       unfolding planCheck
       job-unsound s = moved-pass ∙ inTurn-fail refused (planCheck m order groups count) [] (accepted 0) s
 

@@ -8,7 +8,7 @@ use lib.IntN.{ℤ}
 use lib.Dec.{leb}
 use lib.ListN.{length}
 use borrow.Author.Tests.{ne-eqb}
-use Rattle.base.specs.Refusals as no
+use Rattle.base.specs.Refusals as why
 use Rattle.base.specs.Replies.{Reply, accepted, refused, inTurn}
 use Rattle.matrix.specs.Matrix.{Matrix}
 use Rattle.run.specs.Job.{Job, jobOf}
@@ -49,31 +49,31 @@ module _ (m : Matrix) (x : List ℤ) (order groups : List ℕ) (count : ℕ) (s 
   -- ---- refused
 
   -- a refusal leaves the lists
-  refusal : (c : Call) (q p : ℕ) → answerLent m x order groups count s c ≡ calls.refused q p → afterLent m x order groups count s c ≡ s → Made c (calls.refused q p) s old
+  refusal : (c : Call) (q p : ℕ) → answerLent m x order groups count s c ≡ calls.denied q p → afterLent m x order groups count s c ≡ s → Made c (calls.denied q p) s old
   unfolding forcesLent
   refusal c q p a l = record { answers = sym a; leaves = sym l; forces = sym (ap (λ (z : calls.Answer). forcesLent z old) a) }
 
   -- the lists are refused
-  pub lists-refused : (c : Call) (q p : ℕ) → refused q p ≡ jobReply → Made c (calls.refused q p) s old
+  pub lists-refused : (c : Call) (q p : ℕ) → refused q p ≡ jobReply → Made c (calls.denied q p) s old
   unfolding answerLent afterLent
   lists-refused c q p e =
       refusal c q p
-      (turn-refused calls.refused (calls.answer job s c) (accepted 0) (jobChecks m x order groups count) q p (λ u. cc) (sym e))
+      (turn-refused calls.denied (calls.answer job s c) (accepted 0) (jobChecks m x order groups count) q p (λ u. cc) (sym e))
       (turn-refused (λ number place. s) (calls.after job s c) (accepted 0) (jobChecks m x order groups count) q p (λ u. cc) (sym e))
 
   module _ (k : ℕ) (e : accepted k ≡ jobReply) where
     answer-is : (c : Call) → answerLent m x order groups count s c ≡ calls.answer job s c
     unfolding answerLent
-    answer-is c = turn-accepted calls.refused (calls.answer job s c) (accepted 0) (jobChecks m x order groups count) k (sym e) .1
+    answer-is c = turn-accepted calls.denied (calls.answer job s c) (accepted 0) (jobChecks m x order groups count) k (sym e) .1
 
     after-is : (c : Call) → afterLent m x order groups count s c ≡ calls.after job s c
     unfolding afterLent
     after-is c = turn-accepted (λ number place. s) (calls.after job s c) (accepted 0) (jobChecks m x order groups count) k (sym e) .1
 
     -- the state is refused
-    pub state-refused : (c : Call) → isState job s ≡ false → Made c (calls.refused no.state 0) s old
+    pub state-refused : (c : Call) → isState job s ≡ false → Made c (calls.denied why.notState 0) s old
     unfolding calls.answer calls.after stateCheck inTurn
-    state-refused c f = refusal c no.state 0 (answer-is c ∙ rw f) (after-is c ∙ rw f)
+    state-refused c f = refusal c why.notState 0 (answer-is c ∙ rw f) (after-is c ∙ rw f)
 
     -- ---- made
 

@@ -27,7 +27,7 @@ abbrev pub asAnswer : Response → (forces : List ℤ) → calls.Answer
 asAnswer (response.Picked taken number place) forces = calls.picked taken number place
 asAnswer (response.Ready bits count) forces = calls.isReady bits count
 asAnswer response.Forces forces = calls.forces forces
-asAnswer (response.Refused number place) forces = calls.refused number place
+asAnswer (response.Refused number place) forces = calls.denied number place
 
 -- A call c in state s on lent lists, with old in the list of forces: its answer, the state after it, and the list after it
 pub record Performed (m : Matrix) (x : List ℤ) (order groups : List ℕ) (count : ℕ) (s : State) (c : calls.Call) (old : List ℤ) (answer : calls.Answer) (after : State) (new : List ℤ) : Type 0 where

@@ -1,13 +1,13 @@
 // The checks of a call's lists, in turn.
-use base::Answer;
 use base::MATRIX;
 use base::UNSOUND;
+use base::Verdict;
 use multiply::check_displacements;
 use plan::is_plan;
 use symmetric::is_matrix;
 ghost use mathlib.Core.Path.{_≡_};
 ghost use Rattle.base.specs.Replies.{accepted, refused, inTurn};
-ghost use Rattle.base.specs.Answers.{replyOf};
+ghost use Rattle.base.specs.Verdicts.{replyOf};
 ghost use Rattle.matrix.specs.Checks.{matrixOf};
 ghost use Rattle.run.specs.Calls.{jobChecks};
 
@@ -21,18 +21,18 @@ pub(crate) fn check_job(
     order: &[u32],
     groups: &[u32],
     count: u32,
-) -> Answer
+) -> Verdict
     ensures { λ r. ⌜ replyOf r ≡ inTurn refused (jobChecks (matrixOf n (now (starts .entry)) (now (columns .entry)) (now (values .entry))) (now (displacements .entry)) (now (order .entry)) (now (groups .entry)) count) (accepted 0) ⌝ }
 {
     if !is_matrix(n, starts, columns, values) {
-        return Answer::Refused(MATRIX, 0);
+        return Verdict::Refused(MATRIX, 0);
     }
     let checked = check_displacements(n, displacements);
-    if let Answer::Refused(number, place) = checked {
-        return Answer::Refused(number, place);
+    if let Verdict::Refused(number, place) = checked {
+        return Verdict::Refused(number, place);
     }
     if !is_plan(n, starts, columns, order, groups, count) {
-        return Answer::Refused(UNSOUND, 0);
+        return Verdict::Refused(UNSOUND, 0);
     }
-    Answer::Accepted(0)
+    Verdict::Accepted(0)
 }

@@ -82,7 +82,7 @@ pub fn perform(
         groups,
         count,
     );
-    if let base::Answer::Refused(number, place) = checked {
+    if let base::Verdict::Refused(number, place) = checked {
         return Done {
             state: state,
             answer: Response::Refused(number, place),

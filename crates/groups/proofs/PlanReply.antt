@@ -5,9 +5,9 @@ use Prim.Native.Nat.{ℕ, _+_, _*_, _≤_, min}
 use native.Mathlib.Omega.{arith}
 use lib.ListN.{length, take, drop, length-map}
 use lib.Seq.{length-take-le}
-use Rattle.base.specs.Answers.{replyOf}
+use Rattle.base.specs.Verdicts.{replyOf}
 use Rattle.base.specs.Replies.{Reply, accepted, refused, lent}
-use Rattle.base.specs.declared.Answer.{Answer}
+use Rattle.base.specs.declared.Verdict.{Verdict}
 use Rattle.matrix.specs.Limits.{maxRows}
 use Rattle.matrix.specs.Matrix.{Matrix}
 use Rattle.plan.specs.Groups.{width, flat}
@@ -54,7 +54,7 @@ module _ (m : Matrix) (w p : ℕ) (a room : ℕ) where
       go (refused q s) e = gathered-none (old ++ rest) gs
 
 -- the planner's call with the first numbers of an array
-pub made-planned : (m : Matrix) (w p : ℕ) (order left zeros part : List ℕ) (room size count : ℕ) (answer : Answer) → length zeros ≡ maxFields → size ≡ min (width * room) maxFields
+pub made-planned : (m : Matrix) (w p : ℕ) (order left zeros part : List ℕ) (room size count : ℕ) (answer : Verdict) → length zeros ≡ maxFields → size ≡ min (width * room) maxFields
     → replyOf answer ≡ planReply m w p (length order) (length (take size zeros))
     → left ≡ lent (planReply m w p (length order) (length (take size zeros))) (plan m w p .order) order
     → part ≡ lent (planReply m w p (length order) (length (take size zeros))) (flat (plan m w p .groups)) (take size zeros)

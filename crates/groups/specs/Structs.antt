@@ -3,7 +3,7 @@ use mathlib.Core.Path.{_≡_}
 use mathlib.Core.List.{List, _++_, map}
 use Prim.Native.Nat.{ℕ, _*_, _≤_, min}
 use lib.ListN.{length, take, drop}
-use Rattle.base.specs.Answers.{replyOf}
+use Rattle.base.specs.Verdicts.{replyOf}
 use Rattle.base.specs.Replies.{Reply, accepted, refused, lent}
 use Rattle.matrix.specs.Matrix.{Matrix}
 use Rattle.plan.specs.Groups as defined

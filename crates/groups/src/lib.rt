@@ -1,6 +1,6 @@
 // "The plan's groups are a list of records": here in a lent slice of structs. The borrow checker covers no function over such a
 // slice, so there are four, and thin: each is proved by a walk of its own. The work is done on flat lists, by covered functions.
-use base::Answer;
+use base::Verdict;
 use plan::MAX_GROUPS;
 use plan::fields;
 use plan::fields::Group;
@@ -11,7 +11,7 @@ ghost use mathlib.Core.List.{_++_, map};
 ghost use Prim.Native.Nat.{_+_, _*_, _≤_, _<_, min};
 ghost use lib.ListN.{length, take};
 ghost use Rattle.base.specs.Replies.{lent};
-ghost use Rattle.base.specs.Answers.{replyOf};
+ghost use Rattle.base.specs.Verdicts.{replyOf};
 ghost use Rattle.matrix.specs.Checks.{matrixOf};
 ghost use Rattle.plan.specs.Groups.{width, fieldsOf, flat};
 ghost use Rattle.plan.specs.Sound.{maxGroups, checkReply, maxFields};
@@ -72,7 +72,7 @@ fn check_flat(
     order: &[u32],
     numbers: [u32; MAX_FIELDS],
     count: usize,
-) -> Answer
+) -> Verdict
     ensures { λ r. ⌜ replyOf r ≡ checkReply (matrixOf n (now (starts .entry)) (now (columns .entry)) (now (values .entry))) (now (order .entry)) numbers count ⌝ }
 {
     if MAX_GROUPS < count {
@@ -89,7 +89,7 @@ pub fn check(
     values: &[i32],
     order: &[u32],
     groups: &[Group],
-) -> Answer
+) -> Verdict
     ensures { λ r. ⌜ replyOf r ≡ checkReply (matrixOf n (now (starts .entry)) (now (columns .entry)) (now (values .entry))) (now (order .entry)) (flat (map groupOf (now (groups .entry)))) (length (now (groups .entry))) ⌝ }
 {
     check_flat(
@@ -104,12 +104,12 @@ pub fn check(
 }
 
 // How many groups a call accepted.
-fn count_of(answer: Answer) -> usize
+fn count_of(answer: Verdict) -> usize
     ensures { λ r. ⌜ r ≡ countOf (replyOf answer) ⌝ }
 {
     match answer {
-        Answer::Accepted(count) => count as usize,
-        Answer::Refused(number, place) => 0,
+        Verdict::Accepted(count) => count as usize,
+        Verdict::Refused(number, place) => 0,
     }
 }
 
@@ -128,7 +128,7 @@ fn size_for(room: usize) -> usize
 struct Made {
     numbers: [u32; MAX_FIELDS],
     count: usize,
-    answer: Answer,
+    answer: Verdict,
 }
 
 // The plan of a matrix, for a slice with room for so many groups: none is needed past the limit.
@@ -174,7 +174,7 @@ pub fn plan(
     p: u32,
     order: &mut [u32],
     groups: &mut [Group],
-) -> Answer
+) -> Verdict
     ensures reply { λ r. ⌜ replyOf r ≡ planReply (matrixOf n (now (starts .entry)) (now (columns .entry)) (now (values .entry))) workers p (length (now (order .entry))) (width * length (now (groups .entry))) ⌝ }
     ensures lent_order { λ r. ⌜ now (order .exit) ≡ lent (planReply (matrixOf n (now (starts .entry)) (now (columns .entry)) (now (values .entry))) workers p (length (now (order .entry))) (width * length (now (groups .entry))))
         (plan (matrixOf n (now (starts .entry)) (now (columns .entry)) (now (values .entry))) workers p .order) (now (order .entry)) ⌝ }

@@ -11,7 +11,7 @@ use lib.Seq.{getD-drop}
 use borrow.Author.Tests.{eq-eqb, ne-eqb}
 use Rattle.scan.specs.declared.numbers.Number.the-variants as num
 use Rattle.market.specs.Bytes.{classOf, isEnd, isSpace, blank, lineFeed, minus, digit0, digit9}
-use Rattle.market.specs.Fields.{got, number}
+use Rattle.market.specs.Fields.{got, numeral}
 use Rattle.scan.specs.Positions.{numberAt}
 use Rattle.scan.proofs.Left.{left-cons}
 use Rattle.scan.proofs.numbers.Answers.{scan-at, scan-no}
@@ -69,13 +69,13 @@ first-taken (b ∷ bs) = go (isEnd b) (first-taken bs)
 
 -- two numbers with one space between
 module _ (xs : List ℕ) where
-  pub no-first : num.No ≡ numberAt 0 (number (drop 0 xs)) → Missing ≡ given (parametersOf xs)
+  pub no-first : num.No ≡ numberAt 0 (numeral (drop 0 xs)) → Missing ≡ given (parametersOf xs)
   unfolding parametersOf second
-  no-first e = rw (scan-no 0 (number xs) e)
+  no-first e = rw (scan-no 0 (numeral xs) e)
 
-  module _ {w k : ℕ} (one : num.At w k ≡ numberAt 0 (number (drop 0 xs))) where
-    first-is : number xs ≡ got w k
-    first-is = scan-at 0 w k (number xs) one .0 ∙ ap (got w) (omega arith)
+  module _ {w k : ℕ} (one : num.At w k ≡ numberAt 0 (numeral (drop 0 xs))) where
+    first-is : numeral xs ≡ got w k
+    first-is = scan-at 0 w k (numeral xs) one .0 ∙ ap (got w) (omega arith)
 
     pub no-gap : length xs ≤ k → Missing ≡ given (parametersOf xs)
     unfolding parametersOf second classOf
@@ -89,17 +89,17 @@ module _ (xs : List ℕ) where
     other-gap h = rw (first-is, gap-at, other-space (getD xs k 0) h)
 
     module _ (l : k < length xs) (gap : getD xs k 0 ≡ blank) where
-      pub no-second : num.No ≡ numberAt (k + 1) (number (drop (k + 1) xs)) → Missing ≡ given (parametersOf xs)
+      pub no-second : num.No ≡ numberAt (k + 1) (numeral (drop (k + 1) xs)) → Missing ≡ given (parametersOf xs)
       unfolding parametersOf second last
-      no-second e = rw (first-is, gap-at, is-space (getD xs k 0) gap, rw add-one at (scan-no (k + 1) (number (drop (k + 1) xs)) e))
+      no-second e = rw (first-is, gap-at, is-space (getD xs k 0) gap, rw add-one at (scan-no (k + 1) (numeral (drop (k + 1) xs)) e))
 
-      module _ {p e : ℕ} (two : num.At p e ≡ numberAt (k + 1) (number (drop (k + 1) xs))) where
-        second-is : number (drop (suc k) xs) ≡ got p (e - suc k)
-        second-is = rw add-one at (scan-at (k + 1) p e (number (drop (k + 1) xs)) two .0)
+      module _ {p e : ℕ} (two : num.At p e ≡ numberAt (k + 1) (numeral (drop (k + 1) xs))) where
+        second-is : numeral (drop (suc k) xs) ≡ got p (e - suc k)
+        second-is = rw add-one at (scan-at (k + 1) p e (numeral (drop (k + 1) xs)) two .0)
 
         pub more-after : (e ≡ length xs → ⊥) → Missing ≡ given (parametersOf xs)
         unfolding parametersOf second last
-        more-after h = rw (first-is, gap-at, is-space (getD xs k 0) gap, second-is, ne-eqb (e - suc k) (length (drop (suc k) xs)) (λ q. h (omega (arith, length-drop (suc k) xs, scan-at (k + 1) p e (number (drop (k + 1) xs)) two .1))))
+        more-after h = rw (first-is, gap-at, is-space (getD xs k 0) gap, second-is, ne-eqb (e - suc k) (length (drop (suc k) xs)) (λ q. h (omega (arith, length-drop (suc k) xs, scan-at (k + 1) p e (numeral (drop (k + 1) xs)) two .1))))
 
         pub both-given : e ≡ length xs → {w′ p′ : ℕ} → w′ ≡ inWord w → p′ ≡ inWord p → Given w′ p′ ≡ given (parametersOf xs)
         unfolding parametersOf second last

@@ -6,7 +6,7 @@ use Prim.Native.Nat.{ℕ, _≤_}
 use native.Mathlib.Omega.{arith}
 use lib.ListN.{length, drop}
 use Rattle.base.specs.Replies.{Reply, accepted, refused, inTurn, lent}
-use Rattle.base.specs.Refusals as no
+use Rattle.base.specs.Refusals as why
 use Rattle.base.proofs.Replies.{lent-accepted}
 use Rattle.matrix.specs.Matrix.{Matrix, isMatrix, matrixCheck}
 use Rattle.matrix.proofs.Matrix.{matrix-facts}
@@ -31,7 +31,7 @@ module _ (m : Matrix) (w p : ℕ) (is : isMatrix m ≡ true) (order groups : Lis
   reply = planReply m w p (length order) (length groups)
 
   -- the lists have room for every plan: only the parameters are refused
-  reply-is : (t : Bool) → areParameters w p ≡ t → reply ≡ cond t (accepted (length (made .groups))) (refused no.parameter 0)
+  reply-is : (t : Bool) → areParameters w p ≡ t → reply ≡ cond t (accepted (length (made .groups))) (refused why.badParameter 0)
   unfolding planReply matrixCheck inTurn
   reply-is true e = planned-sound .left m w p order groups is e (record { rows = omega (arith, matrix-facts m is .few); records = omega (arith, planned-sound .few m w p is e) }) .accepts
   reply-is false e = rw (is, e)
@@ -40,7 +40,7 @@ module _ (m : Matrix) (w p : ℕ) (is : isMatrix m ≡ true) (order groups : Lis
   unfolding planned
   planned-refused q k r = go (areParameters w p) refl
     where
-      go : (t : Bool) → areParameters w p ≡ t → cond t (planListing made) (refusedLine no.parameter 0) ≡ refusedLine q k
+      go : (t : Bool) → areParameters w p ≡ t → cond t (planListing made) (refusedLine why.badParameter 0) ≡ refusedLine q k
       go true e = let z = r ∙ reply-is true e in cc
       go false e = let z = r ∙ reply-is false e in cc
 

@@ -6,11 +6,11 @@ use lib.Dec.{eqb, ltb}
 use lib.ListN.{length, drop, getD}
 use Rattle.base.specs.Lists.{concat}
 use Rattle.base.specs.Ascii.{ascii}
-use Rattle.base.specs.Refusals as no
+use Rattle.base.specs.Refusals as why
 use Rattle.matrix.specs.Limits.{maxRows}
 use Rattle.matrix.specs.Matrix.{Matrix}
 use Rattle.market.specs.Bytes.{isEnd, isSpace, blank, lineFeed}
-use Rattle.market.specs.Fields.{Scan, got, none, number}
+use Rattle.market.specs.Fields.{Scan, got, none, numeral}
 use Rattle.market.specs.Parse.{Parsed, matrixText, rejected, parse}
 use Rattle.market.specs.FullRows.{ofTriplets}
 use Rattle.market.specs.Text.{natural}
@@ -61,11 +61,11 @@ last w none size = missing
 
 -- one space, and the last number
 unfoldable pub second : Scan → List ℕ → Parameters
-second (got w k) xs = let rest = drop (suc k) xs in cond (isSpace (getD (drop k xs) 0 0)) (last w (number rest) (length rest)) missing
+second (got w k) xs = let rest = drop (suc k) xs in cond (isSpace (getD (drop k xs) 0 0)) (last w (numeral rest) (length rest)) missing
 second none xs = missing
 
 unfoldable pub parametersOf : List ℕ → Parameters
-parametersOf line = second (number line) line
+parametersOf line = second (numeral line) line
 
 -- numbers, each after a space
 unfoldable pub spaced : List ℕ → List ℕ
@@ -91,8 +91,8 @@ unfoldable pub planListing : Plan → List ℕ
 planListing p = orderLine (p .order) ++ titleLine ++ groupLines 0 (p .groups)
 
 unfoldable pub planned : Matrix → Parameters → List ℕ
-planned m (parameters w p) = cond (areParameters w p) (planListing (plan m w p)) (refusedLine no.parameter 0)
-planned m missing = refusedLine no.parameter 0
+planned m (parameters w p) = cond (areParameters w p) (planListing (plan m w p)) (refusedLine why.badParameter 0)
+planned m missing = refusedLine why.badParameter 0
 
 -- "then the matrix text is judged, its lines counted from 1; then a first line that isn't two numbers .. gives 7"
 unfoldable pub judged : Parsed → Parameters → List ℕ
@@ -101,4 +101,4 @@ judged (matrixText n es) ps = planned (ofTriplets n es) ps
 
 -- "Longer input gives 2 at 0"
 unfoldable pub listing : List ℕ → List ℕ
-listing input = cond (ltb maxInput (length input)) (refusedLine no.form 0) (judged (parse (restOf input)) (parametersOf (firstLine input)))
+listing input = cond (ltb maxInput (length input)) (refusedLine why.badForm 0) (judged (parse (restOf input)) (parametersOf (firstLine input)))

@@ -8,9 +8,9 @@ use crate::first_line::line_length;
 use crate::first_line::read_parameters;
 use crate::lines::put_plan;
 use crate::lines::put_refusal;
-use base::Answer;
 use base::FORM;
 use base::PARAMETER;
+use base::Verdict;
 use matrix::limits::MAX_CELLS;
 use matrix::limits::MAX_ROWS;
 use matrix::limits::MAX_STARTS;
@@ -68,8 +68,8 @@ fn put_planned(
         &mut groups,
     );
     match made {
-        Answer::Refused(number, place) => put_refusal(output, number, place),
-        Answer::Accepted(count) => put_plan(output, n as usize, &order, &groups, count),
+        Verdict::Refused(number, place) => put_refusal(output, number, place),
+        Verdict::Accepted(count) => put_plan(output, n as usize, &order, &groups, count),
     }
 }
 
@@ -83,8 +83,8 @@ fn put_judged(output: &mut [u8], line: &[u8], text: &[u8]) -> usize
     let mut values = [0i32; MAX_CELLS];
     let found = read(text, &mut starts, &mut columns, &mut values);
     let n = match found {
-        Answer::Refused(number, place) => return put_refusal(output, number, place),
-        Answer::Accepted(n) => n,
+        Verdict::Refused(number, place) => return put_refusal(output, number, place),
+        Verdict::Accepted(n) => n,
     };
     let given = read_parameters(line);
     match given {

@@ -4,7 +4,7 @@ use mathlib.Core.List.{List, [], _∷_}
 use Prim.Native.Nat.{ℕ, suc, _+_}
 use lib.Dec.{eqb}
 use lib.IntN.{ℤ}
-use Rattle.base.specs.Refusals as no
+use Rattle.base.specs.Refusals as why
 use Rattle.run.specs.Job.{Job}
 use Rattle.run.specs.Machine as machine
 use Rattle.machine.specs.Record.{stateOf}
@@ -18,7 +18,7 @@ use Rattle.machine.specs.declared.state.Walked as code
 -- a pick that is refused with this number is passed over
 unfoldable pub passesOver : Rule → ℕ → Bool
 passesOver Stop k = false
-passesOver Skip k = eqb k no.done || eqb k no.waiting
+passesOver Skip k = eqb k why.allDone || eqb k why.mustWait
 
 -- what a schedule comes to: the state, how many steps were taken, how many picks came before the one that ended it, and that one's number
 pub record Walked : Type 0 where

@@ -9,7 +9,7 @@ use lib.IntN.{ℤ, pos, negsuc}
 use lib.ListN.{length, drop, length-append}
 use borrow.Author.Tests.{leb-true}
 use Rattle.base.specs.Lists.{isEmpty, begins}
-use Rattle.base.specs.Refusals as no
+use Rattle.base.specs.Refusals as why
 use Rattle.base.proofs.Each.{Each, each-map}
 use Rattle.matrix.specs.Limits.{maxRows, maxEntries, maxText}
 use Rattle.market.specs.Bytes.{header}
@@ -29,7 +29,7 @@ module _ (n : ℕ) (P : ℕ → List Triplet → Type 0)
   unfolding entries
   entries-induction zero k done xs n' es q e = go (isEmpty xs) e
     where
-      go : (b : Bool) → cond b (matrixText n done) (rejected no.form k) ≡ matrixText n' es → (n' ≡ n) × P 0 es
+      go : (b : Bool) → cond b (matrixText n done) (rejected why.badForm k) ≡ matrixText n' es → (n' ≡ n) × P 0 es
       go true e =
           let f : n ≡ n' = cc in
           let g : done ≡ es = cc in
@@ -37,15 +37,15 @@ module _ (n : ℕ) (P : ℕ → List Triplet → Type 0)
       go false e = never e
   entries-induction (suc m) k done xs n' es q e = on (fields xs) e (λ k' d x q' e'. entries-induction m k' d x n' es q' e')
     where
-      on : (l : Line) → onLine l (rejected no.form k) (λ r c v a.
+      on : (l : Line) → onLine l (rejected why.badForm k) (λ r c v a.
           cond (isEntry n r c v && not (isAmong done (r - 1) (c - 1)))
           (entries n m (suc k) (done ++ triplet (r - 1) (c - 1) v ∷ []) (drop a xs))
-          (rejected no.entry k)) ≡ matrixText n' es
+          (rejected why.badEntry k)) ≡ matrixText n' es
           → ((k' : ℕ) (d : List Triplet) (x : List ℕ) → P m d → entries n m k' d x ≡ matrixText n' es → (n' ≡ n) × P 0 es) → (n' ≡ n) × P 0 es
       on broken e ih = never e
       on (line r c v a) e ih = go (isEntry n r c v) refl (isAmong done (r - 1) (c - 1)) refl e
         where
-          go : (f : Bool) → isEntry n r c v ≡ f → (t : Bool) → isAmong done (r - 1) (c - 1) ≡ t → cond (f && not t) (entries n m (suc k) (done ++ triplet (r - 1) (c - 1) v ∷ []) (drop a xs)) (rejected no.entry k) ≡ matrixText n' es → (n' ≡ n) × P 0 es
+          go : (f : Bool) → isEntry n r c v ≡ f → (t : Bool) → isAmong done (r - 1) (c - 1) ≡ t → cond (f && not t) (entries n m (suc k) (done ++ triplet (r - 1) (c - 1) v ∷ []) (drop a xs)) (rejected why.badEntry k) ≡ matrixText n' es → (n' ≡ n) × P 0 es
           go true hf false ht e = ih (suc k) (done ++ triplet (r - 1) (c - 1) v ∷ []) (drop a xs) (kept m done r c v q hf ht) e
           go true hf true ht e = never e
           go false hf t ht e = never e
@@ -83,12 +83,12 @@ size-accepted : (k : ℕ) (xs : List ℕ) (n : ℕ) (es : List Triplet) → size
 unfolding sizeLine
 size-accepted k xs n es e = on (fields xs) e
   where
-    on : (l : Line) → onLine l (rejected no.form k) (λ r c v a. sized k r c v (drop a xs)) ≡ matrixText n es → Accepted n es
+    on : (l : Line) → onLine l (rejected why.badForm k) (λ r c v a. sized k r c v (drop a xs)) ≡ matrixText n es → Accepted n es
     on broken e = never e
     on (line r c (negsuc m) a) e = never e
     on (line r c (pos m) a) e = go (eqb r c) (leb 1 r) refl (leb r maxRows) refl (leb m maxEntries) refl e
       where
-        go : (w x : Bool) → leb 1 r ≡ x → (y : Bool) → leb r maxRows ≡ y → (z : Bool) → leb m maxEntries ≡ z → cond (w && x && y && z) (entries r m (suc k) [] (drop a xs)) (rejected no.size k) ≡ matrixText n es → Accepted n es
+        go : (w x : Bool) → leb 1 r ≡ x → (y : Bool) → leb r maxRows ≡ y → (z : Bool) → leb m maxEntries ≡ z → cond (w && x && y && z) (entries r m (suc k) [] (drop a xs)) (rejected why.badSize k) ≡ matrixText n es → Accepted n es
         go true true hx true hy true hz e = entries-accepted r m (suc k) (drop a xs) n es (leb-true 1 r hx) (leb-true r maxRows hy) (leb-true m maxEntries hz) e
         go true true hx true hy false hz e = never e
         go true true hx false hy z hz e = never e
@@ -100,7 +100,7 @@ pub parse-accepted : (s : List ℕ) (n : ℕ) (es : List Triplet) → parse s �
 unfolding parse
 parse-accepted s n es e = go (ltb maxText (length s)) (begins s header) e
   where
-    go : (a b : Bool) → cond a (rejected no.form 0) (cond b (body (comments false 2 (drop (length header) s))) (rejected no.header 1)) ≡ matrixText n es → Accepted n es
+    go : (a b : Bool) → cond a (rejected why.badForm 0) (cond b (body (comments false 2 (drop (length header) s))) (rejected why.badHeader 1)) ≡ matrixText n es → Accepted n es
     go true b e = never e
     go false true e = size-accepted _ _ n es e
     go false false e = never e

@@ -10,7 +10,7 @@ use lib.ListN.{length, getD, length-append, List·getD-append}
 use borrow.Author.Tests.{ltb-true, ltb-false, le-leb, ne-eqb}
 use Rattle.base.proofs.Booleans.{or-true}
 use Rattle.market.specs.Bytes.{classOf, isDigit}
-use Rattle.market.specs.Fields.{got, digits, isNumber, valueOf, number}
+use Rattle.market.specs.Fields.{got, digits, isNumber, valueOf, numeral}
 use Rattle.market.specs.Text.{decimal, natural}
 
 pub value-snoc : (v : ℕ) (xs : List ℕ) (d : ℕ) → valueOf v (xs ++ d ∷ []) ≡ valueOf v xs * 10 + (d - 48)
@@ -118,6 +118,6 @@ digits-append [] b xs h e = rw e
 digits-append (d ∷ ds) b xs h e = rw (h .0, digits-append ds b xs (h .1) e)
 
 -- a number that was written, with something after it that is no digit
-pub number-natural : (n b : ℕ) (xs : List ℕ) → n < 10 ^ 10 → isDigit b ≡ false → number (natural n ++ b ∷ xs) ≡ got n (length (natural n))
-unfolding number
+pub number-natural : (n b : ℕ) (xs : List ℕ) → n < 10 ^ 10 → isDigit b ≡ false → numeral (natural n ++ b ∷ xs) ≡ got n (length (natural n))
+unfolding numeral
 number-natural n b xs h e = rw (digits-append (natural n) b xs (decimal-digits 10 n) e, natural-number n h, decimal-value 10 n h)

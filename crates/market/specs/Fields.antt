@@ -26,11 +26,11 @@ unfoldable pub valueOf : ℕ → List ℕ → ℕ
 valueOf v [] = v
 valueOf v (d ∷ ds) = valueOf (v * 10 + (d - digit0)) ds
 
-abbrev pub numberOf : List ℕ → Scan
-numberOf ds = cond (isNumber ds) (got (valueOf 0 ds) (length ds)) none
+abbrev pub numeralOf : List ℕ → Scan
+numeralOf ds = cond (isNumber ds) (got (valueOf 0 ds) (length ds)) none
 
-unfoldable pub number : List ℕ → Scan
-number xs = numberOf (digits xs)
+unfoldable pub numeral : List ℕ → Scan
+numeral xs = numeralOf (digits xs)
 
 -- how many spaces a text begins with
 unfoldable pub spaces : List ℕ → ℕ
@@ -38,22 +38,22 @@ spaces [] = 0
 spaces (b ∷ bs) = let more = suc (spaces bs) in cond (isSpace b) more 0
 
 -- g bytes more
-abbrev pub after : ℕ → Scan → Scan
-after g (got v k) = got v (g + k)
-after g none = none
+abbrev pub shifted : ℕ → Scan → Scan
+shifted g (got v k) = got v (g + k)
+shifted g none = none
 
 -- "Fields are parted by one or more spaces": one or more spaces, then a number
 unfoldable pub field : List ℕ → Scan
-field xs = cond (leb 1 (spaces xs)) (after (spaces xs) (number (drop (spaces xs) xs))) none
+field xs = cond (leb 1 (spaces xs)) (shifted (spaces xs) (numeral (drop (spaces xs) xs))) none
 
 -- a signed number and how many bytes it takes, or none
 pub data Signed : Type 0 where
   is : (value : ℤ) (size : ℕ) → Signed
   no : Signed
 
-abbrev pub unsigned : Scan → Signed
-unsigned (got v k) = is (pos v) k
-unsigned none = no
+abbrev pub positive : Scan → Signed
+positive (got v k) = is (pos v) k
+positive none = no
 
 -- "`-0` is not a number"
 abbrev pub negative : Scan → Signed
@@ -63,15 +63,15 @@ negative none = no
 
 -- "only a value may carry `-`"
 unfoldable pub value : List ℕ → Signed
-value xs = cond (isSign (getD xs 0 0)) (negative (number (drop 1 xs))) (unsigned (number xs))
+value xs = cond (isSign (getD xs 0 0)) (negative (numeral (drop 1 xs))) (positive (numeral xs))
 
-abbrev pub afterSigned : ℕ → Signed → Signed
-afterSigned g (is v k) = is v (g + k)
-afterSigned g no = no
+abbrev pub shiftedSigned : ℕ → Signed → Signed
+shiftedSigned g (is v k) = is v (g + k)
+shiftedSigned g no = no
 
 -- one or more spaces, then a value
 unfoldable pub valueField : List ℕ → Signed
-valueField xs = cond (leb 1 (spaces xs)) (afterSigned (spaces xs) (value (drop (spaces xs) xs))) no
+valueField xs = cond (leb 1 (spaces xs)) (shiftedSigned (spaces xs) (value (drop (spaces xs) xs))) no
 
 -- a line of three fields with its length, the line feed included; or a line that breaks the form
 pub data Line : Type 0 where
@@ -89,7 +89,7 @@ onSigned no f = broken
 -- the first line of a text: number, spaces, number, spaces, value, line feed; "none at the ends", "every line ends in one line feed"
 unfoldable pub fields : List ℕ → Line
 fields xs =
-    onNumber (number xs) (λ r a.
+    onNumber (numeral xs) (λ r a.
     onNumber (field (drop a xs)) (λ c b.
     onSigned (valueField (drop (a + b) xs)) (λ v d.
     cond (isEnd (getD (drop (a + b + d) xs) 0 0)) (line r c v (a + b + d + 1)) broken)))

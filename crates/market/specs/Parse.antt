@@ -7,7 +7,7 @@ use lib.IntN.{ℤ, pos, negsuc}
 use lib.ListN.{length, drop}
 use Rattle.base.specs.Lists.{any, isEmpty, begins}
 use Rattle.base.specs.Integers.{within}
-use Rattle.base.specs.Refusals as no
+use Rattle.base.specs.Refusals as why
 use Rattle.matrix.specs.Limits.{maxRows, maxEntries, maxValue, maxText}
 use Rattle.market.specs.Bytes.{isEnd, percent, header}
 use Rattle.market.specs.Fields.{Line, line, broken, fields}
@@ -42,21 +42,21 @@ onLine broken b f = b
 
 -- "as many lines of row, column, value": m are to come, from line k on; es are those before. "Nothing follows the last entry"
 unfoldable pub entries : (n m k : ℕ) → List Triplet → List ℕ → Parsed
-entries n zero k es xs = cond (isEmpty xs) (matrixText n es) (rejected no.form k)
+entries n zero k es xs = cond (isEmpty xs) (matrixText n es) (rejected why.badForm k)
 entries n (suc m) k es xs =
-    onLine (fields xs) (rejected no.form k) (λ r c v a.
+    onLine (fields xs) (rejected why.badForm k) (λ r c v a.
     cond (isEntry n r c v && not (isAmong es (r - 1) (c - 1)))
     (entries n m (suc k) (es ++ triplet (r - 1) (c - 1) v ∷ []) (drop a xs))
-    (rejected no.entry k))
+    (rejected why.badEntry k))
 
 -- the size line, line k: "rows differ from columns, or n or the entry count is outside its limits"; only a value may carry a sign
 abbrev pub sized : ℕ → ℕ → ℕ → ℤ → List ℕ → Parsed
-sized k r c (pos m) xs = cond (eqb r c && leb 1 r && leb r maxRows && leb m maxEntries) (entries r m (suc k) [] xs) (rejected no.size k)
-sized k r c (negsuc m) xs = rejected no.form k
+sized k r c (pos m) xs = cond (eqb r c && leb 1 r && leb r maxRows && leb m maxEntries) (entries r m (suc k) [] xs) (rejected why.badSize k)
+sized k r c (negsuc m) xs = rejected why.badForm k
 
 -- "one line of rows, columns and entry count"
 unfoldable pub sizeLine : ℕ → List ℕ → Parsed
-sizeLine k xs = onLine (fields xs) (rejected no.form k) (λ r c v a. sized k r c v (drop a xs))
+sizeLine k xs = onLine (fields xs) (rejected why.badForm k) (λ r c v a. sized k r c v (drop a xs))
 
 -- a line's number and the text from it on
 pub record Place : Type 0 where
@@ -78,6 +78,6 @@ body a = sizeLine (a .number) (a .text)
 -- "Length, then line by line; within a line 2 precedes 3 and 4"
 unfoldable pub parse : List ℕ → Parsed
 parse xs =
-    cond (ltb maxText (length xs)) (rejected no.form 0)
+    cond (ltb maxText (length xs)) (rejected why.badForm 0)
     (cond (begins xs header) (body (comments false 2 (drop (length header) xs)))
-    (rejected no.header 1))
+    (rejected why.badHeader 1))

@@ -9,7 +9,7 @@ use lib.Seq.{slice}
 use Rattle.base.specs.Lists.{filter, all, isIn, range, sumBelow, bit}
 use Rattle.base.specs.Integers.{within, same}
 use Rattle.base.specs.Replies.{Check, check}
-use Rattle.base.specs.Refusals as no
+use Rattle.base.specs.Refusals as why
 use Rattle.matrix.specs.Limits.{maxRows, maxEntries, maxValue, maxDisplacement}
 
 -- "The matrix is held in full rows: row starts (the first is 0), ascending columns, values"
@@ -84,7 +84,7 @@ isMatrix m =
 
 -- "5: lent rows are no matrix as above"
 unfoldable pub matrixCheck : Matrix → Check
-matrixCheck m = check no.matrix (isMatrix m)
+matrixCheck m = check why.notMatrix (isMatrix m)
 
 -- the displacement of row j
 unfoldable pub displacement : List ℤ → ℕ → ℤ
@@ -100,4 +100,4 @@ areDisplacements n x = eqb (length x) n && all (within maxDisplacement) x
 
 -- "6: movement list has not n numbers (0), or one is too large (its index)"
 unfoldable pub displacementCheck : (n : ℕ) → List ℤ → Check
-displacementCheck n x = record { holds = areDisplacements n x; number = no.displacement; place = cond (eqb (length x) n) (firstPast maxDisplacement x) 0 }
+displacementCheck n x = record { holds = areDisplacements n x; number = why.badDisplacement; place = cond (eqb (length x) n) (firstPast maxDisplacement x) 0 }

@@ -12,7 +12,7 @@ use lib.Seq.{length-take-le}
 use borrow.Author.Tests.{eqb-true, ltb-false, leb-true}
 use Rattle.base.specs.Lists.{isEmpty, begins}
 use Rattle.base.specs.Integers.{within}
-use Rattle.base.specs.Refusals as no
+use Rattle.base.specs.Refusals as why
 use Rattle.base.specs.Replies.{Reply, accepted, refused, Check, inTurn}
 use Rattle.base.proofs.Booleans.{and-right}
 use Rattle.matrix.specs.Limits.{maxRows, maxEntries, maxDisplacement, maxText}
@@ -89,25 +89,25 @@ low-cond b false x y h k = k
 
 entries-low : (b n m k : ℕ) (es : List Triplet) (xs : List ℕ) → k + m ≤ b → Low b (entries n m k es xs)
 unfolding entries
-entries-low b n zero k es xs l = low-cond b (isEmpty xs) (matrixText n es) (rejected no.form k) (λ e. tt) (omega arith, omega arith)
+entries-low b n zero k es xs l = low-cond b (isEmpty xs) (matrixText n es) (rejected why.badForm k) (λ e. tt) (omega arith, omega arith)
 entries-low b n (suc m) k es xs l = on (fields xs) (λ d x. entries-low b n m (suc k) d x (omega arith))
   where
-    on : (f : Line) → ((d : List Triplet) (x : List ℕ) → Low b (entries n m (suc k) d x)) → Low b (onLine f (rejected no.form k) (λ r c v a.
+    on : (f : Line) → ((d : List Triplet) (x : List ℕ) → Low b (entries n m (suc k) d x)) → Low b (onLine f (rejected why.badForm k) (λ r c v a.
         cond (isEntry n r c v && not (isAmong es (r - 1) (c - 1)))
         (entries n m (suc k) (es ++ triplet (r - 1) (c - 1) v ∷ []) (drop a xs))
-        (rejected no.entry k)))
+        (rejected why.badEntry k)))
     on broken ih = (omega arith, omega arith)
-    on (line r c v a) ih = low-cond b (isEntry n r c v && not (isAmong es (r - 1) (c - 1))) _ (rejected no.entry k) (λ e. ih _ _) (omega arith, omega arith)
+    on (line r c v a) ih = low-cond b (isEntry n r c v && not (isAmong es (r - 1) (c - 1))) _ (rejected why.badEntry k) (λ e. ih _ _) (omega arith, omega arith)
 
 size-low : (b k : ℕ) (xs : List ℕ) → k + 1 + maxEntries ≤ b → Low b (sizeLine k xs)
 unfolding sizeLine
 size-low b k xs l = on (fields xs)
   where
-    on : (f : Line) → Low b (onLine f (rejected no.form k) (λ r c v a. sized k r c v (drop a xs)))
+    on : (f : Line) → Low b (onLine f (rejected why.badForm k) (λ r c v a. sized k r c v (drop a xs)))
     on broken = (omega arith, omega arith)
     on (line r c (negsuc m) a) = (omega arith, omega arith)
     on (line r c (pos m) a) =
-        low-cond b (eqb r c && leb 1 r && leb r maxRows && leb m maxEntries) (entries r m (suc k) [] (drop a xs)) (rejected no.size k)
+        low-cond b (eqb r c && leb 1 r && leb r maxRows && leb m maxEntries) (entries r m (suc k) [] (drop a xs)) (rejected why.badSize k)
         (λ e. entries-low b r m (suc k) [] (drop a xs) (omega (arith, leb-true m maxEntries (and-right (eqb r c && leb 1 r && leb r maxRows) (leb m maxEntries) e)))) (omega arith, omega arith)
 
 -- a text has no more lines than bytes
@@ -132,10 +132,10 @@ parse-low : (xs : List ℕ) → Low most (parse xs)
 unfolding parse most
 parse-low xs = go (ltb maxText (length xs)) refl
   where
-    go : (b : Bool) → ltb maxText (length xs) ≡ b → Low most (cond b (rejected no.form 0) (cond (begins xs header) (body (comments false 2 (drop (length header) xs))) (rejected no.header 1)))
+    go : (b : Bool) → ltb maxText (length xs) ≡ b → Low most (cond b (rejected why.badForm 0) (cond (begins xs header) (body (comments false 2 (drop (length header) xs))) (rejected why.badHeader 1)))
     go true e = (omega arith, omega arith)
     go false e =
-        low-cond most (begins xs header) (body (comments false 2 (drop (length header) xs))) (rejected no.header 1)
+        low-cond most (begins xs header) (body (comments false 2 (drop (length header) xs))) (rejected why.badHeader 1)
         (λ h. size-low most (comments false 2 (drop (length header) xs) .number) (comments false 2 (drop (length header) xs) .text)
         (omega (arith, comments-low false 2 (drop (length header) xs), length-drop (length header) xs, ltb-false maxText (length xs) e))) (omega arith, omega arith)
 
@@ -145,9 +145,9 @@ unfolding parse
 parse-short xs n es t = go (ltb maxText (length xs)) refl t
   where
     rest : Parsed
-    rest = cond (begins xs header) (body (comments false 2 (drop (length header) xs))) (rejected no.header 1)
+    rest = cond (begins xs header) (body (comments false 2 (drop (length header) xs))) (rejected why.badHeader 1)
 
-    go : (b : Bool) → ltb maxText (length xs) ≡ b → cond b (rejected no.form 0) rest ≡ matrixText n es → length xs ≤ maxText
+    go : (b : Bool) → ltb maxText (length xs) ≡ b → cond b (rejected why.badForm 0) rest ≡ matrixText n es → length xs ≤ maxText
     go true e t = absurd (let z : _≡_ {A = ℕ} 0 1 = cc in omega arith)
     go false e t = ltb-false maxText (length xs) e
 
@@ -159,9 +159,9 @@ read-told text a b c = go (parse text) refl (parse-low text)
     go (rejected q p) t l = told-refused q p (l .0) (omega (arith, l .1))
     go (matrixText n es) t l =
         let f = parse-accepted text n es t in
-        turn Told refused _ _ (accepted n) (told-refused no.short (n + 1) (omega arith) (omega (arith, f .rows))) (λ e.
-        turn Told refused _ _ (accepted n) (told-refused no.short (length (full es)) (omega arith) (omega (arith, f .count, full-few es))) (λ e.
-        turn Told refused _ [] (accepted n) (told-refused no.short (length (full es)) (omega arith) (omega (arith, f .count, full-few es))) (λ e.
+        turn Told refused _ _ (accepted n) (told-refused why.tooShort (n + 1) (omega arith) (omega (arith, f .rows))) (λ e.
+        turn Told refused _ _ (accepted n) (told-refused why.tooShort (length (full es)) (omega arith) (omega (arith, f .count, full-few es))) (λ e.
+        turn Told refused _ [] (accepted n) (told-refused why.tooShort (length (full es)) (omega arith) (omega (arith, f .count, full-few es))) (λ e.
         last Told refused (accepted n) (told-accepted n (omega (arith, f .rows))))))
 
 -- ---- the other calls of the office
@@ -170,9 +170,9 @@ module _ (m : Matrix) where
   write-told : (room : ℕ) → Told (writeReply m room)
   unfolding writeReply matrixCheck
   write-told room =
-      turn Told refused (matrixCheck m) _ _ (told-refused no.matrix 0 (omega arith) (omega arith)) (λ ok.
+      turn Told refused (matrixCheck m) _ _ (told-refused why.notMatrix 0 (omega arith) (omega arith)) (λ ok.
       let short : length (written m) ≤ maxText = parse-short (written m) _ _ (write-then-read .every m ok .parsed) in
-      turn Told refused _ [] _ (told-refused no.short (length (written m)) (omega arith) (omega arith)) (λ e. last Told refused _ (told-accepted (length (written m)) (omega arith))))
+      turn Told refused _ [] _ (told-refused why.tooShort (length (written m)) (omega arith) (omega arith)) (λ e. last Told refused _ (told-accepted (length (written m)) (omega arith))))
 
   first-low : (limit : ℕ) (x : List ℤ) → firstPast limit x ≤ length x
   unfolding firstPast
@@ -194,32 +194,32 @@ module _ (m : Matrix) where
   product-told : (x : List ℤ) (room : ℕ) → Told (productReply m x room)
   unfolding productReply matrixCheck displacementCheck
   product-told x room =
-      turn Told refused (matrixCheck m) _ _ (told-refused no.matrix 0 (omega arith) (omega arith)) (λ ok.
+      turn Told refused (matrixCheck m) _ _ (told-refused why.notMatrix 0 (omega arith) (omega arith)) (λ ok.
       let few = matrix-facts m ok .few in
-      turn Told refused (displacementCheck (m .n) x) _ _ (told-refused no.displacement _ (omega arith) (omega (arith, place-low x few))) (λ e.
-      turn Told refused _ [] _ (told-refused no.short (m .n) (omega arith) (omega (arith, few))) (λ e. last Told refused _ (told-accepted 0 (omega arith)))))
+      turn Told refused (displacementCheck (m .n) x) _ _ (told-refused why.badDisplacement _ (omega arith) (omega (arith, place-low x few))) (λ e.
+      turn Told refused _ [] _ (told-refused why.tooShort (m .n) (omega arith) (omega (arith, few))) (λ e. last Told refused _ (told-accepted 0 (omega arith)))))
 
   plan-told : (w p a b : ℕ) → Told (planReply m w p a b)
   unfolding planReply matrixCheck
   plan-told w p a b =
-      turn Told refused (matrixCheck m) _ _ (told-refused no.matrix 0 (omega arith) (omega arith)) (λ ok.
-      turn Told refused _ _ _ (told-refused no.parameter 0 (omega arith) (omega arith)) (λ given.
+      turn Told refused (matrixCheck m) _ _ (told-refused why.notMatrix 0 (omega arith) (omega arith)) (λ ok.
+      turn Told refused _ _ _ (told-refused why.badParameter 0 (omega arith) (omega arith)) (λ given.
       let few : length (plan m w p .groups) ≤ 481 = planned-sound .few m w p ok given in
-      turn Told refused _ _ _ (told-refused no.short (m .n) (omega arith) (omega (arith, matrix-facts m ok .few))) (λ e.
-      turn Told refused _ [] _ (told-refused no.short (length (plan m w p .groups)) (omega arith) (omega arith)) (λ e. last Told refused _ (told-accepted (length (plan m w p .groups)) (omega arith))))))
+      turn Told refused _ _ _ (told-refused why.tooShort (m .n) (omega arith) (omega (arith, matrix-facts m ok .few))) (λ e.
+      turn Told refused _ [] _ (told-refused why.tooShort (length (plan m w p .groups)) (omega arith) (omega arith)) (λ e. last Told refused _ (told-accepted (length (plan m w p .groups)) (omega arith))))))
 
   check-told : (order groups : List ℕ) (count : ℕ) → Told (checkReply m order groups count)
   unfolding checkReply matrixCheck planCheck
   check-told order groups count =
-      turn Told refused (matrixCheck m) _ _ (told-refused no.matrix 0 (omega arith) (omega arith)) (λ ok.
-      turn Told refused (planCheck m order groups count) [] _ (told-refused no.unsound 0 (omega arith) (omega arith)) (λ e. last Told refused _ (told-accepted 0 (omega arith))))
+      turn Told refused (matrixCheck m) _ _ (told-refused why.notMatrix 0 (omega arith) (omega arith)) (λ ok.
+      turn Told refused (planCheck m order groups count) [] _ (told-refused why.unsound 0 (omega arith) (omega arith)) (λ e. last Told refused _ (told-accepted 0 (omega arith))))
 
 -- ---- the calls of a run
 
 abbrev Tells : Answer → Type 0
 Tells a = Told (replyTo a)
 
-tells-refused : (q p : ℕ) → 1 ≤ q → p < 2 ^ 32 → Tells (calls.refused q p)
+tells-refused : (q p : ℕ) → 1 ≤ q → p < 2 ^ 32 → Tells (calls.denied q p)
 unfolding replyTo
 tells-refused q p h l = told-refused q p h l
 
@@ -241,8 +241,8 @@ module _ (j : Job) (ok : Accepted j) (s : State) (long : length (s .made) ≡ ma
 
   forces-tell : (isOver wide : Bool) (zs : List ℤ) → j .matrix .n ≤ maxRows → Tells (forcesOf isOver wide (j .matrix .n) zs)
   unfolding forcesOf replyTo
-  forces-tell false wide zs few = told-refused no.early 0 (omega arith) (omega arith)
-  forces-tell true false zs few = told-refused no.short (j .matrix .n) (omega arith) (omega arith)
+  forces-tell false wide zs few = told-refused why.tooEarly 0 (omega arith) (omega arith)
+  forces-tell true false zs few = told-refused why.tooShort (j .matrix .n) (omega arith) (omega arith)
   forces-tell true true zs few = told-accepted 0 (omega arith)
 
   ready-tells : Tells (readyOf j (s .made))
@@ -253,30 +253,30 @@ module _ (j : Job) (ok : Accepted j) (s : State) (long : length (s .made) ≡ ma
 
   answer-tells : (c : Call) → Tells (answer j s c)
   unfolding answer stateCheck answerOf
-  answer-tells (picks ws) = turn Tells calls.refused _ [] _ (tells-refused no.state 0 (omega arith) (omega arith)) (λ e. last Tells calls.refused _ (picked-tells (steps j s ws .taken) (steps j s ws .number) (taken-few j ok s ws long)))
-  answer-tells readySet = turn Tells calls.refused _ [] _ (tells-refused no.state 0 (omega arith) (omega arith)) (λ e. last Tells calls.refused _ ready-tells)
-  answer-tells (forceList room) = turn Tells calls.refused _ [] _ (tells-refused no.state 0 (omega arith) (omega arith)) (λ e. last Tells calls.refused _ (forces-tell (over j (s .made)) (leb (j .matrix .n) room) _ (matrix-facts (j .matrix) (ok .matrix) .few)))
+  answer-tells (picks ws) = turn Tells calls.denied _ [] _ (tells-refused why.notState 0 (omega arith) (omega arith)) (λ e. last Tells calls.denied _ (picked-tells (steps j s ws .taken) (steps j s ws .number) (taken-few j ok s ws long)))
+  answer-tells readySet = turn Tells calls.denied _ [] _ (tells-refused why.notState 0 (omega arith) (omega arith)) (λ e. last Tells calls.denied _ ready-tells)
+  answer-tells (forceList room) = turn Tells calls.denied _ [] _ (tells-refused why.notState 0 (omega arith) (omega arith)) (λ e. last Tells calls.denied _ (forces-tell (over j (s .made)) (leb (j .matrix .n) room) _ (matrix-facts (j .matrix) (ok .matrix) .few)))
 
 module _ (m : Matrix) (x : List ℤ) (order groups : List ℕ) (count : ℕ) where
   -- 5, 6 and 8, and then an answer that tells
-  checks-tell : (a : Answer) → (passed m x order groups count ≡ true → Tells a) → Tells (inTurn calls.refused (jobChecks m x order groups count) a)
+  checks-tell : (a : Answer) → (passed m x order groups count ≡ true → Tells a) → Tells (inTurn calls.denied (jobChecks m x order groups count) a)
   unfolding jobChecks matrixCheck displacementCheck planCheck passed
   checks-tell a h =
-      turn Tells calls.refused (matrixCheck m) _ _ (tells-refused no.matrix 0 (omega arith) (omega arith)) (λ e.
-      turn Tells calls.refused (displacementCheck (m .n) x) _ _ (tells-refused no.displacement _ (omega arith) (omega (arith, place-low m x (matrix-facts m e .few)))) (λ f.
-      turn Tells calls.refused (planCheck m order groups count) [] _ (tells-refused no.unsound 0 (omega arith) (omega arith)) (λ g. last Tells calls.refused a (h (rw (e, f, g))))))
+      turn Tells calls.denied (matrixCheck m) _ _ (tells-refused why.notMatrix 0 (omega arith) (omega arith)) (λ e.
+      turn Tells calls.denied (displacementCheck (m .n) x) _ _ (tells-refused why.badDisplacement _ (omega arith) (omega (arith, place-low m x (matrix-facts m e .few)))) (λ f.
+      turn Tells calls.denied (planCheck m order groups count) [] _ (tells-refused why.unsound 0 (omega arith) (omega arith)) (λ g. last Tells calls.denied a (h (rw (e, f, g))))))
 
   run-tells : (state sums : List ℕ) (c : Call) → Tells (answerIn m x order groups count state sums c)
   unfolding answerIn answerLent
   run-tells state sums c = go (eqb (length state) stateBytes) refl
     where
       go : (b : Bool) → eqb (length state) stateBytes ≡ b
-          → Tells (cond b (answerLent m x order groups count (stateIn state sums) c) (inTurn calls.refused (jobChecks m x order groups count) (calls.refused no.state 0)))
+          → Tells (cond b (answerLent m x order groups count (stateIn state sums) c) (inTurn calls.denied (jobChecks m x order groups count) (calls.denied why.notState 0)))
       go true e =
           let size = eqb-true (length state) stateBytes e in
           checks-tell _ (λ h. answer-tells (jobOf m x order groups count) (lent-runs .every m x order groups count h .accepted) (stateIn state sums)
           (rw (length-decoded number 4 (take countBytes state), length-take-le countBytes state (omega arith))) c)
-      go false e = checks-tell _ (λ h. tells-refused no.state 0 (omega arith) (omega arith))
+      go false e = checks-tell _ (λ h. tells-refused why.notState 0 (omega arith) (omega arith))
 
 -- the theorem
 pub words : Words

@@ -9,7 +9,7 @@ use lib.ListN.{length}
 use borrow.Author.Tests.{eq-eqb, ne-eqb}
 use Rattle.base.specs.Lists.{all}
 use Rattle.base.specs.Integers.{within}
-use Rattle.base.specs.Refusals as no
+use Rattle.base.specs.Refusals as why
 use Rattle.base.specs.Replies.{accepted, refused, inTurn}
 use Rattle.base.proofs.Replies.{checked}
 use Rattle.matrix.specs.Limits.{maxDisplacement}
@@ -17,12 +17,12 @@ use Rattle.matrix.specs.Matrix.{firstPast, areDisplacements, displacementCheck}
 
 module _ (n : ℕ) (x : List ℤ) where
   -- they are not n
-  pub displacements-other : length x ≢ n → checked (displacementCheck n x) ≡ refused no.displacement 0
+  pub displacements-other : length x ≢ n → checked (displacementCheck n x) ≡ refused why.badDisplacement 0
   unfolding inTurn displacementCheck areDisplacements
   displacements-other d = rw (ne-eqb (length x) n d)
 
   -- they are n, and one passes its limit
-  pub displacements-past : length x ≡ n → all (within maxDisplacement) x ≡ false → checked (displacementCheck n x) ≡ refused no.displacement (firstPast maxDisplacement x)
+  pub displacements-past : length x ≡ n → all (within maxDisplacement) x ≡ false → checked (displacementCheck n x) ≡ refused why.badDisplacement (firstPast maxDisplacement x)
   unfolding inTurn displacementCheck areDisplacements
   displacements-past e a = rw (eq-eqb (length x) n e, a)
 

@@ -6,7 +6,7 @@ use Prim.Native.Nat.{ℕ, _≤_, _<_}
 use lib.IntN.{ℤ}
 use lib.ListN.{drop}
 use borrow.Author.Tests.{le-leb, lt-leb}
-use Rattle.base.specs.Refusals as no
+use Rattle.base.specs.Refusals as why
 use Rattle.base.specs.Replies.{accepted, refused, Check, inTurn, roomFor, lent}
 use Rattle.base.proofs.Replies.{inTurn-pass, inTurn-fail, checked, checked-accepted, checked-refused, lent-refused, lent-accepted}
 use Rattle.base.proofs.Fill.{length-made}
@@ -19,7 +19,7 @@ module _ (m : Matrix) (x : List ℤ) (room : ℕ) where
   later = displacementCheck (m .n) x ∷ roomFor (m .n) room ∷ []
 
   -- no matrix
-  pub product-unmade : isMatrix m ≡ false → productReply m x room ≡ refused no.matrix 0
+  pub product-unmade : isMatrix m ≡ false → productReply m x room ≡ refused why.notMatrix 0
   unfolding productReply matrixCheck
   product-unmade h = inTurn-fail refused (matrixCheck m) later (accepted 0) h
 
@@ -40,7 +40,7 @@ module _ (m : Matrix) (x : List ℤ) (room : ℕ) where
       moved-pass = matrix-pass ∙ inTurn-pass refused (displacementCheck (m .n) x) (roomFor (m .n) room ∷ []) (accepted 0) (checked-accepted (displacementCheck (m .n) x) k e)
 
       -- no room
-      pub product-short : room < m .n → productReply m x room ≡ refused no.short (m .n)
+      pub product-short : room < m .n → productReply m x room ≡ refused why.tooShort (m .n)
       product-short l = moved-pass ∙ inTurn-fail refused (roomFor (m .n) room) [] (accepted 0) (lt-leb (m .n) room l)
 
       -- all is as it should be

@@ -2,10 +2,10 @@
 mod limits;
 mod row;
 
-use base::Answer;
 use base::DISPLACEMENT;
 use base::MATRIX;
 use base::SHORT;
+use base::Verdict;
 use limits::first_past;
 use matrix::limits::MAX_DISPLACEMENT;
 use matrix::limits::all_within;
@@ -16,24 +16,24 @@ ghost use mathlib.Core.Path.{_≡_};
 ghost use mathlib.Core.List.{[], _∷_, _++_};
 ghost use lib.ListN.{length, drop};
 ghost use Rattle.base.specs.Replies.{accepted, refused, inTurn, lent};
-ghost use Rattle.base.specs.Answers.{replyOf};
+ghost use Rattle.base.specs.Verdicts.{replyOf};
 ghost use Rattle.matrix.specs.Matrix.{entry, displacementCheck};
 ghost use Rattle.matrix.specs.Checks.{matrixOf};
 ghost use Rattle.matrix.specs.Product.{product, productReply};
 ghost use Rattle.multiply.specs.Loaded.{Loaded};
 
 // Whether there are n displacements, each within its limit.
-pub fn check_displacements(n: u32, displacements: &[i32]) -> Answer
+pub fn check_displacements(n: u32, displacements: &[i32]) -> Verdict
     ensures { λ r. ⌜ replyOf r ≡ inTurn refused (displacementCheck n (now (displacements .entry)) ∷ []) (accepted 0) ⌝ }
 {
     if displacements.len() != n as usize {
-        return Answer::Refused(DISPLACEMENT, 0);
+        return Verdict::Refused(DISPLACEMENT, 0);
     }
     if !all_within(displacements, MAX_DISPLACEMENT) {
         let place = first_past(displacements, MAX_DISPLACEMENT);
-        return Answer::Refused(DISPLACEMENT, place as u32);
+        return Verdict::Refused(DISPLACEMENT, place as u32);
     }
-    Answer::Accepted(0)
+    Verdict::Accepted(0)
 }
 
 // The force of each row, in the first n places.
@@ -66,21 +66,21 @@ pub fn product(
     values: &[i32],
     displacements: &[i32],
     forces: &mut [i64],
-) -> Answer
+) -> Verdict
     ensures reply { λ r. ⌜ replyOf r ≡ productReply (matrixOf n (now (starts .entry)) (now (columns .entry)) (now (values .entry))) (now (displacements .entry)) (length (now (forces .entry))) ⌝ }
     ensures lent_forces { λ r. ⌜ now (forces .exit) ≡ lent (productReply (matrixOf n (now (starts .entry)) (now (columns .entry)) (now (values .entry))) (now (displacements .entry)) (length (now (forces .entry)))) (product (matrixOf n (now (starts .entry)) (now (columns .entry)) (now (values .entry))) (now (displacements .entry))) (now (forces .entry)) ⌝ }
 {
     if !is_matrix(n, starts, columns, values) {
-        return Answer::Refused(MATRIX, 0);
+        return Verdict::Refused(MATRIX, 0);
     }
     let checked = check_displacements(n, displacements);
-    if let Answer::Refused(number, place) = checked {
-        return Answer::Refused(number, place);
+    if let Verdict::Refused(number, place) = checked {
+        return Verdict::Refused(number, place);
     }
     let rows = n as usize;
     if forces.len() < rows {
-        return Answer::Refused(SHORT, n);
+        return Verdict::Refused(SHORT, n);
     }
     fill(rows, starts, columns, values, displacements, forces);
-    Answer::Accepted(0)
+    Verdict::Accepted(0)
 }

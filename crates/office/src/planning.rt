@@ -1,5 +1,5 @@
 // plan: the plan of a matrix.
-use base::Answer;
+use base::Verdict;
 use base::numbers::least;
 use lent::lists::load_signed;
 use lent::lists::load_unsigned;
@@ -46,7 +46,7 @@ fn plan_of(
         &mut order[..order_room],
         &mut groups[..groups_room],
     );
-    let Answer::Accepted(count) = answer else {
+    let Verdict::Accepted(count) = answer else {
         return word_of(answer);
     };
     let rows = n as usize;

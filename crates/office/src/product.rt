@@ -1,5 +1,5 @@
 // product: the forces of a matrix and movements.
-use base::Answer;
+use base::Verdict;
 use base::numbers::least;
 use lent::lists::load_signed;
 use lent::lists::load_unsigned;
@@ -32,7 +32,7 @@ fn product_of(
 {
     let room = least(forces.len() / 8, sums.len());
     let answer = multiply::product(n, starts, columns, values, displacements, &mut sums[..room]);
-    let Answer::Accepted(_) = answer else {
+    let Verdict::Accepted(_) = answer else {
         return word_of(answer);
     };
     let rows = n as usize;

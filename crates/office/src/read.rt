@@ -1,5 +1,5 @@
 // read: the matrix of a text.
-use base::Answer;
+use base::Verdict;
 use base::numbers::least;
 use base::numbers::wide;
 use lent::word::word_of;
@@ -35,7 +35,7 @@ fn read_of(
         &mut columns[..columns_room],
         &mut values[..values_room],
     );
-    let Answer::Accepted(n) = answer else {
+    let Verdict::Accepted(n) = answer else {
         return word_of(answer);
     };
     let rows = n as usize;

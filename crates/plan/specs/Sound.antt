@@ -6,7 +6,7 @@ use lib.Dec.{eqb, leb}
 use lib.ListN.{length, take, drop}
 use Rattle.base.specs.Lists.{filter, any, all, isIn, fromFirst, range}
 use Rattle.base.specs.Replies.{Reply, accepted, refused, Check, check, inTurn}
-use Rattle.base.specs.Refusals as no
+use Rattle.base.specs.Refusals as why
 use Rattle.matrix.specs.Matrix.{Matrix, neighbours, matrixCheck}
 use Rattle.plan.specs.Groups.{Group, Plan, whole, red, blue, width, planOf}
 
@@ -99,7 +99,7 @@ isPlan m order groups count =
 
 -- "8: plan not sound for this matrix"
 unfoldable pub planCheck : Matrix → (order groups : List ℕ) (count : ℕ) → Check
-planCheck m order groups count = check no.unsound (isPlan m order groups count)
+planCheck m order groups count = check why.unsound (isPlan m order groups count)
 
 -- the reply of the plan's check: 5, 8
 unfoldable pub checkReply : Matrix → (order groups : List ℕ) (count : ℕ) → Reply

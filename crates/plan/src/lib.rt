@@ -6,9 +6,9 @@ mod nesting;
 mod order;
 mod tiling;
 
-use base::Answer;
 use base::MATRIX;
 use base::UNSOUND;
+use base::Verdict;
 use fields::Record;
 use fields::WHOLE;
 use fields::WIDTH;
@@ -17,7 +17,7 @@ use symmetric::is_matrix;
 ghost use mathlib.Core.Path.{_≡_};
 ghost use mathlib.Core.List.{List};
 ghost use lib.IntN.{ℤ};
-ghost use Rattle.base.specs.Answers.{replyOf};
+ghost use Rattle.base.specs.Verdicts.{replyOf};
 ghost use Rattle.matrix.specs.Checks.{matrixOf};
 ghost use Rattle.plan.specs.Sound.{isPlan, checkReply};
 ghost use Rattle.plan.specs.Checks.{ofRecord, isWhole};
@@ -101,14 +101,14 @@ pub fn check(
     order: &[u32],
     groups: &[u32],
     count: u32,
-) -> Answer
+) -> Verdict
     ensures { λ r. ⌜ replyOf r ≡ checkReply (matrixOf n (now (starts .entry)) (now (columns .entry)) (now (values .entry))) (now (order .entry)) (now (groups .entry)) count ⌝ }
 {
     if !is_matrix(n, starts, columns, values) {
-        return Answer::Refused(MATRIX, 0);
+        return Verdict::Refused(MATRIX, 0);
     }
     if !is_plan(n, starts, columns, order, groups, count) {
-        return Answer::Refused(UNSOUND, 0);
+        return Verdict::Refused(UNSOUND, 0);
     }
-    Answer::Accepted(0)
+    Verdict::Accepted(0)
 }

@@ -1,9 +1,9 @@
 // The planner: RACE's recursive distance-2 colouring.
 use crate::whole::plan_rows;
-use base::Answer;
 use base::MATRIX;
 use base::PARAMETER;
 use base::SHORT;
+use base::Verdict;
 use base::slices::copy;
 use extents::Policy;
 use matrix::limits::MAX_ROWS;
@@ -19,7 +19,7 @@ mod whole;
 ghost use mathlib.Core.Path.{_≡_};
 ghost use lib.ListN.{length};
 ghost use Rattle.base.specs.Replies.{lent};
-ghost use Rattle.base.specs.Answers.{replyOf};
+ghost use Rattle.base.specs.Verdicts.{replyOf};
 ghost use Rattle.matrix.specs.Checks.{matrixOf};
 ghost use Rattle.plan.specs.Groups.{flat};
 ghost use Rattle.race.specs.Planner.{plan, areParameters, planReply};
@@ -53,7 +53,7 @@ pub fn plan(
     p: u32,
     order: &mut [u32],
     groups: &mut [u32],
-) -> Answer
+) -> Verdict
     ensures reply { λ r. ⌜ replyOf r ≡ planReply (matrixOf n (now (starts .entry)) (now (columns .entry)) (now (values .entry))) workers p (length (now (order .entry))) (length (now (groups .entry))) ⌝ }
     ensures lent_order { λ r. ⌜ now (order .exit) ≡ lent (planReply (matrixOf n (now (starts .entry)) (now (columns .entry)) (now (values .entry))) workers p (length (now (order .entry))) (length (now (groups .entry))))
         (plan (matrixOf n (now (starts .entry)) (now (columns .entry)) (now (values .entry))) workers p .order) (now (order .entry)) ⌝ }
@@ -61,14 +61,14 @@ pub fn plan(
         (flat (plan (matrixOf n (now (starts .entry)) (now (columns .entry)) (now (values .entry))) workers p .groups)) (now (groups .entry)) ⌝ }
 {
     if !is_matrix(n, starts, columns, values) {
-        return Answer::Refused(MATRIX, 0);
+        return Verdict::Refused(MATRIX, 0);
     }
     if !are_parameters(workers, p) {
-        return Answer::Refused(PARAMETER, 0);
+        return Verdict::Refused(PARAMETER, 0);
     }
     let rows = n as usize;
     if order.len() < rows {
-        return Answer::Refused(SHORT, n);
+        return Verdict::Refused(SHORT, n);
     }
     let mut list = [0u32; MAX_ROWS];
     let mut records = [0u32; MAX_FIELDS];
@@ -84,10 +84,10 @@ pub fn plan(
     let room = groups.len() / WIDTH;
     let made = count as usize;
     if room < made {
-        return Answer::Refused(SHORT, count);
+        return Verdict::Refused(SHORT, count);
     }
     let size = WIDTH * made;
     copy(&list[..rows], order);
     copy(&records[..size], groups);
-    Answer::Accepted(count)
+    Verdict::Accepted(count)
 }

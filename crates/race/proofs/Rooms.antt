@@ -8,7 +8,7 @@ use native.Mathlib.Omega.{arith}
 use lib.Dec.{leb}
 use lib.ListN.{length}
 use borrow.Author.Tests.{leb-true, le-leb}
-use Rattle.base.specs.Refusals as no
+use Rattle.base.specs.Refusals as why
 use Rattle.base.specs.Replies.{accepted, refused, Check, check, inTurn, roomFor}
 use Rattle.base.proofs.Booleans.{both-ways, leb-min}
 use Rattle.base.proofs.Replies.{inTurn-same, accepted-all}
@@ -46,7 +46,7 @@ module _ (m : Matrix) (w p : ℕ) where
   unfolding planReply matrixCheck
   rooms-cut a b x y hx hy =
       inTurn-same refused (matrixCheck m) _ _ _ _ (λ ok.
-      inTurn-same refused (check no.parameter (areParameters w p)) _ _ _ _ (λ are.
+      inTurn-same refused (check why.badParameter (areParameters w p)) _ _ _ _ (λ are.
       rw (min-comm a x, leb-min (m .n) x a (omega (arith, matrix-facts m ok .few)), groups-cut (length (plan m w p .groups)) b y (planned-sound .few m w p ok are) hy)))
 
   -- what an accepted call of k groups has checked
@@ -61,7 +61,7 @@ module _ (m : Matrix) (w p : ℕ) where
   unfolding planReply matrixCheck inTurn
   planned a b k e =
       let count = length (plan m w p .groups) in
-      let checks : List Check = matrixCheck m ∷ check no.parameter (areParameters w p) ∷ roomFor (m .n) a ∷ roomFor count (b / width) ∷ [] in
+      let checks : List Check = matrixCheck m ∷ check why.badParameter (areParameters w p) ∷ roomFor (m .n) a ∷ roomFor count (b / width) ∷ [] in
       let all = accepted-all checks (accepted count) k e in
       let told : accepted count ≡ accepted k = rw (all .0, all .1 .0, all .1 .1 .0, all .1 .1 .1 .0) at e in
       let same : count ≡ k = cc in

@@ -6,7 +6,7 @@ use lib.Dec.{leb}
 use lib.ListN.{length, take, drop}
 use Rattle.base.specs.Lists.{concat, range}
 use Rattle.base.specs.Replies.{Reply, accepted, refused, check, inTurn, roomFor}
-use Rattle.base.specs.Refusals as no
+use Rattle.base.specs.Refusals as why
 use Rattle.matrix.specs.Matrix.{Matrix, neighbours, matrixCheck}
 use Rattle.plan.specs.Groups.{Group, Plan, whole, red, blue, width}
 use Rattle.plan.specs.Sound.{maxWorkers, maxDepth}
@@ -98,5 +98,5 @@ areParameters w p = leb 1 w && leb w maxWorkers && leb 50 p && leb p 99
 -- The two lists are then `lent` of the reply, plan's order and its flat groups; room is each list's length
 unfoldable pub planReply : Matrix → (w p orderRoom groupsRoom : ℕ) → Reply
 planReply m w p orderRoom groupsRoom =
-    inTurn refused (matrixCheck m ∷ check no.parameter (areParameters w p) ∷ roomFor (m .n) orderRoom ∷ roomFor (length (plan m w p .groups)) (groupsRoom / width) ∷ [])
+    inTurn refused (matrixCheck m ∷ check why.badParameter (areParameters w p) ∷ roomFor (m .n) orderRoom ∷ roomFor (length (plan m w p .groups)) (groupsRoom / width) ∷ [])
     (accepted (length (plan m w p .groups)))

@@ -5,7 +5,7 @@ use mathlib.Core.List.{List, _∷_, _++_, []}
 use Prim.Native.Nat.{ℕ, suc, _+_, _-_, _≤_, _<_}
 use lib.IntN.{ℤ}
 use lib.ListN.{getD, drop}
-use Rattle.base.specs.Refusals as no
+use Rattle.base.specs.Refusals as why
 use Rattle.matrix.specs.Limits.{maxRows, maxEntries}
 use Rattle.reader.specs.declared.entries.Scanned.{Scanned}
 use Rattle.reader.specs.declared.entry.Entry.{Entry}
@@ -16,7 +16,7 @@ use Rattle.reader.specs.Scanned.{parsed}
 
 -- the entry line at p, by what is made of the text from it on: its place is taken if it is new; or the line is refused
 abbrev pub EntryAt : List ℕ → (p n : ℕ) → Entry → Type 0
-EntryAt s p n (line.At r c v z) = (c ≤ r) × (r < n) × ((m k : ℕ) (es : List Triplet) → entries n (suc m) k es (drop p s) ≡ cond (not (isAmong es r c)) (entries n m (suc k) (es ++ triplet r c v ∷ []) (drop z s)) (rejected no.entry k))
+EntryAt s p n (line.At r c v z) = (c ≤ r) × (r < n) × ((m k : ℕ) (es : List Triplet) → entries n (suc m) k es (drop p s) ≡ cond (not (isAmong es r c)) (entries n m (suc k) (es ++ triplet r c v ∷ []) (drop z s)) (rejected why.badEntry k))
 EntryAt s p n (line.Refused q) = (m k : ℕ) (es : List Triplet) → entries n (suc m) k es (drop p s) ≡ rejected q k
 
 -- the first i places of two arrays lie on or below the diagonal

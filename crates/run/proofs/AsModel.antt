@@ -7,14 +7,14 @@ use native.Mathlib.Omega.{arith}
 use lib.ListN.{length}
 use lib.Dec.{eqb, leb}
 use borrow.Author.Tests.{eq-eqb, ne-eqb, le-leb}
-use Rattle.base.specs.Refusals as no
+use Rattle.base.specs.Refusals as why
 use Rattle.base.specs.Replies.{inTurn}
 use Rattle.matrix.specs.Product.{product}
 use Rattle.plan.specs.Sound.{maxWorkers}
 use Rattle.run.specs.Job.{Job}
 use Rattle.run.specs.Updates.{count, accesses}
 use Rattle.run.specs.Machine.{State, over, original, countsFine, isState}
-use Rattle.run.specs.Calls.{Call, picks, readySet, forceList, Answer, picked, forces, refused, placeOf, pickedOf, readyOf, forcesOf, stateCheck, answerOf, afterOf, answer, after}
+use Rattle.run.specs.Calls.{Call, picks, readySet, forceList, Answer, picked, forces, denied, placeOf, pickedOf, readyOf, forcesOf, stateCheck, answerOf, afterOf, answer, after}
 use Rattle.run.specs.Sequence.{answersFrom, stateAfter}
 use Rattle.run.specs.Model.{note, modelAnswer, modelAfter, modelAnswers, modelCounts, takenNow, takenPicks}
 use Rattle.run.specs.OneAccess.{Walk, stay, andThen}
@@ -48,7 +48,7 @@ module _ (j : Job) (F : Facts j) where
   forces-model s I room = rw (finished-is j (s .made) (I .bounded)) (go (over j (s .made)) refl (leb (j .matrix .n) room))
     where
       go : (b : Bool) → over j (s .made) ≡ b → (c : Bool)
-          → forcesOf b c (j .matrix .n) (original j (s .sums)) ≡ cond b (cond c (forces (product (j .matrix) (j .displacements))) (refused no.short (j .matrix .n))) (refused no.early 0)
+          → forcesOf b c (j .matrix .n) (original j (s .sums)) ≡ cond b (cond c (forces (product (j .matrix) (j .displacements))) (denied why.tooShort (j .matrix .n))) (denied why.tooEarly 0)
       go true e true = rw (forces-product j F s I e) refl
       go true e false = refl
       go false e c = refl

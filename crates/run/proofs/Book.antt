@@ -9,7 +9,7 @@ use lib.ListN.{length}
 use lib.Dec.{eqb, ltb, leb}
 use borrow.Author.Tests.{ltb-true, eqb-true, eq-eqb, ne-eqb, le-leb, lt-leb}
 use Rattle.base.specs.Lists.{filter, keep, all, sum, range}
-use Rattle.base.specs.Refusals as no
+use Rattle.base.specs.Refusals as why
 use Rattle.base.proofs.Booleans.{same-or, same-test}
 use Rattle.base.proofs.Lists.{range-snoc, filter-append, all-range, range-all}
 use Rattle.run.specs.Job.{Job}
@@ -23,7 +23,7 @@ pub ending-in : (j : Job) (made : List ℕ) (w : ℕ) → ending j made w ≡ 0 
 unfolding ending
 ending-in j made w e = go (ltb w (workers j)) refl e
   where
-    go : (b : Bool) → ltb w (workers j) ≡ b → cond b (cond (eqb (count made w) (accesses j w)) no.done (cond (waits j made w) no.waiting 0)) no.stranger ≡ 0 → w < workers j
+    go : (b : Bool) → ltb w (workers j) ≡ b → cond b (cond (eqb (count made w) (accesses j w)) why.allDone (cond (waits j made w) why.mustWait 0)) why.noWorker ≡ 0 → w < workers j
     go true l e = ltb-true w (workers j) l
     go false l e = absurd (omega arith)
 
@@ -58,7 +58,7 @@ module _ (j : Job) (made : List ℕ) (bounded : (w : ℕ) → count made w ≤ a
   unfolding ending refusal reason
   ending-is w = rw (same-end (accesses j w) (count made w) (bounded w)) (go (ltb w (workers j)) (leb (accesses j w) (count made w)) (waits j made w))
     where
-      go : (a b c : Bool) → cond a (cond b no.done (cond c no.waiting 0)) no.stranger ≡ reason a b c
+      go : (a b c : Bool) → cond a (cond b why.allDone (cond c why.mustWait 0)) why.noWorker ≡ reason a b c
       go false b c = refl
       go true true c = refl
       go true false true = refl

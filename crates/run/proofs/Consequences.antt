@@ -9,13 +9,13 @@ use lib.Dec.{eqb, ltb, leb}
 use lib.IntN.{ℤ}
 use borrow.Author.Tests.{lt-ltb, le-leb}
 use Rattle.base.specs.Lists.{all, isIn}
-use Rattle.base.specs.Refusals as no
+use Rattle.base.specs.Refusals as why
 use Rattle.base.proofs.Sums.{sum-below-le}
 use Rattle.matrix.specs.Product.{product}
 use Rattle.run.specs.Job.{Job, Accepted}
 use Rattle.run.specs.Updates.{count, accesses, waits}
 use Rattle.run.specs.Machine.{workers, reason, refusal, readyBelow, ready, bits, over}
-use Rattle.run.specs.Calls.{Call, picks, readySet, forceList, isReady, forces, refused, answer}
+use Rattle.run.specs.Calls.{Call, picks, readySet, forceList, isReady, forces, denied, answer}
 use Rattle.run.specs.Model.{noCounts, added, ending, oneNoted, note, isFinished, modelAnswer, modelAfter, modelAnswers}
 use Rattle.run.specs.EveryRun.{runState, finishedRun}
 use Rattle.run.specs.Consequences.{numberOf, Consequence, Consequences}
@@ -28,13 +28,13 @@ use Rattle.run.proofs.EveryRun.{inv, finished-over, answered, ready-is,
 -- ---- the model's numbers
 
 abbrev known : ℕ → Bool
-known = isIn (0 ∷ no.short ∷ no.stranger ∷ no.done ∷ no.waiting ∷ no.early ∷ [])
+known = isIn (0 ∷ why.tooShort ∷ why.noWorker ∷ why.allDone ∷ why.mustWait ∷ why.tooEarly ∷ [])
 
 known-ending : (j : Job) (made : List ℕ) (w : ℕ) → known (ending j made w) ≡ true
 unfolding ending
 known-ending j made w = go (ltb w (workers j)) (eqb (count made w) (accesses j w)) (waits j made w)
   where
-    go : (a b c : Bool) → known (cond a (cond b no.done (cond c no.waiting 0)) no.stranger) ≡ true
+    go : (a b c : Bool) → known (cond a (cond b why.allDone (cond c why.mustWait 0)) why.noWorker) ≡ true
     go false b c = refl
     go true true c = refl
     go true false true = refl
@@ -49,7 +49,7 @@ known-note j made (w ∷ ws) = go (ending j made w) refl (known-note j (added ma
     go zero e ih = rw (note-on j made w ws e) ih
     go (suc k) e ih = rw (note-end j made w ws k e) (subst (λ (y : ℕ). known y ≡ true) e (known-ending j made w))
 
-known-forces : (a b : Bool) (n : ℕ) (zs : List ℤ) → known (numberOf (cond a (cond b (forces zs) (refused no.short n)) (refused no.early 0))) ≡ true
+known-forces : (a b : Bool) (n : ℕ) (zs : List ℤ) → known (numberOf (cond a (cond b (forces zs) (denied why.tooShort n)) (denied why.tooEarly 0))) ≡ true
 unfolding numberOf
 known-forces false b n zs = refl
 known-forces true false n zs = refl

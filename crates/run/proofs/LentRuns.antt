@@ -15,7 +15,7 @@ use Rattle.plan.specs.Groups.{width, planOf}
 use Rattle.plan.specs.Sound.{maxGroups, isSound, isPlan, planCheck}
 use Rattle.run.specs.Job.{Job, jobOf}
 use Rattle.run.specs.Machine.{State, fresh}
-use Rattle.run.specs.Calls.{Call, refused, answer, after, jobChecks, answerLent, afterLent}
+use Rattle.run.specs.Calls.{Call, denied, answer, after, jobChecks, answerLent, afterLent}
 use Rattle.run.specs.Sequence.{answersFrom, stateAfter}
 use Rattle.run.specs.EveryRun.{runState, runAnswers}
 use Rattle.run.specs.LentRuns.{passed, LentRun, LentRuns}
@@ -51,7 +51,7 @@ module _ (m : Matrix) (x : List ℤ) (order groups : List ℕ) (count : ℕ) (h 
 
   answered : (s : State) (c : Call) → answerLent m x order groups count s c ≡ answer job s c
   unfolding answerLent
-  answered s c = none-refused refused checks (answer job s c) each
+  answered s c = none-refused denied checks (answer job s c) each
 
   left : (s : State) (c : Call) → afterLent m x order groups count s c ≡ after job s c
   unfolding afterLent

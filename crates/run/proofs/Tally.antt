@@ -8,14 +8,14 @@ use lib.ListN.{length, set, replicate, length-set}
 use lib.Seq.{getD-set-same, getD-set-other}
 use lib.Dec.{leb}
 use Rattle.base.specs.Lists.{sumBelow}
-use Rattle.base.specs.Refusals as no
+use Rattle.base.specs.Refusals as why
 use Rattle.base.proofs.Sums.{sum-below-more}
 use Rattle.matrix.specs.Product.{product}
 use Rattle.plan.specs.Sound.{maxWorkers}
 use Rattle.run.specs.Job.{Job}
 use Rattle.run.specs.Updates.{count}
 use Rattle.run.specs.Machine.{workers}
-use Rattle.run.specs.Calls.{Call, picks, readySet, forceList, forces, refused}
+use Rattle.run.specs.Calls.{Call, picks, readySet, forceList, forces, denied}
 use Rattle.run.specs.Model.{noCounts, added, ending, oneNoted, note, isFinished, modelAnswer, modelAfter, modelAnswers, modelCounts}
 use Rattle.run.specs.EveryRun.{takenOf, takenIn}
 use Rattle.run.proofs.Invariant.{zero-count}
@@ -58,7 +58,7 @@ module _ (j : Job) (few : workers j ≤ maxWorkers) where
   called made (forceList room) l =
       record { more = omega (arith, none (isFinished j made) (leb (j .matrix .n) room)); long = l }
     where
-      none : (a b : Bool) → takenOf (cond a (cond b (forces (product (j .matrix) (j .displacements))) (refused no.short (j .matrix .n))) (refused no.early 0)) ≡ 0
+      none : (a b : Bool) → takenOf (cond a (cond b (forces (product (j .matrix) (j .displacements))) (denied why.tooShort (j .matrix .n))) (denied why.tooEarly 0)) ≡ 0
       none false b = refl
       none true false = refl
       none true true = refl

@@ -5,7 +5,7 @@ use Prim.Native.Nat.{ℕ, zero, suc}
 use lib.ListN.{length, drop}
 use lib.Dec.{leb}
 use lib.IntN.{ℤ}
-use Rattle.base.specs.Refusals as no
+use Rattle.base.specs.Refusals as why
 use Rattle.base.specs.Replies.{Check, check, inTurn}
 use Rattle.matrix.specs.Matrix.{Matrix, matrixCheck, displacementCheck}
 use Rattle.plan.specs.Sound.{planCheck}
@@ -24,7 +24,7 @@ pub data Answer : Type 0 where
   -- "sixteen bits .. and the count of those set"
   isReady : (bits count : ℕ) → Answer
   forces : List ℤ → Answer
-  refused : (number place : ℕ) → Answer
+  denied : (number place : ℕ) → Answer
 
 unfoldable pub placeOf : (number taken : ℕ) → ℕ
 placeOf zero taken = 0
@@ -38,8 +38,8 @@ readyOf j made = isReady (bits (ready j made)) (length (ready j made))
 
 -- "15 until then, afterwards 9 at n if its list is shorter than n, else 0 with" the forces
 unfoldable pub forcesOf : (isOver long : Bool) → ℕ → List ℤ → Answer
-forcesOf false long n zs = refused no.early 0
-forcesOf true false n zs = refused no.short n
+forcesOf false long n zs = denied why.tooEarly 0
+forcesOf true false n zs = denied why.tooShort n
 forcesOf true true n zs = forces zs
 
 unfoldable pub answerOf : Job → State → Call → Answer
@@ -53,11 +53,11 @@ afterOf j s readySet = s
 afterOf j s (forceList room) = s
 
 unfoldable pub stateCheck : Job → State → List Check
-stateCheck j s = check no.state (isState j s) ∷ []
+stateCheck j s = check why.notState (isState j s) ∷ []
 
 -- a call on an accepted job: its answer, and the state that it leaves
 unfoldable pub answer : Job → State → Call → Answer
-answer j s c = inTurn refused (stateCheck j s) (answerOf j s c)
+answer j s c = inTurn denied (stateCheck j s) (answerOf j s c)
 
 unfoldable pub after : Job → State → Call → State
 after j s c = inTurn (λ number place. s) (stateCheck j s) (afterOf j s c)
@@ -68,7 +68,7 @@ unfoldable pub jobChecks : Matrix → List ℤ → (order groups : List ℕ) (co
 jobChecks m x order groups count = matrixCheck m ∷ displacementCheck (m .n) x ∷ planCheck m order groups count ∷ []
 
 unfoldable pub answerLent : Matrix → List ℤ → (order groups : List ℕ) (count : ℕ) → State → Call → Answer
-answerLent m x order groups count s c = inTurn refused (jobChecks m x order groups count) (answer (jobOf m x order groups count) s c)
+answerLent m x order groups count s c = inTurn denied (jobChecks m x order groups count) (answer (jobOf m x order groups count) s c)
 
 unfoldable pub afterLent : Matrix → List ℤ → (order groups : List ℕ) (count : ℕ) → State → Call → State
 afterLent m x order groups count s c = inTurn (λ number place. s) (jobChecks m x order groups count) (after (jobOf m x order groups count) s c)
@@ -78,4 +78,4 @@ unfoldable pub forcesLent : Answer → List ℤ → List ℤ
 forcesLent (forces zs) old = zs ++ drop (length zs) old
 forcesLent (picked taken number place) old = old
 forcesLent (isReady bits count) old = old
-forcesLent (refused number place) old = old
+forcesLent (denied number place) old = old

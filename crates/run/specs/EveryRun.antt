@@ -12,7 +12,7 @@ use Rattle.run.specs.Tree.{tree, leaves}
 use Rattle.run.specs.Updates.{updates, accesses, leafByLeaf}
 use Rattle.run.specs.Machine.{State, fresh, workers, original}
 use Rattle.run.specs.OneAccess.{Walk}
-use Rattle.run.specs.Calls.{Call, picks, readySet, forceList, Answer, picked, isReady, forces, refused, answer, after}
+use Rattle.run.specs.Calls.{Call, picks, readySet, forceList, Answer, picked, isReady, forces, denied, answer, after}
 use Rattle.run.specs.Sequence.{answersFrom, stateAfter}
 use Rattle.run.specs.Model.{noCounts, isFinished, takenPicks, modelAnswers, modelCounts}
 
@@ -21,7 +21,7 @@ unfoldable pub takenOf : Answer → ℕ
 takenOf (picked taken number place) = taken
 takenOf (isReady bits count) = 0
 takenOf (forces zs) = 0
-takenOf (refused number place) = 0
+takenOf (denied number place) = 0
 
 unfoldable pub takenIn : List Answer → ℕ
 takenIn [] = 0

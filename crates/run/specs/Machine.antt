@@ -7,7 +7,7 @@ use lib.Dec.{eqb, ltb, leb}
 use lib.IntN.{ℤ, pos, _+ℤ_}
 use Rattle.base.specs.Lists.{range}
 use Rattle.base.specs.Integers.{fits64}
-use Rattle.base.specs.Refusals as no
+use Rattle.base.specs.Refusals as why
 use Rattle.plan.specs.Groups.{Group}
 use Rattle.plan.specs.Sound.{maxWorkers}
 use Rattle.run.specs.Job.{Job}
@@ -32,9 +32,9 @@ workers j = workersOf (j .plan .groups)
 
 -- why a step is refused by the counts alone, 10 before 12 before 13; 0: it is taken
 unfoldable pub reason : (inPlan done waiting : Bool) → ℕ
-reason false done waiting = no.stranger
-reason true true waiting = no.done
-reason true false true = no.waiting
+reason false done waiting = why.noWorker
+reason true true waiting = why.allDone
+reason true false true = why.mustWait
 reason true false false = 0
 
 unfoldable pub refusal : Job → (made : List ℕ) → ℕ → ℕ
@@ -62,7 +62,7 @@ store s w u = record { made = onward (s .made) w; held = s .held; sums = set (s 
 unfoldable pub access : (even fitting : Bool) → State → ℕ → Update → Outcome
 access true fitting s w u = moved (load s w u)
 access false true s w u = moved (store s w u)
-access false false s w u = halted no.overflow
+access false false s w u = halted why.overflow
 
 unfoldable pub move : State → ℕ → Update → Outcome
 move s w u = access (eqb (count (s .made) w % 2) 0) (fits64 (total s w u)) s w u

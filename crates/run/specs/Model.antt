@@ -6,13 +6,13 @@ use Prim.Native.Nat.{ℕ, zero, suc, _^_}
 use lib.ListN.{length, take, set, replicate}
 use lib.Dec.{eqb, ltb, leb}
 use Rattle.base.specs.Lists.{filter, all, sum, range}
-use Rattle.base.specs.Refusals as no
+use Rattle.base.specs.Refusals as why
 use Rattle.matrix.specs.Product.{product}
 use Rattle.plan.specs.Sound.{maxWorkers}
 use Rattle.run.specs.Job.{Job}
 use Rattle.run.specs.Updates.{count, accesses, waits}
 use Rattle.run.specs.Machine.{workers}
-use Rattle.run.specs.Calls.{Call, picks, readySet, forceList, Answer, picked, isReady, forces, refused}
+use Rattle.run.specs.Calls.{Call, picks, readySet, forceList, Answer, picked, isReady, forces, denied}
 
 -- "It keeps a count for each worker, at first 0"
 unfoldable pub noCounts : List ℕ
@@ -24,7 +24,7 @@ added counts w = set counts w (suc (count counts w))
 
 -- "One naming no worker of the plan ends its call with 10, one whose worker's count is all its moves with 12, .. waits by these counts with 13"; 0: it is taken
 unfoldable pub ending : Job → (counts : List ℕ) → ℕ → ℕ
-ending j counts w = cond (ltb w (workers j)) (cond (eqb (count counts w) (accesses j w)) no.done (cond (waits j counts w) no.waiting 0)) no.stranger
+ending j counts w = cond (ltb w (workers j)) (cond (eqb (count counts w) (accesses j w)) why.allDone (cond (waits j counts w) why.mustWait 0)) why.noWorker
 
 -- what becomes of a list of picks: the counts, how many were taken, and the number that ended them
 pub record Noted : Type 0 where
@@ -55,7 +55,7 @@ unfoldable pub modelAnswer : Job → (counts : List ℕ) → Call → Answer
 modelAnswer j counts (picks ws) = picked (note j counts ws .taken) (note j counts ws .number) (cond (eqb (note j counts ws .number) 0) 0 (note j counts ws .taken))
 modelAnswer j counts readySet = isReady (sum (map (_^_ 2) (able j counts))) (length (able j counts))
 modelAnswer j counts (forceList room) =
-    cond (isFinished j counts) (cond (leb (j .matrix .n) room) (forces (product (j .matrix) (j .displacements))) (refused no.short (j .matrix .n))) (refused no.early 0)
+    cond (isFinished j counts) (cond (leb (j .matrix .n) room) (forces (product (j .matrix) (j .displacements))) (denied why.tooShort (j .matrix .n))) (denied why.tooEarly 0)
 
 -- "It and the ready set change no count"
 unfoldable pub modelAfter : Job → (counts : List ℕ) → Call → List ℕ

@@ -13,7 +13,7 @@ use Rattle.base.specs.Replies.{Reply, accepted, refused, inTurn}
 use Rattle.matrix.specs.Matrix.{Matrix, partOf, columnsOf, valuesOf, lookup, entry, neighbours, adjacent, adjacentPairs, ascending, mirrored, isRow, lowerEntries, isMatrix, matrixCheck, displacement, areDisplacements}
 use Rattle.matrix.specs.Product.{forceAt, product}
 use Rattle.market.specs.Bytes.{classOf, header}
-use Rattle.market.specs.Fields.{digits, isNumber, valueOf, number, spaces, field, value, valueField, fields}
+use Rattle.market.specs.Fields.{digits, isNumber, valueOf, numeral, spaces, field, value, valueField, fields}
 use Rattle.market.specs.Parse.{Triplet, Parsed, matrixText, rejected, entries, sizeLine, comments, parse}
 use Rattle.market.specs.FullRows.{full, cell, rowOf, rowsOf, startsFrom, rowStarts, columns, values, ofTriplets, readMatrix}
 use Rattle.market.specs.Text.{decimal, textOf, columnOf, lower, written}
@@ -27,7 +27,7 @@ use Rattle.run.specs.Job.{Job, rowAt}
 use Rattle.run.specs.Tree.{forest, tree, leaves, holds, ownerIn, unfinished, redOpen, blocked}
 use Rattle.run.specs.Updates.{entryAt, displacementAt, later, withEach, rowUpdates, owner, when, upTo, updates, accesses, finished, noUpdate, next, waits}
 use Rattle.run.specs.Machine.{fresh, workersOf, workers, reason, refusal, onward, load as loadSum, total, store, access, move, stepIf, step, oneMore, steps, readyBelow, ready, bits, allMade, over, positionOf, original, countsFine, isState}
-use Rattle.run.specs.Calls.{Call, picks, readySet, forceList, Answer, picked, isReady, forces, refused as refusedCall, placeOf, pickedOf, readyOf, forcesOf, answerOf, afterOf, stateCheck, answer, after}
+use Rattle.run.specs.Calls.{Call, picks, readySet, forceList, Answer, picked, isReady, forces, denied, placeOf, pickedOf, readyOf, forcesOf, answerOf, afterOf, stateCheck, answer, after}
 use Rattle.run.specs.Sequence.{answersFrom}
 use Rattle.run.specs.Model.{noCounts, added, ending, oneNoted, note, able, isFinished, modelAnswer, modelAfter, modelAnswers, modelCounts}
 use Rattle.run.specs.EveryRun.{takenOf, takenIn, runAnswers, wholeRun}
@@ -40,7 +40,7 @@ numbers ns = map pos ns
 
 abbrev ofReply : Reply → List ℤ
 ofReply (accepted k) = pos 0 ∷ pos k ∷ []
-ofReply (refused q p) = pos q ∷ pos p ∷ []
+ofReply (denied q p) = pos q ∷ pos p ∷ []
 
 abbrev ofTriplet : Triplet → List ℤ
 ofTriplet e = pos (e .row) ∷ pos (e .column) ∷ e .value ∷ []
@@ -66,7 +66,7 @@ abbrev ofAnswer : Answer → List ℤ
 ofAnswer (picked taken number place) = pos 1 ∷ pos taken ∷ pos number ∷ pos place ∷ []
 ofAnswer (isReady bits count) = pos 2 ∷ pos bits ∷ pos count ∷ []
 ofAnswer (forces zs) = pos 3 ∷ zs
-ofAnswer (refusedCall number place) = pos 4 ∷ pos number ∷ pos place ∷ []
+ofAnswer (denied number place) = pos 4 ∷ pos number ∷ pos place ∷ []
 
 abbrev ofAnswers : List Answer → List ℤ
 ofAnswers as′ = concat (map ofAnswer as′)
@@ -144,8 +144,8 @@ chainCalls =
 
 abbrev chainAnswers : List Answer
 chainAnswers =
-    isReady 3 2 ∷ picked 12 13 12 ∷ isReady 2 1 ∷ refusedCall 15 0 ∷ picked 0 10 0 ∷ picked 20 0 0
-    ∷ picked 12 0 0 ∷ isReady 0 0 ∷ picked 0 12 0 ∷ refusedCall 9 8
+    isReady 3 2 ∷ picked 12 13 12 ∷ isReady 2 1 ∷ denied 15 0 ∷ picked 0 10 0 ∷ picked 20 0 0
+    ∷ picked 12 0 0 ∷ isReady 0 0 ∷ picked 0 12 0 ∷ denied 9 8
     ∷ forces (numbers (1 ∷ 0 ∷ 0 ∷ 0 ∷ 0 ∷ 0 ∷ 0 ∷ 1 ∷ [])) ∷ []
 
 abbrev parameterReply : (w p : ℕ) → List ℤ
@@ -212,7 +212,7 @@ unfolding partOf columnsOf valuesOf lookup entry neighbours adjacent adjacentPai
 matrices = tt
 
 lines : Unit {0}
-unfolding classOf header digits isNumber valueOf number spaces field value valueField fields entries sizeLine comments parse
+unfolding classOf header digits isNumber valueOf numeral spaces field value valueField fields entries sizeLine comments parse
 lines = tt
 
 texts : Unit {0}

@@ -8,7 +8,7 @@ use base::bytes::wide64;
 ghost use mathlib.Core.Path.{_≡_};
 ghost use Prim.Native.Nat.{_+_, _<_};
 ghost use lib.ListN.{drop};
-ghost use Rattle.market.specs.Fields.{number, spaces, field};
+ghost use Rattle.market.specs.Fields.{numeral, spaces, field};
 ghost use Rattle.scan.specs.Classes.{Classes};
 ghost use Rattle.scan.specs.Positions.{numberAt, isNumeral, pick};
 
@@ -40,7 +40,7 @@ fn numeral(first: u8, v: u64, k: usize, next: usize) -> Number
 // The number at a position: 1 to 10 digits and no needless leading zero.
 pub(crate) fn scan_number(classes: &[u8; 256], s: &[u8], at: usize) -> Number
     requires { ⌜ Classes (now classes) ⌝ }
-    ensures { λ r. ⌜ r ≡ numberAt at (number (drop at (now (s .entry)))) ⌝ }
+    ensures { λ r. ⌜ r ≡ numberAt at (numeral (drop at (now (s .entry)))) ⌝ }
 {
     if s.len() <= at {
         return Number::No;
@@ -64,7 +64,7 @@ pub(crate) fn scan_number(classes: &[u8; 256], s: &[u8], at: usize) -> Number
 
 // The same for a caller that has no table.
 pub fn read_number(s: &[u8], at: usize) -> Number
-    ensures { λ r. ⌜ r ≡ numberAt at (number (drop at (now (s .entry)))) ⌝ }
+    ensures { λ r. ⌜ r ≡ numberAt at (numeral (drop at (now (s .entry)))) ⌝ }
 {
     let classes = table();
     scan_number(&classes, s, at)

@@ -12,7 +12,7 @@ use lib.ListN.{getD, set}
 use lib.Seq.{set-getD}
 use borrow.Author.Tests.{ltb-true, leb-false, eq-eqb, ne-eqb}
 use Rattle.base.specs.Integers.{fits64}
-use Rattle.base.specs.Refusals as no
+use Rattle.base.specs.Refusals as why
 use Rattle.plan.specs.Sound.{maxWorkers}
 use Rattle.tables.specs.Laid.{updatesIn, Bounded}
 use Rattle.run.specs.Updates.{Update, count}
@@ -89,13 +89,13 @@ module _ (why : ℕ) (none : why ≡ 0) (made : List ℕ) (held sums : List ℤ)
         go false f e = absurd (let q : _≡_ {A = ℕ} 0 1 = cc in omega arith)
 
     -- .. and refused if it does not
-    pub step-passes : sumOf (getD held w (pos 0)) (u .amount) ≡ Passes → StepMade why s w u (Refused no.overflow) sums
+    pub step-passes : sumOf (getD held w (pos 0)) (u .amount) ≡ Passes → StepMade why s w u (Refused why.overflow) sums
     unfolding outcomeOf stepIf move access total
     step-passes e = record { is = rw (none, ne-eqb (count made w % 2) 0 odd) (go (fits64 (getD held w (pos 0) +ℤ u .amount)) refl e); kept = λ k q. refl }
       where
         y : ℤ
         y = getD held w (pos 0) +ℤ u .amount
 
-        go : (b : Bool) → fits64 y ≡ b → sumIf b y ≡ Passes → halted no.overflow ≡ access false (fits64 y) s w u
+        go : (b : Bool) → fits64 y ≡ b → sumIf b y ≡ Passes → halted why.overflow ≡ access false (fits64 y) s w u
         go true f e = absurd (let q : _≡_ {A = ℕ} 0 1 = cc in omega arith)
         go false f e = rw f refl

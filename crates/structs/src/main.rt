@@ -1,6 +1,6 @@
 // structs: plans a chain of eight rows into a slice of group structs, and checks the plan.
 // A plan with a group twice is not sound, and a slice is too short for the plan of more rows.
-use base::Answer;
+use base::Verdict;
 use libc::STDOUT_FILENO;
 use plan::fields::Group;
 ghost use mathlib.Core.Path.{_≡_};
@@ -8,7 +8,7 @@ ghost use mathlib.Core.List.{map};
 ghost use Prim.Native.Nat.{_*_};
 ghost use lib.ListN.{length};
 ghost use Rattle.base.specs.Replies.{lent};
-ghost use Rattle.base.specs.Answers.{replyOf};
+ghost use Rattle.base.specs.Verdicts.{replyOf};
 ghost use Rattle.matrix.specs.Checks.{matrixOf};
 ghost use Rattle.plan.specs.Groups.{width, flat};
 ghost use Rattle.plan.specs.Sound.{checkReply};
@@ -19,7 +19,7 @@ ghost use Rattle.groups.specs.Structs.{ofGroup};
 // Five groups, and the planner's answer.
 struct Five {
     groups: [Group; 5],
-    answer: Answer,
+    answer: Verdict,
 }
 
 // The plan of a matrix in an array of five groups, which is lent as a slice.
@@ -50,7 +50,7 @@ fn check_in(
     values: &[i32],
     order: &[u32],
     list: [Group; 5],
-) -> Answer
+) -> Verdict
     ensures { λ r. ⌜ replyOf r ≡ checkReply (matrixOf n (now (starts .entry)) (now (columns .entry)) (now (values .entry))) (now (order .entry)) (flat (map groupOf list)) (length list) ⌝ }
 {
     groups::check(n, starts, columns, values, order, &list)
@@ -63,13 +63,13 @@ fn put_number(x: u32) {
 }
 
 // Writes an answer's line.
-fn put_answer(answer: Answer) {
+fn put_answer(answer: Verdict) {
     match answer {
-        Answer::Accepted(count) => {
+        Verdict::Accepted(count) => {
             io::write_all(STDOUT_FILENO, b"accepted");
             put_number(count);
         }
-        Answer::Refused(number, place) => {
+        Verdict::Refused(number, place) => {
             io::write_all(STDOUT_FILENO, b"refused");
             put_number(number);
             put_number(place);

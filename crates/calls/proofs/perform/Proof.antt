@@ -4,7 +4,7 @@ use mathlib.Core.Bool.{true}
 use native.Mathlib.Omega.{arith}
 use borrow.Author.Needs.{needs}
 use Rattle.base.specs.Replies.{accepted, refused, inTurn}
-use Rattle.base.specs.Answers.{replyOf}
+use Rattle.base.specs.Verdicts.{replyOf}
 use Rattle.base.proofs.Booleans.{fails, holds}
 use Rattle.matrix.specs.Matrix.{Matrix}
 use Rattle.matrix.specs.Checks.{matrixOf}

@@ -37,8 +37,8 @@ use denote.Triple.Clauses.{lasts}
 use denote.Triple.Table.{entered, cited}
 use denote.Triple.Walked.{says, Stays, stay-dropped, walkOf, Walks, ends-at, walked, walk-meets}
 use denote.Exit.{yes}
-use Rattle.base.specs.Answers.{replyOf}
-use Rattle.base.specs.declared.Answer.{Answer}
+use Rattle.base.specs.Verdicts.{replyOf}
+use Rattle.base.specs.declared.Verdict.{Verdict}
 use Rattle.base.proofs.Answer as S
 use Rattle.base.proofs.Answer.Laws as S′
 use Rattle.matrix.specs.Checks.{matrixOf}
@@ -124,10 +124,10 @@ module _ {M : Type 1} (𝓤 : URA M) (H : Heap 𝓤) (A : Atoms 𝓤) (W : Given
         nothing ! $ owned ! usize (Is usize) (uint-makes 𝓤 H A W w64) (length (groups .now)) _ (refl, small) $ fjoin ! $ move ! (2 ∷ 0 ∷ []) $ fjoin ! $ move ! (2 ∷ 0 ∷ []) $ fjoin ! $ move ! (2 ∷ 0 ∷ []) $ fjoin ! $
         move ! (2 ∷ 0 ∷ []) $ fjoin ! $ move ! (2 ∷ 0 ∷ []) $ fjoin ! $ owned ! u32 (Is u32) (uint-makes 𝓤 H A W w32) n _ (refl, n-small) $ fjoin ! $ move ! (1 ∷ 0 ∷ []) $ join ! $ frame ! $ done !
 
-    abbrev Said : Answer → Type 0
+    abbrev Said : Verdict → Type 0
     Said r = replyOf r ≡ checkReply (matrixOf n (starts .now) (columns .now) (values .now)) (order .now) ns (length (groups .now))
 
-    exits : (r : Answer) (u : Val) → Flattened (groups .now) ns → Said r → ent 𝓤 (⋆ 𝓤 H A (‵ (S.the-row .own r (u ∷ [])) ∷ Four ∷ (‵ (flft κ₄ q₄) ⊛ ‵ ftrue) ∷ [])) (Post u)
+    exits : (r : Verdict) (u : Val) → Flattened (groups .now) ns → Said r → ent 𝓤 (⋆ 𝓤 H A (‵ (S.the-row .own r (u ∷ [])) ∷ Four ∷ (‵ (flft κ₄ q₄) ⊛ ‵ ftrue) ∷ [])) (Post u)
     exits r u e said =
         qed W (‵ (S.the-row .own r (u ∷ [])) ∷ Four ∷ (‵ (flft κ₄ q₄) ⊛ ‵ ftrue) ∷ []) ∵
         suffices ! _ (ends-at 𝓤 H A check.ended stayed (check.clauses 𝓤 H A memory run) W ((κs, qs, tt, a, vals), tt) u r (tt, (tt, (tt, (tt, (tt, (tt, tt)))))) (tt, (tt, (tt, (tt, (tt, (tt, tt))))))) $
@@ -164,7 +164,7 @@ module _ {M : Type 1} (𝓤 : URA M) (H : Heap 𝓤) (A : Atoms 𝓤) (W : Given
         -- [what `check_flat` asks; the token of groups; _8; …; _7; …; _6; …; _5; …; _4; …; _3; …; _2; …; _1; …; _0; …]
         calls-at ! (fmOf 𝓤 H (W .laws) 𝓣) (CheckFlat 𝓤 H A memory run) known-check (to-check ns w) (and-then ! (load ! (from ! (stop !)) (look ! 16 refl)) (and-then ! (load ! (from ! (stop !)) (look ! 14 refl)) (and-then ! (load ! (from ! (stop !)) (look ! 12 refl))
         (and-then ! (load ! (from ! (stop !)) (look ! 10 refl)) (and-then ! (load ! (from ! (stop !)) (look ! 8 refl)) (and-then ! (load ! (from ! (stop !)) (look ! 4 refl)) (and-then ! (load ! (from ! (stop !)) (look ! 2 refl)) (no-more !)))))))) (λ u.
-        hears ! tt Four (λ (r : Answer). S.the-row .own r (u ∷ [])) (lasts check-flat.ended (κ₀, (κ₁, (κ₂, (κ₃, tt)))) (passed ns w)) (λ r _. Said ns w r) (id⊢ 𝓤 _) (λ r _ said. drop ! $ split ! $
+        hears ! tt Four (λ (r : Verdict). S.the-row .own r (u ∷ [])) (lasts check-flat.ended (κ₀, (κ₁, (κ₂, (κ₃, tt)))) (passed ns w)) (λ r _. Said ns w r) (id⊢ 𝓤 _) (λ r _ said. drop ! $ split ! $
         move ! (1 ∷ []) $ peeks ! S.the-row (Is S.the-row) (shows 𝓤 H A S.the-row) r (u ∷ []) (λ is′.
         -- [what the answer owns; the tokens; the token of groups; _8; …; _7; …; _6; …; _5; …; _4; …; _3; …; _2; …; _1; …; _0; …]
         land ! (from ! (stop !)) (init ! 19 refl (EL.lawful S.the-type S′.the-laws 𝓤 H A W tt .typed r _ is′ .0)) $

@@ -4,7 +4,7 @@ use Prim.Native.Nat.{ℕ, _≤_}
 use native.Mathlib.Omega.{arith}
 use lib.ListN.{length}
 use borrow.Author.Needs.{needs}
-use Rattle.base.specs.Refusals as no
+use Rattle.base.specs.Refusals as why
 use Rattle.base.specs.Replies.{refused}
 use Rattle.base.proofs.Booleans.{fails, holds}
 use Rattle.matrix.proofs.Within.{past-low}
@@ -31,7 +31,7 @@ returns-2 : tie.Need-returns-2
 returns-2 c =
     let t = c .before .before in
     let a = t .before .before .args in
-    ap (refused no.displacement) (c .first-past .ensures)
+    ap (refused why.badDisplacement) (c .first-past .ensures)
     ∙ sym (displacements-past (a .n) (a .displacements .now) (t .before .if1 .left) (fails (t .all-within .ensures) (c .before .if2 .taken)))
 
 returns-3 : tie.Need-returns-3

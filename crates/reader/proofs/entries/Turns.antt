@@ -9,7 +9,7 @@ use lib.IntN.{ℤ}
 use lib.ListN.{length, getD, set, drop, drop-of-length-le, length-set}
 use lib.Seq.{getD-set-same, getD-set-other}
 use borrow.Author.Tests.{eqb-true, eqb-false}
-use Rattle.base.specs.Refusals as no
+use Rattle.base.specs.Refusals as why
 use Rattle.matrix.specs.Limits.{maxRows}
 use Rattle.reader.specs.declared.entry.Entry.the-variants as line
 use Rattle.market.specs.Parse.{Triplet, triplet, matrixText, rejected, isAmong, entries}
@@ -30,7 +30,7 @@ places-more P rs cs {i} {r} {c} g o a b j h = go (eqb j i) refl
 
 -- nothing may follow the last line
 module _ (s : List ℕ) (p n k : ℕ) (es : List Triplet) where
-  pub too-many : p < length s → entries n 0 k es (drop p s) ≡ rejected no.form k
+  pub too-many : p < length s → entries n 0 k es (drop p s) ≡ rejected why.badForm k
   unfolding entries
   too-many h = rw (left-cons s p h)
 
@@ -55,7 +55,7 @@ module _ {n m : ℕ} {rs cs : List ℕ} {vs : List ℤ} {i : ℕ} (g : Held n m 
 
     -- a line with a place and a value
     module _ {r c : ℕ} (v : ℤ) (z : ℕ) (l : EntryAt s p n (line.At r c v z)) where
-      pub again-line : isAmong (tripletsOf i rs cs vs) r c ≡ true → (k : ℕ) → remaining s n m k rs cs vs p i ≡ rejected no.entry (k + i)
+      pub again-line : isAmong (tripletsOf i rs cs vs) r c ≡ true → (k : ℕ) → remaining s n m k rs cs vs p i ≡ rejected why.badEntry (k + i)
       again-line t k = rw turn (l .2 (m - (i + 1)) (k + i) (tripletsOf i rs cs vs) ∙ rw t)
 
       -- the value is w in the array

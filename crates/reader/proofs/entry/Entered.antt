@@ -6,7 +6,7 @@ use Prim.Native.Nat.{ℕ, suc, _-_}
 use native.Mathlib.Omega.{arith}
 use lib.IntN.{ℤ}
 use lib.ListN.{drop}
-use Rattle.base.specs.Refusals as no
+use Rattle.base.specs.Refusals as why
 use Rattle.scan.specs.declared.lines.Fields.the-variants as fld
 use Rattle.reader.specs.declared.entry.Entry.the-variants as line
 use Rattle.market.specs.Fields.{fields}
@@ -18,18 +18,18 @@ use Rattle.scan.proofs.lines.Lines.{line-at, line-no}
 use Rattle.market.proofs.Inside.{inside}
 
 module _ (s : List ℕ) (p n : ℕ) where
-  turn : (m k : ℕ) (es : List Triplet) → entries n (suc m) k es (drop p s) ≡ onLine (fields (drop p s)) (rejected no.form k) (λ r c v a.
+  turn : (m k : ℕ) (es : List Triplet) → entries n (suc m) k es (drop p s) ≡ onLine (fields (drop p s)) (rejected why.badForm k) (λ r c v a.
       cond (isEntry n r c v && not (isAmong es (r - 1) (c - 1)))
       (entries n m (suc k) (es ++ triplet (r - 1) (c - 1) v ∷ []) (drop a (drop p s)))
-      (rejected no.entry k))
+      (rejected why.badEntry k))
   unfolding entries
   turn m k es = refl
 
-  pub broken-line : fld.Broken ≡ fieldsAt p (fields (drop p s)) → EntryAt s p n (line.Refused no.form)
+  pub broken-line : fld.Broken ≡ fieldsAt p (fields (drop p s)) → EntryAt s p n (line.Refused why.badForm)
   broken-line b m k es = turn m k es ∙ rw (line-no p (fields (drop p s)) b)
 
   module _ {r c z : ℕ} {v : ℤ} (l : fld.Line r c v z ≡ fieldsAt p (fields (drop p s))) where
-    pub bad-line : isEntry n r c v ≡ false → EntryAt s p n (line.Refused no.entry)
+    pub bad-line : isEntry n r c v ≡ false → EntryAt s p n (line.Refused why.badEntry)
     bad-line f m k es = turn m k es ∙ rw (line-at p r c z v (fields (drop p s)) l .0, f)
 
     -- the value is w in 32 bits

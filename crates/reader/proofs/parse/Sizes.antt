@@ -13,7 +13,7 @@ use mir.Syntax.{w64}
 use mir.Val.{SFits, Fits}
 use borrow.Author.Tests.{le-ltb, lt-ltb, ltb-true, leb-true}
 use Rattle.base.specs.Lists.{begins}
-use Rattle.base.specs.Refusals as no
+use Rattle.base.specs.Refusals as why
 use Rattle.base.proofs.Booleans.{and-left, and-right}
 use Rattle.matrix.specs.Limits.{maxRows, maxEntries, maxText}
 use Rattle.scan.specs.declared.lines.Fields.the-variants as fld
@@ -30,7 +30,7 @@ fits-natural (pos n) f = record { fits = omega (arith, f .sfits) }
 fits-natural (negsuc n) f = record { fits = omega (arith, f .sfits) }
 
 module _ (s : List ℕ) (p k : ℕ) where
-  pub size-broken : fld.Broken ≡ fieldsAt p (fields (drop p s)) → sizeLine k (drop p s) ≡ rejected no.form k
+  pub size-broken : fld.Broken ≡ fieldsAt p (fields (drop p s)) → sizeLine k (drop p s) ≡ rejected why.badForm k
   unfolding sizeLine
   size-broken b = rw (line-no p (fields (drop p s)) b)
 
@@ -39,18 +39,18 @@ module _ (s : List ℕ) (p k : ℕ) where
     unfolding sizeLine
     size-is = let a = line-at p r c z v (fields (drop p s)) l in rw (a .0, left-later s p z (a .1))
 
-    pub size-negative : ltZ v (pos 0) ≡ true → sizeLine k (drop p s) ≡ rejected no.form k
+    pub size-negative : ltZ v (pos 0) ≡ true → sizeLine k (drop p s) ≡ rejected why.badForm k
     size-negative h = size-is ∙ go v h
       where
-        go : (v : ℤ) → ltZ v (pos 0) ≡ true → sized k r c v (drop z s) ≡ rejected no.form k
+        go : (v : ℤ) → ltZ v (pos 0) ≡ true → sized k r c v (drop z s) ≡ rejected why.badForm k
         go (pos n) h = absurd (omega (arith, ltb-true n 0 h))
         go (negsuc n) h = refl
 
     -- the size is tested, m being the entry count
-    pub size-tested : ltZ v (pos 0) ≡ false → {m : ℕ} → m ≡ natAbs v → {t : Bool} → t ≡ eqb r c && leb 1 r && leb r maxRows && leb m maxEntries → sizeLine k (drop p s) ≡ cond t (entries r m (k + 1) [] (drop z s)) (rejected no.size k)
+    pub size-tested : ltZ v (pos 0) ≡ false → {m : ℕ} → m ≡ natAbs v → {t : Bool} → t ≡ eqb r c && leb 1 r && leb r maxRows && leb m maxEntries → sizeLine k (drop p s) ≡ cond t (entries r m (k + 1) [] (drop z s)) (rejected why.badSize k)
     size-tested h em e = size-is ∙ rw (e, em) (go v h)
       where
-        go : (v : ℤ) → ltZ v (pos 0) ≡ false → sized k r c v (drop z s) ≡ cond (eqb r c && leb 1 r && leb r maxRows && leb (natAbs v) maxEntries) (entries r (natAbs v) (k + 1) [] (drop z s)) (rejected no.size k)
+        go : (v : ℤ) → ltZ v (pos 0) ≡ false → sized k r c v (drop z s) ≡ cond (eqb r c && leb 1 r && leb r maxRows && leb (natAbs v) maxEntries) (entries r (natAbs v) (k + 1) [] (drop z s)) (rejected why.badSize k)
         go (pos n) h = rw (add-one k)
         go (negsuc n) h = absurd (true≢false h)
 
@@ -61,7 +61,7 @@ size-limits r c m h =
     (leb-true r maxRows (and-right (eqb r c && leb 1 r) (leb r maxRows) q), leb-true m maxEntries (and-right (eqb r c && leb 1 r && leb r maxRows) (leb m maxEntries) h))
 
 module _ (s : List ℕ) where
-  pub too-long : maxText < length s → parse s ≡ rejected no.form 0
+  pub too-long : maxText < length s → parse s ≡ rejected why.badForm 0
   unfolding parse
   too-long h = rw (lt-ltb maxText (length s) h)
 
@@ -70,7 +70,7 @@ module _ (s : List ℕ) where
   header-there b = begins-length s header b
 
   module _ (short : length s ≤ maxText) where
-    pub no-header : begins s header ≡ false → parse s ≡ rejected no.header 1
+    pub no-header : begins s header ≡ false → parse s ≡ rejected why.badHeader 1
     unfolding parse
     no-header b = rw (le-ltb maxText (length s) short, b)
 

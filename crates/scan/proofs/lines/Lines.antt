@@ -12,7 +12,7 @@ use Rattle.scan.specs.declared.numbers.Number.the-variants as num
 use Rattle.scan.specs.declared.lines.Value.the-variants as val
 use Rattle.scan.specs.declared.lines.Fields.the-variants as fld
 use Rattle.market.specs.Bytes.{classOf}
-use Rattle.market.specs.Fields.{Line, line, broken, number, field, valueField, fields}
+use Rattle.market.specs.Fields.{Line, line, broken, numeral, field, valueField, fields}
 use Rattle.scan.specs.Positions.{numberAt, valueAt, fieldsAt}
 use Rattle.scan.proofs.Left.{left-cons, left-later}
 use Rattle.scan.proofs.numbers.Answers.{scan-at, scan-no}
@@ -20,22 +20,22 @@ use Rattle.scan.proofs.lines.Values.{value-at, value-no}
 
 -- a line, field by field
 module _ (s : List ℕ) (at : ℕ) where
-  pub line-one : num.No ≡ numberAt at (number (drop at s)) → fld.Broken ≡ fieldsAt at (fields (drop at s))
+  pub line-one : num.No ≡ numberAt at (numeral (drop at s)) → fld.Broken ≡ fieldsAt at (fields (drop at s))
   unfolding fields
-  line-one n = rw (scan-no at (number (drop at s)) n)
+  line-one n = rw (scan-no at (numeral (drop at s)) n)
 
-  module _ (r p : ℕ) (e1 : num.At r p ≡ numberAt at (number (drop at s))) where
+  module _ (r p : ℕ) (e1 : num.At r p ≡ numberAt at (numeral (drop at s))) where
     pub line-two : num.No ≡ numberAt p (field (drop p s)) → fld.Broken ≡ fieldsAt at (fields (drop at s))
     unfolding fields
     line-two n =
-        let a = scan-at at r p (number (drop at s)) e1 in
+        let a = scan-at at r p (numeral (drop at s)) e1 in
         rw (a .0, left-later s at p (a .1), scan-no p (field (drop p s)) n)
 
     module _ (c q : ℕ) (e2 : num.At c q ≡ numberAt p (field (drop p s))) where
       pub line-three : val.No ≡ valueAt q (valueField (drop q s)) → fld.Broken ≡ fieldsAt at (fields (drop at s))
       unfolding fields
       line-three n =
-          let a = scan-at at r p (number (drop at s)) e1 in
+          let a = scan-at at r p (numeral (drop at s)) e1 in
           let b = scan-at p c q (field (drop p s)) e2 in
           let ab : p - at + (q - p) ≡ q - at = omega (arith, a .1, b .1) in
           rw (a .0, left-later s at p (a .1), b .0, ab, left-later s at q (omega (arith, a .1, b .1)), value-no q (valueField (drop q s)) n)
@@ -44,7 +44,7 @@ module _ (s : List ℕ) (at : ℕ) where
         line-end : fields (drop at s) ≡ cond (eqb (classOf (getD (drop z s) 0 0)) 4) (line r c v (z - at + 1)) broken
         unfolding fields
         line-end =
-            let a = scan-at at r p (number (drop at s)) e1 in
+            let a = scan-at at r p (numeral (drop at s)) e1 in
             let b = scan-at p c q (field (drop p s)) e2 in
             let d = value-at q z v (valueField (drop q s)) e3 in
             let ab : p - at + (q - p) ≡ q - at = omega (arith, a .1, b .1) in
@@ -60,7 +60,7 @@ module _ (s : List ℕ) (at : ℕ) where
 
         pub line-good : z < length s → classOf (getD s z 0) ≡ 4 → fld.Line r c v (z + 1) ≡ fieldsAt at (fields (drop at s))
         line-good h n =
-            let a = scan-at at r p (number (drop at s)) e1 in
+            let a = scan-at at r p (numeral (drop at s)) e1 in
             let b = scan-at p c q (field (drop p s)) e2 in
             let d = value-at q z v (valueField (drop q s)) e3 in
             rw (line-end, left-cons s z h, n) (ap (λ (i : ℕ). fld.Line r c v i) (omega (arith, a .1, b .1, d .1)))

@@ -10,7 +10,7 @@ use lib.ListN.{length, drop}
 use borrow.Author.Tests.{leb-true, le-leb, lt-leb, eqb-true}
 use Rattle.scan.specs.declared.numbers.Number.the-variants as num
 use Rattle.market.specs.Bytes.{classOf, isDigit}
-use Rattle.market.specs.Fields.{Scan, got, none, digits, isNumber, valueOf, number, spaces, field, after}
+use Rattle.market.specs.Fields.{Scan, got, none, digits, isNumber, valueOf, numeral, spaces, field, shifted}
 use Rattle.scan.specs.Positions.{numberAt}
 use Rattle.scan.proofs.Left.{left-later}
 use Rattle.scan.proofs.numbers.Scanning.{digit-range}
@@ -33,13 +33,13 @@ module _ (s : List ℕ) (at p : ℕ) (ep : p ≡ at + spaces (drop at s)) where
   unfolding field
   field-none h = rw (lt-leb 1 (spaces (drop at s)) (omega arith))
 
-  pub field-some : at < p → numberAt p (number (drop p s)) ≡ numberAt at (field (drop at s))
+  pub field-some : at < p → numberAt p (numeral (drop p s)) ≡ numberAt at (field (drop at s))
   unfolding field
   field-some h =
       let g : spaces (drop at s) ≡ p - at = omega arith in
-      rw (le-leb 1 (spaces (drop at s)) (omega arith), g, left-later s at p (omega arith)) (go (number (drop p s)))
+      rw (le-leb 1 (spaces (drop at s)) (omega arith), g, left-later s at p (omega arith)) (go (numeral (drop p s)))
     where
-      go : (sc : Scan) → numberAt p sc ≡ numberAt at (after (p - at) sc)
+      go : (sc : Scan) → numberAt p sc ≡ numberAt at (shifted (p - at) sc)
       go (got v k) = ap (λ (i : ℕ). num.At v i) (omega arith)
       go none = refl
 
@@ -57,8 +57,8 @@ value-bound v (b ∷ bs) = go (isDigit b) refl (value-bound (v * 10 + (b - 48)) 
         rw pow-suc (omega arith)
     go false e ih = omega arith
 
-pub number-bound : (xs : List ℕ) (v k : ℕ) → number xs ≡ got v k → v < 10000000000
-unfolding number isNumber
+pub number-bound : (xs : List ℕ) (v k : ℕ) → numeral xs ≡ got v k → v < 10000000000
+unfolding numeral isNumber
 number-bound xs v k e = go (leb (length (digits xs)) 10) refl (leb 1 (length (digits xs))) _ e
   where
     go : (b : Bool) → leb (length (digits xs)) 10 ≡ b → (a c : Bool) → cond (a && b && c) (got (valueOf 0 (digits xs)) (length (digits xs))) none ≡ got v k → v < 10000000000

@@ -11,7 +11,7 @@ use borrow.Author.Tests.{lt-leb}
 use Rattle.scan.specs.declared.numbers.Number.{Number}
 use Rattle.scan.specs.declared.numbers.Number.the-variants as num
 use Rattle.market.specs.Bytes.{classOf, isDigit}
-use Rattle.market.specs.Fields.{got, none, digits, isNumber, valueOf, number}
+use Rattle.market.specs.Fields.{got, none, digits, isNumber, valueOf, numeral}
 use Rattle.scan.specs.Positions.{numberAt, isNumeral, pick}
 use Rattle.scan.proofs.Left.{left-cons}
 use Rattle.scan.proofs.numbers.Scanning.{digits-more, digit-range}
@@ -53,8 +53,8 @@ digits-step s at v i d h e l =
       made = rw m at (d .made);
     }
 
-number-is : (xs : List ℕ) (at : ℕ) → numberAt at (number xs) ≡ pick (isNumeral (getD (digits xs) 0 0) (length (digits xs))) (num.At (valueOf 0 (digits xs)) (at + length (digits xs))) num.No
-unfolding number isNumber
+number-is : (xs : List ℕ) (at : ℕ) → numberAt at (numeral xs) ≡ pick (isNumeral (getD (digits xs) 0 0) (length (digits xs))) (num.At (valueOf 0 (digits xs)) (at + length (digits xs))) num.No
+unfolding numeral isNumber
 number-is xs at = go (isNumeral (getD (digits xs) 0 0) (length (digits xs)))
   where
     go : (b : Bool) → numberAt at (cond b (got (valueOf 0 (digits xs)) (length (digits xs))) none) ≡ pick b (num.At (valueOf 0 (digits xs)) (at + length (digits xs))) num.No
@@ -68,7 +68,7 @@ same-first f g (suc k) h = rw (h (omega arith))
 
 -- no digit is left
 pub digits-done : (s : List ℕ) (at v i : ℕ) → Digits s at v i → at < length s → digits (drop i s) ≡ []
-    → pick (isNumeral (getD s at 0) (i - at)) (num.At v i) num.No ≡ numberAt at (number (drop at s))
+    → pick (isNumeral (getD s at 0) (i - at)) (num.At v i) num.No ≡ numberAt at (numeral (drop at s))
 unfolding valueOf
 digits-done s at v i d h e =
     let n : i - at ≡ length (digits (drop at s)) = omega (arith, d .count, ap length e) in
@@ -80,7 +80,7 @@ digits-done s at v i d h e =
     ∙ sym (number-is (drop at s) at)
 
 -- an eleventh digit
-pub digits-many : (s : List ℕ) (at v i : ℕ) → Digits s at v i → i < length s → classOf (getD s i 0) ≡ 1 → 10 ≤ i - at → num.No ≡ numberAt at (number (drop at s))
+pub digits-many : (s : List ℕ) (at v i : ℕ) → Digits s at v i → i < length s → classOf (getD s i 0) ≡ 1 → 10 ≤ i - at → num.No ≡ numberAt at (numeral (drop at s))
 digits-many s at v i d h e l =
     let m = digits-more s i h e in
     let k : 10 < length (digits (drop at s)) = omega (arith, d .count, ap length m) in
@@ -90,8 +90,8 @@ digits-many s at v i d h e l =
     go true = refl
     go false = refl
 
-pub number-end : (s : List ℕ) (at : ℕ) → length s ≤ at → num.No ≡ numberAt at (number (drop at s))
-unfolding number isNumber digits
+pub number-end : (s : List ℕ) (at : ℕ) → length s ≤ at → num.No ≡ numberAt at (numeral (drop at s))
+unfolding numeral isNumber digits
 number-end s at h = rw (drop-of-length-le s h)
 
 -- at most ten digits make less than 10 ^ 10

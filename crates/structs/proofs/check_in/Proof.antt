@@ -46,8 +46,8 @@ use denote.Triple.Clauses.{lasts}
 use denote.Triple.Table.{entered, cited}
 use denote.Triple.Walked.{says, Stays, stay-dropped, goes-dropped, walkOf, Walks, ends-at, walked, walk-meets}
 use denote.Exit.{yes}
-use Rattle.base.specs.Answers.{replyOf}
-use Rattle.base.specs.declared.Answer.{Answer}
+use Rattle.base.specs.Verdicts.{replyOf}
+use Rattle.base.specs.declared.Verdict.{Verdict}
 use Rattle.base.proofs.Answer as S
 use Rattle.base.proofs.Answer.Laws as S′
 use Rattle.matrix.specs.Checks.{matrixOf}
@@ -95,7 +95,7 @@ module _ {M : Type 1} (𝓤 : URA M) (H : Heap 𝓤) (A : Atoms 𝓤) (W : Given
   abbrev Post : Val → SProp 𝓤
   Post = walkOf 𝓤 H A check-in.ended stayed (check-in.clauses 𝓤 H A memory run) .post ((κs, qs, tt, a, vals), tt)
 
-  abbrev Said : Answer → Type 0
+  abbrev Said : Verdict → Type 0
   Said r = replyOf r ≡ checkReply (matrixOf n (starts .now) (columns .now) (values .now)) (order .now) (flat (map groupOf list)) (length list)
 
   -- the call, for a lifetime α of its own, with the array at l
@@ -135,7 +135,7 @@ module _ {M : Type 1} (𝓤 : URA M) (H : Heap 𝓤) (A : Atoms 𝓤) (W : Given
     abbrev Five : Item 𝓤
     Five = ‵ (flft κ₀ q₀) ⊛ ‵ (flft κ₁ q₁) ⊛ ‵ (flft κ₂ q₂) ⊛ ‵ (flft κ₃ q₃) ⊛ ‵ (flft (α ∷ []) fullShare) ⊛ ‵ ftrue
 
-  exits : (r : Answer) (u : Val) → Said r → ent 𝓤 (⋆ 𝓤 H A (‵ (S.the-row .own r (u ∷ [])) ∷ ‵ (flft κ₃ q₃) ∷ ‵ (flft κ₂ q₂) ∷ ‵ (flft κ₁ q₁) ∷ ‵ (flft κ₀ q₀) ∷ [])) (Post u)
+  exits : (r : Verdict) (u : Val) → Said r → ent 𝓤 (⋆ 𝓤 H A (‵ (S.the-row .own r (u ∷ [])) ∷ ‵ (flft κ₃ q₃) ∷ ‵ (flft κ₂ q₂) ∷ ‵ (flft κ₁ q₁) ∷ ‵ (flft κ₀ q₀) ∷ [])) (Post u)
   exits r u said =
       qed W (‵ (S.the-row .own r (u ∷ [])) ∷ ‵ (flft κ₃ q₃) ∷ ‵ (flft κ₂ q₂) ∷ ‵ (flft κ₁ q₁) ∷ ‵ (flft κ₀ q₀) ∷ []) ∵
       suffices ! _ (ends-at 𝓤 H A check-in.ended stayed (check-in.clauses 𝓤 H A memory run) W ((κs, qs, tt, a, vals), tt) u r (tt, (tt, (tt, (tt, (tt, (tt, tt)))))) (tt, (tt, (tt, (tt, (tt, (tt, tt))))))) $
@@ -179,7 +179,7 @@ module _ {M : Type 1} (𝓤 : URA M) (H : Heap 𝓤) (A : Atoms 𝓤) (W : Given
         -- [what `check` asks; …; the lender's part; _9; …; _8; …; …; _6; …; _5; …; _4; …; _3; …; _2; …; _1; …; _0; …]
         calls-at ! (fmOf 𝓤 H (W .laws) 𝓣) (Check 𝓤 H A memory run) known (to-check l₇ α δ) (and-then ! (load ! (from ! (stop !)) (look ! 18 refl)) (and-then ! (load ! (from ! (stop !)) (look ! 16 refl))
         (and-then ! (load ! (from ! (stop !)) (look ! 14 refl)) (and-then ! (load ! (from ! (stop !)) (look ! 12 refl)) (and-then ! (load ! (from ! (stop !)) (look ! 10 refl)) (and-then ! (load ! (from ! (stop !)) (look ! 3 refl)) (no-more !))))))) (λ u.
-        hears ! tt (Five l₇ α δ) (λ (r : Answer). S.the-row .own r (u ∷ [])) (lasts check.ended (lent-on l₇ α δ) (passed l₇ α δ)) (λ r _. Said r) (id⊢ 𝓤 _) (λ r _ said. drop ! $ split ! $
+        hears ! tt (Five l₇ α δ) (λ (r : Verdict). S.the-row .own r (u ∷ [])) (lasts check.ended (lent-on l₇ α δ) (passed l₇ α δ)) (λ r _. Said r) (id⊢ 𝓤 _) (λ r _ said. drop ! $ split ! $
         move ! (1 ∷ []) $ peeks ! S.the-row (Is S.the-row) (shows 𝓤 H A S.the-row) r (u ∷ []) (λ is.
         -- [what the answer owns; the tokens; …; the lender's part; _9; …; _8; …; …; _6; …; … _1; …; _0; …]
         land ! (from ! (stop !)) (init ! 21 refl (EL.lawful S.the-type S′.the-laws 𝓤 H A W tt .typed r _ is .0)) $

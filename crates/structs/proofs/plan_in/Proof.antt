@@ -51,9 +51,9 @@ use denote.Triple.Table.{entered, cited}
 use denote.Triple.Walked.{says, Stays, stay-dropped, gave-slice, goes-dropped, goes-gave-slice, walkOf, Walks, ends-at, walked, walk-meets}
 use denote.Exit.{yes}
 use borrow.Rule.Slice.Shared.{parts-cells}
-use Rattle.base.specs.Answers.{replyOf}
+use Rattle.base.specs.Verdicts.{replyOf}
 use Rattle.base.specs.Replies.{Reply, lent}
-use Rattle.base.specs.declared.Answer.{Answer}
+use Rattle.base.specs.declared.Verdict.{Verdict}
 use Rattle.base.proofs.Answer as S
 use Rattle.base.proofs.Answer.Laws as S′
 use Rattle.matrix.specs.Matrix.{Matrix}
@@ -105,7 +105,7 @@ as-tuples [] (u ∷ us) h = h
 as-tuples (g ∷ gs) [] h = h
 as-tuples (g ∷ gs) (u ∷ us) h = (h .0, as-tuples gs us (h .1))
 
-abbrev made : List Group → Answer → Five
+abbrev made : List Group → Verdict → Five
 made gs r = record { groups = gs; answer = r }
 
 module _ (d : Five) (vs : List Val) (is : Is Places (d .groups) vs) where
@@ -152,7 +152,7 @@ module _ {M : Type 1} (𝓤 : URA M) (H : Heap 𝓤) (A : Atoms 𝓤) (W : Given
   reply = planReply m workers p (length (order .now)) (width * length list)
 
   -- what `plan` ensures of the answer, and of the last groups
-  abbrev Said : Answer → Type 0
+  abbrev Said : Verdict → Type 0
   Said r = replyOf r ≡ reply
 
   abbrev Kept : List Group → Type 0
@@ -206,7 +206,7 @@ module _ {M : Type 1} (𝓤 : URA M) (H : Heap 𝓤) (A : Atoms 𝓤) (W : Given
 
     -- what the call leaves
     abbrev Left : Val → Item 𝓤
-    Left u = later (some (λ (r : Answer). (Tokens ⊛ ‵ (S.the-row .own r (u ∷ []))) ⊛ some (λ (ws : Lasts plan.ended lent-on passed). ‵ (lasts plan.ended lent-on passed ws)
+    Left u = later (some (λ (r : Verdict). (Tokens ⊛ ‵ (S.the-row .own r (u ∷ []))) ⊛ some (λ (ws : Lasts plan.ended lent-on passed). ‵ (lasts plan.ended lent-on passed ws)
         ⊛ (raw (fact 𝓤 (Said r)) ⊛ (raw (fact 𝓤 (order-last ws ≡ lent reply (planner.plan m workers p .order) (order .now))) ⊛ raw (fact 𝓤 (Kept (groups-last ws))))))))
 
   exits : (d : Five) → Is R.the-row d (LL.vals R.the-type R′.the-laws d) → Said (d .answer) → Kept (d .groups) → (order′ : List ℕ) → length order′ ≡ length (order .now)

@@ -7,7 +7,7 @@ use native.Mathlib.Omega.{arith}
 use lib.IntN.{pos}
 use lib.ListN.{length, take, drop, length-append}
 use borrow.Author.Tests.{le-leb, lt-leb}
-use Rattle.base.specs.Refusals as no
+use Rattle.base.specs.Refusals as why
 use Rattle.base.specs.Replies.{accepted, refused, inTurn, lent}
 use Rattle.matrix.specs.Matrix.{Matrix, isMatrix, matrixCheck}
 use Rattle.market.specs.Bytes.{header}
@@ -23,13 +23,13 @@ module _ (m : Matrix) where
   written-is = refl
 
   -- 5
-  pub write-unmade : (room : ℕ) → isMatrix m ≡ false → writeReply m room ≡ refused no.matrix 0
+  pub write-unmade : (room : ℕ) → isMatrix m ≡ false → writeReply m room ≡ refused why.notMatrix 0
   unfolding writeReply inTurn matrixCheck
   write-unmade room h = rw h
 
   module _ (ok : isMatrix m ≡ true) where
     -- 9
-    pub write-short : (room : ℕ) {needed : ℕ} → needed ≡ length (written m) → room < needed → writeReply m room ≡ refused no.short needed
+    pub write-short : (room : ℕ) {needed : ℕ} → needed ≡ length (written m) → room < needed → writeReply m room ≡ refused why.tooShort needed
     unfolding writeReply inTurn matrixCheck
     write-short room e h = rw (ok, e, lt-leb (length (written m)) room (omega arith))
 

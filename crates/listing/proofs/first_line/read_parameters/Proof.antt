@@ -5,7 +5,7 @@ use mathlib.Core.List.{List}
 use Prim.Native.Nat.{ℕ, _+_}
 use lib.ListN.{drop}
 use Rattle.scan.specs.declared.numbers.Number.the-variants as num
-use Rattle.market.specs.Fields.{number}
+use Rattle.market.specs.Fields.{numeral}
 use Rattle.scan.specs.Positions.{numberAt}
 use Rattle.listing.proofs.FirstLine.{no-first, no-gap, other-gap, no-second, more-after, both-given}
 use Rattle.listing.proofs.first_line.read_parameters.Statement.{statement}
@@ -20,10 +20,10 @@ abbrev gap : tie.After-first → ℕ
 gap c = c .first .given .0 .1 .0
 
 -- what the two calls gave
-one : (c : tie.After-first) → num.At (c .first .given .0 .0) (gap c) ≡ numberAt 0 (number (drop 0 (line c)))
+one : (c : tie.After-first) → num.At (c .first .given .0 .0) (gap c) ≡ numberAt 0 (numeral (drop 0 (line c)))
 one c = sym (c .first .given .1) ∙ c .before .before .read-number .ensures
 
-two : (c : tie.After-second) → let f = c .before .before .before .before .before .before .before in num.At (c .second .given .0 .0) (c .second .given .0 .1 .0) ≡ numberAt (gap f + 1) (number (drop (gap f + 1) (line f)))
+two : (c : tie.After-second) → let f = c .before .before .before .before .before .before .before in num.At (c .second .given .0 .0) (c .second .given .0 .1 .0) ≡ numberAt (gap f + 1) (numeral (drop (gap f + 1) (line f)))
 two c = sym (c .second .given .1) ∙ c .before .before .read-number2 .ensures
 
 read-number-requires : tie.Need-read-number-requires

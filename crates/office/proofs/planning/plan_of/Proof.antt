@@ -5,8 +5,8 @@ use mathlib.Core.List.{_++_}
 use native.Mathlib.Omega.{arith}
 use lib.ListN.{length, take, drop}
 use lib.Seq.{length-take-le}
-use Rattle.base.specs.Answers.{replyOf}
-use Rattle.base.specs.declared.Answer.{Answer}
+use Rattle.base.specs.Verdicts.{replyOf}
+use Rattle.base.specs.declared.Verdict.{Verdict}
 use Rattle.matrix.specs.Matrix.{Matrix}
 use Rattle.matrix.specs.Checks.{matrixOf}
 use Rattle.race.specs.Planner.{planReply}
@@ -45,7 +45,7 @@ returns c =
     let told = c .before in
     let made = told .before .before .before .before .before .before in
     let said = sym (told .enum-told .given .1) in
-    plan-refused (same made) (ap replyOf said ∙ made .plan .ensures .0) (c .word-of .ensures ∙ ap (λ (r : Answer). word (replyOf r)) (sym said))
+    plan-refused (same made) (ap replyOf said ∙ made .plan .ensures .0) (c .word-of .ensures ∙ ap (λ (r : Verdict). word (replyOf r)) (sym said))
 
 slice-reshare-prefix-store-u32 : tie.Need-slice-reshare-prefix-store-u32
 slice-reshare-prefix-store-u32 c = begins-fits (held (c .before) .order-begins)

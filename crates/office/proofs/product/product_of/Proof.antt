@@ -6,8 +6,8 @@ use native.Mathlib.Omega.{arith}
 use lib.ListN.{length, take}
 use lib.Seq.{length-take-le}
 use Rattle.base.specs.Replies.{accepted}
-use Rattle.base.specs.Answers.{replyOf}
-use Rattle.base.specs.declared.Answer.{Answer}
+use Rattle.base.specs.Verdicts.{replyOf}
+use Rattle.base.specs.declared.Verdict.{Verdict}
 use Rattle.matrix.specs.Matrix.{Matrix}
 use Rattle.matrix.specs.Checks.{matrixOf}
 use Rattle.matrix.specs.Product.{productReply}
@@ -38,7 +38,7 @@ returns c =
     let s = l .before .before .before .before in
     let said = sym (c .before .enum-told2 .given .1) in
     product-refused (given s) (s .args .displacements .now) (length (s .args .sums .now)) _ (s .pre) (s .args .forces .now) (least l) _ _
-    (ap replyOf said ∙ p .product .ensures .0) (c .word-of .ensures ∙ ap (λ (r : Answer). word (replyOf r)) (sym said))
+    (ap replyOf said ∙ p .product .ensures .0) (c .word-of .ensures ∙ ap (λ (r : Verdict). word (replyOf r)) (sym said))
 
 slice-reshare-prefix-store-i64 : tie.Need-slice-reshare-prefix-store-i64
 slice-reshare-prefix-store-i64 c =
@@ -63,7 +63,7 @@ returns-2 c =
     let l = p .before .before in
     let s = l .before .before .before .before in
     product-stored (given s) (s .args .displacements .now) (length (s .args .sums .now)) _ (s .pre) (s .args .forces .now) (least l) _ (told t) _ _ _ (p .product .ensures .1)
-    (c .word-of2 .ensures ∙ ap (λ (r : Answer). word (replyOf r)) (t .enum-told .given .1)) (stores .store-i64 .ensures)
+    (c .word-of2 .ensures ∙ ap (λ (r : Verdict). word (replyOf r)) (t .enum-told .given .1)) (stores .store-i64 .ensures)
 
 pub product-of-spec : {M : Type 1} → statement M
 product-of-spec =

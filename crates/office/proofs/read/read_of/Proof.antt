@@ -5,8 +5,8 @@ use mathlib.Core.List.{_++_}
 use native.Mathlib.Omega.{arith}
 use lib.ListN.{length, take, drop}
 use lib.Seq.{length-take-le}
-use Rattle.base.specs.Answers.{replyOf}
-use Rattle.base.specs.declared.Answer.{Answer}
+use Rattle.base.specs.Verdicts.{replyOf}
+use Rattle.base.specs.declared.Verdict.{Verdict}
 use Rattle.market.specs.Parse.{parse}
 use Rattle.market.specs.FullRows.{readReply}
 use Rattle.lent.specs.Word.{word}
@@ -44,7 +44,7 @@ returns c =
     let told = c .before in
     let made = told .before .before .before .before .before .before .before in
     let said = sym (told .enum-told .given .1) in
-    read-refused (same made) (ap replyOf said ∙ made .read .ensures .0) (c .word-of .ensures ∙ ap (λ (r : Answer). word (replyOf r)) (sym said))
+    read-refused (same made) (ap replyOf said ∙ made .read .ensures .0) (c .word-of .ensures ∙ ap (λ (r : Verdict). word (replyOf r)) (sym said))
 
 slice-read-wide : tie.Need-slice-read-wide
 slice-read-wide c = omega (arith, begins-fits (held (c .before .before) .starts-begin))

@@ -12,7 +12,7 @@ use mir.Syntax.{w64}
 use mir.Val.{SFits, toZ, ofZ}
 use mir.Facts.{toZ-ofZ}
 use borrow.Author.Tests.{not-true, not-false}
-use Rattle.base.specs.Refusals as no
+use Rattle.base.specs.Refusals as why
 use Rattle.scan.specs.declared.lines.Fields.the-variants as fld
 use Rattle.market.specs.Fields.{fields}
 use Rattle.market.specs.Parse.{rejected, sizeLine, entries}
@@ -49,7 +49,7 @@ positive : (c : tie.Else1) → ltZ (value (c .before .before)) (pos 0) ≡ false
 positive c = simp (toZ-ofZ (in-range (c .before))) at (c .if1 .left)
 
 -- the size is tested
-tested : (c : tie.After-is-size) → let f = c .before .before .before in let a = f .before .before .before .before .args in sizeLine (a .line) (drop (a .pos) (a .s .now)) ≡ cond (c .is-size .result) (entries (row f) (count f) (a .line + 1) [] (drop (next f) (a .s .now))) (rejected no.size (a .line))
+tested : (c : tie.After-is-size) → let f = c .before .before .before in let a = f .before .before .before .before .args in sizeLine (a .line) (drop (a .pos) (a .s .now)) ≡ cond (c .is-size .result) (entries (row f) (count f) (a .line + 1) [] (drop (next f) (a .s .now))) (rejected why.badSize (a .line))
 tested c =
     let x = c .before in
     let f = x .before .before in

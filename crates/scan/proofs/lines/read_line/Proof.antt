@@ -7,14 +7,14 @@ use mir.Val.{SFits}
 use mir.Facts.{toZ-ofZ}
 use Rattle.scan.specs.declared.numbers.Number.the-variants as num
 use Rattle.scan.specs.declared.lines.Value.the-variants as val
-use Rattle.market.specs.Fields.{number, field, valueField}
+use Rattle.market.specs.Fields.{numeral, field, valueField}
 use Rattle.scan.specs.Positions.{numberAt, valueAt}
 use Rattle.scan.proofs.lines.Lines.{line-one, line-two, line-three, line-short, line-bad, line-good}
 use Rattle.scan.proofs.lines.read_line.Statement.{statement}
 use Rattle.scan.proofs.lines.read_line.Tie as tie
 
 -- what the three calls gave
-one : (c : tie.After-first) → num.At (c .first .given .0 .0) (c .first .given .0 .1 .0) ≡ numberAt (c .before .before .before .before .args .at) (number (drop (c .before .before .before .before .args .at) (c .before .before .before .before .args .s .now)))
+one : (c : tie.After-first) → num.At (c .first .given .0 .0) (c .first .given .0 .1 .0) ≡ numberAt (c .before .before .before .before .args .at) (numeral (drop (c .before .before .before .before .args .at) (c .before .before .before .before .args .s .now)))
 one c = sym (c .first .given .1) ∙ c .before .before .scan-number .ensures
 
 two : (c : tie.After-second) → let f = c .before .before .before .before in let s = f .before .before .before .before .args .s .now in num.At (c .second .given .0 .0) (c .second .given .0 .1 .0) ≡ numberAt (f .first .given .0 .1 .0) (field (drop (f .first .given .0 .1 .0) s))
