@@ -8,7 +8,7 @@ use lib.Dec.{eqb}
 use lib.ListN.{length}
 use borrow.Author.Tests.{eqb-true, eq-eqb, ne-eqb}
 use Rattle.base.specs.Lists.{filter, keep, isIn, range, bit}
-pub use Rattle.base.specs.Lists.{count}
+pub use Rattle.base.specs.code.Counts.{count}
 
 -- the same numbers, as often
 abbrev pub Same : List ℕ → List ℕ → Type 0

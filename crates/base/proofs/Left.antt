@@ -1,6 +1,5 @@
 -- Loops over 0 .. n - 1 or over a list: a test of every number or element is decided by those that are left.
 use mathlib.Core.Path.{_≡_, refl, ap, _∙_}
-use mathlib.Core.Path.{_≡_, refl, ap, _∙_}
 use mathlib.Core.Bool.{Bool, true, false, _&&_}
 use mathlib.Core.List.{List, [], _∷_}
 use Prim.Native.Nat.{ℕ, suc, _+_, _-_, _<_}

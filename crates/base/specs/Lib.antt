@@ -4,3 +4,4 @@ pub mod Integers
 pub mod Refusals
 pub mod Replies
 pub mod Verdicts
+pub mod code

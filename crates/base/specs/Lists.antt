@@ -79,8 +79,3 @@ distance x y = (x - y) + (y - x)
 abbrev pub bit : Bool → ℕ
 bit true = 1
 bit false = 0
-
--- how often v stands in the list
-abbrev pub count : ℕ → List ℕ → ℕ
-count v [] = 0
-count v (x ∷ xs) = bit (eqb v x) + count v xs

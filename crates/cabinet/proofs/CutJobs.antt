@@ -7,10 +7,12 @@ use lib.IntN.{ℤ}
 use Rattle.matrix.specs.Matrix.{Matrix, isMatrix, adjacent}
 use Rattle.matrix.proofs.Cut.{cut, cut-entry, cut-neighbours}
 use Rattle.plan.specs.Groups.{Plan}
-use Rattle.run.specs.Job.{Job, rowAt}
+use Rattle.run.specs.Job.{Job, rowAt, workers}
 use Rattle.run.specs.Updates.{entryAt, displacementAt, later, withEach, rowUpdates, owner, upTo, updates, accesses, finished, next, waits}
-use Rattle.run.specs.Machine.{State, workers, refusal, Outcome, moved, halted, step, Stepped, oneMore, steps, readyBelow, ready, allMade, over, original, countsFine, isState}
-use Rattle.run.specs.Calls.{Call, picks, readySet, forceList, readyOf, answerOf, afterOf, stateCheck, answer, after}
+use Rattle.run.specs.Machine.{refusal, Outcome, moved, halted, step, Stepped, oneMore, steps, readyBelow, ready, allMade, over, original, countsFine, isState}
+use Rattle.run.specs.State.{State}
+use Rattle.run.specs.Calls.{readyOf, answerOf, afterOf, stateCheck, answer, after}
+use Rattle.run.specs.Answers.{Call, picks, readySet, forceList}
 use Rattle.run.proofs.Schedule.{steps-on, steps-end}
 
 module _ (m : Matrix) (ok : isMatrix m ≡ true) (x : List ℤ) (p : Plan) where

@@ -15,24 +15,28 @@ use Rattle.base.specs.Refusals as why
 use Rattle.base.specs.Replies.{Check, inTurn}
 use Rattle.base.proofs.Booleans.{conj-at, leb-min}
 use Rattle.base.proofs.Replies.{inTurn-same}
-use Rattle.matrix.specs.Limits.{maxRows, maxStarts}
+use Rattle.matrix.specs.Limits.{maxRows}
+use Rattle.matrix.specs.code.Room.{maxStarts}
 use Rattle.matrix.specs.Matrix.{Matrix, isMatrix, matrixCheck, areDisplacements, displacementCheck}
 use Rattle.matrix.proofs.Matrix.{matrix-facts}
 use Rattle.matrix.proofs.Cut.{cut, cut-matrix, cut-displacements, displacements-kept}
 use Rattle.plan.specs.Groups.{Plan, width, planOf}
-use Rattle.plan.specs.Sound.{maxGroups, isSound, isPlan, planCheck, maxFields}
+use Rattle.plan.specs.Sound.{maxGroups, isSound, isPlan, planCheck}
+use Rattle.plan.specs.code.Room.{maxFields}
 use Rattle.plan.proofs.Cut.{cut-plan, plan-kept}
 use Rattle.words.specs.LittleEndian.{unsigned, signed}
 use Rattle.run.specs.Job.{Job, jobOf}
-use Rattle.run.specs.Machine.{State, isState}
-use Rattle.run.specs.Calls.{Call, Answer, denied, answerOf, afterOf, stateCheck, answer, after, jobChecks, answerLent, afterLent, forcesLent}
+use Rattle.run.specs.Machine.{isState}
+use Rattle.run.specs.State.{State}
+use Rattle.run.specs.Calls.{answerOf, afterOf, stateCheck, answer, after, jobChecks, answerLent, afterLent, forcesLent}
+use Rattle.run.specs.Answers.{Call, Answer, denied}
 use Rattle.calls.specs.Performed.{asCall, Performed}
 use Rattle.calls.specs.declared.Call as asked
 use Rattle.calls.specs.declared.Call.the-variants.{Picks, ReadySet, ForceList}
 use Rattle.machine.specs.Record.{stateOf}
 use Rattle.machine.specs.declared.state.State as code
 use Rattle.cabinet.specs.Runs.{stateBytes, countBytes, stateIn, answerIn}
-use Rattle.cabinet.specs.Ran.{StateIs}
+use Rattle.cabinet.specs.code.Ran.{StateIs}
 use Rattle.lent.proofs.Loads.{plan-of-cut}
 use Rattle.cabinet.proofs.CutJobs.{answer-same, after-same}
 

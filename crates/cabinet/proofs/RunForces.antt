@@ -18,8 +18,10 @@ use Rattle.base.proofs.Fill.{length-made}
 use Rattle.matrix.specs.Limits.{maxRows}
 use Rattle.matrix.specs.Matrix.{Matrix}
 use Rattle.run.specs.Job.{jobOf}
-use Rattle.run.specs.Machine.{State, positionOf, over, original}
-use Rattle.run.specs.Calls.{Answer, forces, denied, pickedOf, readyOf, forcesOf, answerOf, stateCheck, answer, jobChecks, answerLent}
+use Rattle.run.specs.Machine.{positionOf, over, original}
+use Rattle.run.specs.State.{State}
+use Rattle.run.specs.Calls.{pickedOf, readyOf, forcesOf, answerOf, stateCheck, answer, jobChecks, answerLent}
+use Rattle.run.specs.Answers.{Answer, forces, denied}
 use Rattle.calls.specs.Performed.{asCall, asAnswer, Performed}
 use Rattle.calls.specs.declared.Call as asked
 use Rattle.calls.specs.declared.Call.the-variants.{Picks, ReadySet, ForceList}
@@ -28,7 +30,7 @@ use Rattle.calls.specs.declared.Response.{Response}
 use Rattle.calls.specs.declared.Response.the-variants.{Picked, Ready, Forces, Refused}
 use Rattle.words.specs.LittleEndian.{signedBytes, stored}
 use Rattle.cabinet.specs.Runs.{replyTo, forceBytes}
-use Rattle.cabinet.specs.Ran.{ForcesFit}
+use Rattle.cabinet.specs.code.Ran.{ForcesFit}
 
 -- forces are n, and there is room for them
 abbrev Given : (n room : ℕ) → Answer → Type 0

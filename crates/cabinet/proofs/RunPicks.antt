@@ -18,12 +18,14 @@ use Rattle.base.specs.Replies.{Check, inTurn}
 use Rattle.base.proofs.Booleans.{and-left}
 use Rattle.base.proofs.Replies.{accepted-all}
 use Rattle.matrix.specs.Matrix.{Matrix}
-use Rattle.matrix.specs.Limits.{maxStarts}
+use Rattle.matrix.specs.code.Room.{maxStarts}
 use Rattle.matrix.proofs.Matrix.{matrix-facts}
 use Rattle.plan.specs.Sound.{maxWorkers}
 use Rattle.run.specs.Job.{Job, jobOf, Accepted}
-use Rattle.run.specs.Machine.{State, steps, over, original, isState, countsFine}
-use Rattle.run.specs.Calls.{Call, picks, readySet, forceList, Answer, picked, denied, placeOf, pickedOf, readyOf, forcesOf, answerOf, stateCheck, answer, jobChecks, answerLent, afterLent}
+use Rattle.run.specs.Machine.{steps, over, original, isState, countsFine}
+use Rattle.run.specs.State.{State}
+use Rattle.run.specs.Calls.{placeOf, pickedOf, readyOf, forcesOf, answerOf, stateCheck, answer, jobChecks, answerLent, afterLent}
+use Rattle.run.specs.Answers.{Call, picks, readySet, forceList, Answer, picked, denied}
 use Rattle.machine.specs.Record.{stateOf}
 use Rattle.machine.specs.declared.state.State as code
 use Rattle.calls.specs.Performed.{asAnswer, Performed}
@@ -35,7 +37,7 @@ use Rattle.words.specs.LittleEndian.{number, signedNumber, signed, signedBytes,
 use Rattle.words.proofs.Blocks.{length-decoded}
 use Rattle.lent.specs.Word.{word}
 use Rattle.cabinet.specs.Runs.{stateBytes, countBytes, stateIn, answerIn, replyTo, forceBytes, bytesIn, leftBy, PicksAnswered}
-use Rattle.cabinet.specs.Ran.{StateIs, Taken, Ran, LowPlace, PicksFit}
+use Rattle.cabinet.specs.code.Ran.{StateIs, Taken, Ran, LowPlace, PicksFit}
 use Rattle.cabinet.proofs.RunCalls.{decoded, always-refused}
 use Rattle.cabinet.proofs.TakenFew.{taken-few}
 

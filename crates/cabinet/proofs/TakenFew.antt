@@ -9,10 +9,11 @@ use lib.Seq.{getD-set-same, getD-set-other}
 use Rattle.base.specs.Lists.{sumBelow}
 use Rattle.base.proofs.Sums.{sum-below-more, sum-below-bound}
 use Rattle.plan.specs.Sound.{maxWorkers}
-use Rattle.run.specs.Job.{Job, Accepted}
+use Rattle.run.specs.Job.{Job, Accepted, workers}
 use Rattle.run.specs.Updates.{count, updates, accesses}
-use Rattle.run.specs.Machine.{State, workers, refusal, Outcome, moved, halted, onward, step, oneMore, steps}
-use Rattle.tables.specs.Laid.{maxUpdates}
+use Rattle.run.specs.Machine.{refusal, Outcome, moved, halted, onward, step, oneMore, steps}
+use Rattle.run.specs.State.{State}
+use Rattle.tables.specs.code.Laid.{maxUpdates}
 use Rattle.run.proofs.Able.{able}
 use Rattle.run.proofs.Accepted.{facts}
 use Rattle.run.proofs.Schedule.{step-end, steps-on, steps-end, step-made}

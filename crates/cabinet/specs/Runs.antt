@@ -11,8 +11,9 @@ use Rattle.base.specs.Replies as replies
 use Rattle.base.specs.Replies.{Reply, inTurn}
 use Rattle.matrix.specs.Matrix.{Matrix}
 use Rattle.plan.specs.Sound.{maxWorkers}
-use Rattle.run.specs.Machine.{State}
-use Rattle.run.specs.Calls.{Call, Answer, picked, isReady, forces, denied, jobChecks, answerLent}
+use Rattle.run.specs.State.{State}
+use Rattle.run.specs.Calls.{jobChecks, answerLent}
+use Rattle.run.specs.Answers.{Call, Answer, picked, isReady, forces, denied}
 use Rattle.words.specs.LittleEndian.{unsigned, signed, unsignedBytes, signedBytes, stored}
 use Rattle.lent.specs.Word.{word, Answered}
 

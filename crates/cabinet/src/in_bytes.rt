@@ -18,13 +18,13 @@ ghost use mathlib.Core.Bool.{cond};
 ghost use Prim.Native.Nat.{_/_};
 ghost use lib.Dec.{eqb};
 ghost use lib.ListN.{length};
-ghost use Rattle.matrix.specs.Limits.{maxStarts};
+ghost use Rattle.matrix.specs.code.Room.{maxStarts};
 ghost use Rattle.run.specs.Calls.{afterLent};
 ghost use Rattle.calls.specs.Performed.{asCall};
 ghost use Rattle.words.specs.LittleEndian.{unsigned, signed};
 ghost use Rattle.lent.specs.Bytes.{matrixIn};
 ghost use Rattle.cabinet.specs.Runs.{stateBytes, stateIn, answerIn};
-ghost use Rattle.cabinet.specs.Ran.{Ran};
+ghost use Rattle.cabinet.specs.code.Ran.{Ran};
 
 // How many of the sums are lent on: none where the bytes are no state, so that it is refused as one without n sums.
 fn lent_sums(state: &[u8], size: usize) -> usize

@@ -10,7 +10,7 @@ ghost use mathlib.Core.List.{_++_};
 ghost use lib.ListN.{length};
 ghost use Rattle.words.specs.LittleEndian.{unsignedBytes, signedBytes, stored};
 ghost use Rattle.cabinet.specs.Runs.{stateBytes};
-ghost use Rattle.cabinet.specs.Ran.{StateIs};
+ghost use Rattle.cabinet.specs.code.Ran.{StateIs};
 
 // "a state is 192 bytes": each worker's count, then what it holds.
 const COUNT_BYTES: usize = 4 * MAX_WORKERS;

@@ -10,7 +10,7 @@ ghost use Rattle.machine.specs.Record.{stateOf};
 ghost use Rattle.calls.specs.Performed.{asAnswer};
 ghost use Rattle.words.specs.LittleEndian.{signedBytes};
 ghost use Rattle.cabinet.specs.Runs.{replyTo, forceBytes, bytesIn, leftBy};
-ghost use Rattle.cabinet.specs.Ran.{PicksFit, ForcesFit};
+ghost use Rattle.cabinet.specs.code.Ran.{PicksFit, ForcesFit};
 
 // State and sums as the picks that were taken left them. Any other answer leaves both.
 pub fn store_picks(

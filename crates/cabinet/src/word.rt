@@ -5,10 +5,10 @@ ghost use mathlib.Core.Path.{_≡_};
 ghost use mathlib.Core.List.{List};
 ghost use Prim.Native.Nat.{_^_, _<_};
 ghost use lib.IntN.{ℤ};
-ghost use Rattle.run.specs.Calls.{picked};
+ghost use Rattle.run.specs.Answers.{picked};
 ghost use Rattle.calls.specs.Performed.{asAnswer};
 ghost use Rattle.cabinet.specs.Runs.{replyTo};
-ghost use Rattle.cabinet.specs.Ran.{LowPlace};
+ghost use Rattle.cabinet.specs.code.Ran.{LowPlace};
 ghost use Rattle.lent.specs.Word.{word};
 
 // The picks taken, or the number and place of the one that ended them.

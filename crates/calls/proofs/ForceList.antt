@@ -13,10 +13,10 @@ use Rattle.plan.specs.Sound.{eachOnce}
 use Rattle.plan.proofs.Once.{Once, once}
 use Rattle.run.specs.Job.{Job}
 use Rattle.run.specs.Machine.{positionOf, original}
-use Rattle.run.specs.Calls as calls
+use Rattle.run.specs.Answers as calls
 use Rattle.run.specs.Calls.{forcesOf, forcesLent}
-use Rattle.calls.specs.Performed.{Listed}
-use Rattle.calls.specs.Scatter.{Scattered}
+use Rattle.calls.specs.code.Listed.{Listed}
+use Rattle.calls.specs.code.Scatter.{Scattered}
 use Rattle.calls.proofs.Scattering.{scattered-original}
 
 original-long : (j : Job) (sums : List ℤ) → length (original j sums) ≡ j .matrix .n

@@ -16,7 +16,7 @@ use Rattle.plan.specs.Groups.{width, planOf}
 use Rattle.plan.specs.Sound.{maxGroups, isSound, isPlan, planCheck}
 use Rattle.run.specs.Job.{jobOf}
 use Rattle.run.specs.Calls.{jobChecks}
-use Rattle.layout.specs.UpdateTable.{Given}
+use Rattle.layout.specs.code.UpdateTable.{Given}
 use Rattle.calls.proofs.InTurn.{turn-refused}
 
 module _ (m : Matrix) (x : List ℤ) (order groups : List ℕ) (count : ℕ) where

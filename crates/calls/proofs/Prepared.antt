@@ -11,28 +11,28 @@ use lib.Seq.{getD-take}
 use Rattle.base.specs.Replies.{accepted, refused, inTurn}
 use Rattle.matrix.specs.Limits.{maxRows}
 use Rattle.matrix.proofs.Matrix.{matrix-facts, displacements-many}
-use Rattle.matrix.specs.Matrix.{Matrix}
-use Rattle.matrix.specs.Checks.{matrixOf}
+use Rattle.matrix.specs.Matrix.{Matrix, matrixOf}
 use Rattle.plan.specs.Groups.{Group, width, planOf, records}
 use Rattle.plan.specs.Sound.{maxWorkers, maxGroups, eachOnce}
-use Rattle.plan.specs.Checks.{recordAt, Reads}
+use Rattle.plan.specs.code.Checks.{recordAt, Reads}
 use Rattle.plan.specs.declared.fields.Record.{Record}
-use Rattle.run.specs.Job.{Job, jobOf}
+use Rattle.run.specs.Job.{Job, jobOf, workers}
 use Rattle.run.specs.Updates.{rowUpdates, owner}
-use Rattle.run.specs.Machine.{State, workers, over, isState}
+use Rattle.run.specs.Machine.{over, isState}
+use Rattle.run.specs.State.{State}
 use Rattle.run.specs.Calls.{jobChecks}
 use Rattle.run.proofs.Accepted.{facts, tree-of}
 use Rattle.run.proofs.RowUpdates.{row-length}
-use Rattle.tables.specs.Laid.{maxUpdates, beginOf, Counted, Laid}
-use Rattle.upper.specs.Upper.{Parts}
+use Rattle.tables.specs.code.Laid.{maxUpdates, beginOf, Counted, Laid}
+use Rattle.upper.specs.code.Upper.{Parts}
 use Rattle.upper.proofs.UpperRows.{upper-whole}
 use Rattle.upper.proofs.PlacedRows.{row-low}
-use Rattle.waits.specs.Waits.{Recorded}
-use Rattle.layout.specs.UpdateTable.{Given, Planned, Blank}
+use Rattle.waits.specs.code.Waits.{Recorded}
+use Rattle.layout.specs.code.UpdateTable.{Given, Planned, Blank}
 use Rattle.layout.proofs.UpdateRoom.{owners, span, spans-apart, room}
 use Rattle.layout.proofs.FilledRows.{blank-zeros}
 use Rattle.layout.proofs.GivenRows.{lent-of, few-rows}
-use Rattle.machine.specs.Record.{allBelow, fine, done}
+use Rattle.machine.specs.code.Tests.{allBelow, fine, done}
 use Rattle.machine.proofs.BlockedLeaves.{whole-crew, recorded-of}
 use Rattle.machine.proofs.TableWaits.{table-over, table-state}
 use Rattle.calls.proofs.JobChecked.{job-given}

@@ -12,9 +12,10 @@ use lib.Pow.{shl-exact}
 use lib.Bits.{bitOr, or-shifted-r}
 use lib.Count.{ones, ones-cat}
 use mir.Val.{boolByte}
-use Rattle.run.specs.Job.{Job}
-use Rattle.run.specs.Machine.{workers, refusal, readyBelow, ready, bits}
-use Rattle.run.specs.Calls.{isReady, readyOf}
+use Rattle.run.specs.Job.{Job, workers}
+use Rattle.run.specs.Machine.{refusal, readyBelow, ready, bits}
+use Rattle.run.specs.Calls.{readyOf}
+use Rattle.run.specs.Answers.{isReady}
 
 -- a worker above those of a set joins it, if it is ready
 joined : (b : Bool) (w : ℕ) (ws : List ℕ) → bits (cond b (w ∷ ws) ws) ≡ boolByte b * 2 ^ w + bits ws

@@ -16,7 +16,7 @@ use Rattle.base.proofs.Fill.{length-made}
 use Rattle.plan.proofs.Once.{Once, low-at, injective}
 use Rattle.run.specs.Job.{Job}
 use Rattle.run.specs.Machine.{positionOf, original}
-use Rattle.calls.specs.Scatter.{Scattered}
+use Rattle.calls.specs.code.Scatter.{Scattered}
 use Rattle.run.proofs.Positions.{position-at}
 
 module _ (n : ℕ) (order : List ℕ) (once : Once n order) (sums old : List ℤ) (room : n ≤ length old) where

@@ -1,2 +1,2 @@
-pub mod Scatter
 pub mod Performed
+pub mod code

@@ -1,16 +1,12 @@
 -- A call of the code as the definition's, document 01's numbers and values for each case of its answer, and what it comes to.
 use mathlib.Core.Path.{_≡_}
-use mathlib.Core.Bool.{Bool}
 use mathlib.Core.List.{List}
 use Prim.Native.Nat.{ℕ}
-use lib.Dec.{leb}
 use lib.IntN.{ℤ}
-use lib.ListN.{length}
 use Rattle.matrix.specs.Matrix.{Matrix}
-use Rattle.run.specs.Job.{Job}
-use Rattle.run.specs.Machine.{State, original}
-use Rattle.run.specs.Calls as calls
-use Rattle.run.specs.Calls.{forcesOf, answerLent, afterLent, forcesLent}
+use Rattle.run.specs.State.{State}
+use Rattle.run.specs.Answers as calls
+use Rattle.run.specs.Calls.{answerLent, afterLent, forcesLent}
 use Rattle.calls.specs.declared.Call.{Call}
 use Rattle.calls.specs.declared.Call.the-variants as call
 use Rattle.calls.specs.declared.Response.{Response}
@@ -34,8 +30,3 @@ pub record Performed (m : Matrix) (x : List ℤ) (order groups : List ℕ) (coun
   pub answers : answer ≡ answerLent m x order groups count s c
   pub leaves : after ≡ afterLent m x order groups count s c
   pub forces : new ≡ forcesLent (answerLent m x order groups count s c) old
-
--- the force list of a job's sums, if its run is over: the answer, and the lent list after it
-pub record Listed (j : Job) (isOver : Bool) (sums old : List ℤ) (answer : calls.Answer) (new : List ℤ) : Type 0 where
-  pub answers : answer ≡ forcesOf isOver (leb (j .matrix .n) (length old)) (j .matrix .n) (original j sums)
-  pub forces : new ≡ forcesLent answer old

@@ -8,7 +8,7 @@ use symmetric::is_matrix;
 ghost use mathlib.Core.Path.{_≡_};
 ghost use Rattle.base.specs.Replies.{accepted, refused, inTurn};
 ghost use Rattle.base.specs.Verdicts.{replyOf};
-ghost use Rattle.matrix.specs.Checks.{matrixOf};
+ghost use Rattle.matrix.specs.Matrix.{matrixOf};
 ghost use Rattle.run.specs.Calls.{jobChecks};
 
 // 5, 6, 8: whether the lists hold a matrix, its displacements and a plan that is sound for it.

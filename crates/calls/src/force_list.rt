@@ -9,8 +9,9 @@ ghost use Prim.Native.Nat.{_≤_};
 ghost use lib.ListN.{length, take};
 ghost use Rattle.plan.specs.Sound.{eachOnce};
 ghost use Rattle.run.specs.Job.{Job};
-ghost use Rattle.calls.specs.Scatter.{Scattered};
-ghost use Rattle.calls.specs.Performed.{asAnswer, Listed};
+ghost use Rattle.calls.specs.code.Scatter.{Scattered};
+ghost use Rattle.calls.specs.Performed.{asAnswer};
+ghost use Rattle.calls.specs.code.Listed.{Listed};
 
 // The sum at each position goes to the place of its row.
 fn scatter(n: usize, order: &[u32], sums: &[i64], forces: &mut [i64])

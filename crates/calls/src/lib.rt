@@ -18,7 +18,7 @@ use upper::order::positions;
 use upper::sizes::sizes_of;
 ghost use mathlib.Core.Path.{_≡_};
 ghost use lib.ListN.{length, take};
-ghost use Rattle.matrix.specs.Checks.{matrixOf};
+ghost use Rattle.matrix.specs.Matrix.{matrixOf};
 ghost use Rattle.run.specs.Calls.{placeOf};
 ghost use Rattle.machine.specs.Record.{stateOf};
 ghost use Rattle.calls.specs.Performed.{asCall, asAnswer, Performed};

@@ -11,13 +11,13 @@ use upper::order::displace;
 use upper::upper;
 ghost use mathlib.Core.Path.{_≡_};
 ghost use lib.ListN.{length, take};
-ghost use Rattle.matrix.specs.Checks.{matrixOf};
+ghost use Rattle.matrix.specs.Matrix.{matrixOf};
 ghost use Rattle.run.specs.Job.{jobOf};
-ghost use Rattle.tables.specs.Laid.{Counted};
-ghost use Rattle.upper.specs.Upper.{Positions, Sizes};
-ghost use Rattle.layout.specs.UpdateTable.{Given};
+ghost use Rattle.tables.specs.code.Laid.{Counted};
+ghost use Rattle.upper.specs.code.Upper.{Positions, Sizes};
+ghost use Rattle.layout.specs.code.UpdateTable.{Given};
 ghost use Rattle.machine.specs.Record.{stateOf};
-ghost use Rattle.machine.specs.Stepped.{walk, walkedOf};
+ghost use Rattle.machine.specs.code.Stepped.{walk, walkedOf};
 
 // Lays the tables, the upper triangle among them, and takes the picks. There is a sum for each row.
 pub(crate) fn take_picks(

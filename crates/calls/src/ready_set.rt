@@ -17,10 +17,10 @@ ghost use lib.IntN.{ℤ};
 ghost use Rattle.plan.specs.Sound.{maxWorkers};
 ghost use Rattle.run.specs.Calls.{readyOf};
 ghost use Rattle.run.specs.Job.{Job};
-ghost use Rattle.run.specs.Machine as machine;
+ghost use Rattle.run.specs.Job as job;
 ghost use Rattle.run.specs.Machine.{ready, bits};
-ghost use Rattle.tables.specs.Laid.{Counted, Laid, Bounded, Waits};
-ghost use Rattle.layout.specs.UpdateTable.{Planned};
+ghost use Rattle.tables.specs.code.Laid.{Counted, Laid, Bounded, Waits};
+ghost use Rattle.layout.specs.code.UpdateTable.{Planned};
 ghost use Rattle.calls.specs.Performed.{asAnswer};
 
 // Sixteen bits, bit w for worker w.
@@ -33,7 +33,7 @@ fn ready_bits(
     blocks: &[u8; MAX_GROUPS],
 ) -> u16
     requires { ⌜ (workers ≤ maxWorkers) × ((n : ℕ) × Bounded n (now first) (now row) (now leaves)) ⌝ }
-    ensures { λ r. ⌜ ((j : Job) (begins ends : List ℕ) → workers ≡ machine.workers j → Laid j (now (first .entry)) (now (row .entry)) begins (now (leaves .entry)) ends
+    ensures { λ r. ⌜ ((j : Job) (begins ends : List ℕ) → workers ≡ job.workers j → Laid j (now (first .entry)) (now (row .entry)) begins (now (leaves .entry)) ends
         → Waits j (now (made .entry)) (now (blocks .entry)) → r ≡ bits (ready j (now (made .entry)))) ⌝ }
 {
     let mut set: u16 = 0;

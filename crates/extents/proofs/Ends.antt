@@ -10,7 +10,7 @@ use lib.Seq.{take-suc, drop-cons}
 use Rattle.base.specs.Lists.{sum}
 use Rattle.plan.specs.Sound.{maxWorkers}
 use Rattle.extents.specs.Extents.{End, endsFrom, nearest}
-use Rattle.extents.specs.Scans.{maxLoad, endsOn}
+use Rattle.extents.specs.code.Scans.{maxLoad, endsOn}
 
 -- ---- at most 32 bits
 

@@ -7,7 +7,7 @@ use native.Mathlib.Omega.{arith}
 use lib.ListN.{length, take, drop, getD, drop-of-length-le}
 use Rattle.base.specs.Lists.{sum, fromFirst}
 use Rattle.extents.specs.Extents.{End, endsFrom}
-use Rattle.extents.specs.Scans.{endsOn}
+use Rattle.extents.specs.code.Scans.{endsOn}
 use Rattle.extents.proofs.Ends.{sum-next, ends-next, ends-after}
 
 -- no end of least to k levels passes; q is the load of the first k

@@ -10,7 +10,7 @@ use lib.ListN.{length, take, drop, getD, drop-of-length-le}
 use borrow.Author.Tests.{lt-ltb, le-ltb}
 use Rattle.base.specs.Lists.{sum, distance}
 use Rattle.extents.specs.Extents.{End, endsFrom, best}
-use Rattle.extents.specs.Scans.{endsOn, nearestEnd}
+use Rattle.extents.specs.code.Scans.{endsOn, nearestEnd}
 use Rattle.extents.proofs.Ends.{endAt, sum-next, ends-next, ends-on}
 
 -- where no later load has a lower score, the best end so far stays the best

@@ -11,7 +11,7 @@ use borrow.Author.Tests.{lt-ltb, le-ltb, le-leb, lt-leb}
 use Rattle.base.specs.Lists.{sum, distance, fromFirst}
 use Rattle.levels.specs.Levels.{reach}
 use Rattle.extents.specs.Extents.{Policy, End, endsFrom, best, nearest, off, serves, extent, extentFrom, extentOf, cut, cutAt}
-use Rattle.extents.specs.Scans.{endsOn, nearestEnd}
+use Rattle.extents.specs.code.Scans.{endsOn, nearestEnd}
 use Rattle.extents.proofs.Ends.{endAt, sum-split, ends-after, ends-on}
 
 -- no end has more levels than there are

@@ -6,7 +6,7 @@ ghost use Rattle.base.specs.Lists.{sum, distance, fromFirst};
 ghost use Rattle.plan.specs.Sound.{maxWorkers};
 ghost use Rattle.levels.specs.Levels.{reach};
 ghost use Rattle.extents.specs.Extents.{nearest, serves, extent, cut};
-ghost use Rattle.extents.specs.Scans.{maxLoad, policyOf, endsOn, nearestEnd, Scale};
+ghost use Rattle.extents.specs.code.Scans.{maxLoad, policyOf, endsOn, nearestEnd, Scale};
 
 // What the rules take: closeness is to be above p per cent.
 pub struct Policy {

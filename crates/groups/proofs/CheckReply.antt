@@ -11,12 +11,11 @@ use borrow.Author.Tests.{leb-true, leb-false, lt-leb, le-leb}
 use Rattle.base.proofs.Booleans.{and-false}
 use Rattle.matrix.specs.Matrix.{Matrix}
 use Rattle.plan.specs.Groups as plan
-use Rattle.plan.specs.Groups.{width, flat, planOf}
+use Rattle.plan.specs.Groups.{width, flat, planOf, groupOf}
 use Rattle.plan.specs.Sound.{maxGroups, isPlan, planCheck, checkReply}
 use Rattle.plan.proofs.FlatRecords.{records-flat, length-flat}
-use Rattle.plan.specs.Checks.{groupOf}
 use Rattle.plan.specs.declared.fields.Group.{Group}
-use Rattle.groups.specs.Structs.{few, Flattened}
+use Rattle.groups.specs.code.Flattened.{few, Flattened}
 
 module _ (m : Matrix) (order : List ℕ) where
   same-reply : (ns ms : List ℕ) (c d : ℕ) → isPlan m order ns c ≡ isPlan m order ms d → checkReply m order ns c ≡ checkReply m order ms d

@@ -6,12 +6,11 @@ use native.Mathlib.Numerals.{add-one}
 use native.Mathlib.Omega.{arith}
 use lib.ListN.{length, take, getD}
 use lib.Seq.{take-suc}
-use Rattle.plan.specs.Groups.{width, fieldsOf, flat}
+use Rattle.plan.specs.Groups.{width, fieldsOf, flat, groupOf}
 use Rattle.plan.specs.Sound.{maxGroups}
-use Rattle.plan.specs.Checks.{groupOf}
 use Rattle.plan.specs.declared.fields.Group.{Group}
 use Rattle.planner.proofs.Holding.{flat-append}
-use Rattle.groups.specs.Structs.{few, Flattened}
+use Rattle.groups.specs.code.Flattened.{few, Flattened}
 
 -- a list of numbers that begins with the records of the first k groups
 pub record Begun (gs : List Group) : Type 0 where

@@ -7,10 +7,11 @@ use native.Mathlib.Omega.{arith}
 use lib.ListN.{length, getD, drop, set, length-append, length-drop, length-map}
 use lib.Seq.{drop-cons, drop-drop, set-at}
 use Rattle.plan.specs.Groups.{width, ofFields, records}
-use Rattle.plan.specs.Checks.{recordAt}
+use Rattle.plan.specs.code.Checks.{recordAt}
 use Rattle.plan.proofs.FlatRecords.{length-records}
 use Rattle.plan.specs.declared.fields.Group.{Group}
-use Rattle.groups.specs.Structs.{ofGroup, gathered}
+use Rattle.groups.specs.Structs.{ofGroup}
+use Rattle.groups.specs.code.Flattened.{gathered}
 
 records-snoc : (k : ℕ) (ns : List ℕ) → records (suc k) ns ≡ records k ns ++ (recordAt ns k ∷ [])
 unfolding records recordAt

@@ -11,12 +11,14 @@ use Rattle.base.specs.declared.Verdict.{Verdict}
 use Rattle.matrix.specs.Limits.{maxRows}
 use Rattle.matrix.specs.Matrix.{Matrix}
 use Rattle.plan.specs.Groups.{width, flat}
-use Rattle.plan.specs.Sound.{maxGroups, maxFields}
+use Rattle.plan.specs.Sound.{maxGroups}
+use Rattle.plan.specs.code.Room.{maxFields}
 use Rattle.plan.proofs.FlatRecords.{records-flat, length-flat}
 use Rattle.race.specs.Planner.{plan, planReply}
 use Rattle.plan.specs.declared.fields.Group.{Group}
 use Rattle.race.proofs.Rooms.{rooms-cut, planned}
-use Rattle.groups.specs.Structs.{ofGroup, gathered, countOf, Planned}
+use Rattle.groups.specs.Structs.{ofGroup}
+use Rattle.groups.specs.code.Flattened.{gathered, countOf, Planned}
 use Rattle.groups.proofs.Gathering.{gathered-none}
 
 module _ (m : Matrix) (w p : ℕ) (a room : ℕ) where

@@ -27,7 +27,7 @@ use denote.Struct.Laws as LL
 use denote.Triple.Walked.{stay-dropped, Goes, goes-dropped}
 use denote.Exit.{yes}
 use Rattle.plan.specs.Groups.{width}
-use Rattle.plan.specs.Sound.{maxFields}
+use Rattle.plan.specs.code.Room.{maxFields}
 use Rattle.plan.specs.declared.fields.Group.{Group}
 use Rattle.plan.proofs.fields.Group as T
 use Rattle.plan.proofs.fields.Group.Laws as T′

@@ -12,12 +12,14 @@ ghost use Prim.Native.Nat.{_+_, _*_, _≤_, _<_, min};
 ghost use lib.ListN.{length, take};
 ghost use Rattle.base.specs.Replies.{lent};
 ghost use Rattle.base.specs.Verdicts.{replyOf};
-ghost use Rattle.matrix.specs.Checks.{matrixOf};
-ghost use Rattle.plan.specs.Groups.{width, fieldsOf, flat};
-ghost use Rattle.plan.specs.Sound.{maxGroups, checkReply, maxFields};
-ghost use Rattle.plan.specs.Checks.{recordAt, groupOf};
+ghost use Rattle.matrix.specs.Matrix.{matrixOf};
+ghost use Rattle.plan.specs.Groups.{width, fieldsOf, flat, groupOf};
+ghost use Rattle.plan.specs.Sound.{maxGroups, checkReply};
+ghost use Rattle.plan.specs.code.Room.{maxFields};
+ghost use Rattle.plan.specs.code.Checks.{recordAt};
 ghost use Rattle.race.specs.Planner.{plan, planReply};
-ghost use Rattle.groups.specs.Structs.{ofGroup, Flattened, gathered, countOf, Planned};
+ghost use Rattle.groups.specs.Structs.{ofGroup};
+ghost use Rattle.groups.specs.code.Flattened.{Flattened, gathered, countOf, Planned};
 
 // No plan has so many.
 const TOO_MANY: u32 = MAX_GROUPS as u32 + 1;

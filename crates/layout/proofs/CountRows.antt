@@ -17,8 +17,8 @@ use Rattle.run.specs.Job.{Job, Accepted}
 use Rattle.run.specs.Updates.{rowUpdates, upTo, updates}
 use Rattle.run.proofs.Work.{cum-own, cum-const}
 use Rattle.run.proofs.RowUpdates.{row-length}
-use Rattle.tables.specs.Laid.{maxUpdates, firstOf, nextOf, beginOf, Counted}
-use Rattle.layout.specs.UpdateTable.{Sized, Stretch, Numbers}
+use Rattle.tables.specs.code.Laid.{maxUpdates, firstOf, nextOf, beginOf, Counted}
+use Rattle.layout.specs.code.UpdateTable.{Sized, Stretch, Numbers}
 use Rattle.layout.proofs.UpdateRoom.{room, first-room}
 
 module _ {j : Job} {sizes : List ℕ} (t : Sized j sizes) {i w s e : ℕ} (h : Stretch j i w s e) where

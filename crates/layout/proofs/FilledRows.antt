@@ -15,12 +15,12 @@ use Rattle.base.proofs.Lists.{set-each, getD-zeros}
 use Rattle.matrix.specs.Limits.{maxRows}
 use Rattle.matrix.proofs.Matrix.{matrix-facts}
 use Rattle.plan.specs.Sound.{maxWorkers, maxGroups}
-use Rattle.plan.specs.Checks.{recordAt, belowWhole}
+use Rattle.plan.specs.code.Checks.{recordAt, belowWhole}
 use Rattle.plan.specs.declared.fields.Record.{Record}
 use Rattle.run.specs.Job.{Job}
 use Rattle.run.specs.Updates.{rowUpdates, upTo}
-use Rattle.tables.specs.Laid.{hasChild, Leaf, LeafOf, endOf, maxUpdates, nextOf, beginOf, Counted, Laid, Bounded}
-use Rattle.layout.specs.UpdateTable.{Sized, Planned, Stretch, Put, Filled, Walked, Blank, reached}
+use Rattle.tables.specs.code.Laid.{hasChild, Leaf, LeafOf, endOf, maxUpdates, nextOf, beginOf, Counted, Laid, Bounded}
+use Rattle.layout.specs.code.UpdateTable.{Sized, Planned, Stretch, Put, Filled, Walked, Blank, reached}
 use Rattle.layout.proofs.UpdateRoom.{spans-apart, rising-of}
 use Rattle.layout.proofs.LeafRows.{leaf-inside, all-reached, reached-group, of-leaf, stretch-of, Read, leaf-end, leaf-first}
 use Rattle.layout.proofs.CountRows.{RowFits, row-fits, stretch-other, grown-at}

@@ -5,14 +5,14 @@ use Prim.Native.Nat.{ℕ, _≤_}
 use lib.IntN.{ℤ}
 use lib.ListN.{length, take}
 use Rattle.matrix.specs.Limits.{maxRows}
-use Rattle.matrix.specs.Checks.{matrixOf}
+use Rattle.matrix.specs.Matrix.{matrixOf}
 use Rattle.matrix.proofs.Matrix.{matrix-facts}
 use Rattle.plan.specs.Groups.{planOf}
 use Rattle.run.specs.Job.{Job, jobOf}
 use Rattle.run.proofs.Accepted.{tree-of}
-use Rattle.upper.specs.Upper.{Lent, Sizes}
+use Rattle.upper.specs.code.Upper.{Lent, Sizes}
 use Rattle.upper.proofs.UpperRows.{upper-whole}
-use Rattle.layout.specs.UpdateTable.{Given, Planned}
+use Rattle.layout.specs.code.UpdateTable.{Given, Planned}
 
 module _ {n : ℕ} {starts columns : List ℕ} {values x : List ℤ} {order groups : List ℕ} {count : ℕ} (g : Given n starts columns values x order groups count) where
   abbrev j : Job

@@ -8,15 +8,15 @@ use lib.ListN.{length, getD, drop}
 use Rattle.matrix.specs.Matrix.{neighbours}
 use Rattle.plan.specs.Groups.{Group, records, ofFields}
 use Rattle.plan.specs.Sound.{maxWorkers, maxGroups, depthFirst, sound, isSound}
-use Rattle.plan.specs.Checks.{recordAt, belowWhole, standsDepthFirst, Reads}
+use Rattle.plan.specs.code.Checks.{recordAt, belowWhole, standsDepthFirst, Reads}
 use Rattle.plan.specs.declared.fields.Record.{Record}
 use Rattle.plan.proofs.FlatRecords.{length-records}
 use Rattle.plan.proofs.Sound.{sound-facts}
 use Rattle.run.specs.Job.{Job}
 use Rattle.run.proofs.Holds.{in-holds}
-use Rattle.tables.specs.Laid.{hasChild, groupAt, Leaf, LeafOf}
+use Rattle.tables.specs.code.Laid.{hasChild, groupAt, Leaf, LeafOf}
 use Rattle.tables.proofs.LeafOwner.{leaf-rows}
-use Rattle.layout.specs.UpdateTable.{Planned, Stretch, reached}
+use Rattle.layout.specs.code.UpdateTable.{Planned, Stretch, reached}
 use Rattle.layout.proofs.Reached.{record-get, start-reached, reached-end}
 
 module _ {j : Job} {groups : List ℕ} {count : ℕ} {sizes : List ℕ} (g : Planned j groups count sizes) where

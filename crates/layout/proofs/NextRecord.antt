@@ -13,11 +13,11 @@ use Rattle.base.specs.Lists.{isEmpty}
 use Rattle.base.proofs.Booleans.{same-or}
 use Rattle.plan.specs.Groups.{Group, records, ofFields}
 use Rattle.plan.specs.Sound.{children}
-use Rattle.plan.specs.Checks.{recordAt, belowWhole, standsDepthFirst}
+use Rattle.plan.specs.code.Checks.{recordAt, belowWhole, standsDepthFirst}
 use Rattle.plan.proofs.Records.{Down, before-one, down}
 use Rattle.plan.proofs.FlatRecords.{length-records}
 use Rattle.plan.proofs.Nested.{children-ended, children-later, children-at, children-over}
-use Rattle.tables.specs.Laid.{hasChild}
+use Rattle.tables.specs.code.Laid.{hasChild}
 use Rattle.layout.proofs.Reached.{has-child, record-get}
 
 down-at : (k : ℕ) (gs : List Group) → Down k gs → (i : ℕ) (d : Group) → i < length gs → getD gs i d .parent < k + i

@@ -7,7 +7,7 @@ use native.Mathlib.Omega.{arith}
 use lib.ListN.{length, getD, set, length-set}
 use lib.Seq.{getD-set-same, getD-set-other}
 use Rattle.base.proofs.Booleans.{same-or}
-use Rattle.layout.specs.UpdateTable.{Put}
+use Rattle.layout.specs.code.UpdateTable.{Put}
 
 pub put-none : (p a : ℕ) (row : List ℕ) → Put p a a row row
 put-none p a row = record { long = refl; before = λ k l. refl; here = λ k l h. absurd (omega arith); after = λ k l. refl }

@@ -14,14 +14,14 @@ use Rattle.base.specs.Lists.{isIn, isEmpty}
 use Rattle.base.proofs.Booleans.{and-left, and-right, or-cases, conj-first, conj-at}
 use Rattle.plan.specs.Groups.{Group, red, blue, width, records, ofFields}
 use Rattle.plan.specs.Sound.{maxWorkers, depthFirst, children, tiled, likeApart, childrenSound, sound}
-use Rattle.plan.specs.Checks.{recordAt, belowWhole, fitting, pending, complete, laid}
+use Rattle.plan.specs.code.Checks.{recordAt, belowWhole, fitting, pending, complete, laid}
 use Rattle.plan.proofs.Records.{ancestors, Step, step-of, Sounds}
 use Rattle.plan.proofs.FlatRecords.{length-records, records-at, records-none}
 use Rattle.plan.proofs.Nested.{children-ended, children-later, children-at, children-past}
 use Rattle.plan.proofs.Laid.{tiled-laid, fits}
 use Rattle.plan.proofs.Sound.{SoundFacts, sound-facts}
-use Rattle.tables.specs.Laid.{hasChild}
-use Rattle.layout.specs.UpdateTable.{reached}
+use Rattle.tables.specs.code.Laid.{hasChild}
+use Rattle.layout.specs.code.UpdateTable.{reached}
 
 -- who has a child
 pub has-child : (k : ℕ) (gs : List Group) → hasChild k gs ≡ not (isEmpty (children k gs))

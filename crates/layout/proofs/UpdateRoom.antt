@@ -18,7 +18,7 @@ use Rattle.plan.specs.Sound.{maxWorkers}
 use Rattle.run.specs.Job.{Job, Accepted}
 use Rattle.run.specs.Updates.{rowUpdates, owner, updates, accesses}
 use Rattle.run.specs.EveryRun.{wholeRun}
-use Rattle.tables.specs.Laid.{maxUpdates, firstOf, nextOf, beginOf, Counted, Rising}
+use Rattle.tables.specs.code.Laid.{maxUpdates, firstOf, nextOf, beginOf, Counted, Rising}
 use Rattle.run.proofs.Work.{cum-own, cum-mono}
 use Rattle.run.proofs.Owners.{owned}
 use Rattle.run.proofs.Counting.{all-accesses}

@@ -1,1 +1,1 @@
-pub mod UpdateTable
+pub mod code

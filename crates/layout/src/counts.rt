@@ -11,8 +11,8 @@ ghost use Rattle.base.specs.Lists.{sumBelow};
 ghost use Rattle.plan.specs.Sound.{maxWorkers};
 ghost use Rattle.run.specs.Job.{Job};
 ghost use Rattle.run.specs.Updates.{upTo};
-ghost use Rattle.tables.specs.Laid.{maxUpdates, Counted};
-ghost use Rattle.layout.specs.UpdateTable.{Sized, Planned, Stretch, Numbers};
+ghost use Rattle.tables.specs.code.Laid.{maxUpdates, Counted};
+ghost use Rattle.layout.specs.code.UpdateTable.{Sized, Planned, Stretch, Numbers};
 
 // How many updates the rows of a leaf make: one each for the diagonal, two for each other entry in the upper triangle.
 fn leaf_updates(sizes: &[u32; MAX_ROWS], start: usize, end: usize) -> usize

@@ -5,8 +5,8 @@ ghost use mathlib.Core.Bool.{true, not};
 ghost use Prim.Native.Nat.{_*_, _≤_, _<_};
 ghost use lib.ListN.{length};
 ghost use Rattle.plan.specs.Groups.{width};
-ghost use Rattle.plan.specs.Checks.{belowWhole, standsDepthFirst};
-ghost use Rattle.tables.specs.Laid.{hasChild};
+ghost use Rattle.plan.specs.code.Checks.{belowWhole, standsDepthFirst};
+ghost use Rattle.tables.specs.code.Laid.{hasChild};
 
 // The record at i has no child: the next record would be one.
 pub(crate) fn is_leaf(groups: &[u32], count: usize, i: usize) -> bool

@@ -13,8 +13,8 @@ ghost use Prim.Native.Nat.{ℕ, _+_, _*_, _≤_, _<_};
 ghost use lib.ListN.{length};
 ghost use Rattle.matrix.specs.Limits.{maxRows};
 ghost use Rattle.run.specs.Job.{Job};
-ghost use Rattle.tables.specs.Laid.{maxUpdates, nextOf, Counted, Laid, Bounded};
-ghost use Rattle.layout.specs.UpdateTable.{Sized, Planned, Stretch, Put, Filled, Blank};
+ghost use Rattle.tables.specs.code.Laid.{maxUpdates, nextOf, Counted, Laid, Bounded};
+ghost use Rattle.layout.specs.code.UpdateTable.{Sized, Planned, Stretch, Put, Filled, Blank};
 
 // Position p at the places of its row's updates, from a place on: one for the diagonal, two for each other entry of the row in the upper triangle. The place after them.
 fn put_row(p: usize, size: usize, place: usize, row: &mut [u16; MAX_UPDATES]) -> usize

@@ -7,9 +7,8 @@ use native.Mathlib.Omega.{arith}
 use lib.IntN.{ℤ}
 use lib.ListN.{length, take, drop, length-append, length-drop}
 use lib.Seq.{take-at, take-all, length-take-le, drop-length}
-use Rattle.matrix.specs.Limits.{maxStarts, maxCells}
-use Rattle.matrix.specs.Matrix.{Matrix, isMatrix}
-use Rattle.matrix.specs.Checks.{matrixOf}
+use Rattle.matrix.specs.code.Room.{maxStarts, maxCells}
+use Rattle.matrix.specs.Matrix.{Matrix, isMatrix, matrixOf}
 use Rattle.matrix.proofs.Cut.{cut}
 use Rattle.plan.specs.Groups.{planOf}
 use Rattle.plan.specs.Sound.{isPlan}

@@ -1,8 +1,7 @@
 -- What lent byte lists stand for.
 use mathlib.Core.List.{List}
 use Prim.Native.Nat.{ℕ}
-use Rattle.matrix.specs.Matrix.{Matrix}
-use Rattle.matrix.specs.Checks.{matrixOf}
+use Rattle.matrix.specs.Matrix.{Matrix, matrixOf}
 use Rattle.words.specs.LittleEndian.{unsigned, signed}
 
 -- the matrix of n rows: row starts and columns of four bytes each, values of four in two's complement

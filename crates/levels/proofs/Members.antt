@@ -6,11 +6,12 @@ use Prim.Native.Nat.{ℕ, zero, suc, _*_, _≤_}
 use native.Mathlib.Omega.{arith}
 use lib.Dec.{eqb}
 use lib.ListN.{length, getD}
-use Rattle.base.specs.Lists.{filter, any, isIn, range, trim, count, bit}
+use Rattle.base.specs.Lists.{filter, any, isIn, range, trim, bit}
+use Rattle.base.specs.code.Counts.{count}
 use Rattle.base.proofs.Booleans.{both-ways}
 use Rattle.base.proofs.Lists.{filter-ext, filter-passes, filter-of, isIn-range, length-filter-le, length-range}
 use Rattle.base.proofs.Counts.{same-length, count-filter, count-range, in-count, out-count}
-use Rattle.levels.specs.Group.{Proper}
+use Rattle.levels.specs.code.Group.{Proper}
 use Rattle.levels.specs.Levels.{near, region, isNext, levelsFrom, levels, ownLevels}
 use Rattle.levels.proofs.Root.{root-same}
 

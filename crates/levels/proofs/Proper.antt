@@ -5,7 +5,7 @@ use native.Mathlib.Omega.{arith}
 use Rattle.base.specs.Lists.{range}
 use Rattle.base.proofs.Lists.{range-in}
 use Rattle.base.proofs.Counts.{Same, count-append, count-in, in-count, count-range}
-pub use Rattle.levels.specs.Group.{Proper}
+pub use Rattle.levels.specs.code.Group.{Proper}
 
 pub proper-range : (n : ℕ) → Proper n (range 0 n)
 proper-range n = record { once = λ v. count-range v 0 n; inside = λ v h. omega (arith, range-in v 0 n h .1) }

@@ -10,11 +10,12 @@ use lib.Seq.{slice}
 use Rattle.base.specs.Lists.{isIn}
 use Rattle.base.proofs.Lists.{in-get}
 use Rattle.base.proofs.Graph.{Graph}
-use Rattle.matrix.specs.Matrix.{Matrix, pattern, partOf, columnsOf, neighbours, isMatrix}
-use Rattle.matrix.specs.Checks.{RowIn}
+use Rattle.matrix.specs.Matrix.{Matrix, partOf, columnsOf, neighbours, isMatrix}
+use Rattle.matrix.specs.code.Pattern.{pattern}
+use Rattle.matrix.specs.code.Checks.{RowIn}
 use Rattle.matrix.proofs.Rows.{columns-part}
 use Rattle.matrix.proofs.Matrix.{neighbour-column, MatrixFacts, matrix-facts, column-low, adjacent-both}
-use Rattle.levels.specs.Rows.{Rows, adjOf}
+use Rattle.levels.specs.code.Rows.{Rows, adjOf}
 
 module _ {n : ℕ} {starts columns : List ℕ} (r : Rows n starts columns) where
   -- a row lies inside the columns

@@ -1,3 +1,2 @@
 pub mod Levels
-pub mod Rows
-pub mod Group
+pub mod code

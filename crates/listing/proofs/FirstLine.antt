@@ -12,12 +12,12 @@ use borrow.Author.Tests.{eq-eqb, ne-eqb}
 use Rattle.scan.specs.declared.numbers.Number.the-variants as num
 use Rattle.market.specs.Bytes.{classOf, isEnd, isSpace, blank, lineFeed, minus, digit0, digit9}
 use Rattle.market.specs.Fields.{got, numeral}
-use Rattle.scan.specs.Positions.{numberAt}
+use Rattle.scan.specs.code.Positions.{numberAt}
 use Rattle.scan.proofs.Left.{left-cons}
 use Rattle.scan.proofs.numbers.Answers.{scan-at, scan-no}
 use Rattle.listing.specs.declared.first_line.Parameters.the-variants.{Given, Missing}
 use Rattle.listing.specs.Listing.{firstLine, last, second, parametersOf}
-use Rattle.listing.specs.FirstLine.{inWord, given}
+use Rattle.listing.specs.code.FirstLine.{inWord, given}
 
 -- a byte's class is the line end's, or the space's, for that byte alone
 not-end : (d m s : Bool) → eqb (cond d 1 (cond m 2 (cond s 3 0))) 4 ≡ false

@@ -13,9 +13,8 @@ use borrow.Author.Tests.{ltb-false, lt-ltb, le-ltb, le-leb}
 use Rattle.base.specs.Lists.{filter}
 use Rattle.base.specs.Replies.{Reply, accepted, refused, inTurn, lent}
 use Rattle.base.proofs.Booleans.{is-false}
-use Rattle.matrix.specs.Matrix.{Matrix, isMatrix, neighbours}
-use Rattle.matrix.specs.Checks.{matrixOf}
-use Rattle.matrix.specs.Limits.{maxStarts, maxCells}
+use Rattle.matrix.specs.Matrix.{Matrix, isMatrix, neighbours, matrixOf}
+use Rattle.matrix.specs.code.Room.{maxStarts, maxCells}
 use Rattle.market.specs.Parse.{Triplet, triplet, Parsed, matrixText, rejected, parse}
 use Rattle.market.specs.FullRows.{full, ofTriplets, readMatrix, readReply}
 use Rattle.market.specs.AcceptedText.{leftIn, SameRows}
@@ -25,7 +24,7 @@ use Rattle.race.specs.Planner.{plan, areParameters}
 use Rattle.planner.proofs.PlanReply.{parameters-in}
 use Rattle.listing.specs.declared.first_line.Parameters.the-variants.{Given, Missing}
 use Rattle.listing.specs.Listing.{maxInput, firstLine, restOf, Parameters, parameters, missing, parametersOf, refusedLine, planned, judged, listing}
-use Rattle.listing.specs.FirstLine.{inWord, given}
+use Rattle.listing.specs.code.FirstLine.{inWord, given}
 use Rattle.listing.proofs.FirstLine.{first-taken}
 
 -- at most two entries for each stored one

@@ -11,7 +11,7 @@ use Rattle.base.proofs.Replies.{lent-accepted}
 use Rattle.matrix.specs.Matrix.{Matrix, isMatrix, matrixCheck}
 use Rattle.matrix.proofs.Matrix.{matrix-facts}
 use Rattle.matrix.specs.Limits.{maxRows}
-use Rattle.plan.specs.Sound.{maxFields}
+use Rattle.plan.specs.code.Room.{maxFields}
 use Rattle.plan.specs.Groups.{Plan, flat, planOf}
 use Rattle.plan.proofs.FlatRecords.{plan-flat}
 use Rattle.race.specs.Planner.{plan, areParameters, planReply}

@@ -8,13 +8,14 @@ use lib.ListN.{length, getD, take, drop, length-append, length-drop, drop-of-len
 use lib.Seq.{drop-cons}
 use Rattle.market.specs.Bytes.{blank, lineFeed}
 use Rattle.market.specs.Text.{natural}
-use Rattle.writer.specs.Puts.{Put}
+use Rattle.writer.specs.code.Puts.{Put}
 use Rattle.writer.proofs.puts.Digits.{natural-few}
 use Rattle.writer.proofs.puts.Putting.{Next}
 use Rattle.plan.specs.Groups.{Group, width, fieldsOf, ofFields, records}
-use Rattle.plan.specs.Checks.{recordAt}
+use Rattle.plan.specs.code.Checks.{recordAt}
 use Rattle.plan.proofs.FlatRecords.{fields-read, records-at, records-none}
-use Rattle.listing.specs.Listing.{maxNumber, maxLine, titles, spaced, orderLine, titleLine, groupLines}
+use Rattle.listing.specs.Listing.{spaced, orderLine, titleLine, groupLines}
+use Rattle.listing.specs.code.Room.{maxNumber, maxLine, titles}
 
 -- the next byte
 pub bytes-next : (bs : List ℕ) (i : ℕ) → i < length bs → Next (drop i bs) (getD bs i 0 ∷ []) (drop (i + 1) bs)

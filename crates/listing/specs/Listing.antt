@@ -1,45 +1,24 @@
 -- What `netplan` writes for what it reads, byte for byte.
 use mathlib.Core.Bool.{cond}
 use mathlib.Core.List.{List, [], _∷_, _++_, map}
-use Prim.Native.Nat.{ℕ, suc, _+_, _*_}
+use Prim.Native.Nat.{ℕ, suc}
 use lib.Dec.{eqb, ltb}
 use lib.ListN.{length, drop, getD}
 use Rattle.base.specs.Lists.{concat}
 use Rattle.base.specs.Ascii.{ascii}
 use Rattle.base.specs.Refusals as why
-use Rattle.matrix.specs.Limits.{maxRows}
 use Rattle.matrix.specs.Matrix.{Matrix}
 use Rattle.market.specs.Bytes.{isEnd, isSpace, blank, lineFeed}
 use Rattle.market.specs.Fields.{Scan, got, none, numeral}
 use Rattle.market.specs.Parse.{Parsed, matrixText, rejected, parse}
 use Rattle.market.specs.FullRows.{ofTriplets}
 use Rattle.market.specs.Text.{natural}
-use Rattle.plan.specs.Groups.{Group, Plan, width, fieldsOf}
-use Rattle.plan.specs.Sound.{maxGroups}
+use Rattle.plan.specs.Groups.{Group, Plan, fieldsOf}
 use Rattle.race.specs.Planner.{areParameters, plan}
 
 -- "24,576 bytes together at most"
 abbrev pub maxInput : ℕ
 maxInput = 24576
-
--- a number takes at most 10 bytes, and the space or line feed beside it 1; so a refusal's line
-abbrev pub maxNumber : ℕ
-maxNumber = 11
-
-abbrev pub maxRefusal : ℕ
-maxRefusal = 8 + 2 * maxNumber
-
--- .. a group's line, with its index
-abbrev pub maxLine : ℕ
-maxLine = maxNumber * (width + 1)
-
--- the word `order` with its line feed, and the title line
-abbrev pub titles : ℕ
-titles = 53
-
--- what it writes is never longer: an order line, the title line and the group lines
-abbrev pub maxOutput : ℕ
-maxOutput = titles + maxNumber * maxRows + maxLine * maxGroups
 
 -- "The first line ends at the first line feed, or with the input": the line without it, and what follows
 unfoldable pub firstLine : List ℕ → List ℕ

@@ -5,7 +5,7 @@ use scan::numbers::read_number;
 ghost use mathlib.Core.Path.{_≡_};
 ghost use lib.ListN.{length};
 ghost use Rattle.listing.specs.Listing.{firstLine, parametersOf};
-ghost use Rattle.listing.specs.FirstLine.{inWord, given};
+ghost use Rattle.listing.specs.code.FirstLine.{inWord, given};
 
 // How many bytes the first line has, without its line feed.
 pub(crate) fn line_length(input: &[u8]) -> usize

@@ -24,11 +24,11 @@ ghost use mathlib.Core.Bool.{true};
 ghost use mathlib.Core.List.{_++_};
 ghost use Prim.Native.Nat.{_≤_};
 ghost use lib.ListN.{length, drop};
-ghost use Rattle.matrix.specs.Matrix.{isMatrix};
-ghost use Rattle.matrix.specs.Checks.{matrixOf};
+ghost use Rattle.matrix.specs.Matrix.{isMatrix, matrixOf};
 ghost use Rattle.market.specs.Parse.{parse};
-ghost use Rattle.writer.specs.Puts.{Put};
-ghost use Rattle.listing.specs.Listing.{maxOutput, parameters, parametersOf, planned, judged, listing};
+ghost use Rattle.writer.specs.code.Puts.{Put};
+ghost use Rattle.listing.specs.Listing.{parameters, parametersOf, planned, judged, listing};
+ghost use Rattle.listing.specs.code.Room.{maxOutput};
 
 // "24,576 bytes together at most"
 pub const MAX_INPUT: usize = 24576;

@@ -7,9 +7,10 @@ ghost use mathlib.Core.List.{[], _∷_, _++_};
 ghost use Prim.Native.Nat.{_+_, _*_, _≤_};
 ghost use lib.ListN.{length};
 ghost use Rattle.market.specs.Bytes.{lineFeed};
-ghost use Rattle.writer.specs.Puts.{Put};
+ghost use Rattle.writer.specs.code.Puts.{Put};
 ghost use Rattle.plan.specs.Groups.{width, records, planOf};
-ghost use Rattle.listing.specs.Listing.{maxNumber, maxRefusal, maxLine, titles, spaced, refusedLine, orderLine, titleLine, groupLines, planListing};
+ghost use Rattle.listing.specs.Listing.{spaced, refusedLine, orderLine, titleLine, groupLines, planListing};
+ghost use Rattle.listing.specs.code.Room.{maxNumber, maxRefusal, maxLine, titles};
 
 // Bytes, and the place after them.
 fn put_bytes(output: &mut [u8], at: usize, bytes: &[u8]) -> usize

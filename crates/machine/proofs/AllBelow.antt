@@ -3,7 +3,7 @@ use mathlib.Core.Path.{_≡_, subst}
 use mathlib.Core.Bool.{Bool, true, false}
 use Prim.Native.Nat.{ℕ, suc, _-_, _<_}
 use native.Mathlib.Omega.{arith}
-use Rattle.machine.specs.Record.{allBelow}
+use Rattle.machine.specs.code.Tests.{allBelow}
 
 module _ (f : ℕ → Bool) (k : ℕ) (l : 0 < k) where
   is-suc : suc (k - 1) ≡ k

@@ -12,15 +12,14 @@ use Rattle.base.specs.Lists.{bit, isEmpty}
 use Rattle.matrix.specs.Matrix.{neighbours}
 use Rattle.plan.specs.Groups.{Group, blue, width, ofFields, records}
 use Rattle.plan.specs.Sound.{maxGroups, isSound, sound}
-use Rattle.plan.specs.Checks.{recordAt, belowWhole, standsDepthFirst}
+use Rattle.plan.specs.code.Checks.{recordAt, belowWhole, standsDepthFirst}
 use Rattle.plan.proofs.FlatRecords.{length-records}
 use Rattle.plan.proofs.Nested.{children-later}
 use Rattle.plan.proofs.Sound.{SoundFacts, sound-facts}
-use Rattle.run.specs.Job.{Job, Accepted}
-use Rattle.run.specs.Machine.{workersOf, workers}
+use Rattle.run.specs.Job.{Job, Accepted, workersOf, workers}
 use Rattle.run.specs.Updates.{finished, upTo}
-use Rattle.tables.specs.Laid.{hasChild, groupAt, Leaf, Laid, Waits}
-use Rattle.waits.specs.Waits.{Recorded, Ended, Blocks}
+use Rattle.tables.specs.code.Laid.{hasChild, groupAt, Leaf, Laid, Waits}
+use Rattle.waits.specs.code.Waits.{Recorded, Ended, Blocks}
 use Rattle.tables.proofs.FlatOpen.{openReds, red-flat}
 use Rattle.tables.proofs.LeafWait.{Forward}
 use Rattle.tables.proofs.LeafOwner.{leaf-blocked}

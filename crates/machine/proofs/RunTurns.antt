@@ -14,17 +14,18 @@ use borrow.Author.Tests.{le-leb, lt-leb}
 use Rattle.base.proofs.Booleans.{same-or}
 use Rattle.plan.specs.Sound.{maxWorkers}
 use Rattle.plan.specs.Groups.{records}
-use Rattle.plan.specs.Checks.{recordAt}
-use Rattle.run.specs.Job.{Job, Accepted}
+use Rattle.plan.specs.code.Checks.{recordAt}
+use Rattle.run.specs.Job.{Job, Accepted, workers}
 use Rattle.run.specs.Updates.{Update, count, accesses, next}
-use Rattle.run.specs.Machine.{State, workers, refusal, onward, stepIf, step}
-use Rattle.tables.specs.Laid.{Laid, Waits}
-use Rattle.waits.specs.Waits.{Recorded, Blocks, Ahead}
+use Rattle.run.specs.Machine.{refusal, onward, stepIf, step}
+use Rattle.run.specs.State.{State}
+use Rattle.tables.specs.code.Laid.{Laid, Waits}
+use Rattle.waits.specs.code.Waits.{Recorded, Blocks, Ahead}
 use Rattle.steps.specs.declared.Pick.{Pick}
 use Rattle.steps.specs.declared.Pick.the-variants.{Taken, Refused}
-use Rattle.steps.specs.Updates.{updateIn, Triangle}
-use Rattle.steps.specs.Steps.{stateWith, rowNext, numberNext, reasonAt, stepTaken, outcomeOf, StepMade}
-use Rattle.machine.specs.Stepped.{passesOver, walk, comesTo}
+use Rattle.steps.specs.code.Updates.{updateIn, Triangle}
+use Rattle.steps.specs.code.Steps.{stateWith, rowNext, numberNext, reasonAt, stepTaken, outcomeOf, StepMade}
+use Rattle.machine.specs.code.Stepped.{passesOver, walk, comesTo}
 use Rattle.machine.specs.declared.state.Rule.{Rule}
 use Rattle.run.proofs.Able.{able}
 use Rattle.machine.proofs.TableWaits.{table-reason}

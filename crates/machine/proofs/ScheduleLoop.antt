@@ -7,8 +7,9 @@ use native.Mathlib.Omega.{arith}
 use lib.ListN.{length, getD, drop}
 use lib.Seq.{drop-cons, drop-length}
 use Rattle.run.specs.Job.{Job}
-use Rattle.run.specs.Machine.{State, moved, halted, step}
-use Rattle.machine.specs.Stepped.{passesOver, Walked, further, walk}
+use Rattle.run.specs.Machine.{moved, halted, step}
+use Rattle.run.specs.State.{State}
+use Rattle.machine.specs.code.Stepped.{passesOver, Walked, further, walk}
 use Rattle.machine.specs.declared.state.Rule.{Rule}
 
 -- what the first pick makes of a schedule

@@ -4,9 +4,10 @@ use mathlib.Core.List.{List, [], _∷_}
 use Prim.Native.Nat.{ℕ, suc, _+_}
 use native.Mathlib.Omega.{arith}
 use Rattle.run.specs.Job.{Job}
-use Rattle.run.specs.Machine.{State, Outcome, moved, halted, step, Stepped, oneMore, steps}
+use Rattle.run.specs.Machine.{Outcome, moved, halted, step, Stepped, oneMore, steps}
+use Rattle.run.specs.State.{State}
 use Rattle.run.proofs.Schedule.{steps-on, steps-end}
-use Rattle.machine.specs.Stepped.{passesOver, Walked, further, walk}
+use Rattle.machine.specs.code.Stepped.{passesOver, Walked, further, walk}
 use Rattle.machine.specs.declared.state.Rule.the-variants.{Stop}
 use Rattle.machine.proofs.ScheduleLoop.{walk-on, walk-end}
 

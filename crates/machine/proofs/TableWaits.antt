@@ -9,12 +9,13 @@ use lib.Dec.{eqb, leb, ltb}
 use borrow.Author.Tests.{eq-eqb, leb-false, ltb-true}
 use Rattle.base.specs.Lists.{bit}
 use Rattle.plan.specs.Sound.{maxWorkers}
-use Rattle.run.specs.Job.{Job}
+use Rattle.run.specs.Job.{Job, workers}
 use Rattle.run.specs.Updates.{count, accesses, next, waits}
-use Rattle.run.specs.Machine.{State, workers, reason, refusal, allMade, over, countsFine, isState}
-use Rattle.machine.specs.Record.{allBelow, fine, done}
-use Rattle.tables.specs.Laid.{updatesIn, Counted, Laid, Waits}
-use Rattle.steps.specs.Steps.{rowNext, reasonAt}
+use Rattle.run.specs.Machine.{reason, refusal, allMade, over, countsFine, isState}
+use Rattle.run.specs.State.{State}
+use Rattle.machine.specs.code.Tests.{allBelow, fine, done}
+use Rattle.tables.specs.code.Laid.{updatesIn, Counted, Laid, Waits}
+use Rattle.steps.specs.code.Steps.{rowNext, reasonAt}
 use Rattle.steps.proofs.TableUpdates.{updates-are, row-is-update}
 use Rattle.run.proofs.Next.{next-at, next-row}
 use Rattle.machine.proofs.BlockedLeaves.{eqb-bit}

@@ -1,2 +1,2 @@
 pub mod Record
-pub mod Stepped
+pub mod code

@@ -19,16 +19,19 @@ ghost use lib.IntN.{pos};
 ghost use lib.ListN.{length, replicate};
 ghost use Rattle.plan.specs.Sound.{maxWorkers};
 ghost use Rattle.plan.specs.Groups.{records};
-ghost use Rattle.plan.specs.Checks.{recordAt};
+ghost use Rattle.plan.specs.code.Checks.{recordAt};
 ghost use Rattle.run.specs.Job.{Job, Accepted};
 ghost use Rattle.run.specs.Updates.{count};
 ghost use Rattle.run.specs.Machine as machine;
-ghost use Rattle.machine.specs.Record.{stateOf, allBelow, fine, done};
-ghost use Rattle.tables.specs.Laid.{Rising, Laid, Waits};
-ghost use Rattle.waits.specs.Waits.{Recorded};
-ghost use Rattle.steps.specs.Updates.{Triangle};
-ghost use Rattle.steps.specs.Steps.{StepTables};
-ghost use Rattle.machine.specs.Stepped.{passesOver, walk, endedWith, walkedOf, comesTo};
+ghost use Rattle.run.specs.Job as job;
+ghost use Rattle.run.specs.State as run;
+ghost use Rattle.machine.specs.Record.{stateOf};
+ghost use Rattle.machine.specs.code.Tests.{allBelow, fine, done};
+ghost use Rattle.tables.specs.code.Laid.{Rising, Laid, Waits};
+ghost use Rattle.waits.specs.code.Waits.{Recorded};
+ghost use Rattle.steps.specs.code.Updates.{Triangle};
+ghost use Rattle.steps.specs.code.Steps.{StepTables};
+ghost use Rattle.machine.specs.code.Stepped.{passesOver, walk, endedWith, walkedOf, comesTo};
 
 // Accesses made, and the number held, of each of 16 workers.
 pub struct State {
@@ -69,7 +72,7 @@ pub struct Outcome {
 impl State {
     // The state that a run begins with.
     pub fn fresh() -> State
-        ensures { λ r. ⌜ ((n : ℕ) → stateOf r (replicate n (pos 0)) ≡ machine.fresh n) ⌝ }
+        ensures { λ r. ⌜ ((n : ℕ) → stateOf r (replicate n (pos 0)) ≡ run.fresh n) ⌝ }
     {
         State {
             made: [0u32; MAX_WORKERS],
@@ -106,7 +109,7 @@ impl State {
     ) -> Outcome
         requires { ⌜ (workers ≤ maxWorkers)
             × StepTables (length (now sums)) (now first) (now row) (now begins) (now leaves) (now at) ⌝ }
-        ensures { λ r. ⌜ ((j : Job) (ends : List ℕ) → workers ≡ machine.workers j
+        ensures { λ r. ⌜ ((j : Job) (ends : List ℕ) → workers ≡ job.workers j
             → Laid j (now (first .entry)) (now (row .entry)) (now (begins .entry)) (now (leaves .entry)) ends
             → Triangle j (now (begins .entry)) (now (displaced .entry)) (now (at .entry)) (now (beside .entry))
             → Waits j (self .made) (now (blocks .entry))

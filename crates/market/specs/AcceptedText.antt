@@ -6,8 +6,7 @@ use Prim.Native.Nat.{ℕ}
 use lib.IntN.{ℤ}
 use lib.ListN.{length}
 use Rattle.base.specs.Replies.{accepted, lent}
-use Rattle.matrix.specs.Matrix.{Matrix, columnsOf, valuesOf, isMatrix}
-use Rattle.matrix.specs.Checks.{matrixOf}
+use Rattle.matrix.specs.Matrix.{Matrix, columnsOf, valuesOf, isMatrix, matrixOf}
 use Rattle.market.specs.Parse.{Triplet, Parsed, matrixText, parse}
 use Rattle.market.specs.FullRows.{ofTriplets, readMatrix, readReply}
 

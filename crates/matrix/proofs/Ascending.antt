@@ -12,7 +12,7 @@ use borrow.Author.Tests.{ltb-true, ltb-false, lt-ltb, le-ltb, eqb-true, eq-eqb, 
 use Rattle.base.specs.Lists.{filter, keep, isIn, bit}
 use Rattle.base.proofs.Booleans.{and-left, and-right, or-true, or-cases, same-or}
 use Rattle.matrix.specs.Matrix.{ascending, lookup}
-use Rattle.matrix.specs.Checks.{placeIn}
+use Rattle.matrix.specs.code.Checks.{placeIn}
 
 pub ascending-tail : (c : ℕ) (cs : List ℕ) → ascending (c ∷ cs) ≡ true → ascending cs ≡ true
 unfolding ascending

@@ -12,7 +12,7 @@ use Rattle.base.proofs.Booleans.{and-left, and-right, conj, conj-first, conj-at
 use Rattle.base.proofs.Left.{all-and, all-same}
 use Rattle.matrix.specs.Limits.{maxRows, maxEntries, maxValue}
 use Rattle.matrix.specs.Matrix.{Matrix, columnsOf, valuesOf, ascending, isRow, lowerEntries, isMatrix}
-use Rattle.matrix.specs.Checks.{rises, shaped, isOrdered, mirroredRow, symmetric}
+use Rattle.matrix.specs.code.Checks.{rises, shaped, isOrdered, mirroredRow, symmetric}
 
 abbrev sizeTests : Matrix → List Bool
 sizeTests m =

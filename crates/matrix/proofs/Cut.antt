@@ -14,9 +14,10 @@ use Rattle.base.specs.Lists.{filter, all, isIn, range, sumBelow}
 use Rattle.base.specs.Integers.{sumℤ, same}
 use Rattle.base.proofs.Booleans.{both-ways}
 use Rattle.base.proofs.Lists.{all-range, range-all}
-use Rattle.matrix.specs.Limits.{maxRows, maxEntries, maxStarts, maxCells}
-use Rattle.matrix.specs.Matrix.{Matrix, partOf, columnsOf, valuesOf, lookup, entry, neighbours, mirrored, lowerEntries, isMatrix, displacement, areDisplacements, displacementCheck}
-use Rattle.matrix.specs.Checks.{matrixOf, rises, shaped, isOrdered, symmetric}
+use Rattle.matrix.specs.Limits.{maxRows, maxEntries}
+use Rattle.matrix.specs.code.Room.{maxStarts, maxCells}
+use Rattle.matrix.specs.Matrix.{Matrix, partOf, columnsOf, valuesOf, lookup, entry, neighbours, mirrored, lowerEntries, isMatrix, displacement, areDisplacements, displacementCheck, matrixOf}
+use Rattle.matrix.specs.code.Checks.{rises, shaped, isOrdered, symmetric}
 use Rattle.matrix.specs.Product.{forceAt, product}
 use Rattle.matrix.proofs.Matrix.{displacements-many}
 use Rattle.matrix.proofs.Checks.{ordered, Shape, shape, shape-rises, matrix-parts, matrix-tidy}

@@ -9,7 +9,8 @@ use native.Mathlib.Omega.{arith}
 use lib.Dec.{eqb, leb}
 use lib.ListN.{length, getD}
 use borrow.Author.Tests.{leb-true, le-leb, eq-eqb, ne-eqb}
-use Rattle.base.specs.Lists.{filter, isIn, sumBelow, count}
+use Rattle.base.specs.Lists.{filter, isIn, sumBelow}
+use Rattle.base.specs.code.Counts.{count}
 use Rattle.base.proofs.Booleans.{clash, same-or, or-true}
 use Rattle.base.proofs.Lists.{filter-passes}
 use Rattle.base.proofs.Counts.{count-filter, in-count, out-count}

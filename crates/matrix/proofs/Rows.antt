@@ -12,7 +12,7 @@ use borrow.Author.Tests.{lt-ltb, le-ltb, leb-true}
 use Rattle.base.specs.Lists.{all, range}
 use Rattle.base.proofs.Lists.{all-range, range-snoc}
 use Rattle.matrix.specs.Matrix.{Matrix, partOf, columnsOf, valuesOf, lookup, entry}
-use Rattle.matrix.specs.Checks.{RowIn, rises, shaped}
+use Rattle.matrix.specs.code.Checks.{RowIn, rises, shaped}
 use Rattle.matrix.proofs.Checks.{shape}
 
 -- ---- where a row lies

@@ -12,7 +12,7 @@ use Rattle.base.proofs.Booleans.{and-left}
 use Rattle.base.proofs.Lists.{all-range}
 use Rattle.matrix.specs.Limits.{maxValue}
 use Rattle.matrix.specs.Matrix.{Matrix, columnsOf, valuesOf, ascending}
-use Rattle.matrix.specs.Checks.{shaped, isOrdered}
+use Rattle.matrix.specs.code.Checks.{shaped, isOrdered}
 use Rattle.matrix.proofs.Checks.{orderedRow, ordered}
 use Rattle.matrix.proofs.Rows.{length-columns, length-values}
 

@@ -1,5 +1,5 @@
 pub mod Limits
 pub mod Matrix
-pub mod Checks
 pub mod Product
 pub mod SmallForces
+pub mod code

@@ -1,5 +1,5 @@
 -- The limits of document 01.
-use Prim.Native.Nat.{ℕ, _+_, _*_}
+use Prim.Native.Nat.{ℕ}
 
 -- "A matrix has n freedoms, 1 to 4,096 .. and at most 32,768 stored entries on and below the diagonal"
 abbrev pub maxRows : ℕ
@@ -7,13 +7,6 @@ maxRows = 4096
 
 abbrev pub maxEntries : ℕ
 maxEntries = 32768
-
--- where each row starts, and where the last ends; and the entries of full rows
-abbrev pub maxStarts : ℕ
-maxStarts = maxRows + 1
-
-abbrev pub maxCells : ℕ
-maxCells = 2 * maxEntries
 
 -- "Stiffness is whole N/mm, at most 1,000,000,000 either side of 0"
 abbrev pub maxValue : ℕ

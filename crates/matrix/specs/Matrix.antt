@@ -19,9 +19,9 @@ pub record Matrix : Type 0 where
   pub columns : List ℕ
   pub values : List ℤ
 
--- the matrix of lent row starts and columns, as far as adjacency looks at it
-abbrev pub pattern : (n : ℕ) (starts columns : List ℕ) → Matrix
-pattern n starts columns = record { n = n; starts = starts; columns = columns; values = [] }
+-- the matrix of n rows that lent lists stand for
+abbrev pub matrixOf : (n : ℕ) (starts columns : List ℕ) (values : List ℤ) → Matrix
+matrixOf n starts columns values = record { n = n; starts = starts; columns = columns; values = values }
 
 module _ {ℓ} {A : Type ℓ} where
   -- the part of xs that belongs to row i: "places past n + 1 row starts, the last row's entries .. are not read"

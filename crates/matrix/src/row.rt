@@ -3,7 +3,7 @@ ghost use mathlib.Core.Path.{_≡_};
 ghost use Prim.Native.Nat.{_+_};
 ghost use lib.ListN.{length, getD};
 ghost use lib.Seq.{slice};
-ghost use Rattle.matrix.specs.Checks.{RowIn};
+ghost use Rattle.matrix.specs.code.Checks.{RowIn};
 
 // Row i's columns.
 pub fn columns_of<'a>(starts: &[u32], columns: &'a [u32], i: usize) -> &'a [u32]

@@ -13,8 +13,7 @@ use borrow.Author.Tests.{ltb-true, le-leb}
 use Rattle.base.specs.Replies.{Reply, accepted, Check, roomFor, inTurn, lent}
 use Rattle.base.proofs.Each.{Each}
 use Rattle.base.proofs.Replies.{accepted-all, lent-accepted}
-use Rattle.matrix.specs.Matrix.{Matrix, partOf, columnsOf, valuesOf, isMatrix}
-use Rattle.matrix.specs.Checks.{matrixOf}
+use Rattle.matrix.specs.Matrix.{Matrix, partOf, columnsOf, valuesOf, isMatrix, matrixOf}
 use Rattle.matrix.proofs.Matrix.{matrix-facts}
 use Rattle.matrix.proofs.Checks.{matrix-tidy}
 use Rattle.matrix.proofs.Rows.{row-in}

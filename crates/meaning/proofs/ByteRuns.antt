@@ -11,8 +11,10 @@ use Rattle.base.specs.Replies.{inTurn, lent}
 use Rattle.matrix.specs.Matrix.{Matrix}
 use Rattle.matrix.specs.Product.{product}
 use Rattle.run.specs.Job.{Job, jobOf}
-use Rattle.run.specs.Machine.{State, fresh, isState, steps}
-use Rattle.run.specs.Calls.{Call, picks, readySet, forceList, Answer, forces, pickedOf, answerOf, afterOf, stateCheck, answer, after}
+use Rattle.run.specs.Machine.{isState, steps}
+use Rattle.run.specs.State.{State, fresh}
+use Rattle.run.specs.Calls.{pickedOf, answerOf, afterOf, stateCheck, answer, after}
+use Rattle.run.specs.Answers.{Call, picks, readySet, forceList, Answer, forces}
 use Rattle.run.specs.EveryRun.{runState, runAnswers, finishedRun}
 use Rattle.run.specs.LentRuns.{passed, LentRun}
 use Rattle.run.proofs.Sequence.{all-answered, all-left, all-met}

@@ -10,7 +10,7 @@ use borrow.Author.Tests.{ltb-true}
 use Rattle.base.specs.Integers.{fits64}
 use Rattle.base.proofs.Each.{Each, each-map}
 use Rattle.plan.specs.Sound.{maxWorkers}
-use Rattle.run.specs.Machine.{State, fresh}
+use Rattle.run.specs.State.{State, fresh}
 use Rattle.run.proofs.Fits.{Fit, Fits}
 use Rattle.words.specs.LittleEndian.{bytesOf, ofSigned, signedBytesOf, unsignedBytes, signed, signedBytes}
 use Rattle.words.proofs.Blocks.{length-encoded}

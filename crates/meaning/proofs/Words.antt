@@ -29,10 +29,12 @@ use Rattle.market.proofs.WriteThenRead.{write-then-read}
 use Rattle.plan.specs.Sound.{maxWorkers, planCheck, checkReply}
 use Rattle.race.specs.Planner.{plan, planReply}
 use Rattle.race.proofs.PlannedSound.{planned-sound}
-use Rattle.run.specs.Job.{Job, jobOf, Accepted}
-use Rattle.run.specs.Machine.{State, steps, workers, refusal, readyBelow, ready, over}
-use Rattle.run.specs.Calls.{Call, picks, readySet, forceList, Answer, placeOf, pickedOf, readyOf, forcesOf, answerOf, stateCheck, answer, jobChecks, answerLent}
-use Rattle.run.specs.Calls as calls
+use Rattle.run.specs.Job.{Job, jobOf, Accepted, workers}
+use Rattle.run.specs.Machine.{steps, refusal, readyBelow, ready, over}
+use Rattle.run.specs.State.{State}
+use Rattle.run.specs.Calls.{placeOf, pickedOf, readyOf, forcesOf, answerOf, stateCheck, answer, jobChecks, answerLent}
+use Rattle.run.specs.Answers.{Call, picks, readySet, forceList, Answer}
+use Rattle.run.specs.Answers as calls
 use Rattle.run.specs.LentRuns.{passed}
 use Rattle.run.proofs.Accepted.{facts}
 use Rattle.run.proofs.LentRuns.{lent-runs}

@@ -9,8 +9,9 @@ use lib.ListN.{length, replicate}
 use Rattle.matrix.specs.Matrix.{Matrix}
 use Rattle.matrix.specs.Product.{product}
 use Rattle.run.specs.Job.{jobOf}
-use Rattle.run.specs.Machine.{State}
-use Rattle.run.specs.Calls.{Call, picks, readySet, forceList, Answer, afterLent}
+use Rattle.run.specs.State.{State}
+use Rattle.run.specs.Calls.{afterLent}
+use Rattle.run.specs.Answers.{Call, picks, readySet, forceList, Answer}
 use Rattle.run.specs.Sequence.{answersFrom, stateAfter}
 use Rattle.run.specs.EveryRun.{runState, runAnswers, finishedRun}
 use Rattle.run.specs.LentRuns.{passed}

@@ -8,7 +8,7 @@ use Rattle.matrix.specs.Matrix.{Matrix}
 use Rattle.matrix.specs.Product.{productReply}
 use Rattle.market.specs.Text.{writeReply}
 use Rattle.plan.specs.Sound.{checkReply}
-use Rattle.run.specs.Calls.{Call}
+use Rattle.run.specs.Answers.{Call}
 use Rattle.lent.specs.Word.{word}
 use Rattle.office.specs.Lent.{readIn, planIn}
 use Rattle.cabinet.specs.Runs.{answerIn, replyTo}

@@ -11,7 +11,7 @@ use Rattle.base.specs.Integers.{within, sumℤ}
 use Rattle.base.proofs.Booleans.{and-right}
 use Rattle.matrix.specs.Limits.{maxDisplacement}
 use Rattle.matrix.specs.Matrix.{Matrix, columnsOf, valuesOf, lookup, entry, displacement, areDisplacements}
-use Rattle.multiply.specs.Loaded.{RowOk, Loaded}
+use Rattle.multiply.specs.code.Loaded.{RowOk, Loaded}
 use Rattle.matrix.specs.Product.{forceAt}
 use Rattle.matrix.proofs.Matrix.{displacements-many}
 use Rattle.matrix.proofs.Checks.{shape, matrix-tidy}

@@ -11,7 +11,7 @@ use Rattle.base.specs.Replies.{accepted, refused, Check, inTurn, roomFor, lent}
 use Rattle.base.proofs.Replies.{inTurn-pass, inTurn-fail, checked, checked-accepted, checked-refused, lent-refused, lent-accepted}
 use Rattle.base.proofs.Fill.{length-made}
 use Rattle.matrix.specs.Matrix.{Matrix, isMatrix, matrixCheck, displacementCheck}
-use Rattle.multiply.specs.Loaded.{Loaded}
+use Rattle.multiply.specs.code.Loaded.{Loaded}
 use Rattle.matrix.specs.Product.{forceAt, product, productReply}
 
 module _ (m : Matrix) (x : List ℤ) (room : ℕ) where

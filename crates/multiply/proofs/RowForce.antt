@@ -19,8 +19,8 @@ use Rattle.base.proofs.Sums.{sum-zero, sum-first, sum-more, abs-sum, sum-below-
 use Rattle.base.proofs.Integers.{abs-mul-le, fits-abs}
 use Rattle.matrix.specs.Limits.{maxValue, maxDisplacement}
 use Rattle.matrix.specs.Matrix.{lookup, ascending, displacement}
-use Rattle.matrix.specs.Checks.{isOrdered}
-use Rattle.multiply.specs.Loaded.{RowOk}
+use Rattle.matrix.specs.code.Checks.{isOrdered}
+use Rattle.multiply.specs.code.Loaded.{RowOk}
 use Rattle.matrix.proofs.Matrix.{lookup-none, getD-all}
 use Rattle.matrix.proofs.Ascending.{ascending-tail, ascending-first, first-once}
 

@@ -17,10 +17,9 @@ ghost use mathlib.Core.List.{[], _∷_, _++_};
 ghost use lib.ListN.{length, drop};
 ghost use Rattle.base.specs.Replies.{accepted, refused, inTurn, lent};
 ghost use Rattle.base.specs.Verdicts.{replyOf};
-ghost use Rattle.matrix.specs.Matrix.{entry, displacementCheck};
-ghost use Rattle.matrix.specs.Checks.{matrixOf};
+ghost use Rattle.matrix.specs.Matrix.{entry, displacementCheck, matrixOf};
 ghost use Rattle.matrix.specs.Product.{product, productReply};
-ghost use Rattle.multiply.specs.Loaded.{Loaded};
+ghost use Rattle.multiply.specs.code.Loaded.{Loaded};
 
 // Whether there are n displacements, each within its limit.
 pub fn check_displacements(n: u32, displacements: &[i32]) -> Verdict

@@ -4,7 +4,7 @@ ghost use lib.IntN.{_*ℤ_};
 ghost use lib.ListN.{length};
 ghost use Rattle.base.specs.Integers.{sumℤ};
 ghost use Rattle.matrix.specs.Matrix.{lookup, displacement};
-ghost use Rattle.multiply.specs.Loaded.{RowOk};
+ghost use Rattle.multiply.specs.code.Loaded.{RowOk};
 
 // The values times the displacements of their columns, summed.
 pub(crate) fn force(columns: &[u32], values: &[i32], displacements: &[i32]) -> i64

@@ -9,7 +9,8 @@ use Rattle.matrix.specs.Limits.{maxRows}
 use Rattle.matrix.specs.Matrix.{Matrix, matrixCheck}
 use Rattle.matrix.proofs.Matrix.{matrix-facts}
 use Rattle.matrix.proofs.Cut.{cut, cut-matrix}
-use Rattle.plan.specs.Sound.{planCheck, checkReply, maxFields}
+use Rattle.plan.specs.Sound.{planCheck, checkReply}
+use Rattle.plan.specs.code.Room.{maxFields}
 use Rattle.plan.proofs.Cut.{cut-plan}
 use Rattle.lent.proofs.Loads.{plan-of-cut}
 

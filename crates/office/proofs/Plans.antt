@@ -15,7 +15,7 @@ use Rattle.plan.specs.Groups.{Plan, flat, width}
 use Rattle.race.specs.Planner.{plan, planReply}
 use Rattle.race.proofs.Rooms.{rooms-cut, planned}
 use Rattle.words.specs.LittleEndian.{bytesOf, unsignedBytes, stored}
-use Rattle.plan.specs.Sound.{maxFields}
+use Rattle.plan.specs.code.Room.{maxFields}
 use Rattle.lent.specs.Word.{word}
 use Rattle.office.specs.Lent.{planIn, PlanAnswered}
 use Rattle.lent.proofs.Answers.{Begins, begins, begins-stored}

@@ -12,7 +12,8 @@ use Rattle.base.specs.Replies.{accepted, refused, Check, roomFor, lent}
 use Rattle.base.proofs.Booleans.{leb-min}
 use Rattle.base.proofs.Replies.{inTurn-same, accepted-all, lent-refused}
 use Rattle.base.proofs.Fill.{length-made}
-use Rattle.matrix.specs.Limits.{maxRows, maxStarts}
+use Rattle.matrix.specs.Limits.{maxRows}
+use Rattle.matrix.specs.code.Room.{maxStarts}
 use Rattle.matrix.specs.Matrix.{Matrix, isMatrix, matrixCheck, displacementCheck, areDisplacements}
 use Rattle.matrix.specs.Product.{forceAt, product, productReply}
 use Rattle.matrix.proofs.Matrix.{matrix-facts}

@@ -19,7 +19,7 @@ use Rattle.market.proofs.AcceptedText.{accepted-text}
 use Rattle.market.proofs.FullCount.{length-rows}
 use Rattle.market.proofs.FullRows.{length-row-starts, rows-end}
 use Rattle.words.specs.LittleEndian.{bytesOf, signedBytesOf, unsignedBytes, signedBytes, stored}
-use Rattle.matrix.specs.Limits.{maxStarts, maxCells}
+use Rattle.matrix.specs.code.Room.{maxStarts, maxCells}
 use Rattle.lent.specs.Word.{word}
 use Rattle.office.specs.Lent.{readIn, ReadAnswered}
 use Rattle.lent.proofs.Answers.{Begins, begins, begins-at, begins-stored}

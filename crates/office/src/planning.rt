@@ -12,9 +12,9 @@ use plan::fields::WIDTH;
 use words::store::store_u32;
 ghost use Prim.Native.Nat.{_≤_};
 ghost use lib.ListN.{length};
-ghost use Rattle.matrix.specs.Checks.{matrixOf};
+ghost use Rattle.matrix.specs.Matrix.{matrixOf};
 ghost use Rattle.matrix.specs.Limits.{maxRows};
-ghost use Rattle.plan.specs.Sound.{maxFields};
+ghost use Rattle.plan.specs.code.Room.{maxFields};
 ghost use Rattle.lent.specs.Bytes.{matrixIn};
 ghost use Rattle.office.specs.Lent.{PlanAnswered};
 

@@ -10,7 +10,7 @@ use matrix::limits::MAX_STARTS;
 use words::store::store_i64;
 ghost use Prim.Native.Nat.{_/_, _≤_};
 ghost use lib.ListN.{length};
-ghost use Rattle.matrix.specs.Checks.{matrixOf};
+ghost use Rattle.matrix.specs.Matrix.{matrixOf};
 ghost use Rattle.matrix.specs.Limits.{maxRows};
 ghost use Rattle.matrix.specs.Product.{product, productReply};
 ghost use Rattle.words.specs.LittleEndian.{signed, signedBytes};

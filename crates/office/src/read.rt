@@ -11,7 +11,7 @@ use words::store::store_u32;
 ghost use Prim.Native.Nat.{_≤_};
 ghost use lib.ListN.{length};
 ghost use Rattle.office.specs.Lent.{ReadAnswered};
-ghost use Rattle.matrix.specs.Limits.{maxCells, maxStarts};
+ghost use Rattle.matrix.specs.code.Room.{maxCells, maxStarts};
 
 // The matrix is made in starts, columns and values, as far as the lent lists have room; then it is stored.
 fn read_of(

@@ -7,7 +7,7 @@ use lib.ListN.{drop}
 use Rattle.plan.specs.Groups.{Group, records}
 use Rattle.plan.specs.Sound.{children, tiled}
 use Rattle.plan.specs.declared.fields.Record.{Record}
-use Rattle.plan.specs.Checks.{recordAt, ofRecord, Reads, belowWhole, standsDepthFirst, NextChild, fitting, pending, complete, laid, tiles}
+use Rattle.plan.specs.code.Checks.{recordAt, ofRecord, Reads, belowWhole, standsDepthFirst, NextChild, fitting, pending, complete, laid, tiles}
 use Rattle.plan.proofs.Nested.{children-later, children-at, children-over}
 use Rattle.plan.proofs.Laid.{tiled-laid}
 

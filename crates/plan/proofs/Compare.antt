@@ -7,13 +7,14 @@ use native.Mathlib.Omega.{arith}
 use lib.ListN.{length, getD, take, drop}
 use Rattle.base.specs.Lists.{all, isIn}
 use Rattle.base.proofs.Each.{Pairwise, each-map}
-use Rattle.matrix.specs.Matrix.{pattern, neighbours}
+use Rattle.matrix.specs.Matrix.{neighbours}
+use Rattle.matrix.specs.code.Pattern.{pattern}
 use Rattle.matrix.specs.Limits.{maxRows}
 use Rattle.plan.specs.Groups.{Group, records}
 use Rattle.plan.specs.Sound.{maxGroups, children, stretchOf, likeApart}
 use Rattle.plan.specs.declared.fields.Record.{Record}
-use Rattle.plan.specs.Checks.{recordAt, ofRecord, Reads, belowWhole, NextChild, tiles, PlanLists}
-use Rattle.plan.specs.Marks.{OfMatrix, touchedBy, ofColour, touchedLike, Stamped, Touched, UpTo}
+use Rattle.plan.specs.code.Checks.{recordAt, ofRecord, Reads, belowWhole, NextChild, tiles, PlanLists}
+use Rattle.plan.specs.code.Marks.{OfMatrix, touchedBy, ofColour, touchedLike, Stamped, Touched, UpTo}
 use Rattle.plan.proofs.Once.{once}
 use Rattle.plan.proofs.Nested.{children-at, children-over}
 use Rattle.plan.proofs.ChildTurns.{from-first}

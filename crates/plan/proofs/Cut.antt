@@ -14,7 +14,8 @@ use Rattle.matrix.specs.Limits.{maxRows}
 use Rattle.matrix.specs.Matrix.{Matrix, isMatrix}
 use Rattle.matrix.proofs.Cut.{cut, cut-neighbours}
 use Rattle.plan.specs.Groups.{Plan, width, ofFields, records, planOf}
-use Rattle.plan.specs.Sound.{maxGroups, sound, isSound, isPlan, maxFields}
+use Rattle.plan.specs.Sound.{maxGroups, sound, isSound, isPlan}
+use Rattle.plan.specs.code.Room.{maxFields}
 
 -- ---- records
 

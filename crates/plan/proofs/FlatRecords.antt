@@ -6,7 +6,7 @@ use native.Mathlib.Omega.{arith}
 use lib.ListN.{length, getD, take, drop, drop-of-length-le}
 use lib.Seq.{drop-drop, drop-cons, getD-drop, take-at}
 use Rattle.plan.specs.Groups.{Group, Plan, width, fieldsOf, ofFields, flat, records, planOf}
-use Rattle.plan.specs.Checks.{recordAt}
+use Rattle.plan.specs.code.Checks.{recordAt}
 
 pub length-records : (count : ℕ) (ns : List ℕ) → length (records count ns) ≡ count
 unfolding records

@@ -7,8 +7,8 @@ use native.Mathlib.Numerals.{add-one}
 use lib.ListN.{drop}
 use Rattle.plan.specs.Groups.{Group, red, blue, records}
 use Rattle.plan.specs.Sound.{children, likeApart, childrenSound, allSound}
-use Rattle.plan.specs.Checks.{recordAt, tiles}
-use Rattle.plan.specs.Marks.{ofColour}
+use Rattle.plan.specs.code.Checks.{recordAt, tiles}
+use Rattle.plan.specs.code.Marks.{ofColour}
 use Rattle.plan.proofs.FlatRecords.{records-at, records-none}
 use Rattle.plan.proofs.Spread.{tiles-spread}
 use Rattle.plan.proofs.LikeApart.{colour-by-colour}

@@ -11,7 +11,7 @@ use borrow.Author.Tests.{eqb-true, eq-eqb, ne-eqb, leb-true, le-leb}
 use Rattle.base.proofs.Booleans.{and-left, and-right, conj-first, conj-at, same-or, is-false, both-ways}
 use Rattle.plan.specs.Groups.{Group, red, blue}
 use Rattle.plan.specs.Sound.{tiled}
-use Rattle.plan.specs.Checks.{fitting, pending, complete, laid}
+use Rattle.plan.specs.code.Checks.{fitting, pending, complete, laid}
 use Rattle.plan.proofs.Pair.{pair-of}
 
 -- ---- one child

@@ -15,7 +15,7 @@ use Rattle.base.proofs.Each.{Each, each-map}
 use Rattle.base.proofs.Left.{all-same}
 use Rattle.plan.specs.Groups.{Group, red, blue}
 use Rattle.plan.specs.Sound.{apart, stretchOf, likeApart}
-use Rattle.plan.specs.Marks.{ofColour, clashes, Stamped}
+use Rattle.plan.specs.code.Marks.{ofColour, clashes, Stamped}
 
 -- ---- tests
 

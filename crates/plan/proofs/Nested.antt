@@ -14,7 +14,7 @@ use Rattle.base.specs.Lists.{isIn, fromFirst}
 use Rattle.base.proofs.Booleans.{or-cases, clash, is-false}
 use Rattle.plan.specs.Groups.{Group, records}
 use Rattle.plan.specs.Sound.{depthFirst, children}
-use Rattle.plan.specs.Checks.{recordAt, belowWhole, standsDepthFirst}
+use Rattle.plan.specs.code.Checks.{recordAt, belowWhole, standsDepthFirst}
 use Rattle.plan.proofs.Records.{Down, ancestors, Step, step-of, before-one, down}
 use Rattle.plan.proofs.Children.{children-skip, children-keep}
 use Rattle.plan.proofs.FlatRecords.{records-at, records-none}

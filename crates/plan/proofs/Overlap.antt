@@ -10,10 +10,11 @@ use Rattle.base.specs.Lists.{any, isIn}
 use Rattle.base.proofs.Booleans.{or-true, or-cases, same-or, both-ways}
 use Rattle.base.proofs.Lists.{any-of, any-get, isIn-concat-map}
 use Rattle.base.proofs.Graph.{Graph}
-use Rattle.matrix.specs.Matrix.{pattern, columnsOf, neighbours}
+use Rattle.matrix.specs.Matrix.{columnsOf, neighbours}
+use Rattle.matrix.specs.code.Pattern.{pattern}
 use Rattle.matrix.proofs.Matrix.{neighbour-column, column-neighbour}
 use Rattle.plan.specs.Sound.{apart}
-use Rattle.plan.specs.Marks.{closed, touchedBy}
+use Rattle.plan.specs.code.Marks.{closed, touchedBy}
 
 not-not : (b : Bool) → not (not b) ≡ b
 not-not true = refl

@@ -13,7 +13,7 @@ use borrow.Author.Tests.{eq-eqb, ne-eqb}
 use Rattle.base.specs.Lists.{fromFirst}
 use Rattle.plan.specs.Groups.{records}
 use Rattle.plan.specs.Sound.{depthFirst}
-use Rattle.plan.specs.Checks.{recordAt, pathOf}
+use Rattle.plan.specs.code.Checks.{recordAt, pathOf}
 use Rattle.plan.proofs.FlatRecords.{records-at}
 
 pub length-path : (path : List ℕ) (t : ℕ) → length (pathOf path t) ≡ t

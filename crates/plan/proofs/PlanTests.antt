@@ -9,11 +9,11 @@ use lib.IntN.{ℤ}
 use lib.ListN.{length, take}
 use borrow.Author.Tests.{le-leb, lt-leb}
 use Rattle.base.proofs.Booleans.{and-false}
-use Rattle.matrix.specs.Matrix.{pattern, neighbours}
-use Rattle.matrix.specs.Checks.{matrixOf}
+use Rattle.matrix.specs.Matrix.{neighbours, matrixOf}
+use Rattle.matrix.specs.code.Pattern.{pattern}
 use Rattle.plan.specs.Groups.{Group, width, records, planOf}
 use Rattle.plan.specs.Sound.{maxGroups, eachOnce, depthFirst, allSound, sound, isSound, isPlan}
-use Rattle.plan.specs.Checks.{recordAt, belowWhole, standsDepthFirst, isWhole}
+use Rattle.plan.specs.code.Checks.{recordAt, belowWhole, standsDepthFirst, isWhole}
 use Rattle.plan.proofs.FlatRecords.{records-at, length-records}
 use Rattle.plan.proofs.RowsOf.{neighbours-pattern}
 

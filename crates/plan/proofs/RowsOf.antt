@@ -7,13 +7,14 @@ use lib.ListN.{length, getD}
 use lib.Seq.{slice}
 use Rattle.base.proofs.Graph.{Graph}
 use Rattle.base.proofs.Lists.{in-get}
-use Rattle.matrix.specs.Matrix.{Matrix, pattern, partOf, columnsOf, neighbours}
-use Rattle.matrix.specs.Checks.{matrixOf, RowIn}
+use Rattle.matrix.specs.Matrix.{Matrix, partOf, columnsOf, neighbours, matrixOf}
+use Rattle.matrix.specs.code.Pattern.{pattern}
+use Rattle.matrix.specs.code.Checks.{RowIn}
 use Rattle.matrix.proofs.Matrix.{matrix-facts, column-low, graph}
 use Rattle.matrix.proofs.Checks.{matrix-tidy}
 use Rattle.matrix.proofs.Rows.{columns-in, columns-part}
 use Rattle.matrix.specs.Limits.{maxRows}
-use Rattle.plan.specs.Marks.{OfMatrix}
+use Rattle.plan.specs.code.Marks.{OfMatrix}
 
 -- adjacency does not look at values
 pub neighbours-pattern : (n : ℕ) (starts columns : List ℕ) (values : List ℤ) → neighbours (matrixOf n starts columns values) ≡ neighbours (pattern n starts columns)

@@ -14,7 +14,7 @@ use Rattle.base.proofs.Booleans.{or-true, or-false}
 use Rattle.base.proofs.Lists.{isIn-append}
 use Rattle.matrix.specs.Limits.{maxRows}
 use Rattle.plan.specs.Sound.{eachOnce}
-use Rattle.plan.specs.Checks.{Seen}
+use Rattle.plan.specs.code.Checks.{Seen}
 
 -- no row is marked at first
 pub seen-none : (n k : ℕ) → k ≡ maxRows → n ≤ k → Seen n [] (replicate k 0)

@@ -13,7 +13,7 @@ use Rattle.base.proofs.Each.{Each, Pairwise, each-map}
 use Rattle.base.proofs.Lists.{get-in}
 use Rattle.plan.specs.Groups.{Group, red, blue}
 use Rattle.plan.specs.Sound.{stretchOf}
-use Rattle.plan.specs.Checks.{fitting, pending, laid, tiles}
+use Rattle.plan.specs.code.Checks.{fitting, pending, laid, tiles}
 use Rattle.plan.proofs.Laid.{fits, tiled-laid}
 use Rattle.plan.proofs.Once.{Once, injective}
 

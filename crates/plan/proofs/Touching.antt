@@ -14,7 +14,7 @@ use Rattle.base.specs.Lists.{any, isIn, concat}
 use Rattle.base.proofs.Booleans.{and-false, clash, is-false}
 use Rattle.base.proofs.Lists.{isIn-append, any-of, any-ext}
 use Rattle.matrix.specs.Limits.{maxRows}
-use Rattle.plan.specs.Marks.{clashes, Stamped, Touched, UpTo}
+use Rattle.plan.specs.code.Marks.{clashes, Stamped, Touched, UpTo}
 
 -- ---- lists
 

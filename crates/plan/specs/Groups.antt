@@ -1,8 +1,9 @@
 -- A plan: an order of the rows, and the records of its groups.
 use mathlib.Core.List.{List, [], _∷_, map}
 use Prim.Native.Nat.{ℕ, zero, suc}
-use lib.ListN.{take, drop, getD}
+use lib.ListN.{take, drop, getD, length}
 use Rattle.base.specs.Lists.{concat}
+use Rattle.plan.specs.declared.fields.Group as code
 
 -- "a list of records ..: start, length, first worker, worker count, colour (0 whole, 1 red, 2 blue), parent's index (0 for the whole)"
 pub record Group : Type 0 where
@@ -12,6 +13,10 @@ pub record Group : Type 0 where
   pub workers : ℕ
   pub colour : ℕ
   pub parent : ℕ
+
+-- the group that a struct stands for
+abbrev pub groupOf : code.Group → Group
+groupOf g = record { start = g .start; length = g .length; first = g .first; workers = g .workers; colour = g .colour; parent = g .parent }
 
 abbrev pub whole : ℕ
 whole = 0

@@ -1,4 +1,3 @@
 pub mod Groups
 pub mod Sound
-pub mod Checks
-pub mod Marks
+pub mod code

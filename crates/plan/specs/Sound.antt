@@ -22,10 +22,6 @@ maxDepth = 4
 abbrev pub maxGroups : ℕ
 maxGroups = 512
 
--- .. and as many numbers in a flat list
-abbrev pub maxFields : ℕ
-maxFields = maxGroups * width
-
 -- "its order has each freedom once"
 unfoldable pub eachOnce : ℕ → List ℕ → Bool
 eachOnce n order = eqb (length order) n && all (isIn order) (range 0 n)

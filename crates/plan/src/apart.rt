@@ -13,11 +13,12 @@ ghost use mathlib.Core.Path.{_≡_};
 ghost use mathlib.Core.Bool.{true};
 ghost use Prim.Native.Nat.{ℕ, _+_, _^_, _≤_, _<_};
 ghost use lib.ListN.{length, getD, take};
-ghost use Rattle.matrix.specs.Matrix.{pattern, neighbours};
+ghost use Rattle.matrix.specs.Matrix.{neighbours};
+ghost use Rattle.matrix.specs.code.Pattern.{pattern};
 ghost use Rattle.plan.specs.Groups.{records};
 ghost use Rattle.plan.specs.Sound.{maxGroups, children, likeApart, childrenSound, allSound};
-ghost use Rattle.plan.specs.Checks.{recordAt, ofRecord, Small, belowWhole, tiles, PlanLists};
-ghost use Rattle.plan.specs.Marks.{OfMatrix, touchedLike, Touched, ofColour, UpTo, Judged};
+ghost use Rattle.plan.specs.code.Checks.{recordAt, ofRecord, Small, belowWhole, tiles, PlanLists};
+ghost use Rattle.plan.specs.code.Marks.{OfMatrix, touchedLike, Touched, ofColour, UpTo, Judged};
 ghost use Rattle.matrix.specs.Limits.{maxRows};
 
 // As many marks as the children of one colour may need, one for each record, and those of both.

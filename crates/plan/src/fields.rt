@@ -5,8 +5,8 @@ ghost use mathlib.Core.Path.{_≡_};
 ghost use mathlib.Core.List.{_++_};
 ghost use Prim.Native.Nat.{_+_, _*_, _≤_};
 ghost use lib.ListN.{length, take};
-ghost use Rattle.plan.specs.Groups.{width, fieldsOf};
-ghost use Rattle.plan.specs.Checks.{recordAt, groupOf, Reads};
+ghost use Rattle.plan.specs.Groups.{width, fieldsOf, groupOf};
+ghost use Rattle.plan.specs.code.Checks.{recordAt, Reads};
 
 // How many numbers a record has, and a list of all that a plan may have.
 pub const WIDTH: usize = 6;

@@ -18,10 +18,10 @@ ghost use mathlib.Core.Path.{_≡_};
 ghost use mathlib.Core.List.{List};
 ghost use lib.IntN.{ℤ};
 ghost use Rattle.base.specs.Verdicts.{replyOf};
-ghost use Rattle.matrix.specs.Checks.{matrixOf};
+ghost use Rattle.matrix.specs.Matrix.{matrixOf};
 ghost use Rattle.plan.specs.Sound.{isPlan, checkReply};
-ghost use Rattle.plan.specs.Checks.{ofRecord, isWhole};
-ghost use Rattle.plan.specs.Marks.{OfMatrix};
+ghost use Rattle.plan.specs.code.Checks.{ofRecord, isWhole};
+ghost use Rattle.plan.specs.code.Marks.{OfMatrix};
 
 // "all workers, 1 to 16"
 pub const MAX_WORKERS: usize = 16;

@@ -6,7 +6,7 @@ ghost use mathlib.Core.Path.{_≡_};
 ghost use mathlib.Core.List.{[], _∷_};
 ghost use Prim.Native.Nat.{ℕ, _<_};
 ghost use lib.ListN.{length, getD};
-ghost use Rattle.plan.specs.Marks.{OfMatrix, closed, touchedBy, Touched};
+ghost use Rattle.plan.specs.code.Marks.{OfMatrix, closed, touchedBy, Touched};
 ghost use Rattle.matrix.specs.Limits.{maxRows};
 
 // Row z gets the mark mine, unless it has another child's mark.

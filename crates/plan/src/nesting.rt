@@ -5,7 +5,7 @@ ghost use lib.Dec.{eqb};
 ghost use lib.ListN.{length};
 ghost use Rattle.base.specs.Lists.{fromFirst};
 ghost use Rattle.plan.specs.Groups.{width};
-ghost use Rattle.plan.specs.Checks.{pathOf, standsDepthFirst};
+ghost use Rattle.plan.specs.code.Checks.{pathOf, standsDepthFirst};
 use crate::MAX_DEPTH;
 use crate::fields::record_at;
 

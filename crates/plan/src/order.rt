@@ -7,7 +7,7 @@ ghost use lib.Dec.{eqb};
 ghost use lib.ListN.{length, getD, take};
 ghost use Rattle.base.specs.Lists.{all, range};
 ghost use Rattle.plan.specs.Sound.{eachOnce};
-ghost use Rattle.plan.specs.Checks.{Seen};
+ghost use Rattle.plan.specs.code.Checks.{Seen};
 ghost use Rattle.matrix.specs.Limits.{maxRows};
 
 // The rows among the first n of the order get the mark 1; what is no row gets none.

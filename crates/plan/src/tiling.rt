@@ -5,7 +5,7 @@ ghost use Prim.Native.Nat.{_*_, _≤_, _<_};
 ghost use lib.ListN.{length};
 ghost use Rattle.plan.specs.Groups.{width};
 ghost use Rattle.plan.specs.Sound.{children};
-ghost use Rattle.plan.specs.Checks.{recordAt, ofRecord, belowWhole, standsDepthFirst, Small, NextChild, fitting, pending, complete, tiles};
+ghost use Rattle.plan.specs.code.Checks.{recordAt, ofRecord, belowWhole, standsDepthFirst, Small, NextChild, fitting, pending, complete, tiles};
 use crate::fields::BLUE;
 use crate::fields::RED;
 use crate::fields::Record;

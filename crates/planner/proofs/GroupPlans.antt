@@ -15,7 +15,7 @@ use Rattle.plan.specs.Groups.{Group, Plan, width, fieldsOf}
 use Rattle.extents.specs.Extents.{Policy}
 use Rattle.race.specs.Loads.{loadOf}
 use Rattle.race.specs.Planner.{Pair, pairs, planPairs, _then_, leaf, splits, split, planGroup}
-use Rattle.planner.specs.Records.{Holds}
+use Rattle.planner.specs.code.Records.{Holds}
 use Rattle.planner.proofs.Holding.{holds-leaf, holds-then}
 
 -- ---- a group's own levels

@@ -9,20 +9,19 @@ use borrow.Author.Tests.{le-leb, lt-leb}
 use Rattle.base.specs.Lists.{concat, sum}
 use Rattle.base.proofs.Counts.{same-length}
 use Rattle.levels.specs.Levels.{reach, ownLevels}
-use Rattle.levels.specs.Group.{Proper}
-use Rattle.levels.specs.Rows.{adjOf}
-use Rattle.sort.specs.Sort.{maxLevels}
-use Rattle.sort.specs.Sorted.{Sorted}
+use Rattle.levels.specs.code.Group.{Proper}
+use Rattle.levels.specs.code.Rows.{adjOf}
+use Rattle.sort.specs.code.Sort.{maxLevels}
+use Rattle.sort.specs.code.Sorted.{Sorted}
 use Rattle.levels.proofs.Proper.{proper-same}
 use Rattle.levels.proofs.Own.{own-same}
-use Rattle.plan.specs.Groups.{width, fieldsOf}
+use Rattle.plan.specs.Groups.{width, fieldsOf, groupOf}
 use Rattle.extents.specs.Extents.{Policy}
 use Rattle.race.specs.Loads.{loadOf}
 use Rattle.race.specs.Planner.{planGroup}
-use Rattle.planner.specs.Stretches.{levelsIn, Levelled, Loaded}
-use Rattle.plan.specs.Checks.{groupOf}
-use Rattle.planner.specs.Records.{Holds}
-use Rattle.planner.specs.Cycle.{GroupTask, PairsTask, pairsPlan}
+use Rattle.planner.specs.code.Stretches.{levelsIn, Levelled, Loaded}
+use Rattle.planner.specs.code.Records.{Holds}
+use Rattle.planner.specs.code.Cycle.{GroupTask, PairsTask, pairsPlan}
 use Rattle.plan.specs.declared.fields.Group.{Group}
 use Rattle.planner.specs.declared.cycle.Parent.{Parent}
 use Rattle.planner.specs.declared.cycle.Left.{Left}

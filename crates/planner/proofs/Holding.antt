@@ -8,7 +8,7 @@ use Rattle.base.specs.Lists.{concat}
 use Rattle.base.proofs.Lists.{concat-append}
 use Rattle.plan.specs.Groups.{Group, Plan, width, fieldsOf, flat}
 use Rattle.race.specs.Planner.{nothing, _then_, leaf}
-use Rattle.planner.specs.Records.{Holds}
+use Rattle.planner.specs.code.Records.{Holds}
 
 pub flat-append : (gs hs : List Group) → flat (gs ++ hs) ≡ flat gs ++ flat hs
 unfolding flat

@@ -7,11 +7,11 @@ use native.Mathlib.Omega.{arith}
 use lib.ListN.{length, take, drop, getD, set, take-append-drop, length-set}
 use lib.Seq.{take-suc, take-suc-set, take-all, take-add}
 use Rattle.base.specs.Lists.{concat}
-use Rattle.levels.specs.Group.{Proper}
-use Rattle.sort.specs.Sort.{maxLevels}
+use Rattle.levels.specs.code.Group.{Proper}
+use Rattle.sort.specs.code.Sort.{maxLevels}
 use Rattle.levels.proofs.Proper.{proper-left, proper-right}
 use Rattle.race.specs.Loads.{loadOf}
-use Rattle.planner.specs.Stretches.{Levelled, Loaded}
+use Rattle.planner.specs.code.Stretches.{Levelled, Loaded}
 use Rattle.planner.proofs.Stretches.{rowsIn, length-ends, ends-at, rows-next, rows-le, level-at}
 use Rattle.planner.proofs.Weights.{load-append}
 

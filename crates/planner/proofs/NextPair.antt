@@ -8,14 +8,13 @@ use lib.ListN.{length, take, drop, getD, length-append, length-map}
 use lib.Seq.{take-take}
 use Rattle.base.specs.Lists.{concat}
 use Rattle.levels.specs.Levels.{reach}
-use Rattle.levels.specs.Rows.{adjOf}
-use Rattle.plan.specs.Groups.{Plan, red, blue}
+use Rattle.levels.specs.code.Rows.{adjOf}
+use Rattle.plan.specs.Groups.{Plan, red, blue, groupOf}
 use Rattle.race.specs.Loads.{loadOf}
 use Rattle.extents.specs.Extents.{Policy, Extent, extent, cut}
 use Rattle.race.specs.Planner as planner
 use Rattle.race.specs.Planner.{Planner, childOf, pairs, planPairs, _then_, planGroup}
-use Rattle.plan.specs.Checks.{groupOf}
-use Rattle.planner.specs.Cycle.{redGroup, blueGroup, leftAfter, PairsTask, pairsPlan}
+use Rattle.planner.specs.code.Cycle.{redGroup, blueGroup, leftAfter, PairsTask, pairsPlan}
 use Rattle.planner.specs.declared.cycle.Parent.{Parent}
 use Rattle.planner.specs.declared.cycle.Left.{Left}
 use Rattle.planner.specs.declared.cycle.Pair.{Pair}

@@ -7,18 +7,17 @@ use lib.ListN.{length, take, drop, getD, length-drop, length-map, drop-of-length
 use lib.Seq.{take-all}
 use Rattle.base.specs.Lists.{sum}
 use Rattle.levels.specs.Levels.{reach}
-use Rattle.levels.specs.Group.{Proper}
-use Rattle.levels.specs.Rows.{adjOf}
+use Rattle.levels.specs.code.Group.{Proper}
+use Rattle.levels.specs.code.Rows.{adjOf}
 use Rattle.levels.proofs.Proper.{proper-left, proper-right}
-use Rattle.plan.specs.Groups.{Plan}
+use Rattle.plan.specs.Groups.{Plan, groupOf}
 use Rattle.race.specs.Loads.{loadOf}
 use Rattle.race.specs.Planner.{pairs, planPairs, _then_, planGroup}
 use Rattle.extents.specs.Extents.{Policy}
-use Rattle.extents.specs.Scans.{Scale}
-use Rattle.planner.specs.Stretches.{levelsIn, endsOf, Levelled}
-use Rattle.plan.specs.Checks.{groupOf}
-use Rattle.planner.specs.Records.{Holds}
-use Rattle.planner.specs.Cycle.{redGroup, blueGroup, leftAfter, Fits, GroupTask, PairsTask, pairsPlan}
+use Rattle.extents.specs.code.Scans.{Scale}
+use Rattle.planner.specs.code.Stretches.{levelsIn, endsOf, Levelled}
+use Rattle.planner.specs.code.Records.{Holds}
+use Rattle.planner.specs.code.Cycle.{redGroup, blueGroup, leftAfter, Fits, GroupTask, PairsTask, pairsPlan}
 use Rattle.planner.specs.declared.cycle.Parent.{Parent}
 use Rattle.planner.specs.declared.cycle.Left.{Left}
 use Rattle.planner.specs.declared.cycle.Pair.{Pair}

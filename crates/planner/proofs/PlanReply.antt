@@ -11,12 +11,12 @@ use Rattle.base.specs.Replies.{Reply, accepted, refused, inTurn, lent}
 use Rattle.base.proofs.Booleans.{and-left, and-right}
 use Rattle.base.proofs.Replies.{lent-refused, lent-accepted}
 use Rattle.matrix.specs.Matrix.{Matrix, isMatrix, matrixCheck}
-use Rattle.levels.specs.Rows.{Rows, adjOf}
+use Rattle.levels.specs.code.Rows.{Rows, adjOf}
 use Rattle.levels.proofs.Rows.{pattern-neighbours, rows-of, rows-graph}
 use Rattle.plan.specs.Groups.{Plan, width, flat}
 use Rattle.plan.specs.Sound.{maxWorkers}
 use Rattle.race.specs.Planner.{planRows, plan, areParameters, planReply}
-use Rattle.planner.specs.Records.{Holds}
+use Rattle.planner.specs.code.Records.{Holds}
 use Rattle.race.proofs.Planned.{rows-few}
 
 -- parameters are within their limits

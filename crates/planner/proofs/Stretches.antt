@@ -7,7 +7,7 @@ use lib.ListN.{length, take, drop, getD, take-append-drop, length-append}
 use lib.Seq.{take-at, drop-at, take-suc, drop-cons, ext-getD}
 use Rattle.base.specs.Lists.{concat}
 use Rattle.base.proofs.Lists.{concat-append}
-use Rattle.planner.specs.Stretches.{levelsIn, endsOf, Levelled}
+use Rattle.planner.specs.code.Stretches.{levelsIn, endsOf, Levelled}
 
 -- how many rows the first k levels have
 abbrev pub rowsIn : (k : ℕ) → List (List ℕ) → ℕ

@@ -7,11 +7,11 @@ use native.Mathlib.Omega.{arith}
 use lib.ListN.{length, take, drop, getD, take-append-drop}
 use lib.Seq.{take-suc}
 use Rattle.base.specs.Lists.{concat, sum}
-use Rattle.levels.specs.Group.{Proper}
-use Rattle.levels.specs.Rows.{Rows, adjOf}
+use Rattle.levels.specs.code.Group.{Proper}
+use Rattle.levels.specs.code.Rows.{Rows, adjOf}
 use Rattle.levels.proofs.Members.{proper-short}
 use Rattle.race.specs.Loads.{weight, loadOf}
-use Rattle.extents.specs.Scans.{maxLoad}
+use Rattle.extents.specs.code.Scans.{maxLoad}
 use Rattle.extents.proofs.Ends.{sum-append}
 
 module _ (adj : ℕ → List ℕ) where

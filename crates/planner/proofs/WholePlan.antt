@@ -11,18 +11,17 @@ use Rattle.base.specs.Lists.{concat, range}
 use Rattle.base.proofs.Lists.{length-range}
 use Rattle.base.proofs.Fill.{filled}
 use Rattle.levels.specs.Levels.{ownLevels}
-use Rattle.levels.specs.Rows.{Rows, adjOf}
-use Rattle.sort.specs.Sorted.{Sorted}
+use Rattle.levels.specs.code.Rows.{Rows, adjOf}
+use Rattle.sort.specs.code.Sorted.{Sorted}
 use Rattle.levels.proofs.Proper.{proper-range}
 use Rattle.levels.proofs.Own.{sorted-levels}
 use Rattle.levels.proofs.Rows.{rows-graph}
-use Rattle.plan.specs.Groups.{Plan, width, whole, flat}
+use Rattle.plan.specs.Groups.{Plan, width, whole, flat, groupOf}
 use Rattle.plan.specs.Sound.{maxWorkers, maxDepth, maxGroups}
 use Rattle.extents.specs.Extents.{Policy}
 use Rattle.race.specs.Planner.{leaf, planGroup, planRows}
-use Rattle.plan.specs.Checks.{groupOf}
-use Rattle.planner.specs.Records.{Holds}
-use Rattle.planner.specs.Cycle.{GroupTask}
+use Rattle.planner.specs.code.Records.{Holds}
+use Rattle.planner.specs.code.Cycle.{GroupTask}
 use Rattle.plan.specs.declared.fields.Group.{Group}
 use Rattle.race.proofs.Planned.{rows-few}
 use Rattle.planner.proofs.GroupPlans.{two-orders}

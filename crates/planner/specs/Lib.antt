@@ -1,3 +1,1 @@
-pub mod Stretches
-pub mod Records
-pub mod Cycle
+pub mod code

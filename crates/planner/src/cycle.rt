@@ -15,14 +15,14 @@ ghost use Prim.Native.Nat.{ℕ, _+_, _-_, _*_, _<_, _≤_};
 ghost use lib.ListN.{length, take, getD};
 ghost use Rattle.base.specs.Lists.{sum};
 ghost use Rattle.levels.specs.Levels.{reach};
-ghost use Rattle.levels.specs.Rows.{adjOf};
+ghost use Rattle.levels.specs.code.Rows.{adjOf};
 ghost use Rattle.extents.specs.Extents.{extent, cut};
 ghost use Rattle.race.specs.Planner.{planGroup};
-ghost use Rattle.extents.specs.Scans.{policyOf, Scale};
-ghost use Rattle.planner.specs.Stretches.{levelsIn};
-ghost use Rattle.plan.specs.Checks.{groupOf};
-ghost use Rattle.planner.specs.Records.{Holds};
-ghost use Rattle.planner.specs.Cycle.{redGroup, blueGroup, leftAfter, Fits, GroupTask, PairsTask, pairsPlan};
+ghost use Rattle.extents.specs.code.Scans.{policyOf, Scale};
+ghost use Rattle.planner.specs.code.Stretches.{levelsIn};
+ghost use Rattle.plan.specs.Groups.{groupOf};
+ghost use Rattle.planner.specs.code.Records.{Holds};
+ghost use Rattle.planner.specs.code.Cycle.{redGroup, blueGroup, leftAfter, Fits, GroupTask, PairsTask, pairsPlan};
 
 // A group that is split: its record's index, where it starts, its workers and its load.
 pub struct Parent {

@@ -3,11 +3,11 @@ use sort::MAX_LEVELS;
 ghost use mathlib.Core.Path.{_≡_};
 ghost use Prim.Native.Nat.{_<_, _≤_};
 ghost use lib.ListN.{length};
-ghost use Rattle.levels.specs.Group.{Proper};
-ghost use Rattle.levels.specs.Rows.{Rows, adjOf};
-ghost use Rattle.sort.specs.Sort.{maxLevels};
+ghost use Rattle.levels.specs.code.Group.{Proper};
+ghost use Rattle.levels.specs.code.Rows.{Rows, adjOf};
+ghost use Rattle.sort.specs.code.Sort.{maxLevels};
 ghost use Rattle.race.specs.Loads.{weight, loadOf};
-ghost use Rattle.planner.specs.Stretches.{levelsIn, Levelled, Loaded};
+ghost use Rattle.planner.specs.code.Stretches.{levelsIn, Levelled, Loaded};
 
 // What row v adds to its group's load.
 fn weight(starts: &[u32], columns: &[u32], n: usize, v: u32) -> u32

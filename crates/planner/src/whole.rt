@@ -11,12 +11,12 @@ ghost use Prim.Native.Nat.{_≤_, _*_};
 ghost use lib.ListN.{length};
 ghost use Rattle.base.specs.Lists.{concat, range};
 ghost use Rattle.levels.specs.Levels.{ownLevels};
-ghost use Rattle.levels.specs.Rows.{Rows, adjOf};
+ghost use Rattle.levels.specs.code.Rows.{Rows, adjOf};
 ghost use Rattle.plan.specs.Groups.{width};
 ghost use Rattle.plan.specs.Sound.{maxWorkers, maxGroups};
-ghost use Rattle.extents.specs.Scans.{policyOf};
+ghost use Rattle.extents.specs.code.Scans.{policyOf};
 ghost use Rattle.race.specs.Planner.{planRows};
-ghost use Rattle.planner.specs.Records.{Holds};
+ghost use Rattle.planner.specs.code.Records.{Holds};
 ghost use Rattle.matrix.specs.Limits.{maxRows};
 
 // A group at depth 0 may be split so often.

@@ -16,7 +16,8 @@ use Rattle.matrix.specs.Limits.{maxRows}
 use Rattle.matrix.specs.Matrix.{Matrix, isMatrix, neighbours, matrixCheck}
 use Rattle.matrix.proofs.Matrix.{matrix-facts}
 use Rattle.plan.specs.Groups.{Group, Plan, width, flat}
-use Rattle.plan.specs.Sound.{sound, isSound, maxFields}
+use Rattle.plan.specs.Sound.{sound, isSound}
+use Rattle.plan.specs.code.Room.{maxFields}
 use Rattle.plan.proofs.FlatRecords.{length-flat}
 use Rattle.plan.proofs.Once.{once}
 use Rattle.plan.proofs.Sound.{sound-facts}

@@ -12,10 +12,10 @@ ghost use mathlib.Core.List.{[]};
 ghost use Prim.Native.Nat.{ℕ};
 ghost use lib.ListN.{drop};
 ghost use Rattle.market.specs.Parse.{entries};
-ghost use Rattle.scan.specs.Classes.{Classes};
-ghost use Rattle.compress.specs.Arrays.{Arrays};
-ghost use Rattle.reader.specs.Scanned.{parsed, Within};
-ghost use Rattle.reader.specs.Entries.{Held, remaining, Ended};
+ghost use Rattle.scan.specs.code.Classes.{Classes};
+ghost use Rattle.compress.specs.code.Arrays.{Arrays};
+ghost use Rattle.reader.specs.code.Scanned.{parsed, Within};
+ghost use Rattle.reader.specs.code.Entries.{Held, remaining, Ended};
 
 // Places are told apart by column, then row.
 const STRIDE: u32 = MAX_ROWS as u32;

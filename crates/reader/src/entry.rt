@@ -8,8 +8,8 @@ ghost use Prim.Native.Nat.{_≤_};
 ghost use Rattle.base.specs.Integers.{within};
 ghost use Rattle.matrix.specs.Limits.{maxRows, maxValue};
 ghost use Rattle.market.specs.Parse.{isEntry};
-ghost use Rattle.scan.specs.Classes.{Classes};
-ghost use Rattle.reader.specs.Entries.{EntryAt};
+ghost use Rattle.scan.specs.code.Classes.{Classes};
+ghost use Rattle.reader.specs.code.Entries.{EntryAt};
 
 // The largest value and the least, as wide as the text's numbers.
 const MOST: i64 = MAX_VALUE as i64;

@@ -6,9 +6,9 @@ ghost use mathlib.Core.List.{List, []};
 ghost use Prim.Native.Nat.{_≤_, _<_};
 ghost use lib.IntN.{ℤ};
 ghost use lib.ListN.{length};
-ghost use Rattle.compress.specs.Arrays.{tripletsOf};
-ghost use Rattle.reader.specs.Entries.{Lower};
-ghost use Rattle.reader.specs.Marks.{isMarked, marked, bitOf, Marks};
+ghost use Rattle.compress.specs.code.Arrays.{tripletsOf};
+ghost use Rattle.reader.specs.code.Entries.{Lower};
+ghost use Rattle.reader.specs.code.Marks.{isMarked, marked, bitOf, Marks};
 ghost use Rattle.matrix.specs.Limits.{maxEntries, maxRows};
 
 // The bit of row r and column c.

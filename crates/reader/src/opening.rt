@@ -9,8 +9,8 @@ ghost use lib.ListN.{length};
 ghost use Rattle.base.specs.Lists.{begins};
 ghost use Rattle.matrix.specs.Limits.{maxText};
 ghost use Rattle.market.specs.Bytes.{header};
-ghost use Rattle.scan.specs.Classes.{Classes};
-ghost use Rattle.reader.specs.Opening.{LineEnds, Skipped};
+ghost use Rattle.scan.specs.code.Classes.{Classes};
+ghost use Rattle.reader.specs.code.Opening.{LineEnds, Skipped};
 
 // Whether a text begins with line 1.
 pub(crate) fn has_header(s: &[u8]) -> bool

@@ -17,9 +17,9 @@ ghost use lib.Dec.{eqb, leb};
 ghost use lib.ListN.{drop};
 ghost use Rattle.matrix.specs.Limits.{maxRows, maxEntries};
 ghost use Rattle.market.specs.Parse.{sizeLine, parse};
-ghost use Rattle.scan.specs.Classes.{Classes};
-ghost use Rattle.compress.specs.Arrays.{Arrays};
-ghost use Rattle.reader.specs.Scanned.{parsed};
+ghost use Rattle.scan.specs.code.Classes.{Classes};
+ghost use Rattle.compress.specs.code.Arrays.{Arrays};
+ghost use Rattle.reader.specs.code.Scanned.{parsed};
 
 // The limits of a size, as wide as the text's numbers.
 const MOST_ROWS: u64 = MAX_ROWS as u64;

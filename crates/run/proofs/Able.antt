@@ -6,9 +6,9 @@ use Prim.Native.Nat.{ℕ, _<_}
 use native.Mathlib.Omega.{arith}
 use lib.Dec.{ltb, leb}
 use borrow.Author.Tests.{ltb-true, ltb-false, lt-ltb, le-ltb, leb-true, leb-false, le-leb, lt-leb}
-use Rattle.run.specs.Job.{Job}
+use Rattle.run.specs.Job.{Job, workers}
 use Rattle.run.specs.Updates.{count, accesses, waits}
-use Rattle.run.specs.Machine.{workers, reason, refusal}
+use Rattle.run.specs.Machine.{reason, refusal}
 use Rattle.run.specs.InOrder.{StepInOrder, InOrder}
 
 module _ (j : Job) (made : List ℕ) (w : ℕ) where

@@ -10,9 +10,9 @@ use Rattle.matrix.specs.Product.{forceAt}
 use Rattle.matrix.proofs.Matrix.{matrix-facts, graph, small-entry, small-displacement}
 use Rattle.plan.specs.Sound.{maxWorkers, isSound}
 use Rattle.plan.proofs.Once.{Once, once, low-at, injective}
-use Rattle.run.specs.Job.{Job, Accepted, rowAt}
+use Rattle.run.specs.Job.{Job, Accepted, rowAt, workers}
 use Rattle.run.specs.Updates.{updates, owner, accesses}
-use Rattle.run.specs.Machine.{workers, positionOf}
+use Rattle.run.specs.Machine.{positionOf}
 use Rattle.run.specs.EveryRun.{wholeRun, Plain}
 use Rattle.run.proofs.Facts.{Facts}
 use Rattle.run.proofs.Forest.{WholePlan, whole-of}

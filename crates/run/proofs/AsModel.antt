@@ -13,8 +13,10 @@ use Rattle.matrix.specs.Product.{product}
 use Rattle.plan.specs.Sound.{maxWorkers}
 use Rattle.run.specs.Job.{Job}
 use Rattle.run.specs.Updates.{count, accesses}
-use Rattle.run.specs.Machine.{State, over, original, countsFine, isState}
-use Rattle.run.specs.Calls.{Call, picks, readySet, forceList, Answer, picked, forces, denied, placeOf, pickedOf, readyOf, forcesOf, stateCheck, answerOf, afterOf, answer, after}
+use Rattle.run.specs.Machine.{over, original, countsFine, isState}
+use Rattle.run.specs.State.{State}
+use Rattle.run.specs.Calls.{placeOf, pickedOf, readyOf, forcesOf, stateCheck, answerOf, afterOf, answer, after}
+use Rattle.run.specs.Answers.{Call, picks, readySet, forceList, Answer, picked, forces, denied}
 use Rattle.run.specs.Sequence.{answersFrom, stateAfter}
 use Rattle.run.specs.Model.{note, modelAnswer, modelAfter, modelAnswers, modelCounts, takenNow, takenPicks}
 use Rattle.run.specs.OneAccess.{Walk, stay, andThen}

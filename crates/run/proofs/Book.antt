@@ -12,9 +12,9 @@ use Rattle.base.specs.Lists.{filter, keep, all, sum, range}
 use Rattle.base.specs.Refusals as why
 use Rattle.base.proofs.Booleans.{same-or, same-test}
 use Rattle.base.proofs.Lists.{range-snoc, filter-append, all-range, range-all}
-use Rattle.run.specs.Job.{Job}
+use Rattle.run.specs.Job.{Job, workers}
 use Rattle.run.specs.Updates.{count, accesses, waits}
-use Rattle.run.specs.Machine.{workers, reason, refusal, readyBelow, ready, bits, over}
+use Rattle.run.specs.Machine.{reason, refusal, readyBelow, ready, bits, over}
 use Rattle.run.specs.Model.{ending, able, isFinished}
 use Rattle.run.proofs.Finished.{over-made, made-over}
 

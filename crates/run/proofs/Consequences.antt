@@ -12,10 +12,11 @@ use Rattle.base.specs.Lists.{all, isIn}
 use Rattle.base.specs.Refusals as why
 use Rattle.base.proofs.Sums.{sum-below-le}
 use Rattle.matrix.specs.Product.{product}
-use Rattle.run.specs.Job.{Job, Accepted}
+use Rattle.run.specs.Job.{Job, Accepted, workers}
 use Rattle.run.specs.Updates.{count, accesses, waits}
-use Rattle.run.specs.Machine.{workers, reason, refusal, readyBelow, ready, bits, over}
-use Rattle.run.specs.Calls.{Call, picks, readySet, forceList, isReady, forces, denied, answer}
+use Rattle.run.specs.Machine.{reason, refusal, readyBelow, ready, bits, over}
+use Rattle.run.specs.Calls.{answer}
+use Rattle.run.specs.Answers.{Call, picks, readySet, forceList, isReady, forces, denied}
 use Rattle.run.specs.Model.{noCounts, added, ending, oneNoted, note, isFinished, modelAnswer, modelAfter, modelAnswers}
 use Rattle.run.specs.EveryRun.{runState, finishedRun}
 use Rattle.run.specs.Consequences.{numberOf, Consequence, Consequences}

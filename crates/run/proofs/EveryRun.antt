@@ -12,10 +12,12 @@ use Rattle.base.specs.Replies.{inTurn}
 use Rattle.base.proofs.Lists.{length-range, map-range-zero}
 use Rattle.base.proofs.Sums.{sum-below-same, sum-below-equal}
 use Rattle.matrix.specs.Product.{forceAt, product}
-use Rattle.run.specs.Job.{Job, Accepted, rowAt}
+use Rattle.run.specs.Job.{Job, Accepted, rowAt, workers}
 use Rattle.run.specs.Updates.{count, accesses}
-use Rattle.run.specs.Machine.{fresh, workers, oneMore, steps, ready, bits, over, positionOf, original}
-use Rattle.run.specs.Calls.{Call, picks, readySet, picked, isReady, placeOf, pickedOf, readyOf, forcesOf, stateCheck, answerOf, answer}
+use Rattle.run.specs.Machine.{oneMore, steps, ready, bits, over, positionOf, original}
+use Rattle.run.specs.State.{fresh}
+use Rattle.run.specs.Calls.{placeOf, pickedOf, readyOf, forcesOf, stateCheck, answerOf, answer}
+use Rattle.run.specs.Answers.{Call, picks, readySet, picked, isReady}
 use Rattle.run.specs.Model.{noCounts, takenPicks, modelAnswers, modelCounts}
 use Rattle.run.specs.OneAccess.{Walk}
 use Rattle.run.specs.EveryRun.{takenIn, runState, runAnswers, finishedRun, runForces, EveryRun, EqualForces, Demand3}

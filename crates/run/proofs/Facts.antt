@@ -8,9 +8,9 @@ use lib.ListN.{length, getD, take}
 use Rattle.base.specs.Integers.{sumℤ, fits64}
 use Rattle.matrix.specs.Product.{forceAt}
 use Rattle.plan.specs.Sound.{maxWorkers}
-use Rattle.run.specs.Job.{Job, rowAt}
+use Rattle.run.specs.Job.{Job, rowAt, workers}
 use Rattle.run.specs.Updates.{count, updates, accesses, noUpdate, next, waits}
-use Rattle.run.specs.Machine.{workers, positionOf}
+use Rattle.run.specs.Machine.{positionOf}
 use Rattle.run.proofs.Amounts.{landed}
 
 -- the facts of a job j

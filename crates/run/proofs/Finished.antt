@@ -14,9 +14,10 @@ use Rattle.base.proofs.Booleans.{and-left, and-right, same-or}
 use Rattle.base.proofs.Lists.{map-range-same}
 use Rattle.base.proofs.Sums.{sum-same}
 use Rattle.matrix.specs.Product.{forceAt, product}
-use Rattle.run.specs.Job.{Job, rowAt}
+use Rattle.run.specs.Job.{Job, rowAt, workers}
 use Rattle.run.specs.Updates.{count, updates, accesses}
-use Rattle.run.specs.Machine.{State, workers, allMade, over, positionOf, original}
+use Rattle.run.specs.Machine.{allMade, over, positionOf, original}
+use Rattle.run.specs.State.{State}
 use Rattle.run.proofs.Amounts.{landed}
 use Rattle.run.proofs.Facts.{Facts}
 use Rattle.run.proofs.Invariant.{soFar, Inv}

@@ -13,8 +13,10 @@ use Rattle.base.proofs.Each.{Each}
 use Rattle.plan.specs.Sound.{maxWorkers}
 use Rattle.run.specs.Job.{Job, Accepted}
 use Rattle.run.specs.Updates.{Update, count, next}
-use Rattle.run.specs.Machine.{State, fresh, refusal, Outcome, moved, halted, load, total, store, access, move, stepIf, step, oneMore, steps, isState}
-use Rattle.run.specs.Calls.{Call, picks, readySet, forceList, stateCheck, afterOf, after}
+use Rattle.run.specs.Machine.{refusal, Outcome, moved, halted, load, total, store, access, move, stepIf, step, oneMore, steps, isState}
+use Rattle.run.specs.State.{State, fresh}
+use Rattle.run.specs.Calls.{stateCheck, afterOf, after}
+use Rattle.run.specs.Answers.{Call, picks, readySet, forceList}
 use Rattle.run.proofs.Invariant.{Inv}
 use Rattle.run.proofs.Schedule.{steps-on, steps-end}
 use Rattle.run.proofs.Accepted.{accesses-small}

@@ -15,9 +15,8 @@ use Rattle.plan.specs.Sound.{maxWorkers, eachOnce, children, tiled, likeApart, 
 use Rattle.plan.proofs.Records.{Sounds}
 use Rattle.plan.proofs.Sound.{sound-facts}
 use Rattle.plan.proofs.Pair.{pair-of}
-use Rattle.run.specs.Job.{Job}
+use Rattle.run.specs.Job.{Job, workersOf}
 use Rattle.run.specs.Tree.{Tree, none, node, forest, tree}
-use Rattle.run.specs.Machine.{workersOf}
 use Rattle.run.proofs.SoundTree.{tops, Tiles, Tiled, Pairs, Paired}
 
 -- the first siblings of a forest are the children of its group

@@ -11,9 +11,9 @@ use borrow.Author.Tests.{leb-true, leb-false}
 use Rattle.base.specs.Integers.{sumℤ}
 use Rattle.base.proofs.Sums.{sum-zero}
 use Rattle.plan.specs.Sound.{maxWorkers}
-use Rattle.run.specs.Job.{Job}
+use Rattle.run.specs.Job.{Job, workers}
 use Rattle.run.specs.Updates.{count, updates, accesses, next, waits}
-use Rattle.run.specs.Machine.{State, fresh, workers}
+use Rattle.run.specs.State.{State, fresh}
 use Rattle.run.proofs.Amounts.{landedBy, landed}
 
 -- what worker w has stored in the sum at position t

@@ -13,9 +13,10 @@ use Rattle.base.specs.Integers.{sumℤ, fits64}
 use Rattle.base.proofs.Booleans.{same-or}
 use Rattle.base.proofs.Sums.{sum-same, sum-more}
 use Rattle.plan.specs.Sound.{maxWorkers}
-use Rattle.run.specs.Job.{Job}
+use Rattle.run.specs.Job.{Job, workers}
 use Rattle.run.specs.Updates.{Update, count, updates, accesses, next, waits}
-use Rattle.run.specs.Machine.{State, workers, onward, load, total, store}
+use Rattle.run.specs.Machine.{onward, load, total, store}
+use Rattle.run.specs.State.{State}
 use Rattle.run.proofs.Amounts.{landed, share, landed-next}
 use Rattle.run.proofs.Facts.{Facts}
 use Rattle.run.proofs.Invariant.{soFar, Inv}

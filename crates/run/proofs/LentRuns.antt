@@ -14,8 +14,9 @@ use Rattle.matrix.specs.Matrix.{Matrix, matrixCheck, displacementCheck}
 use Rattle.plan.specs.Groups.{width, planOf}
 use Rattle.plan.specs.Sound.{maxGroups, isSound, isPlan, planCheck}
 use Rattle.run.specs.Job.{Job, jobOf}
-use Rattle.run.specs.Machine.{State, fresh}
-use Rattle.run.specs.Calls.{Call, denied, answer, after, jobChecks, answerLent, afterLent}
+use Rattle.run.specs.State.{State, fresh}
+use Rattle.run.specs.Calls.{answer, after, jobChecks, answerLent, afterLent}
+use Rattle.run.specs.Answers.{Call, denied}
 use Rattle.run.specs.Sequence.{answersFrom, stateAfter}
 use Rattle.run.specs.EveryRun.{runState, runAnswers}
 use Rattle.run.specs.LentRuns.{passed, LentRun, LentRuns}

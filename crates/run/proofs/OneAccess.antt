@@ -7,7 +7,8 @@ use lib.ListN.{length, getD, take, drop, length-append}
 use lib.Seq.{length-take-le, split-at, append-snoc, getD-at}
 use Rattle.run.specs.Job.{Job}
 use Rattle.run.specs.Updates.{Update, count, updates, accesses, noUpdate, next}
-use Rattle.run.specs.Machine.{State, onward, load, total, store}
+use Rattle.run.specs.Machine.{onward, load, total, store}
+use Rattle.run.specs.State.{State}
 use Rattle.run.specs.OneAccess.{Access, loads, stores, loadsAndStores, sumOf, heldAfter, sumsAfter, OneAccess, Walk, stay, andThen}
 use Rattle.run.proofs.Facts.{Facts}
 use Rattle.run.proofs.Invariant.{Inv}

@@ -1,6 +1,6 @@
 -- No other machine has what every-run says of answers and states.
 use mathlib.Core.Path.{sym, _∙_}
-use Rattle.run.specs.Machine.{fresh}
+use Rattle.run.specs.State.{fresh}
 use Rattle.run.specs.EveryRun.{runState, runAnswers}
 use Rattle.run.specs.Model.{noCounts, takenPicks}
 use Rattle.run.specs.OneMachine.{OneMachine}

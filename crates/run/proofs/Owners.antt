@@ -6,10 +6,9 @@ use Prim.Native.Nat.{ℕ, _+_, _≤_, _<_}
 use native.Mathlib.Omega.{arith}
 use Rattle.matrix.specs.Matrix.{neighbours}
 use Rattle.plan.specs.Groups.{Group}
-use Rattle.run.specs.Job.{Job}
+use Rattle.run.specs.Job.{Job, workers}
 use Rattle.run.specs.Tree.{Tree, none, node, holds, ownerIn}
 use Rattle.run.specs.Updates.{owner}
-use Rattle.run.specs.Machine.{workers}
 use Rattle.run.proofs.Holds.{holds-in, in-holds, holds-past, owner-here, owner-next}
 use Rattle.run.proofs.SoundTree.{Tiles, Tiled, Pairs, Paired, pairs-le}
 use Rattle.run.proofs.Forest.{WholePlan}

@@ -11,10 +11,10 @@ use borrow.Author.Tests.{eq-eqb, leb-false}
 use Rattle.base.proofs.Booleans.{same-or}
 use Rattle.matrix.specs.Matrix.{neighbours}
 use Rattle.plan.specs.Groups.{Group}
-use Rattle.run.specs.Job.{Job}
+use Rattle.run.specs.Job.{Job, workers}
 use Rattle.run.specs.Tree.{Tree, none, node, ownerIn, unfinished, blocked}
 use Rattle.run.specs.Updates.{count, accesses, updates, upTo, finished, waits}
-use Rattle.run.specs.Machine.{workers, refusal, readyBelow, ready, allMade, over}
+use Rattle.run.specs.Machine.{refusal, readyBelow, ready, allMade, over}
 use Rattle.run.proofs.Able.{Able, able-refusal}
 use Rattle.run.proofs.Holds.{holds-in}
 use Rattle.run.proofs.Blocked.{free-here}

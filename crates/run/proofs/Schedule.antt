@@ -8,7 +8,8 @@ use lib.Dec.{eqb}
 use Rattle.base.specs.Integers.{fits64}
 use Rattle.run.specs.Job.{Job}
 use Rattle.run.specs.Updates.{Update, count, next}
-use Rattle.run.specs.Machine.{State, refusal, moved, halted, onward, load, total, store, access, move, stepIf, step, oneMore, steps}
+use Rattle.run.specs.Machine.{refusal, moved, halted, onward, load, total, store, access, move, stepIf, step, oneMore, steps}
+use Rattle.run.specs.State.{State}
 use Rattle.run.specs.Model.{added, ending, oneNoted, note}
 
 -- a step that the counts refuse

@@ -10,7 +10,8 @@ use lib.Dec.{eqb}
 use borrow.Author.Tests.{eqb-true, eqb-false}
 use Rattle.run.specs.Job.{Job}
 use Rattle.run.specs.Updates.{count, next}
-use Rattle.run.specs.Machine.{State, refusal, moved, halted, onward, load, store, access, move, stepIf, step, Stepped, oneMore, steps}
+use Rattle.run.specs.Machine.{refusal, moved, halted, onward, load, store, access, move, stepIf, step, Stepped, oneMore, steps}
+use Rattle.run.specs.State.{State}
 use Rattle.run.specs.Model.{Noted, added, oneNoted, note}
 use Rattle.run.specs.OneAccess.{OneAccess, Walk, stay, andThen}
 use Rattle.run.proofs.Facts.{Facts}

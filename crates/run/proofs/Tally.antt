@@ -12,10 +12,9 @@ use Rattle.base.specs.Refusals as why
 use Rattle.base.proofs.Sums.{sum-below-more}
 use Rattle.matrix.specs.Product.{product}
 use Rattle.plan.specs.Sound.{maxWorkers}
-use Rattle.run.specs.Job.{Job}
+use Rattle.run.specs.Job.{Job, workers}
 use Rattle.run.specs.Updates.{count}
-use Rattle.run.specs.Machine.{workers}
-use Rattle.run.specs.Calls.{Call, picks, readySet, forceList, forces, denied}
+use Rattle.run.specs.Answers.{Call, picks, readySet, forceList, forces, denied}
 use Rattle.run.specs.Model.{noCounts, added, ending, oneNoted, note, isFinished, modelAnswer, modelAfter, modelAnswers, modelCounts}
 use Rattle.run.specs.EveryRun.{takenOf, takenIn}
 use Rattle.run.proofs.Invariant.{zero-count}

@@ -1,4 +1,4 @@
--- The calls on one run, their answers, and the state that each leaves.
+-- What the machine answers to the calls on one run, and the state that each leaves.
 use mathlib.Core.Bool.{Bool, true, false}
 use mathlib.Core.List.{List, [], _∷_, _++_}
 use Prim.Native.Nat.{ℕ, zero, suc}
@@ -10,21 +10,9 @@ use Rattle.base.specs.Replies.{Check, check, inTurn}
 use Rattle.matrix.specs.Matrix.{Matrix, matrixCheck, displacementCheck}
 use Rattle.plan.specs.Sound.{planCheck}
 use Rattle.run.specs.Job.{Job, jobOf}
-use Rattle.run.specs.Machine.{State, steps, ready, bits, over, original, isState}
-
-pub data Call : Type 0 where
-  picks : (schedule : List ℕ) → Call
-  readySet : Call
-  -- how long the lent list is
-  forceList : (room : ℕ) → Call
-
-pub data Answer : Type 0 where
-  -- "the number that the call took and that ending, or 0 at 0 as its ending if it took all"
-  picked : (taken number place : ℕ) → Answer
-  -- "sixteen bits .. and the count of those set"
-  isReady : (bits count : ℕ) → Answer
-  forces : List ℤ → Answer
-  denied : (number place : ℕ) → Answer
+use Rattle.run.specs.Machine.{steps, ready, bits, over, original, isState}
+use Rattle.run.specs.State.{State}
+use Rattle.run.specs.Answers.{Call, picks, readySet, forceList, Answer, picked, isReady, forces, denied}
 
 unfoldable pub placeOf : (number taken : ℕ) → ℕ
 placeOf zero taken = 0

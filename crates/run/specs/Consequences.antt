@@ -6,7 +6,8 @@ use Prim.Native.Nat.{ℕ, _≤_}
 use Rattle.base.specs.Lists.{all, isIn}
 use Rattle.base.specs.Refusals as why
 use Rattle.run.specs.Job.{Job, Accepted}
-use Rattle.run.specs.Calls.{Call, readySet, Answer, picked, isReady, forces, denied, answer}
+use Rattle.run.specs.Calls.{answer}
+use Rattle.run.specs.Answers.{Call, readySet, Answer, picked, isReady, forces, denied}
 use Rattle.run.specs.EveryRun.{takenIn, runState, runAnswers, finishedRun, wholeRun}
 
 -- the number of an answer: 0, or why the call was refused or ended

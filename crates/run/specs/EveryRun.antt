@@ -7,12 +7,14 @@ use lib.ListN.{length, getD}
 use lib.IntN.{ℤ, pos}
 use Rattle.matrix.specs.Matrix.{adjacentPairs}
 use Rattle.matrix.specs.Product.{forceAt, product}
-use Rattle.run.specs.Job.{Job, Accepted, rowAt}
+use Rattle.run.specs.Job.{Job, Accepted, rowAt, workers}
 use Rattle.run.specs.Tree.{tree, leaves}
 use Rattle.run.specs.Updates.{updates, accesses, leafByLeaf}
-use Rattle.run.specs.Machine.{State, fresh, workers, original}
+use Rattle.run.specs.Machine.{original}
+use Rattle.run.specs.State.{State, fresh}
 use Rattle.run.specs.OneAccess.{Walk}
-use Rattle.run.specs.Calls.{Call, picks, readySet, forceList, Answer, picked, isReady, forces, denied, answer, after}
+use Rattle.run.specs.Calls.{answer, after}
+use Rattle.run.specs.Answers.{Call, picks, readySet, forceList, Answer, picked, isReady, forces, denied}
 use Rattle.run.specs.Sequence.{answersFrom, stateAfter}
 use Rattle.run.specs.Model.{noCounts, isFinished, takenPicks, modelAnswers, modelCounts}
 

@@ -4,9 +4,9 @@ use mathlib.Core.Bool.{true, false}
 use mathlib.Core.List.{List}
 use Prim.Native.Nat.{ℕ, _≤_, _<_}
 use Rattle.base.specs.Refusals as why
-use Rattle.run.specs.Job.{Job}
+use Rattle.run.specs.Job.{Job, workers}
 use Rattle.run.specs.Updates.{count, accesses, waits}
-use Rattle.run.specs.Machine.{workers, refusal}
+use Rattle.run.specs.Machine.{refusal}
 
 -- "pick by pick 10, 12, 13"
 pub record StepInOrder (j : Job) (made : List ℕ) (w : ℕ) : Type 0 where

@@ -1,12 +1,12 @@
 -- What a run is given: a matrix, displacements and a plan.
 use mathlib.Core.Path.{_≡_}
 use mathlib.Core.Bool.{true}
-use mathlib.Core.List.{List}
+use mathlib.Core.List.{List, [], _∷_}
 use Prim.Native.Nat.{ℕ}
 use lib.ListN.{getD}
 use lib.IntN.{ℤ}
 use Rattle.matrix.specs.Matrix.{Matrix, isMatrix, areDisplacements}
-use Rattle.plan.specs.Groups.{Plan, planOf}
+use Rattle.plan.specs.Groups.{Plan, planOf, Group}
 use Rattle.plan.specs.Sound.{isSound}
 
 -- a run keeps its matrix, its displacements and its plan throughout
@@ -14,6 +14,13 @@ pub record Job : Type 0 where
   pub matrix : Matrix
   pub displacements : List ℤ
   pub plan : Plan
+
+unfoldable pub workersOf : List Group → ℕ
+workersOf [] = 0
+workersOf (g ∷ gs) = g .workers
+
+unfoldable pub workers : Job → ℕ
+workers j = workersOf (j .plan .groups)
 
 -- the row at a plan position
 unfoldable pub rowAt : Job → ℕ → ℕ

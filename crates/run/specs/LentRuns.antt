@@ -7,8 +7,9 @@ use lib.IntN.{ℤ}
 use Rattle.base.specs.Lists.{all}
 use Rattle.matrix.specs.Matrix.{Matrix}
 use Rattle.run.specs.Job.{jobOf, Accepted}
-use Rattle.run.specs.Machine.{State, fresh}
-use Rattle.run.specs.Calls.{Call, answer, after, jobChecks, answerLent, afterLent}
+use Rattle.run.specs.State.{State, fresh}
+use Rattle.run.specs.Calls.{answer, after, jobChecks, answerLent, afterLent}
+use Rattle.run.specs.Answers.{Call}
 use Rattle.run.specs.Sequence.{answersFrom, stateAfter}
 use Rattle.run.specs.EveryRun.{runState, runAnswers}
 

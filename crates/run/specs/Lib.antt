@@ -1,11 +1,13 @@
 pub mod Job
 pub mod Tree
 pub mod Updates
-pub mod Machine
+pub mod Answers
+pub mod Model
+pub mod State
 pub mod OneAccess
+pub mod Machine
 pub mod InOrder
 pub mod Calls
-pub mod Model
 pub mod Sequence
 pub mod EveryRun
 pub mod OneMachine

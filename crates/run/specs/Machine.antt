@@ -2,33 +2,16 @@
 use mathlib.Core.Bool.{Bool, true, false, _&&_, cond}
 use mathlib.Core.List.{List, [], _∷_, map}
 use Prim.Native.Nat.{ℕ, zero, suc, _+_, _^_, _%_}
-use lib.ListN.{length, getD, set, replicate}
+use lib.ListN.{length, getD, set}
 use lib.Dec.{eqb, ltb, leb}
 use lib.IntN.{ℤ, pos, _+ℤ_}
 use Rattle.base.specs.Lists.{range}
 use Rattle.base.specs.Integers.{fits64}
 use Rattle.base.specs.Refusals as why
-use Rattle.plan.specs.Groups.{Group}
 use Rattle.plan.specs.Sound.{maxWorkers}
-use Rattle.run.specs.Job.{Job}
+use Rattle.run.specs.Job.{Job, workers}
 use Rattle.run.specs.Updates.{Update, count, accesses, next, waits}
-
--- "A run's state ..: moves made (32 bits) and held number (64 bits) for each of 16 workers, beside a lent list of n sums in plan order"
-pub record State : Type 0 where
-  pub made : List ℕ
-  pub held : List ℤ
-  pub sums : List ℤ
-
--- "Fresh means all 0, the sums too"
-unfoldable pub fresh : (n : ℕ) → State
-fresh n = record { made = replicate maxWorkers 0; held = replicate maxWorkers (pos 0); sums = replicate n (pos 0) }
-
-unfoldable pub workersOf : List Group → ℕ
-workersOf [] = 0
-workersOf (g ∷ gs) = g .workers
-
-unfoldable pub workers : Job → ℕ
-workers j = workersOf (j .plan .groups)
+use Rattle.run.specs.State.{State}
 
 -- why a step is refused by the counts alone, 10 before 12 before 13; 0: it is taken
 unfoldable pub reason : (inPlan done waiting : Bool) → ℕ

@@ -9,10 +9,9 @@ use Rattle.base.specs.Lists.{filter, all, sum, range}
 use Rattle.base.specs.Refusals as why
 use Rattle.matrix.specs.Product.{product}
 use Rattle.plan.specs.Sound.{maxWorkers}
-use Rattle.run.specs.Job.{Job}
+use Rattle.run.specs.Job.{Job, workers}
 use Rattle.run.specs.Updates.{count, accesses, waits}
-use Rattle.run.specs.Machine.{workers}
-use Rattle.run.specs.Calls.{Call, picks, readySet, forceList, Answer, picked, isReady, forces, denied}
+use Rattle.run.specs.Answers.{Call, picks, readySet, forceList, Answer, picked, isReady, forces, denied}
 
 -- "It keeps a count for each worker, at first 0"
 unfoldable pub noCounts : List ℕ

@@ -6,7 +6,7 @@ use lib.ListN.{length, getD, set}
 use lib.IntN.{ℤ, pos, _+ℤ_}
 use Rattle.run.specs.Job.{Job}
 use Rattle.run.specs.Updates.{Update, count, updates}
-use Rattle.run.specs.Machine.{State}
+use Rattle.run.specs.State.{State}
 
 -- document 01's move
 pub data Access : Type 0 where

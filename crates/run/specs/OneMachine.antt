@@ -2,9 +2,10 @@
 use mathlib.Core.Path.{_≡_}
 use mathlib.Core.List.{List}
 use Rattle.run.specs.Job.{Job, Accepted}
-use Rattle.run.specs.Machine.{State, fresh}
+use Rattle.run.specs.State.{State, fresh}
 use Rattle.run.specs.OneAccess.{Walk}
-use Rattle.run.specs.Calls.{Call, Answer, answer, after}
+use Rattle.run.specs.Calls.{answer, after}
+use Rattle.run.specs.Answers.{Call, Answer}
 use Rattle.run.specs.Sequence.{answersFrom, stateAfter}
 use Rattle.run.specs.Model.{noCounts, takenPicks, modelAnswers}
 use Rattle.run.specs.EveryRun.{runState, runAnswers}

@@ -2,14 +2,14 @@
 use mathlib.Core.Path.{_≡_, refl}
 use mathlib.Core.Bool.{Bool, true, false, _&&_}
 use mathlib.Core.List.{List, [], _∷_, _++_, map}
-use Prim.Native.Nat.{ℕ, zero, suc, _+_, _-_}
+use Prim.Native.Nat.{ℕ, suc, _-_}
 use Prim.Native.String.{String}
 use lib.IntN.{ℤ, pos, negsuc}
 use lib.ListN.{length, take, drop, replicate}
 use Rattle.base.specs.Lists.{concat, range, sum, sumBelow, bit}
 use Rattle.base.specs.Ascii.{ascii}
 use Rattle.base.specs.Integers.{sumℤ, within, same, fits64}
-use Rattle.base.specs.Replies.{Reply, accepted, refused, inTurn}
+use Rattle.base.specs.Replies.{Reply, accepted, inTurn}
 use Rattle.matrix.specs.Matrix.{Matrix, partOf, columnsOf, valuesOf, lookup, entry, neighbours, adjacent, adjacentPairs, ascending, mirrored, isRow, lowerEntries, isMatrix, matrixCheck, displacement, areDisplacements}
 use Rattle.matrix.specs.Product.{forceAt, product}
 use Rattle.market.specs.Bytes.{classOf, header}
@@ -23,11 +23,13 @@ use Rattle.levels.specs.Levels.{near, region, root, isNext, levelsFrom, levels,
 use Rattle.extents.specs.Extents.{Extent, endsFrom, best, nearest, off, serves, extentOf, extentFrom, extent, cutAt, cut}
 use Rattle.race.specs.Loads.{weight, loadOf}
 use Rattle.race.specs.Planner.{nothing, _then_, leaf, pairs, planPairs, splits, split, planGroup, planRows, plan, areParameters, planReply}
-use Rattle.run.specs.Job.{Job, rowAt}
+use Rattle.run.specs.Job.{Job, rowAt, workersOf, workers}
 use Rattle.run.specs.Tree.{forest, tree, leaves, holds, ownerIn, unfinished, redOpen, blocked}
 use Rattle.run.specs.Updates.{entryAt, displacementAt, later, withEach, rowUpdates, owner, when, upTo, updates, accesses, finished, noUpdate, next, waits}
-use Rattle.run.specs.Machine.{fresh, workersOf, workers, reason, refusal, onward, load as loadSum, total, store, access, move, stepIf, step, oneMore, steps, readyBelow, ready, bits, allMade, over, positionOf, original, countsFine, isState}
-use Rattle.run.specs.Calls.{Call, picks, readySet, forceList, Answer, picked, isReady, forces, denied, placeOf, pickedOf, readyOf, forcesOf, answerOf, afterOf, stateCheck, answer, after}
+use Rattle.run.specs.Machine.{reason, refusal, onward, load as loadSum, total, store, access, move, stepIf, step, oneMore, steps, readyBelow, ready, bits, allMade, over, positionOf, original, countsFine, isState}
+use Rattle.run.specs.State.{fresh}
+use Rattle.run.specs.Calls.{placeOf, pickedOf, readyOf, forcesOf, answerOf, afterOf, stateCheck, answer, after}
+use Rattle.run.specs.Answers.{Call, picks, readySet, forceList, Answer, picked, isReady, forces, denied}
 use Rattle.run.specs.Sequence.{answersFrom}
 use Rattle.run.specs.Model.{noCounts, added, ending, oneNoted, note, able, isFinished, modelAnswer, modelAfter, modelAnswers, modelCounts}
 use Rattle.run.specs.EveryRun.{takenOf, takenIn, runAnswers, wholeRun}

@@ -2,7 +2,7 @@
 
 ghost use mathlib.Core.Path.{_≡_};
 ghost use Rattle.market.specs.Bytes.{classOf};
-ghost use Rattle.scan.specs.Classes.{Classes};
+ghost use Rattle.scan.specs.code.Classes.{Classes};
 
 pub(crate) const DIGIT: u8 = 1;
 

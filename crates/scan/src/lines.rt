@@ -10,8 +10,8 @@ use crate::numbers::skip_spaces;
 ghost use mathlib.Core.Path.{_≡_};
 ghost use lib.ListN.{drop};
 ghost use Rattle.market.specs.Fields.{value, valueField, fields};
-ghost use Rattle.scan.specs.Classes.{Classes};
-ghost use Rattle.scan.specs.Positions.{valueAt, fieldsAt};
+ghost use Rattle.scan.specs.code.Classes.{Classes};
+ghost use Rattle.scan.specs.code.Positions.{valueAt, fieldsAt};
 
 // A value and the position after it, or none.
 pub(crate) enum Value {

@@ -9,8 +9,8 @@ ghost use mathlib.Core.Path.{_≡_};
 ghost use Prim.Native.Nat.{_+_, _<_};
 ghost use lib.ListN.{drop};
 ghost use Rattle.market.specs.Fields.{numeral, spaces, field};
-ghost use Rattle.scan.specs.Classes.{Classes};
-ghost use Rattle.scan.specs.Positions.{numberAt, isNumeral, pick};
+ghost use Rattle.scan.specs.code.Classes.{Classes};
+ghost use Rattle.scan.specs.code.Positions.{numberAt, isNumeral, pick};
 
 // A number and the position after it, or none.
 pub enum Number {

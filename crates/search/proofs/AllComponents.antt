@@ -14,8 +14,8 @@ use Rattle.base.proofs.Booleans.{or-cases}
 use Rattle.base.proofs.Lists.{filter-range-get, get-in, filter-first, filter-none, length-filter-le, length-range}
 use Rattle.matrix.specs.Limits.{maxRows}
 use Rattle.levels.specs.Levels.{region, root}
-use Rattle.search.specs.Marks.{atMark, unreached}
-use Rattle.search.specs.Search.{wave, visited, visitedAll, After, Frontier, SoFar, Kept, Spread, Roots, Between, Levelled}
+use Rattle.search.specs.code.Marks.{atMark, unreached}
+use Rattle.search.specs.code.Search.{wave, visited, visitedAll, After, Frontier, SoFar, Kept, Spread, Roots, Between, Levelled}
 use Rattle.levels.proofs.Root.{root-some, root-first}
 use Rattle.levels.proofs.Region.{region-own}
 use Rattle.search.proofs.Turns.{isIn-atMark, atMark-none, so-far-step, next-root, so-far-start, so-far-end}

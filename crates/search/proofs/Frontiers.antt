@@ -13,8 +13,8 @@ use Rattle.base.specs.Lists.{isIn, concat}
 use Rattle.base.proofs.Booleans.{and-right}
 use Rattle.base.proofs.Lists.{any-get, isIn-concat-map, in-pos}
 use Rattle.base.proofs.Graph.{Graph}
-use Rattle.search.specs.Marks.{unreached}
-use Rattle.search.specs.Search.{wave, visitedAll, After, Front, Frontier, SoFar, Kept, Spread}
+use Rattle.search.specs.code.Marks.{unreached}
+use Rattle.search.specs.code.Search.{wave, visitedAll, After, Front, Frontier, SoFar, Kept, Spread}
 use Rattle.search.proofs.Waves.{Grown}
 use Rattle.search.proofs.Visits.{after-grown, after-tail, after-found, in-slice}
 use Rattle.search.proofs.Turns.{so-far-step, next-level}

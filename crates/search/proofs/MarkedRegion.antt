@@ -8,11 +8,12 @@ use lib.Dec.{eqb}
 use lib.ListN.{getD}
 use Rattle.base.specs.Lists.{any, isIn, concat, range}
 use Rattle.base.proofs.Lists.{any-ext, filter-ext, isIn-concat-map}
-use Rattle.matrix.specs.Matrix.{pattern, columnsOf, neighbours}
+use Rattle.matrix.specs.Matrix.{columnsOf, neighbours}
+use Rattle.matrix.specs.code.Pattern.{pattern}
 use Rattle.matrix.proofs.Matrix.{neighbours-is}
 use Rattle.levels.specs.Levels.{near, region}
-use Rattle.levels.specs.Rows.{Rows, adjOf}
-use Rattle.search.specs.Marks.{atMark, Marked}
+use Rattle.levels.specs.code.Rows.{Rows, adjOf}
+use Rattle.search.specs.code.Marks.{atMark, Marked}
 use Rattle.levels.proofs.Rows.{rows-graph}
 use Rattle.search.proofs.Turns.{adjacent-to}
 

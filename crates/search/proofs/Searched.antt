@@ -7,10 +7,10 @@ use lib.Dec.{eqb}
 use lib.ListN.{getD}
 use Rattle.base.specs.Lists.{filter, isIn, range}
 use Rattle.base.proofs.Lists.{filter-ext}
-use Rattle.levels.specs.Group.{Proper}
+use Rattle.levels.specs.code.Group.{Proper}
 use Rattle.levels.proofs.Members.{levels-same, own-same}
-use Rattle.search.specs.Marks.{atMark, Marked}
-use Rattle.search.specs.Search.{Levelled, Searched}
+use Rattle.search.specs.code.Marks.{atMark, Marked}
+use Rattle.search.specs.code.Search.{Levelled, Searched}
 
 -- what is found of T's rows in ascending order holds of T
 pub searched : {adj : ℕ → List ℕ} {n : ℕ} {T own : List ℕ} {k : ℕ} {marks : List ℕ} → Proper n T → own ≡ filter (isIn T) (range 0 n) → Levelled adj n own k marks → Searched adj n T own k marks

@@ -14,8 +14,8 @@ use Rattle.base.proofs.Booleans.{both-ways}
 use Rattle.base.proofs.Lists.{any-of, any-get, isIn-filter, isIn-range, isIn-concat-map, range-in, range-snoc, range-append, map-range-same, filter-ext, filter-filter, filter-none, filter-all, any-ext}
 use Rattle.base.proofs.Graph.{Graph}
 use Rattle.levels.specs.Levels.{region, root, isNext, levelsFrom, levels}
-use Rattle.search.specs.Marks.{atMark}
-use Rattle.search.specs.Search.{SoFar}
+use Rattle.search.specs.code.Marks.{atMark}
+use Rattle.search.specs.code.Search.{SoFar}
 
 -- ---- marks
 

@@ -13,7 +13,7 @@ use borrow.Author.Tests.{eqb-true}
 use Rattle.base.specs.Lists.{filter, keep, isIn, concat}
 use Rattle.base.proofs.Lists.{in-get}
 use Rattle.matrix.specs.Matrix.{Matrix, columnsOf, neighbours}
-use Rattle.search.specs.Search.{Wave, wave, visited, visitedAll, Ready, After, Front}
+use Rattle.search.specs.code.Search.{Wave, wave, visited, visitedAll, Ready, After, Front}
 use Rattle.search.proofs.Waves.{visitedAll-append, visited-new, visited-old, unreached-set, unreached-some, Grown, grown}
 
 -- ---- one visit

@@ -12,8 +12,8 @@ use borrow.Author.Tests.{eqb-true, eqb-false, eq-eqb, ne-eqb}
 use Rattle.base.specs.Lists.{isIn, range}
 use Rattle.base.proofs.Booleans.{and-false, or-true}
 use Rattle.base.proofs.Lists.{isIn-append, in-pos, filter-of, isIn-range, filter-one-more}
-use Rattle.search.specs.Marks.{atMark, unreached}
-use Rattle.search.specs.Search.{Wave, wave, visited, visitedAll}
+use Rattle.search.specs.code.Marks.{atMark, unreached}
+use Rattle.search.specs.code.Search.{Wave, wave, visited, visitedAll}
 
 pub visitedAll-append : (m : ℕ) (w : Wave) (xs ys : List ℕ) → visitedAll m w (xs ++ ys) ≡ visitedAll m (visitedAll m w xs) ys
 unfolding visitedAll

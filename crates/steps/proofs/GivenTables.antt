@@ -6,17 +6,16 @@ use native.Mathlib.Omega.{arith}
 use lib.IntN.{ℤ}
 use lib.ListN.{take}
 use lib.Seq.{getD-take}
-use Rattle.matrix.specs.Matrix.{displacement}
-use Rattle.matrix.specs.Checks.{matrixOf}
+use Rattle.matrix.specs.Matrix.{displacement, matrixOf}
 use Rattle.plan.specs.Groups.{planOf}
 use Rattle.run.specs.Job.{Job, jobOf, rowAt}
 use Rattle.run.specs.Updates.{displacementAt, later}
-use Rattle.tables.specs.Laid.{Laid, Bounded}
-use Rattle.upper.specs.Upper.{upperTo, Displaced, Upper}
+use Rattle.tables.specs.code.Laid.{Laid, Bounded}
+use Rattle.upper.specs.code.Upper.{upperTo, Displaced, Upper}
 use Rattle.upper.proofs.UpperRows.{upper-whole}
 use Rattle.upper.proofs.PlacedRows.{placed-same}
-use Rattle.steps.specs.Updates.{Triangle}
-use Rattle.steps.specs.Steps.{StepTables}
+use Rattle.steps.specs.code.Updates.{Triangle}
+use Rattle.steps.specs.code.Steps.{StepTables}
 use Rattle.steps.proofs.TableUpdates.{updates-are, begun-before}
 
 -- the whole upper triangle of the lists is the job's

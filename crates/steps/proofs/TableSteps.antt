@@ -14,14 +14,15 @@ use borrow.Author.Tests.{ltb-true, leb-false, eq-eqb, ne-eqb}
 use Rattle.base.specs.Integers.{fits64}
 use Rattle.base.specs.Refusals as why
 use Rattle.plan.specs.Sound.{maxWorkers}
-use Rattle.tables.specs.Laid.{updatesIn, Bounded}
+use Rattle.tables.specs.code.Laid.{updatesIn, Bounded}
 use Rattle.run.specs.Updates.{Update, count}
-use Rattle.run.specs.Machine.{State, reason, moved, halted, onward, load, total, store, access, move, stepIf}
-use Rattle.steps.specs.Sum.{sumIf, sumOf}
+use Rattle.run.specs.Machine.{reason, moved, halted, onward, load, total, store, access, move, stepIf}
+use Rattle.run.specs.State.{State}
+use Rattle.steps.specs.code.Sum.{sumIf, sumOf}
 use Rattle.steps.specs.declared.sum.Sum.the-variants.{Fits, Passes}
 use Rattle.steps.specs.declared.Pick.{Pick}
 use Rattle.steps.specs.declared.Pick.the-variants.{Taken, Refused}
-use Rattle.steps.specs.Steps.{stateWith, reasonAt, stepTaken, outcomeOf, StepMade}
+use Rattle.steps.specs.code.Steps.{stateWith, reasonAt, stepTaken, outcomeOf, StepMade}
 
 -- what it is that no reason refuses a step
 pub reason-none : (w workers made all : ℕ) (waiting : Bool) → reason (ltb w workers) (leb all made) waiting ≡ 0 → (w < workers) × (made < all)

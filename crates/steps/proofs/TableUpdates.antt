@@ -14,8 +14,8 @@ use Rattle.base.specs.Lists.{sumBelow}
 use Rattle.plan.specs.Sound.{maxWorkers}
 use Rattle.run.specs.Job.{Job, rowAt}
 use Rattle.run.specs.Updates.{Update, entryAt, displacementAt, later, rowUpdates, updates, noUpdate}
-use Rattle.tables.specs.Laid.{updateAt, firstOf, nextOf, beginOf, updatesIn, Counted, Laid}
-use Rattle.steps.specs.Updates.{byTurns, updateIn, Triangle}
+use Rattle.tables.specs.code.Laid.{updateAt, firstOf, nextOf, beginOf, updatesIn, Counted, Laid}
+use Rattle.steps.specs.code.Updates.{byTurns, updateIn, Triangle}
 use Rattle.run.proofs.RowUpdates.{row-length, row-at}
 use Rattle.run.proofs.Work.{cum, At, locate}
 use Rattle.run.proofs.Next.{at-row}

@@ -1,3 +1,1 @@
-pub mod Sum
-pub mod Updates
-pub mod Steps
+pub mod code

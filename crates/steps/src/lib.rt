@@ -20,9 +20,9 @@ ghost use mathlib.Core.Path.{_≡_};
 ghost use Prim.Native.Nat.{ℕ, _*_, _≤_, _<_};
 ghost use lib.ListN.{length};
 ghost use Rattle.plan.specs.Sound.{maxWorkers};
-ghost use Rattle.tables.specs.Laid.{maxUpdates, updatesIn, Rising, Bounded};
-ghost use Rattle.steps.specs.Updates.{updateIn, Readable};
-ghost use Rattle.steps.specs.Steps.{stateWith, placeNext, rowNext, numberNext, reasonAt, StepTables, StepMade};
+ghost use Rattle.tables.specs.code.Laid.{maxUpdates, updatesIn, Rising, Bounded};
+ghost use Rattle.steps.specs.code.Updates.{updateIn, Readable};
+ghost use Rattle.steps.specs.code.Steps.{stateWith, placeNext, rowNext, numberNext, reasonAt, StepTables, StepMade};
 
 // How many accesses worker w makes: two for each of its updates.
 pub fn accesses(first: &[u32; FIRSTS], w: usize) -> u32

@@ -1,6 +1,6 @@
 // The sum of two numbers, where it fits 64 bits.
 ghost use mathlib.Core.Path.{_≡_};
-ghost use Rattle.steps.specs.Sum.{sumOf};
+ghost use Rattle.steps.specs.code.Sum.{sumOf};
 
 const MOST: i64 = 9223372036854775807;
 

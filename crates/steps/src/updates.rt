@@ -6,8 +6,8 @@ ghost use mathlib.Core.Path.{_≡_};
 ghost use Prim.Native.Nat.{ℕ, _<_};
 ghost use lib.IntN.{_*ℤ_};
 ghost use Rattle.matrix.specs.Limits.{maxRows};
-ghost use Rattle.tables.specs.Laid.{maxUpdates};
-ghost use Rattle.steps.specs.Updates.{byTurns, entryPlace, targetIn, amountIn, Readable};
+ghost use Rattle.tables.specs.code.Laid.{maxUpdates};
+ghost use Rattle.steps.specs.code.Updates.{byTurns, entryPlace, targetIn, amountIn, Readable};
 
 // a at even numbers k, b at odd ones.
 fn by_turns(k: usize, a: usize, b: usize) -> usize

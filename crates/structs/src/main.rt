@@ -9,10 +9,9 @@ ghost use Prim.Native.Nat.{_*_};
 ghost use lib.ListN.{length};
 ghost use Rattle.base.specs.Replies.{lent};
 ghost use Rattle.base.specs.Verdicts.{replyOf};
-ghost use Rattle.matrix.specs.Checks.{matrixOf};
-ghost use Rattle.plan.specs.Groups.{width, flat};
+ghost use Rattle.matrix.specs.Matrix.{matrixOf};
+ghost use Rattle.plan.specs.Groups.{width, flat, groupOf};
 ghost use Rattle.plan.specs.Sound.{checkReply};
-ghost use Rattle.plan.specs.Checks.{groupOf};
 ghost use Rattle.race.specs.Planner.{plan, planReply};
 ghost use Rattle.groups.specs.Structs.{ofGroup};
 

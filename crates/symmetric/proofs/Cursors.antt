@@ -18,8 +18,8 @@ use Rattle.base.proofs.Lists.{isIn-append, isIn-filter, length-filter-le}
 use Rattle.base.proofs.Integers.{same-true, same-refl}
 use Rattle.matrix.specs.Limits.{maxRows}
 use Rattle.matrix.specs.Matrix.{Matrix, columnsOf, valuesOf, lookup, entry}
-use Rattle.matrix.specs.Checks.{shaped, placeIn}
-use Rattle.symmetric.specs.Cursors.{regular, Mirror, Met, Cursors}
+use Rattle.matrix.specs.code.Checks.{shaped, placeIn}
+use Rattle.symmetric.specs.code.Cursors.{regular, Mirror, Met, Cursors}
 use Rattle.matrix.proofs.Checks.{shape}
 use Rattle.matrix.proofs.Ascending.{ascending-less, before-place, isIn-place, isIn-get, lookup-get, place-past, place-before, place-missing, place-more, take-place}
 use Rattle.matrix.proofs.Rows.{length-columns, columns-in, values-in}

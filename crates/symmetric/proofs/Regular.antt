@@ -17,8 +17,8 @@ use Rattle.base.proofs.Left.{all-and}
 use Rattle.base.proofs.Integers.{same-refl}
 use Rattle.matrix.specs.Limits.{maxEntries, maxValue}
 use Rattle.matrix.specs.Matrix.{Matrix, columnsOf, valuesOf, entry, ascending, mirrored, lowerEntries, isMatrix}
-use Rattle.matrix.specs.Checks.{shaped, isOrdered, mirroredRow, symmetric}
-use Rattle.symmetric.specs.Cursors.{climbingRow, regular, Met}
+use Rattle.matrix.specs.code.Checks.{shaped, isOrdered, mirroredRow, symmetric}
+use Rattle.symmetric.specs.code.Cursors.{climbingRow, regular, Met}
 use Rattle.matrix.proofs.Matrix.{mirror}
 use Rattle.matrix.proofs.Checks.{ordered, matrix-parts}
 use Rattle.matrix.proofs.Ascending.{ascending-made, isIn-get, lookup-get}

@@ -13,8 +13,8 @@ use Rattle.base.proofs.Booleans.{and-left, both-ways}
 use Rattle.base.proofs.Lists.{all-range, range-all, all-of, filter-all}
 use Rattle.matrix.specs.Limits.{maxEntries}
 use Rattle.matrix.specs.Matrix.{Matrix, columnsOf, lowerEntries}
-use Rattle.matrix.specs.Checks.{shaped, placeIn}
-use Rattle.symmetric.specs.Cursors.{regular, Met, Cursors, ended}
+use Rattle.matrix.specs.code.Checks.{shaped, placeIn}
+use Rattle.symmetric.specs.code.Cursors.{regular, Met, Cursors, ended}
 use Rattle.matrix.proofs.Rows.{columns-in, length-columns}
 use Rattle.symmetric.proofs.Regular.{below, regular-made}
 

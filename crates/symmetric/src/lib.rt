@@ -3,8 +3,7 @@ mod passes;
 mod places;
 
 ghost use mathlib.Core.Path.{_≡_};
-ghost use Rattle.matrix.specs.Matrix.{isMatrix};
-ghost use Rattle.matrix.specs.Checks.{matrixOf};
+ghost use Rattle.matrix.specs.Matrix.{isMatrix, matrixOf};
 
 // Whether the lists hold a matrix of n rows.
 pub fn is_matrix(n: u32, starts: &[u32], columns: &[u32], values: &[i32]) -> bool

@@ -14,9 +14,9 @@ ghost use lib.ListN.{length, getD, take};
 ghost use Rattle.base.specs.Lists.{all, range};
 ghost use Rattle.base.specs.Integers.{within};
 ghost use Rattle.matrix.specs.Limits.{maxEntries, maxValue};
-ghost use Rattle.matrix.specs.Matrix.{lowerEntries};
-ghost use Rattle.matrix.specs.Checks.{matrixOf, rises, shaped};
-ghost use Rattle.symmetric.specs.Cursors.{regular, ended, MeetOk, RowMet};
+ghost use Rattle.matrix.specs.Matrix.{lowerEntries, matrixOf};
+ghost use Rattle.matrix.specs.code.Checks.{rises, shaped};
+ghost use Rattle.symmetric.specs.code.Cursors.{regular, ended, MeetOk, RowMet};
 
 // No row starts after the next.
 fn starts_rise(n: usize, starts: &[u32]) -> bool

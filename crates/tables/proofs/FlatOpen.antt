@@ -7,7 +7,7 @@ use lib.Dec.{eqb}
 use Rattle.base.proofs.Booleans.{or-false}
 use Rattle.plan.specs.Groups.{Group, red}
 use Rattle.run.specs.Tree.{Tree, none, node, forest, unfinished, redOpen}
-use Rattle.tables.specs.Laid.{hasChild}
+use Rattle.tables.specs.code.Laid.{hasChild}
 
 module _ (fin : Group → Bool) where
   -- some child of the group at index up has, or is, an unfinished leaf

@@ -15,7 +15,7 @@ use Rattle.plan.specs.Sound.{depthFirst, children, sound}
 use Rattle.plan.proofs.Records.{ancestors, Step, step-of, Before, before-step, before-one, Sounds}
 use Rattle.plan.proofs.Sound.{sound-facts}
 use Rattle.run.specs.Tree.{holds}
-use Rattle.tables.specs.Laid.{hasChild}
+use Rattle.tables.specs.code.Laid.{hasChild}
 use Rattle.tables.proofs.WayDown.{held, leafFrom, leaf-in, leaf-out, leaf-here, child-held}
 use Rattle.tables.proofs.Nesting.{child-inside, Separate, separate}
 

@@ -13,7 +13,7 @@ use Rattle.plan.proofs.Sound.{sound-facts}
 use Rattle.run.specs.Job.{Job}
 use Rattle.run.specs.Tree.{none, forest, tree, holds, ownerIn, blocked}
 use Rattle.run.specs.Updates.{owner}
-use Rattle.tables.specs.Laid.{Leaf, hasChild}
+use Rattle.tables.specs.code.Laid.{Leaf, hasChild}
 use Rattle.run.proofs.Holds.{in-holds, owner-here, owner-next}
 use Rattle.tables.proofs.FlatOpen.{openReds}
 use Rattle.tables.proofs.WayDown.{leafFrom, leaf-in, leaf-out}

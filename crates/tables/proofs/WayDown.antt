@@ -14,7 +14,7 @@ use Rattle.plan.specs.Groups.{Group, blue}
 use Rattle.plan.specs.Sound.{children}
 use Rattle.plan.proofs.Records.{Down}
 use Rattle.run.specs.Tree.{Tree, forest, holds, redOpen, blocked}
-use Rattle.tables.specs.Laid.{hasChild}
+use Rattle.tables.specs.code.Laid.{hasChild}
 use Rattle.tables.proofs.FlatOpen.{openReds, red-flat}
 
 module _ (q : ℕ) where

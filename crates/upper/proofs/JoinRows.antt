@@ -18,15 +18,15 @@ use Rattle.base.proofs.Lists.{isIn-append}
 use Rattle.matrix.specs.Matrix.{Matrix, columnsOf, valuesOf, entry, ascending, adjacent}
 use Rattle.matrix.proofs.Matrix.{matrix-facts, column-low, column-neighbour, neighbour-column, absent-column, adjacent-both, symmetric}
 use Rattle.matrix.proofs.Ascending.{ascending-first, ascending-tail, isIn-get, lookup-get}
-use Rattle.matrix.specs.Checks.{shaped}
+use Rattle.matrix.specs.code.Checks.{shaped}
 use Rattle.matrix.proofs.Checks.{matrix-tidy}
 use Rattle.matrix.proofs.Rows.{entry-row, length-columns, length-values}
 use Rattle.plan.proofs.Once.{Once, once, injective}
 use Rattle.run.specs.Machine.{positionOf}
 use Rattle.run.proofs.Positions.{position-at}
-use Rattle.tables.specs.Laid.{maxUpdates}
+use Rattle.tables.specs.code.Laid.{maxUpdates}
 use Rattle.matrix.specs.Limits.{maxRows}
-use Rattle.upper.specs.Upper.{Positions, Ordered, upperTo, upperOf, Parts, Placed, Upper}
+use Rattle.upper.specs.code.Upper.{Positions, Ordered, upperTo, upperOf, Parts, Placed, Upper}
 use Rattle.upper.proofs.UpperRows.{upper-before, upper-next, upper-part, upper-own}
 use Rattle.upper.proofs.PlacedRows.{grown, row-low, next-below, placed-written, placed-grown, placed-same}
 

@@ -16,8 +16,8 @@ use Rattle.base.proofs.Lists.{set-each}
 use Rattle.matrix.specs.Limits.{maxRows}
 use Rattle.matrix.specs.Matrix.{Matrix, entry}
 use Rattle.plan.proofs.Once.{once, low-at}
-use Rattle.tables.specs.Laid.{maxUpdates}
-use Rattle.upper.specs.Upper.{Ordered, upperTo, upperOf, Parts, Placed, Upper}
+use Rattle.tables.specs.code.Laid.{maxUpdates}
+use Rattle.upper.specs.code.Upper.{Ordered, upperTo, upperOf, Parts, Placed, Upper}
 use Rattle.upper.proofs.UpperRows.{length-keep, upper-before}
 
 -- ---- one position more

@@ -11,7 +11,7 @@ use Rattle.base.proofs.Booleans.{same-or}
 use Rattle.matrix.specs.Limits.{maxRows}
 use Rattle.matrix.specs.Matrix.{displacement}
 use Rattle.plan.proofs.Once.{Once, low-at, injective}
-use Rattle.upper.specs.Upper.{Positions, Displaced}
+use Rattle.upper.specs.code.Upper.{Positions, Displaced}
 
 pub positions-none : (order position : List ℕ) → length position ≡ maxRows → Positions 0 order position
 positions-none order position e = record { long = e; is = λ p l. absurd (omega arith) }

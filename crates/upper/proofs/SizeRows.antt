@@ -21,7 +21,7 @@ use Rattle.matrix.proofs.Matrix.{matrix-facts, neighbours-is}
 use Rattle.matrix.proofs.Ascending.{ascending-tail, first-once}
 use Rattle.plan.proofs.Once.{Once, once, injective}
 use Rattle.run.proofs.OrderSums.{sum-below-order}
-use Rattle.upper.specs.Upper.{Positions, Ordered, upperOf, laterIn, Sizes}
+use Rattle.upper.specs.code.Upper.{Positions, Ordered, upperOf, laterIn, Sizes}
 use Rattle.upper.proofs.UpperRows.{beyond, upper-sum}
 use Rattle.upper.proofs.PlacedRows.{row-low}
 

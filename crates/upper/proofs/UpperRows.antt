@@ -13,7 +13,7 @@ use Rattle.base.proofs.Lists.{filter-append, filter-ext, length-filter-le, leng
 use Rattle.matrix.specs.Matrix.{Matrix, adjacent}
 use Rattle.run.specs.Job.{Job, rowAt}
 use Rattle.run.specs.Updates.{later}
-use Rattle.upper.specs.Upper.{upperTo, upperOf}
+use Rattle.upper.specs.code.Upper.{upperTo, upperOf}
 
 pub length-keep : (b : Bool) (q : ℕ) → length (keep b q []) ≡ bit b
 length-keep true q = refl

@@ -10,8 +10,8 @@ use tables::MAX_UPDATES;
 ghost use mathlib.Core.List.{List};
 ghost use Prim.Native.Nat.{ℕ, _+_, _<_};
 ghost use lib.ListN.{take};
-ghost use Rattle.matrix.specs.Checks.{matrixOf};
-ghost use Rattle.upper.specs.Upper.{Positions, Lent, Parts, Upper};
+ghost use Rattle.matrix.specs.Matrix.{matrixOf};
+ghost use Rattle.upper.specs.code.Upper.{Positions, Lent, Parts, Upper};
 
 // Position q begins its own part, and joins the part of each row before it that is adjacent to its row.
 // The next place of every column's row is written: it counts once the place after it is the next. Rows from q on have no place yet:

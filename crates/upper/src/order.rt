@@ -7,7 +7,7 @@ ghost use Prim.Native.Nat.{ℕ, _≤_, _<_};
 ghost use lib.ListN.{length, getD, take};
 ghost use Rattle.matrix.specs.Limits.{maxRows};
 ghost use Rattle.plan.specs.Sound.{eachOnce};
-ghost use Rattle.upper.specs.Upper.{Positions, Displaced};
+ghost use Rattle.upper.specs.code.Upper.{Positions, Displaced};
 
 // The position of each row.
 pub fn positions(order: &[u32], n: usize, position: &mut [u32; MAX_ROWS])

@@ -8,8 +8,8 @@ ghost use Prim.Native.Nat.{ℕ, _<_};
 ghost use lib.IntN.{ℤ};
 ghost use lib.ListN.{length, getD, take};
 ghost use Rattle.matrix.specs.Limits.{maxRows};
-ghost use Rattle.matrix.specs.Checks.{matrixOf};
-ghost use Rattle.upper.specs.Upper.{Positions, Lent, laterIn, Sizes};
+ghost use Rattle.matrix.specs.Matrix.{matrixOf};
+ghost use Rattle.upper.specs.code.Upper.{Positions, Lent, laterIn, Sizes};
 
 // How many of these columns' rows stand after position p.
 fn later_columns(columns: &[u32], position: &[u32; MAX_ROWS], p: u32) -> usize

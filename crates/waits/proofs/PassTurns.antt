@@ -15,10 +15,10 @@ use Rattle.base.proofs.Booleans.{same-or}
 use Rattle.base.proofs.Lists.{getD-zeros}
 use Rattle.plan.specs.Groups.{Group, red, records}
 use Rattle.plan.specs.Sound.{maxWorkers, maxGroups}
-use Rattle.plan.specs.Checks.{recordAt, belowWhole}
+use Rattle.plan.specs.code.Checks.{recordAt, belowWhole}
 use Rattle.plan.proofs.FlatRecords.{records-at, records-none}
-use Rattle.tables.specs.Laid.{hasChild}
-use Rattle.waits.specs.Waits.{Recorded, Ended, openIf, openRed, blockedIf, nextEnd, OpenReds, Passed, Ahead}
+use Rattle.tables.specs.code.Laid.{hasChild}
+use Rattle.waits.specs.code.Waits.{Recorded, Ended, openIf, openRed, blockedIf, nextEnd, OpenReds, Passed, Ahead}
 use Rattle.tables.proofs.FlatOpen.{openChildren, openAt, openReds, red-flat}
 use Rattle.waits.proofs.Passes.{child-start, open-start, red-start, child-turn, open-turn, red-turn}
 

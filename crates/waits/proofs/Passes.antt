@@ -7,7 +7,7 @@ use native.Mathlib.Omega.{arith}
 use lib.ListN.{length, getD}
 use lib.Dec.{eqb}
 use Rattle.plan.specs.Groups.{Group, red, blue}
-use Rattle.tables.specs.Laid.{hasChild}
+use Rattle.tables.specs.code.Laid.{hasChild}
 use Rattle.tables.proofs.FlatOpen.{openChildren, openAt, openReds}
 use Rattle.tables.proofs.LeafWait.{Forward}
 

@@ -5,7 +5,7 @@ use plan::fields::BLUE;
 use plan::fields::RED;
 use plan::fields::record_at;
 ghost use mathlib.Core.Path.{_≡_};
-ghost use Rattle.waits.specs.Waits.{Recorded, openIf, openRed, blockedIf, nextEnd, OpenReds, Passed, Blocks, Ahead};
+ghost use Rattle.waits.specs.code.Waits.{Recorded, openIf, openRed, blockedIf, nextEnd, OpenReds, Passed, Blocks, Ahead};
 
 // Whether a group is open, 1 or 0: no parent, so a leaf, with a count below its end; or with an open group below.
 fn open_if(parent: u8, below: u8, made: u32, end: u32) -> u8

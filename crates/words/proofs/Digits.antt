@@ -8,7 +8,7 @@ use lib.IntN.{ℤ}
 use lib.ListN.{length, take, drop, getD, length-take, length-drop}
 use lib.Seq.{drop-cons, drop-drop, take-add}
 use Rattle.words.specs.LittleEndian.{number, bytesOf, ofSigned, signedBytesOf}
-use Rattle.words.specs.Places.{fourAt, eightAt}
+use Rattle.words.specs.code.Places.{fourAt, eightAt}
 
 -- the number of the `width` bytes that a function gives
 abbrev pub sumOf : (ℕ → ℕ) → (width : ℕ) → ℕ

@@ -5,7 +5,7 @@ ghost use Prim.Native.Nat.{_+_, _≤_, _<_};
 ghost use lib.ListN.{length};
 ghost use lib.Seq.{sets};
 ghost use Rattle.words.specs.LittleEndian.{bytesOf};
-ghost use Rattle.words.specs.Places.{fourAt, eightAt};
+ghost use Rattle.words.specs.code.Places.{fourAt, eightAt};
 
 // The number of the four bytes from a place on.
 pub fn read_u32(bytes: &[u8], at: usize) -> u32

@@ -7,7 +7,7 @@ ghost use mathlib.Core.Path.{_≡_};
 ghost use lib.ListN.{length};
 ghost use Rattle.base.specs.Verdicts.{replyOf};
 ghost use Rattle.base.specs.Replies.{lent};
-ghost use Rattle.matrix.specs.Checks.{matrixOf};
+ghost use Rattle.matrix.specs.Matrix.{matrixOf};
 ghost use Rattle.market.specs.Text.{written, writeReply};
 
 // A matrix as text: 5, then 9. Its length is known before anything is written.

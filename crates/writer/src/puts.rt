@@ -9,7 +9,7 @@ ghost use lib.ListN.{length};
 ghost use Rattle.matrix.specs.Limits.{maxRows};
 ghost use Rattle.market.specs.Bytes.{header};
 ghost use Rattle.market.specs.Text.{natural, integer, lineOf};
-ghost use Rattle.writer.specs.Puts.{Put, digitAt};
+ghost use Rattle.writer.specs.code.Puts.{Put, digitAt};
 
 // How many digits a number of at most `most` digits has: one, and one for each power of ten from 10 on that it has reached.
 fn width(v: u32, most: usize) -> usize

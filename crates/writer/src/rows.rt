@@ -7,10 +7,9 @@ ghost use mathlib.Core.Path.{_≡_};
 ghost use mathlib.Core.Bool.{true};
 ghost use Prim.Native.Nat.{_+_, _≤_, _<_};
 ghost use lib.ListN.{length};
-ghost use Rattle.matrix.specs.Matrix.{isMatrix};
-ghost use Rattle.matrix.specs.Checks.{matrixOf};
+ghost use Rattle.matrix.specs.Matrix.{isMatrix, matrixOf};
 ghost use Rattle.market.specs.Text.{lower};
-ghost use Rattle.writer.specs.Puts.{Put, fromDiagonal, ifLower, linesOf, Row, Tallied};
+ghost use Rattle.writer.specs.code.Puts.{Put, fromDiagonal, ifLower, linesOf, Row, Tallied};
 ghost use Rattle.matrix.specs.Limits.{maxRows};
 
 // How many entries, and how many bytes their lines take.

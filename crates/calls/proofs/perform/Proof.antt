@@ -6,13 +6,12 @@ use borrow.Author.Needs.{needs}
 use Rattle.base.specs.Replies.{accepted, refused, inTurn}
 use Rattle.base.specs.Verdicts.{replyOf}
 use Rattle.base.proofs.Booleans.{fails, holds}
-use Rattle.matrix.specs.Matrix.{Matrix}
-use Rattle.matrix.specs.Checks.{matrixOf}
+use Rattle.matrix.specs.Matrix.{Matrix, matrixOf}
 use Rattle.run.specs.Job.{Job, jobOf}
 use Rattle.run.specs.Machine.{isState}
 use Rattle.run.specs.Calls.{jobChecks}
-use Rattle.tables.specs.Laid.{Counted}
-use Rattle.layout.specs.UpdateTable.{Given}
+use Rattle.tables.specs.code.Laid.{Counted}
+use Rattle.layout.specs.code.UpdateTable.{Given}
 use Rattle.layout.proofs.GivenRows.{lent-of, few-rows, planned-of}
 use Rattle.layout.proofs.UpdateRoom.{rising-of}
 use Rattle.machine.specs.Record.{stateOf}

@@ -5,7 +5,7 @@ use Prim.Native.Nat.{ℕ}
 use borrow.Author.Needs.{needs}
 use lib.Seq.{length-take-le}
 use Rattle.extents.specs.Extents.{nearest}
-use Rattle.extents.specs.Scans.{policyOf}
+use Rattle.extents.specs.code.Scans.{policyOf}
 use Rattle.extents.proofs.Ends.{product-few, nearest-few, sum-split}
 use Rattle.extents.proofs.PairEnd.{extent-none, extent-short, extent-full, extent-part}
 use Rattle.extents.proofs.next_extent.Statement.{statement}

@@ -41,11 +41,11 @@ use Rattle.base.specs.Verdicts.{replyOf}
 use Rattle.base.specs.declared.Verdict.{Verdict}
 use Rattle.base.proofs.Answer as S
 use Rattle.base.proofs.Answer.Laws as S′
-use Rattle.matrix.specs.Checks.{matrixOf}
+use Rattle.matrix.specs.Matrix.{matrixOf}
 use Rattle.plan.specs.Sound.{checkReply}
 use Rattle.plan.specs.declared.fields.Group.{Group}
 use Rattle.plan.proofs.fields.Group as T
-use Rattle.groups.specs.Structs.{Flattened}
+use Rattle.groups.specs.code.Flattened.{Flattened}
 use Rattle.groups.proofs.CheckReply.{reply-flattened}
 use Rattle.groups.proofs.Walking.{u32-dropped, slice-dropped, hears, Flat, flat-lawful, at}
 use Rattle.groups.proofs.flatten as flatten

@@ -44,13 +44,13 @@ use denote.Triple.Clauses.{lasts}
 use denote.Triple.Table.{entered, cited}
 use denote.Triple.Walked.{says, Stays, stay-dropped, walkOf, Walks, ends-at, walked, walk-meets}
 use denote.Exit.{yes}
-use Rattle.plan.specs.Groups.{width, fieldsOf}
-use Rattle.plan.specs.Sound.{maxGroups, maxFields}
-use Rattle.plan.specs.Checks.{groupOf}
+use Rattle.plan.specs.Groups.{width, fieldsOf, groupOf}
+use Rattle.plan.specs.Sound.{maxGroups}
+use Rattle.plan.specs.code.Room.{maxFields}
 use Rattle.plan.specs.declared.fields.Group.{Group}
 use Rattle.plan.proofs.fields.Group as T
 use Rattle.plan.proofs.fields.Group.Laws as T′
-use Rattle.groups.specs.Structs.{few, Flattened}
+use Rattle.groups.specs.code.Flattened.{few, Flattened}
 use Rattle.groups.proofs.Flattening.{Begun, begin, next, all-begun}
 use Rattle.groups.proofs.Walking.{groupBytes, numbersTy, slice-dropped, hears, Nearer, nearer-wf, Flat, none, group-vals, group-tells, group-copy, group-makes, group-lawful, flat-lawful, after}
 use Rattle.groups.proofs.put as put

@@ -44,12 +44,14 @@ use denote.Triple.Clauses.{lasts}
 use denote.Triple.Table.{entered, cited}
 use denote.Triple.Walked.{says, needs, Stays, stay-dropped, stay-slice, walkOf, goes-dropped, goes-slice, Walks, ends-at, walked, walk-meets}
 use denote.Exit.{yes}
-use Rattle.plan.specs.Checks.{recordAt}
-use Rattle.plan.specs.Sound.{maxGroups, maxFields}
+use Rattle.plan.specs.code.Checks.{recordAt}
+use Rattle.plan.specs.Sound.{maxGroups}
+use Rattle.plan.specs.code.Room.{maxFields}
 use Rattle.plan.specs.declared.fields.Group.{Group}
 use Rattle.plan.proofs.fields.Group as T
 use Rattle.plan.proofs.fields.Group.Laws as T′
-use Rattle.groups.specs.Structs.{ofGroup, gathered}
+use Rattle.groups.specs.Structs.{ofGroup}
+use Rattle.groups.specs.code.Flattened.{gathered}
 use Rattle.groups.proofs.Gathering.{gathered-none, length-gathered, gathered-next}
 use Rattle.groups.proofs.Walking.{groupBytes, numbersTy, hears, Nearer, nearer-wf, Flat, none, group-vals, group-tells, group-lawful, flat-makes, flat-lawful, after}
 use Rattle.groups.proofs.get as get

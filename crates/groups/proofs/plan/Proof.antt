@@ -42,12 +42,11 @@ use denote.Triple.Walked.{says, Stays, stay-dropped, gave-slice, walkOf, goes-ga
 use denote.Exit.{yes}
 use Rattle.base.proofs.Answer as S
 use Rattle.base.proofs.Answer.Laws as S′
-use Rattle.matrix.specs.Checks.{matrixOf}
-use Rattle.matrix.specs.Matrix.{Matrix}
+use Rattle.matrix.specs.Matrix.{matrixOf, Matrix}
 use Rattle.plan.specs.declared.fields.Group.{Group}
 use Rattle.plan.proofs.fields.Group as T
 use Rattle.groups.specs.declared.Made.{Made}
-use Rattle.groups.specs.Structs.{gathered, Planned}
+use Rattle.groups.specs.code.Flattened.{gathered, Planned}
 use Rattle.groups.proofs.Made as R
 use Rattle.groups.proofs.Made.Laws as R′
 use Rattle.groups.proofs.Walking.{u32-dropped, slice-dropped, hears, tells, Flat, flat-makes, at}

@@ -4,8 +4,8 @@ use native.Mathlib.Omega.{arith}
 use lib.ListN.{replicate}
 use lib.Seq.{length-take-le}
 use borrow.Author.Needs.{needs}
-use Rattle.plan.specs.Sound.{maxFields}
-use Rattle.matrix.specs.Checks.{matrixOf}
+use Rattle.plan.specs.code.Room.{maxFields}
+use Rattle.matrix.specs.Matrix.{matrixOf}
 use Rattle.groups.proofs.PlanReply.{made-planned}
 use Rattle.groups.proofs.plan_flat.Statement.{statement}
 use Rattle.groups.proofs.plan_flat.Tie as tie

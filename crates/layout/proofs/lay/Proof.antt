@@ -7,10 +7,10 @@ use native.Mathlib.Omega.{arith}
 use lib.ListN.{length, getD}
 use borrow.Author.Tests.{not-true, not-false}
 use Rattle.base.proofs.Booleans.{fails, holds}
-use Rattle.plan.specs.Checks.{belowWhole}
+use Rattle.plan.specs.code.Checks.{belowWhole}
 use Rattle.run.specs.Job.{Job}
-use Rattle.tables.specs.Laid.{hasChild, nextOf, Counted}
-use Rattle.layout.specs.UpdateTable.{Planned, Filled, Walked, Blank, reached}
+use Rattle.tables.specs.code.Laid.{hasChild, nextOf, Counted}
+use Rattle.layout.specs.code.UpdateTable.{Planned, Filled, Walked, Blank, reached}
 use Rattle.layout.proofs.UpdateRoom.{room}
 use Rattle.layout.proofs.LeafRows.{in-order, Read, read}
 use Rattle.layout.proofs.FilledRows.{walked-none, walked-group, walked-read, all-laid}

@@ -4,8 +4,8 @@ use Prim.Native.Nat.{ℕ, _+_, _*_, _-_, _≤_, _<_}
 use native.Mathlib.Omega.{arith}
 use lib.ListN.{length, getD}
 use Rattle.run.specs.Job.{Job}
-use Rattle.tables.specs.Laid.{nextOf}
-use Rattle.layout.specs.UpdateTable.{Sized, Stretch, Filled}
+use Rattle.tables.specs.code.Laid.{nextOf}
+use Rattle.layout.specs.code.UpdateTable.{Sized, Stretch, Filled}
 use Rattle.layout.proofs.CountRows.{row-fits}
 use Rattle.layout.proofs.FilledRows.{filled-row}
 use borrow.Author.Needs.{needs}

@@ -1,7 +1,7 @@
 -- `put_row` meets its contract: the places before k have the row.
 use mathlib.Core.Path.{_≡_, subst}
 use Prim.Native.Nat.{ℕ, _+_, _-_, _*_, _≤_}
-use Rattle.layout.specs.UpdateTable.{Put}
+use Rattle.layout.specs.code.UpdateTable.{Put}
 use Rattle.layout.proofs.PutRows.{put-none, put-next}
 use borrow.Author.Needs.{needs}
 use Rattle.layout.proofs.put_row.Statement.{statement}

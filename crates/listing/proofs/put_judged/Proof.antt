@@ -5,9 +5,8 @@ use Prim.Native.Nat.{ℕ}
 use lib.IntN.{ℤ, pos}
 use lib.ListN.{replicate, length-replicate}
 use Rattle.base.specs.Verdicts.{replyOf}
-use Rattle.matrix.specs.Matrix.{Matrix}
-use Rattle.matrix.specs.Checks.{matrixOf}
-use Rattle.matrix.specs.Limits.{maxStarts, maxCells}
+use Rattle.matrix.specs.Matrix.{Matrix, matrixOf}
+use Rattle.matrix.specs.code.Room.{maxStarts, maxCells}
 use Rattle.writer.proofs.puts.Putting.{put-as}
 use Rattle.listing.specs.Listing.{parametersOf}
 use Rattle.listing.proofs.Judged.{Held, judged-refused, judged-accepted, planned-given, planned-missing}

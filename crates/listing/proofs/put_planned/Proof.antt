@@ -5,11 +5,10 @@ use Prim.Native.Nat.{ℕ}
 use native.Mathlib.Omega.{arith}
 use lib.ListN.{replicate, length-replicate}
 use Rattle.base.specs.Verdicts.{replyOf}
-use Rattle.matrix.specs.Matrix.{Matrix}
-use Rattle.matrix.specs.Checks.{matrixOf}
+use Rattle.matrix.specs.Matrix.{Matrix, matrixOf}
 use Rattle.matrix.proofs.Matrix.{matrix-facts}
 use Rattle.matrix.specs.Limits.{maxRows}
-use Rattle.plan.specs.Sound.{maxFields}
+use Rattle.plan.specs.code.Room.{maxFields}
 use Rattle.writer.proofs.puts.Putting.{put-as}
 use Rattle.listing.proofs.PlanLists.{Left, planned-refused, planned-accepted}
 use Rattle.listing.proofs.put_planned.Statement.{statement}

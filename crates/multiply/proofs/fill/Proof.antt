@@ -9,8 +9,7 @@ use mir.Val.{SFits}
 use mir.Facts.{toZ-ofZ}
 use denote.Ref.{now}
 use Rattle.base.proofs.Fill.{filled, length-filled, filled-next}
-use Rattle.matrix.specs.Matrix.{Matrix, columnsOf, valuesOf}
-use Rattle.matrix.specs.Checks.{matrixOf}
+use Rattle.matrix.specs.Matrix.{Matrix, columnsOf, valuesOf, matrixOf}
 use Rattle.matrix.specs.Product.{forceAt, product}
 use Rattle.matrix.proofs.Checks.{Tidy, matrix-tidy}
 use Rattle.matrix.proofs.Rows.{columns-part, values-part, columns-in, values-in}

@@ -4,8 +4,7 @@ use mathlib.Core.Bool.{true}
 use borrow.Author.Needs.{needs}
 use Rattle.base.specs.Verdicts.{replyOf}
 use Rattle.base.proofs.Booleans.{fails, holds}
-use Rattle.matrix.specs.Matrix.{Matrix, isMatrix}
-use Rattle.matrix.specs.Checks.{matrixOf}
+use Rattle.matrix.specs.Matrix.{Matrix, isMatrix, matrixOf}
 use Rattle.multiply.proofs.Replied.{product-unmade, product-unmoved, product-short, product-accepted, product-loaded, refused-forces, made-forces}
 use Rattle.multiply.proofs.product.Statement.{statement}
 use Rattle.multiply.proofs.product.Tie as tie

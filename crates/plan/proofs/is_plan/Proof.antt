@@ -6,8 +6,8 @@ use lib.IntN.{ℤ}
 use borrow.Author.Needs.{needs}
 use Rattle.base.proofs.Booleans.{fails, holds}
 use Rattle.plan.specs.Sound.{isPlan}
-use Rattle.plan.specs.Checks.{recordAt, isWhole}
-use Rattle.matrix.specs.Checks.{matrixOf}
+use Rattle.plan.specs.code.Checks.{recordAt, isWhole}
+use Rattle.matrix.specs.Matrix.{matrixOf}
 use Rattle.plan.proofs.RowsOf.{rows-few}
 use Rattle.plan.proofs.PlanTests.{passes, order-short, no-groups, many-groups, groups-short, plan-passes}
 use Rattle.plan.proofs.is_plan.Statement.{statement}

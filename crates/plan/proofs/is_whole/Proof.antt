@@ -6,7 +6,7 @@ use Prim.Native.Nat.{ℕ}
 use lib.Dec.{eqb, leb}
 use borrow.Author.Tests.{eq-eqb, ne-eqb, le-leb, lt-leb}
 use Rattle.base.proofs.Booleans.{conj-fails}
-use Rattle.plan.specs.Checks.{isWhole}
+use Rattle.plan.specs.code.Checks.{isWhole}
 use Rattle.plan.specs.declared.fields.Record.{Record}
 use Rattle.plan.proofs.is_whole.Statement.{statement}
 use Rattle.plan.proofs.is_whole.Tie as tie

@@ -7,8 +7,7 @@ use native.Mathlib.Omega.{arith}
 use lib.ListN.{length, take, drop, replicate, length-append, length-take}
 use lib.Seq.{length-take-le, take-at}
 use Rattle.base.proofs.Booleans.{fails, holds}
-use Rattle.matrix.specs.Matrix.{Matrix, isMatrix}
-use Rattle.matrix.specs.Checks.{matrixOf}
+use Rattle.matrix.specs.Matrix.{Matrix, isMatrix, matrixOf}
 use Rattle.matrix.specs.Limits.{maxRows}
 use Rattle.plan.specs.Groups.{width}
 use Rattle.race.specs.Planner.{areParameters}

@@ -7,9 +7,9 @@ use lib.IntN.{ℤ}
 use lib.ListN.{set}
 use Rattle.reader.specs.declared.entry.Entry.the-variants as line
 use Rattle.market.specs.Parse.{triplet, Parsed, isAmong}
-use Rattle.compress.specs.Arrays.{tripletsOf}
-use Rattle.reader.specs.Entries.{EntryAt, Held, remaining}
-use Rattle.reader.specs.Marks.{marked, bitOf, Marks}
+use Rattle.compress.specs.code.Arrays.{tripletsOf}
+use Rattle.reader.specs.code.Entries.{EntryAt, Held, remaining}
+use Rattle.reader.specs.code.Marks.{marked, bitOf, Marks}
 use Rattle.reader.proofs.marks.Triangle.{marks-more}
 use Rattle.reader.proofs.entries.Turns.{one-more, taken-line, held-more}
 

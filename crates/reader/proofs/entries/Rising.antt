@@ -10,8 +10,8 @@ use lib.ListN.{length, getD, set, drop}
 use borrow.Author.Tests.{eqb-true}
 use Rattle.reader.specs.declared.entry.Entry.the-variants as line
 use Rattle.market.specs.Parse.{triplet, isAmong, entries}
-use Rattle.compress.specs.Arrays.{tripletsOf}
-use Rattle.reader.specs.Entries.{EntryAt, Held, remaining}
+use Rattle.compress.specs.code.Arrays.{tripletsOf}
+use Rattle.reader.specs.code.Entries.{EntryAt, Held, remaining}
 use Rattle.reader.proofs.marks.Triangle.{among-snoc}
 use Rattle.reader.proofs.entries.Turns.{places-more, taken-line, held-more}
 

@@ -11,8 +11,8 @@ use lib.ListN.{length, getD, set, length-append}
 use lib.Seq.{getD-set-same, getD-set-other}
 use Rattle.base.proofs.Each.{Each}
 use Rattle.market.specs.Parse.{Triplet, triplet}
-use Rattle.compress.specs.Arrays.{tripletsOf, Arrays}
-use Rattle.compress.specs.Rows.{Entries}
+use Rattle.compress.specs.code.Arrays.{tripletsOf, Arrays}
+use Rattle.compress.specs.code.Rows.{Entries}
 use Rattle.market.proofs.Accepted.{Inner, Accepted}
 
 -- a place past the first k changes nothing of them

@@ -13,8 +13,8 @@ use Rattle.base.specs.Refusals as why
 use Rattle.matrix.specs.Limits.{maxRows}
 use Rattle.reader.specs.declared.entry.Entry.the-variants as line
 use Rattle.market.specs.Parse.{Triplet, triplet, matrixText, rejected, isAmong, entries}
-use Rattle.compress.specs.Arrays.{tripletsOf}
-use Rattle.reader.specs.Entries.{EntryAt, Held, remaining}
+use Rattle.compress.specs.code.Arrays.{tripletsOf}
+use Rattle.reader.specs.code.Entries.{EntryAt, Held, remaining}
 use Rattle.scan.proofs.Left.{left-cons}
 use Rattle.reader.proofs.entries.Triplets.{triplets-more}
 

@@ -11,8 +11,8 @@ use Rattle.scan.specs.declared.lines.Fields.the-variants as fld
 use Rattle.reader.specs.declared.entry.Entry.the-variants as line
 use Rattle.market.specs.Fields.{fields}
 use Rattle.market.specs.Parse.{Triplet, triplet, rejected, isEntry, isAmong, onLine, entries}
-use Rattle.scan.specs.Positions.{fieldsAt}
-use Rattle.reader.specs.Entries.{EntryAt}
+use Rattle.scan.specs.code.Positions.{fieldsAt}
+use Rattle.reader.specs.code.Entries.{EntryAt}
 use Rattle.scan.proofs.Left.{left-later}
 use Rattle.scan.proofs.lines.Lines.{line-at, line-no}
 use Rattle.market.proofs.Inside.{inside}

@@ -11,7 +11,7 @@ use lib.Pow.{pow-pos, pow-lt, pow-add, shl-exact}
 use lib.ListN.{length, getD, set, length-set}
 use lib.Seq.{getD-set-same, getD-set-other}
 use borrow.Author.Tests.{eqb-true, eqb-false, ltb-true, ltb-false, eq-eqb, ne-eqb}
-use Rattle.reader.specs.Marks.{hasBit, isMarked, marked}
+use Rattle.reader.specs.code.Marks.{hasBit, isMarked, marked}
 
 pow-bit : (k j : ℕ) → 2 ^ k / 2 ^ j % 2 ≡ cond (eqb j k) 1 0
 pow-bit k j = go (eqb j k) refl (ltb j k) refl

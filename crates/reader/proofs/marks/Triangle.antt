@@ -13,7 +13,7 @@ use borrow.Author.Tests.{eqb-true, eqb-false, ltb-true, ltb-false, eq-eqb, ne-eq
 use Rattle.base.proofs.Booleans.{eqb-sym}
 use Rattle.base.proofs.Lists.{getD-zeros}
 use Rattle.market.specs.Parse.{Triplet, isAt, isAmong}
-use Rattle.reader.specs.Marks.{isMarked, marked, triangle, bitOf, Marks}
+use Rattle.reader.specs.code.Marks.{isMarked, marked, triangle, bitOf, Marks}
 use Rattle.reader.proofs.marks.Bits.{length-marked, marked-is}
 
 -- an earlier row's bits come first

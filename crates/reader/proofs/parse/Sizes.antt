@@ -20,7 +20,7 @@ use Rattle.scan.specs.declared.lines.Fields.the-variants as fld
 use Rattle.market.specs.Bytes.{header}
 use Rattle.market.specs.Fields.{fields}
 use Rattle.market.specs.Parse.{rejected, entries, sized, sizeLine, Place, place, comments, parse}
-use Rattle.scan.specs.Positions.{fieldsAt}
+use Rattle.scan.specs.code.Positions.{fieldsAt}
 use Rattle.scan.proofs.Left.{left-later}
 use Rattle.scan.proofs.lines.Lines.{line-at, line-no}
 use Rattle.reader.proofs.opening.Line1.{begins-length}

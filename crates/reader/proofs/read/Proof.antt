@@ -3,9 +3,9 @@ use borrow.Author.Needs.{needs}
 use mathlib.Core.Path.{_≡_, sym, ap, subst, _∙_}
 use Rattle.reader.specs.declared.entries.Scanned.{Scanned}
 use Rattle.market.specs.Parse.{Parsed, matrixText, parse}
-use Rattle.compress.specs.Arrays.{tripletsOf}
-use Rattle.reader.specs.Scanned.{parsed}
-use Rattle.compress.specs.Rows.{Placed}
+use Rattle.compress.specs.code.Arrays.{tripletsOf}
+use Rattle.reader.specs.code.Scanned.{parsed}
+use Rattle.compress.specs.code.Rows.{Placed}
 use Rattle.market.proofs.Accepted.{parse-accepted}
 use Rattle.reader.proofs.entries.Triplets.{accepted-entries}
 use Rattle.compress.proofs.rows.Replies.{placed-rejected}

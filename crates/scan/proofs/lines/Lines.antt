@@ -13,7 +13,7 @@ use Rattle.scan.specs.declared.lines.Value.the-variants as val
 use Rattle.scan.specs.declared.lines.Fields.the-variants as fld
 use Rattle.market.specs.Bytes.{classOf}
 use Rattle.market.specs.Fields.{Line, line, broken, numeral, field, valueField, fields}
-use Rattle.scan.specs.Positions.{numberAt, valueAt, fieldsAt}
+use Rattle.scan.specs.code.Positions.{numberAt, valueAt, fieldsAt}
 use Rattle.scan.proofs.Left.{left-cons, left-later}
 use Rattle.scan.proofs.numbers.Answers.{scan-at, scan-no}
 use Rattle.scan.proofs.lines.Values.{value-at, value-no}

@@ -12,7 +12,7 @@ use Rattle.scan.specs.declared.numbers.Number.the-variants as num
 use Rattle.scan.specs.declared.lines.Value.the-variants as val
 use Rattle.market.specs.Bytes.{classOf}
 use Rattle.market.specs.Fields.{got, Signed, is, no, digits, isNumber, numeral, spaces, value, valueField, shiftedSigned, positive, negative}
-use Rattle.scan.specs.Positions.{numberAt, valueAt}
+use Rattle.scan.specs.code.Positions.{numberAt, valueAt}
 use Rattle.scan.proofs.Left.{left-cons, left-later}
 use Rattle.scan.proofs.numbers.Answers.{scan-at, scan-no, number-bound}
 

@@ -11,7 +11,7 @@ use borrow.Author.Tests.{leb-true, le-leb, lt-leb, eqb-true}
 use Rattle.scan.specs.declared.numbers.Number.the-variants as num
 use Rattle.market.specs.Bytes.{classOf, isDigit}
 use Rattle.market.specs.Fields.{Scan, got, none, digits, isNumber, valueOf, numeral, spaces, field, shifted}
-use Rattle.scan.specs.Positions.{numberAt}
+use Rattle.scan.specs.code.Positions.{numberAt}
 use Rattle.scan.proofs.Left.{left-later}
 use Rattle.scan.proofs.numbers.Scanning.{digit-range}
 

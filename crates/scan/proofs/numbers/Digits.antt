@@ -12,7 +12,7 @@ use Rattle.scan.specs.declared.numbers.Number.{Number}
 use Rattle.scan.specs.declared.numbers.Number.the-variants as num
 use Rattle.market.specs.Bytes.{classOf, isDigit}
 use Rattle.market.specs.Fields.{got, none, digits, isNumber, valueOf, numeral}
-use Rattle.scan.specs.Positions.{numberAt, isNumeral, pick}
+use Rattle.scan.specs.code.Positions.{numberAt, isNumeral, pick}
 use Rattle.scan.proofs.Left.{left-cons}
 use Rattle.scan.proofs.numbers.Scanning.{digits-more, digit-range}
 

@@ -4,8 +4,8 @@ use Prim.Native.Nat.{_-_, _≤_}
 use native.Mathlib.Omega.{arith}
 use lib.ListN.{length, replicate}
 use borrow.Author.Needs.{needs}
-use Rattle.levels.specs.Rows.{adjOf}
-use Rattle.search.specs.Search.{Between, Kept}
+use Rattle.levels.specs.code.Rows.{adjOf}
+use Rattle.search.specs.code.Search.{Between, Kept}
 use Rattle.search.proofs.Frontiers.{kept-refl, kept-trans}
 use Rattle.search.proofs.AllComponents.{roots-below, between-start, levelled}
 use Rattle.search.proofs.components.Statement.{statement}

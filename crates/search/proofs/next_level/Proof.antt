@@ -5,9 +5,10 @@ use Prim.Native.Nat.{_-_, _<_}
 use native.Mathlib.Omega.{arith}
 use lib.ListN.{take, getD}
 use borrow.Author.Needs.{needs}
-use Rattle.matrix.specs.Matrix.{pattern, columnsOf}
-use Rattle.levels.specs.Rows.{adjOf}
-use Rattle.search.specs.Search.{wave}
+use Rattle.matrix.specs.Matrix.{columnsOf}
+use Rattle.matrix.specs.code.Pattern.{pattern}
+use Rattle.levels.specs.code.Rows.{adjOf}
+use Rattle.search.specs.code.Search.{wave}
 use Rattle.levels.proofs.Rows.{row-in, row-is, row-below, rows-graph}
 use Rattle.search.proofs.Visits.{visit-row, Across, across-start, across-in, across-step, across-end}
 use Rattle.search.proofs.next_level.Statement.{statement}

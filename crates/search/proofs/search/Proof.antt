@@ -7,8 +7,8 @@ use lib.ListN.{length, getD}
 use borrow.Author.Needs.{needs}
 use Rattle.base.specs.Lists.{filter, isIn, range}
 use Rattle.base.proofs.Lists.{in-get}
-use Rattle.levels.specs.Rows.{adjOf}
-use Rattle.search.specs.Marks.{atMark}
+use Rattle.levels.specs.code.Rows.{adjOf}
+use Rattle.search.specs.code.Marks.{atMark}
 use Rattle.search.proofs.AllComponents.{own-roots}
 use Rattle.search.proofs.MarkedRegion.{region-is, region-small}
 use Rattle.levels.proofs.Members.{own-length, own-same, own-again}

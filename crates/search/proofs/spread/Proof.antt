@@ -1,8 +1,8 @@
 -- After each turn one level more is done.
 use Prim.Native.Nat.{_+_, _*_, _-_}
 use native.Mathlib.Omega.{arith}
-use Rattle.levels.specs.Rows.{adjOf}
-use Rattle.search.specs.Marks.{unreached}
+use Rattle.levels.specs.code.Rows.{adjOf}
+use Rattle.search.specs.code.Marks.{unreached}
 use Rattle.levels.proofs.Rows.{rows-graph}
 use Rattle.search.proofs.Frontiers.{frontier-front, Spreading, spreading-start, spreading-step, spreading-less, spreading-end}
 use Rattle.search.proofs.spread.Statement.{statement}

@@ -4,7 +4,7 @@ use Prim.Native.Nat.{_-_}
 use native.Mathlib.Omega.{arith}
 use lib.ListN.{length, take}
 use borrow.Author.Needs.{needs}
-use Rattle.search.specs.Search.{wave}
+use Rattle.search.specs.code.Search.{wave}
 use Rattle.search.proofs.Visits.{Along, along-step, along-end}
 use Rattle.search.proofs.visit_all.Statement.{statement}
 use Rattle.search.proofs.visit_all.Tie as tie

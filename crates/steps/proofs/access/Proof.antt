@@ -8,8 +8,8 @@ use mir.Syntax.{w64}
 use mir.Val.{SFits}
 use mir.Facts.{toZ-ofZ}
 use borrow.Author.Needs.{needs, sfits-of}
-use Rattle.steps.specs.Sum.{sumOf}
-use Rattle.steps.specs.Updates.{amountIn}
+use Rattle.steps.specs.code.Sum.{sumOf}
+use Rattle.steps.specs.code.Updates.{amountIn}
 use Rattle.steps.proofs.TableUpdates.{by-low}
 use Rattle.steps.proofs.TableSteps.{step-loads, step-stores, step-passes}
 use Rattle.steps.proofs.access.Statement.{statement}

@@ -8,8 +8,8 @@ use lib.ListN.{getD}
 use borrow.Author.Tests.{eq-eqb, ne-eqb, lt-ltb, le-ltb, le-leb, lt-leb}
 use borrow.Author.Needs.{needs}
 use Rattle.run.specs.Machine.{reason}
-use Rattle.tables.specs.Laid.{updatesIn}
-use Rattle.steps.specs.Steps.{placeNext, rowNext}
+use Rattle.tables.specs.code.Laid.{updatesIn}
+use Rattle.steps.specs.code.Steps.{placeNext, rowNext}
 use Rattle.steps.proofs.refusal.Statement.{statement}
 use Rattle.steps.proofs.refusal.Tie as tie
 

@@ -4,8 +4,8 @@ use Prim.Native.Nat.{ℕ, _+_, _*_, _/_, _≤_, _<_}
 use native.Mathlib.Omega.{arith}
 use lib.ListN.{length, getD}
 use borrow.Author.Needs.{needs}
-use Rattle.tables.specs.Laid.{updatesIn}
-use Rattle.steps.specs.Steps.{placeNext, rowNext}
+use Rattle.tables.specs.code.Laid.{updatesIn}
+use Rattle.steps.specs.code.Steps.{placeNext, rowNext}
 use Rattle.steps.proofs.TableSteps.{reason-none, step-refused}
 use Rattle.steps.proofs.step.Statement.{statement}
 use Rattle.steps.proofs.step.Tie as tie

@@ -50,10 +50,9 @@ use Rattle.base.specs.Verdicts.{replyOf}
 use Rattle.base.specs.declared.Verdict.{Verdict}
 use Rattle.base.proofs.Answer as S
 use Rattle.base.proofs.Answer.Laws as S′
-use Rattle.matrix.specs.Checks.{matrixOf}
-use Rattle.plan.specs.Groups.{flat}
+use Rattle.matrix.specs.Matrix.{matrixOf}
+use Rattle.plan.specs.Groups.{flat, groupOf}
 use Rattle.plan.specs.Sound.{checkReply}
-use Rattle.plan.specs.Checks.{groupOf}
 use Rattle.plan.specs.declared.fields.Group.{Group}
 use Rattle.plan.proofs.fields.Group as T
 use Rattle.groups.proofs.Walking.{u32-dropped, slice-dropped, hears, group-vals, group-tells, at}

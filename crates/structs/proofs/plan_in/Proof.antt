@@ -56,8 +56,7 @@ use Rattle.base.specs.Replies.{Reply, lent}
 use Rattle.base.specs.declared.Verdict.{Verdict}
 use Rattle.base.proofs.Answer as S
 use Rattle.base.proofs.Answer.Laws as S′
-use Rattle.matrix.specs.Matrix.{Matrix}
-use Rattle.matrix.specs.Checks.{matrixOf}
+use Rattle.matrix.specs.Matrix.{Matrix, matrixOf}
 use Rattle.plan.specs.Groups.{width}
 use Rattle.plan.specs.declared.fields.Group.{Group}
 use Rattle.plan.proofs.fields.Group as T

@@ -3,8 +3,8 @@ use mathlib.Core.Path.{_≡_, sym, _∙_}
 use mathlib.Core.Bool.{true}
 use borrow.Author.Needs.{needs}
 use Rattle.base.proofs.Booleans.{fails, holds}
-use Rattle.matrix.specs.Matrix.{Matrix}
-use Rattle.matrix.specs.Checks.{matrixOf, shaped}
+use Rattle.matrix.specs.Matrix.{Matrix, matrixOf}
+use Rattle.matrix.specs.code.Checks.{shaped}
 use Rattle.matrix.proofs.Checks.{shape, matrix-unshaped}
 use Rattle.symmetric.proofs.Regular.{matrix-large, matrix-regular}
 use Rattle.symmetric.proofs.is_matrix.Statement.{statement}

@@ -9,9 +9,8 @@ use lib.Dec.{ltb}
 use lib.IntN.{pos}
 use mir.Syntax.{w32}
 use mir.Facts.{toZ-ofZ}
-use Rattle.matrix.specs.Checks.{matrixOf}
-use Rattle.matrix.specs.Matrix.{Matrix, columnsOf, valuesOf}
-use Rattle.upper.specs.Upper.{Parts, Upper}
+use Rattle.matrix.specs.Matrix.{matrixOf, Matrix, columnsOf, valuesOf}
+use Rattle.upper.specs.code.Upper.{Parts, Upper}
 use Rattle.upper.proofs.JoinRows.{Joined, Turn, join-turn, column-inside, own-next, join-begun, join-ended}
 use Rattle.upper.proofs.PlacedRows.{row-low}
 use Rattle.upper.proofs.SizeRows.{byte-le}

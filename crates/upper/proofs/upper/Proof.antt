@@ -2,8 +2,8 @@
 use mathlib.Core.Path.{_≡_, subst}
 use Prim.Native.Nat.{ℕ, _-_, _≤_}
 use lib.ListN.{take}
-use Rattle.matrix.specs.Checks.{matrixOf}
-use Rattle.upper.specs.Upper.{Upper}
+use Rattle.matrix.specs.Matrix.{matrixOf}
+use Rattle.upper.specs.code.Upper.{Upper}
 use borrow.Author.Needs.{needs}
 use Rattle.upper.proofs.upper.Statement.{statement}
 use Rattle.upper.proofs.upper.Tie as tie

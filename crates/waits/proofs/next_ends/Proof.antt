@@ -3,8 +3,8 @@ use mathlib.Core.Path.{_≡_, ap, subst}
 use Prim.Native.Nat.{ℕ, _-_, _≤_, _<_}
 use native.Mathlib.Omega.{arith}
 use Rattle.plan.specs.Groups.{Group}
-use Rattle.plan.specs.Checks.{ofRecord}
-use Rattle.waits.specs.Waits.{Ahead}
+use Rattle.plan.specs.code.Checks.{ofRecord}
+use Rattle.waits.specs.code.Waits.{Ahead}
 use Rattle.waits.proofs.PassTurns.{ahead-none, ahead-next}
 use borrow.Author.Needs.{needs}
 use Rattle.waits.proofs.next_ends.Statement.{statement}

@@ -3,7 +3,7 @@ use mathlib.Core.Path.{ap}
 use Prim.Native.Nat.{_-_, _≤_, _<_}
 use native.Mathlib.Omega.{arith}
 use Rattle.plan.specs.Groups.{Group}
-use Rattle.plan.specs.Checks.{ofRecord}
+use Rattle.plan.specs.code.Checks.{ofRecord}
 use Rattle.waits.proofs.PassTurns.{Backward, backward-none, backward-next, backward-all}
 use borrow.Author.Needs.{needs}
 use Rattle.waits.proofs.open_reds.Statement.{statement}

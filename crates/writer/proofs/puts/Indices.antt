@@ -9,7 +9,7 @@ use lib.Dec.{ltb}
 use lib.ListN.{length, length-append}
 use borrow.Author.Tests.{ltb-true, ltb-false, lt-ltb, le-ltb}
 use Rattle.market.specs.Text.{natural}
-use Rattle.writer.specs.Puts.{digitAt}
+use Rattle.writer.specs.code.Puts.{digitAt}
 use Rattle.writer.proofs.puts.Digits.{natural-digit, natural-digits}
 
 -- a power that the number has not reached, and one that it has

@@ -6,7 +6,7 @@ use native.Mathlib.Numerals.{add-one}
 use native.Mathlib.Omega.{arith}
 use lib.ListN.{length, getD, set, take, drop, length-append, length-set, take-append-drop}
 use lib.Seq.{set-split, take-length, length-take-le, take-at, drop-at, drop-drop, take-set-le, drop-set-lt}
-use Rattle.writer.specs.Puts.{Put}
+use Rattle.writer.specs.code.Puts.{Put}
 use Rattle.base.proofs.Fill.{copy-one}
 
 -- one byte

@@ -14,7 +14,7 @@ use borrow.Author.Tests.{ltb-true, le-ltb}
 use Rattle.base.proofs.Integers.{abs-sub, abs-negℤ, fits-abs}
 use Rattle.market.specs.Bytes.{minus}
 use Rattle.market.specs.Text.{natural, integer}
-use Rattle.writer.specs.Puts.{Put}
+use Rattle.writer.specs.code.Puts.{Put}
 use Rattle.market.proofs.Decimal.{decimal-some}
 use Rattle.writer.proofs.puts.Putting.{put-one, put-then, put-over}
 

@@ -6,7 +6,7 @@ use native.Mathlib.Omega.{arith}
 use lib.ListN.{length, set, take, drop, length-set, take-append-drop}
 use lib.Seq.{drop-cons, getD-set-same, drop-set-lt, take-set-le, append-snoc}
 use Rattle.market.specs.Text.{natural}
-use Rattle.writer.specs.Puts.{Put}
+use Rattle.writer.specs.code.Puts.{Put}
 use Rattle.writer.proofs.puts.Digits.{natural-digit, natural-digits, length-digit, length-digits}
 
 -- the digits of v but those of x are there, from place i on

@@ -14,7 +14,7 @@ use Rattle.base.specs.Lists.{concat}
 use Rattle.base.proofs.Lists.{concat-append}
 use Rattle.market.specs.Parse.{Triplet, triplet}
 use Rattle.market.specs.Text.{lineOf, entryLine}
-use Rattle.writer.specs.Puts.{ifLower, fromDiagonal, linesOf}
+use Rattle.writer.specs.code.Puts.{ifLower, fromDiagonal, linesOf}
 use Rattle.writer.proofs.puts.Digits.{natural-few, integer-few, length-line}
 
 -- ---- lines

@@ -12,7 +12,7 @@ use Rattle.base.specs.Replies.{accepted, refused, inTurn, lent}
 use Rattle.matrix.specs.Matrix.{Matrix, isMatrix, matrixCheck}
 use Rattle.market.specs.Bytes.{header}
 use Rattle.market.specs.Text.{lineOf, textOf, lower, written, writeReply}
-use Rattle.writer.specs.Puts.{Put, linesOf, Tallied}
+use Rattle.writer.specs.code.Puts.{Put, linesOf, Tallied}
 use Rattle.market.proofs.Written.{header-length}
 use Rattle.writer.proofs.puts.Putting.{put-then, put-as}
 

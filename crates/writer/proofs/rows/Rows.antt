@@ -12,7 +12,7 @@ use borrow.Author.Tests.{eq-eqb, ne-eqb, leb-true, leb-false}
 use Rattle.base.specs.Lists.{filter, keep, isIn, concat, range}
 use Rattle.base.proofs.Lists.{length-filter-le, length-range, take-drop, in-get, filter-in}
 use Rattle.matrix.specs.Matrix.{Matrix, columnsOf, valuesOf, lookup, entry, ascending, isMatrix}
-use Rattle.matrix.specs.Checks.{RowIn}
+use Rattle.matrix.specs.code.Checks.{RowIn}
 use Rattle.matrix.proofs.Matrix.{matrix-facts, column-low}
 use Rattle.matrix.proofs.Ascending.{ascending-tail}
 use Rattle.matrix.proofs.Checks.{matrix-tidy}
@@ -20,7 +20,7 @@ use Rattle.matrix.proofs.Rows.{columns-part, values-part, columns-in, values-in
 use Rattle.matrix.proofs.Symmetry.{row-lengths}
 use Rattle.market.specs.Parse.{Triplet, triplet}
 use Rattle.market.specs.Text.{columnOf, lower}
-use Rattle.writer.specs.Puts.{fromDiagonal, Row}
+use Rattle.writer.specs.code.Puts.{fromDiagonal, Row}
 use Rattle.market.proofs.Pieces.{map-members}
 use Rattle.market.proofs.Lower.Columns.{first-below, columns-among, column-is-row}
 use Rattle.writer.proofs.rows.Entries.{before-diagonal, from-diagonal}

@@ -7,7 +7,7 @@ use lib.IntN.{ℤ}
 use lib.ListN.{length, length-append}
 use Rattle.market.specs.Parse.{Triplet}
 use Rattle.market.specs.Text.{lineOf}
-use Rattle.writer.specs.Puts.{ifLower, linesOf, Tallied}
+use Rattle.writer.specs.code.Puts.{ifLower, linesOf, Tallied}
 use Rattle.writer.proofs.rows.Entries.{lines-append, lines-few, before-diagonal, from-diagonal, line-from-diagonal}
 
 pub tallied-none : (j c : ℕ) (v : ℤ) → c < j → Tallied (ifLower j c v) 0 0

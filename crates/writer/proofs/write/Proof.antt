@@ -10,11 +10,10 @@ use mir.Syntax.{w32}
 use mir.Val.{toZ}
 use mir.ValLaws.{toZ-pos}
 use borrow.Author.Tests.{not-true, not-false}
-use Rattle.matrix.specs.Matrix.{Matrix, isMatrix}
+use Rattle.matrix.specs.Matrix.{Matrix, isMatrix, matrixOf}
 use Rattle.matrix.specs.Limits.{maxRows}
-use Rattle.matrix.specs.Checks.{matrixOf}
 use Rattle.market.specs.Text.{lineOf, lower, written}
-use Rattle.writer.specs.Puts.{Put}
+use Rattle.writer.specs.code.Puts.{Put}
 use Rattle.base.proofs.Replies.{lent-refused}
 use Rattle.matrix.proofs.Matrix.{matrix-facts}
 use Rattle.market.proofs.Lower.Count.{lower-few}

@@ -4,8 +4,7 @@ use mathlib.Core.Bool.{true}
 use borrow.Author.Needs.{needs}
 use Rattle.base.specs.Verdicts.{replyOf}
 use Rattle.base.proofs.Booleans.{fails, holds}
-use Rattle.matrix.specs.Matrix.{Matrix, isMatrix}
-use Rattle.matrix.specs.Checks.{matrixOf}
+use Rattle.matrix.specs.Matrix.{Matrix, isMatrix, matrixOf}
 use Rattle.calls.proofs.JobChecked.{job-unmade, job-unmoved, job-unsound, job-taken}
 use Rattle.calls.proofs.checks.check_job.Statement.{statement}
 use Rattle.calls.proofs.checks.check_job.Tie as tie

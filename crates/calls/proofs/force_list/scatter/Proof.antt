@@ -9,7 +9,7 @@ use mir.Val.{SFits}
 use mir.Facts.{toZ-ofZ}
 use borrow.Author.Needs.{needs}
 use Rattle.plan.proofs.Once.{once}
-use Rattle.calls.specs.Scatter.{Scattered}
+use Rattle.calls.specs.code.Scatter.{Scattered}
 use Rattle.calls.proofs.Scattering.{scattered-none, scattered-next, place-below}
 use Rattle.calls.proofs.force_list.scatter.Statement.{statement}
 use Rattle.calls.proofs.force_list.scatter.Tie as tie

@@ -4,7 +4,7 @@ use borrow.Author.Needs.{needs}
 use Rattle.base.proofs.Lists.{getD-zeros}
 use Rattle.matrix.proofs.Matrix.{matrix-facts}
 use Rattle.run.specs.Job.{jobOf}
-use Rattle.tables.specs.Laid.{maxUpdates}
+use Rattle.tables.specs.code.Laid.{maxUpdates}
 use Rattle.upper.proofs.PlacedRows.{upper-none}
 use Rattle.layout.proofs.GivenRows.{lent-of, planned-of}
 use Rattle.steps.proofs.GivenTables.{triangle-of, step-tables}

@@ -6,9 +6,9 @@ use native.Mathlib.Omega.{arith}
 use lib.Dec.{eqb}
 use borrow.Author.Needs.{needs}
 use Rattle.run.specs.Job.{Job}
-use Rattle.run.specs.Machine as machine
+use Rattle.run.specs.Job as job
 use Rattle.run.specs.Machine.{refusal, readyBelow, ready, bits}
-use Rattle.tables.specs.Laid.{Laid, Waits}
+use Rattle.tables.specs.code.Laid.{Laid, Waits}
 use Rattle.machine.proofs.TableWaits.{table-reason}
 use Rattle.calls.proofs.ReadyBits.{bits-turn}
 use Rattle.calls.proofs.ready_set.ready_bits.Statement.{statement}
@@ -16,7 +16,7 @@ use Rattle.calls.proofs.ready_set.ready_bits.Tie as tie
 
 abbrev Inv-loop : tie.InvT-loop
 Inv-loop made workers first row leaves blocks set₀ w₀ set w =
-    (w ≤ workers) × ((j : Job) (begins ends : List ℕ) → workers ≡ machine.workers j → Laid j first row begins leaves ends → Waits j made blocks → set ≡ bits (readyBelow j made w))
+    (w ≤ workers) × ((j : Job) (begins ends : List ℕ) → workers ≡ job.workers j → Laid j first row begins leaves ends → Waits j made blocks → set ≡ bits (readyBelow j made w))
 
 abbrev μ-loop : tie.MeasureT-loop
 μ-loop made workers first row leaves blocks set₀ w₀ set w = workers - w
@@ -62,7 +62,7 @@ returns c =
     let l = c .before in
     let a = l .before .args in
     λ j begins ends e laid waits.
-    (let all : l .loop .w ≡ machine.workers j = omega arith in
+    (let all : l .loop .w ≡ job.workers j = omega arith in
     l .loop .inv .1 j begins ends e laid waits ∙ ap (λ (k : ℕ). bits (readyBelow j (a .made .now) k)) all)
 
 pub ready-bits-spec : {M : Type 1} → statement M

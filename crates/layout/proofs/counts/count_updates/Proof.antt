@@ -8,11 +8,11 @@ use lib.ListN.{length, getD}
 use borrow.Author.Tests.{not-true, not-false}
 use Rattle.base.proofs.Booleans.{fails, holds}
 use Rattle.base.proofs.Lists.{getD-zeros}
-use Rattle.plan.specs.Checks.{belowWhole}
+use Rattle.plan.specs.code.Checks.{belowWhole}
 use Rattle.run.specs.Job.{Job}
 use Rattle.run.specs.Updates.{upTo}
-use Rattle.tables.specs.Laid.{hasChild}
-use Rattle.layout.specs.UpdateTable.{Planned, Numbers, reached}
+use Rattle.tables.specs.code.Laid.{hasChild}
+use Rattle.layout.specs.code.UpdateTable.{Planned, Numbers, reached}
 use Rattle.layout.proofs.UpdateRoom.{room}
 use Rattle.layout.proofs.LeafRows.{in-order, reached-group, all-reached, Read, read}
 use Rattle.layout.proofs.CountRows.{numbers-none, numbers-leaf}

@@ -6,7 +6,7 @@ use native.Mathlib.Numerals.{add-one}
 use lib.ListN.{length, getD}
 use Rattle.run.specs.Job.{Job}
 use Rattle.run.specs.Updates.{upTo}
-use Rattle.layout.specs.UpdateTable.{Sized, Stretch}
+use Rattle.layout.specs.code.UpdateTable.{Sized, Stretch}
 use Rattle.layout.proofs.CountRows.{row-fits}
 use borrow.Author.Needs.{needs}
 use Rattle.layout.proofs.counts.leaf_updates.Statement.{statement}

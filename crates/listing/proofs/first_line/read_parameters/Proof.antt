@@ -6,7 +6,7 @@ use Prim.Native.Nat.{ℕ, _+_}
 use lib.ListN.{drop}
 use Rattle.scan.specs.declared.numbers.Number.the-variants as num
 use Rattle.market.specs.Fields.{numeral}
-use Rattle.scan.specs.Positions.{numberAt}
+use Rattle.scan.specs.code.Positions.{numberAt}
 use Rattle.listing.proofs.FirstLine.{no-first, no-gap, other-gap, no-second, more-after, both-given}
 use Rattle.listing.proofs.first_line.read_parameters.Statement.{statement}
 use Rattle.listing.proofs.first_line.read_parameters.Tie as tie

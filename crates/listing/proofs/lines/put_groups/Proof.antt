@@ -8,7 +8,7 @@ use lib.ListN.{length, take, drop, length-append}
 use Rattle.market.specs.Text.{natural}
 use Rattle.writer.proofs.puts.Putting.{Putting, Next, put-then, putting-start, putting-room, putting-more, putting-end}
 use Rattle.plan.specs.Groups.{fieldsOf, records, width}
-use Rattle.plan.specs.Checks.{recordAt}
+use Rattle.plan.specs.code.Checks.{recordAt}
 use Rattle.plan.proofs.FlatRecords.{length-records}
 use Rattle.listing.specs.Listing.{groupLines}
 use Rattle.listing.proofs.Printed.{fieldsLine, record-part, groups-next, groups-end, groups-few}

@@ -1,7 +1,7 @@
 -- `machine::state::passes` meets its contract, case by case.
 use borrow.Author.Needs.{needs}
 use borrow.Author.Tests.{eq-eqb, ne-eqb}
-use Rattle.machine.specs.Stepped.{passesOver}
+use Rattle.machine.specs.code.Stepped.{passesOver}
 use Rattle.machine.proofs.state.passes.Statement.{statement}
 use Rattle.machine.proofs.state.passes.Tie as tie
 

@@ -7,8 +7,7 @@ use lib.ListN.{length, take, drop}
 use lib.Seq.{length-take-le}
 use Rattle.base.specs.Verdicts.{replyOf}
 use Rattle.base.specs.declared.Verdict.{Verdict}
-use Rattle.matrix.specs.Matrix.{Matrix}
-use Rattle.matrix.specs.Checks.{matrixOf}
+use Rattle.matrix.specs.Matrix.{Matrix, matrixOf}
 use Rattle.race.specs.Planner.{planReply}
 use Rattle.lent.specs.Word.{word}
 use Rattle.office.specs.Lent.{planIn}

@@ -8,8 +8,7 @@ use lib.Seq.{length-take-le}
 use Rattle.base.specs.Replies.{accepted}
 use Rattle.base.specs.Verdicts.{replyOf}
 use Rattle.base.specs.declared.Verdict.{Verdict}
-use Rattle.matrix.specs.Matrix.{Matrix}
-use Rattle.matrix.specs.Checks.{matrixOf}
+use Rattle.matrix.specs.Matrix.{Matrix, matrixOf}
 use Rattle.matrix.specs.Product.{productReply}
 use Rattle.lent.specs.Word.{word}
 use Rattle.lent.proofs.Answers.{begins-fits, begins-size}

@@ -6,12 +6,13 @@ use Prim.Native.Nat.{ℕ, _+_, _*_, _-_, _≤_, _<_}
 use native.Mathlib.Omega.{arith}
 use lib.ListN.{take, drop}
 use Rattle.base.proofs.Booleans.{fails, holds}
-use Rattle.matrix.specs.Matrix.{pattern, neighbours}
+use Rattle.matrix.specs.Matrix.{neighbours}
+use Rattle.matrix.specs.code.Pattern.{pattern}
 use Rattle.matrix.specs.Limits.{maxRows}
 use Rattle.plan.specs.Groups.{records}
 use Rattle.plan.specs.Sound.{children, childrenSound, allSound}
-use Rattle.plan.specs.Checks.{recordAt, belowWhole}
-use Rattle.plan.specs.Marks.{UpTo}
+use Rattle.plan.specs.code.Checks.{recordAt, belowWhole}
+use Rattle.plan.specs.code.Marks.{UpTo}
 use Rattle.plan.proofs.Touching.{unmarked}
 use Rattle.plan.proofs.GroupTests.{all-next, all-last}
 use Rattle.plan.proofs.apart.all_sound.Statement.{statement}

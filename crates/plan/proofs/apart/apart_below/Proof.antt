@@ -5,8 +5,8 @@ use Prim.Native.Nat.{_+_, _-_, _^_, _<_}
 use native.Mathlib.Omega.{arith}
 use lib.ListN.{take}
 use Rattle.base.proofs.Booleans.{fails, holds}
-use Rattle.plan.specs.Checks.{ofRecord}
-use Rattle.plan.specs.Marks.{touchedLike, Touched}
+use Rattle.plan.specs.code.Checks.{ofRecord}
+use Rattle.plan.specs.code.Marks.{touchedLike, Touched}
 use Rattle.plan.proofs.Stretch.{order-low}
 use Rattle.plan.proofs.Compare.{Comparing, comparing-first, comparing-stops, comparing-next, comparing-last, comparing-marks}
 use Rattle.plan.proofs.apart.apart_below.Statement.{statement}

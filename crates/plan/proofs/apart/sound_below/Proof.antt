@@ -5,11 +5,12 @@ use native.Mathlib.Omega.{arith}
 use lib.ListN.{take}
 use borrow.Author.Needs.{needs}
 use Rattle.base.proofs.Booleans.{fails, holds}
-use Rattle.matrix.specs.Matrix.{pattern, neighbours}
+use Rattle.matrix.specs.Matrix.{neighbours}
+use Rattle.matrix.specs.code.Pattern.{pattern}
 use Rattle.plan.specs.Groups.{red, blue}
 use Rattle.plan.specs.Sound.{children, likeApart, childrenSound}
-use Rattle.plan.specs.Checks.{recordAt, belowWhole}
-use Rattle.plan.specs.Marks.{ofColour}
+use Rattle.plan.specs.code.Checks.{recordAt, belowWhole}
+use Rattle.plan.specs.code.Marks.{ofColour}
 use Rattle.plan.proofs.GroupTests.{tiles-fail, sound-colours}
 use Rattle.plan.proofs.apart.sound_below.Statement.{statement}
 use Rattle.plan.proofs.apart.sound_below.Tie as tie

@@ -7,8 +7,8 @@ use lib.ListN.{take, drop}
 use borrow.Author.Needs.{needs}
 use borrow.Author.Tests.{eq-eqb, ne-eqb}
 use Rattle.plan.specs.Sound.{stretchOf}
-use Rattle.plan.specs.Checks.{ofRecord}
-use Rattle.plan.specs.Marks.{touchedBy, touchedLike, Touched}
+use Rattle.plan.specs.code.Checks.{ofRecord}
+use Rattle.plan.specs.code.Marks.{touchedBy, touchedLike, Touched}
 use Rattle.plan.proofs.Touching.{touched-none}
 use Rattle.plan.proofs.Stretch.{stretch, part-low}
 use Rattle.plan.proofs.apart.touch_like.Statement.{statement}

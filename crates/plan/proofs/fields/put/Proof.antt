@@ -4,8 +4,7 @@ use native.Mathlib.Numerals.{add-one, add-two, add-three, add-four, add-five}
 use native.Mathlib.Omega.{arith}
 use borrow.Author.Needs.{needs}
 use lib.ListN.{length-set}
-use Rattle.plan.specs.Groups.{width, fieldsOf}
-use Rattle.plan.specs.Checks.{groupOf}
+use Rattle.plan.specs.Groups.{width, fieldsOf, groupOf}
 use Rattle.base.proofs.Stored.{stored-record}
 use Rattle.plan.proofs.fields.put.Statement.{statement}
 use Rattle.plan.proofs.fields.put.Tie as tie

@@ -7,7 +7,7 @@ use native.Mathlib.Omega.{arith}
 use lib.ListN.{length, getD, take}
 use lib.Seq.{take-all}
 use Rattle.base.proofs.Booleans.{fails, holds}
-use Rattle.plan.specs.Marks.{Touched}
+use Rattle.plan.specs.code.Marks.{Touched}
 use Rattle.plan.proofs.Touching.{touched-none, touched-next, touched-stops}
 use Rattle.plan.proofs.marks.touch_all.Statement.{statement}
 use Rattle.plan.proofs.marks.touch_all.Tie as tie

@@ -6,8 +6,9 @@ use Prim.Native.Nat.{ℕ, _<_}
 use native.Mathlib.Omega.{arith}
 use lib.ListN.{length, getD}
 use Rattle.base.proofs.Booleans.{fails, holds}
-use Rattle.matrix.specs.Matrix.{pattern, columnsOf}
-use Rattle.plan.specs.Marks.{Touched}
+use Rattle.matrix.specs.Matrix.{columnsOf}
+use Rattle.matrix.specs.code.Pattern.{pattern}
+use Rattle.plan.specs.code.Marks.{Touched}
 use Rattle.plan.proofs.RowsOf.{rows-few, row-in, row-is, row-low}
 use Rattle.plan.proofs.Touching.{touched-append, touched-part}
 use Rattle.plan.proofs.marks.touch_row.Statement.{statement}

@@ -7,7 +7,7 @@ use native.Mathlib.Omega.{arith}
 use lib.ListN.{length, getD, take}
 use lib.Seq.{take-all}
 use Rattle.base.proofs.Booleans.{fails, holds}
-use Rattle.plan.specs.Marks.{closed, touchedBy, Touched}
+use Rattle.plan.specs.code.Marks.{closed, touchedBy, Touched}
 use Rattle.plan.proofs.Touching.{touched-none, touched-all-next, touched-all-stops}
 use Rattle.plan.proofs.marks.touch_rows.Statement.{statement}
 use Rattle.plan.proofs.marks.touch_rows.Tie as tie

@@ -10,7 +10,7 @@ use borrow.Author.Needs.{needs}
 use borrow.Author.Tests.{le-leb, lt-leb}
 use Rattle.plan.specs.Groups.{Group, records}
 use Rattle.plan.specs.Sound.{depthFirst}
-use Rattle.plan.specs.Checks.{pathOf, standsDepthFirst}
+use Rattle.plan.specs.code.Checks.{pathOf, standsDepthFirst}
 use Rattle.plan.proofs.FlatRecords.{records-none}
 use Rattle.plan.proofs.Path.{path-push, depth-turn}
 use Rattle.plan.proofs.nesting.depth_first.Statement.{statement}

@@ -4,7 +4,7 @@ use Prim.Native.Nat.{_≤_}
 use native.Mathlib.Omega.{arith}
 use lib.Dec.{eqb}
 use Rattle.base.specs.Lists.{fromFirst}
-use Rattle.plan.specs.Checks.{pathOf}
+use Rattle.plan.specs.code.Checks.{pathOf}
 use Rattle.plan.proofs.Path.{up-found, up-past}
 use Rattle.plan.proofs.nesting.up_to.Statement.{statement}
 use Rattle.plan.proofs.nesting.up_to.Tie as tie

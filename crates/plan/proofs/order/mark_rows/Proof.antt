@@ -6,7 +6,7 @@ use Prim.Native.Nat.{ℕ, _+_, _-_, _≤_}
 use native.Mathlib.Omega.{arith}
 use lib.ListN.{take}
 use borrow.Author.Needs.{needs}
-use Rattle.plan.specs.Checks.{Seen}
+use Rattle.plan.specs.code.Checks.{Seen}
 use Rattle.plan.proofs.Seen.{seen-row, seen-other}
 use Rattle.plan.proofs.order.mark_rows.Statement.{statement}
 use Rattle.plan.proofs.order.mark_rows.Tie as tie

@@ -1,7 +1,7 @@
 -- `tiling::ends`: test by test.
 use native.Mathlib.Omega.{arith}
 use borrow.Author.Tests.{eq-eqb, ne-eqb}
-use Rattle.plan.specs.Checks.{complete}
+use Rattle.plan.specs.code.Checks.{complete}
 use Rattle.plan.proofs.tiling.ends.Statement.{statement}
 use Rattle.plan.proofs.tiling.ends.Tie as tie
 

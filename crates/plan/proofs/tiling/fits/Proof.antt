@@ -1,6 +1,6 @@
 -- `tiling::fits`: test by test.
 use borrow.Author.Tests.{eq-eqb, ne-eqb}
-use Rattle.plan.specs.Checks.{fitting}
+use Rattle.plan.specs.code.Checks.{fitting}
 use Rattle.plan.proofs.tiling.fits.Statement.{statement}
 use Rattle.plan.proofs.tiling.fits.Tie as tie
 

@@ -5,7 +5,7 @@ use native.Mathlib.Omega.{arith}
 use lib.ListN.{drop}
 use Rattle.plan.specs.Groups.{Group, records}
 use Rattle.plan.specs.Sound.{children}
-use Rattle.plan.specs.Checks.{recordAt}
+use Rattle.plan.specs.code.Checks.{recordAt}
 use Rattle.plan.proofs.Nested.{children-ended, children-past, children-over}
 use Rattle.plan.proofs.tiling.next_child.Statement.{statement}
 use Rattle.plan.proofs.tiling.next_child.Tie as tie

@@ -1,6 +1,6 @@
 -- `tiling::next_pending`: by the test of w.
 use borrow.Author.Tests.{eq-eqb, ne-eqb}
-use Rattle.plan.specs.Checks.{pending}
+use Rattle.plan.specs.code.Checks.{pending}
 use Rattle.plan.proofs.tiling.next_pending.Statement.{statement}
 use Rattle.plan.proofs.tiling.next_pending.Tie as tie
 

@@ -7,7 +7,7 @@ use lib.ListN.{drop}
 use Rattle.base.proofs.Booleans.{fails, holds}
 use Rattle.plan.specs.Groups.{Group, records}
 use Rattle.plan.specs.Sound.{children}
-use Rattle.plan.specs.Checks.{recordAt, ofRecord, belowWhole, fitting, pending, complete, laid, tiles}
+use Rattle.plan.specs.code.Checks.{recordAt, ofRecord, belowWhole, fitting, pending, complete, laid, tiles}
 use Rattle.plan.proofs.Laid.{fits}
 use Rattle.plan.proofs.ChildTurns.{leaf-tiles, first-tiles, next-tiles, last-tiles}
 use Rattle.plan.proofs.tiling.tiled_below.Statement.{statement}

@@ -6,7 +6,7 @@ use borrow.Author.Needs.{needs}
 use lib.ListN.{length}
 use lib.Seq.{length-take-le}
 use Rattle.levels.specs.Levels.{reach}
-use Rattle.extents.specs.Scans.{policyOf}
+use Rattle.extents.specs.code.Scans.{policyOf}
 use Rattle.extents.proofs.Ends.{sum-split}
 use Rattle.extents.proofs.Extents.{extent-taken}
 use Rattle.planner.proofs.PairPlans.{taken-most, Bounds, pair-bounds}

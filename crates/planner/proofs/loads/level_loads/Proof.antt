@@ -3,8 +3,8 @@ use native.Mathlib.Omega.{arith}
 use Prim.Native.Nat.{_-_}
 use borrow.Author.Needs.{needs}
 use lib.ListN.{length, getD}
-use Rattle.levels.specs.Rows.{adjOf}
-use Rattle.planner.specs.Stretches.{levelsIn}
+use Rattle.levels.specs.code.Rows.{adjOf}
+use Rattle.planner.specs.code.Stretches.{levelsIn}
 use Rattle.planner.proofs.Weights.{load-split, load-few}
 use Rattle.planner.proofs.LevelLoads.{proper-part, Loading, loading-start, loading-next, loading-end, level-start, level-end, sum-level}
 use Rattle.planner.proofs.loads.level_loads.Statement.{statement}

@@ -6,7 +6,7 @@ use borrow.Author.Needs.{needs}
 use lib.ListN.{length, take, getD}
 use lib.Seq.{take-all}
 use Rattle.base.proofs.Lists.{in-get}
-use Rattle.levels.specs.Rows.{adjOf}
+use Rattle.levels.specs.code.Rows.{adjOf}
 use Rattle.race.specs.Loads.{loadOf}
 use Rattle.planner.proofs.Weights.{load-split, load-next, load-few}
 use Rattle.planner.proofs.loads.load.Statement.{statement}

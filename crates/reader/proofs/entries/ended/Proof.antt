@@ -1,7 +1,7 @@
 -- `ended` meets its contract.
 use borrow.Author.Needs.{needs}
 use Prim.Native.Nat.{_+_}
-use Rattle.compress.specs.Arrays.{tripletsOf}
+use Rattle.compress.specs.code.Arrays.{tripletsOf}
 use Rattle.reader.proofs.entries.Turns.{too-many, no-more}
 use Rattle.reader.proofs.entries.ended.Statement.{statement}
 use Rattle.reader.proofs.entries.ended.Tie as tie

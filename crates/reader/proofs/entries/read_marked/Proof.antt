@@ -9,9 +9,9 @@ use mir.Val.{SFits}
 use mir.Facts.{toZ-ofZ}
 use Rattle.reader.specs.declared.entry.Entry.the-variants as line
 use Rattle.market.specs.Parse.{isAmong}
-use Rattle.compress.specs.Arrays.{tripletsOf}
-use Rattle.reader.specs.Entries.{EntryAt, remaining}
-use Rattle.reader.specs.Marks.{isMarked}
+use Rattle.compress.specs.code.Arrays.{tripletsOf}
+use Rattle.reader.specs.code.Entries.{EntryAt, remaining}
+use Rattle.reader.specs.code.Marks.{isMarked}
 use Rattle.reader.proofs.marks.Triangle.{marks-none}
 use Rattle.reader.proofs.entries.Turns.{all-read, refused-line, again-line}
 use Rattle.reader.proofs.entries.Marking.{Going, going-more}

@@ -8,7 +8,7 @@ use mir.Syntax.{w32}
 use mir.Val.{SFits}
 use mir.Facts.{toZ-ofZ}
 use Rattle.reader.specs.declared.entry.Entry.the-variants as line
-use Rattle.reader.specs.Entries.{EntryAt}
+use Rattle.reader.specs.code.Entries.{EntryAt}
 use Rattle.reader.proofs.entries.Rising.{Sorted, sorted-start, sorted-more}
 use Rattle.reader.proofs.entries.read_sorted.Statement.{statement}
 use Rattle.reader.proofs.entries.read_sorted.Tie as tie

@@ -13,7 +13,7 @@ use borrow.Author.Tests.{not-true, not-false}
 use Rattle.scan.specs.declared.lines.Fields.the-variants as fld
 use Rattle.market.specs.Fields.{fields}
 use Rattle.market.specs.Parse.{isEntry}
-use Rattle.scan.specs.Positions.{fieldsAt}
+use Rattle.scan.specs.code.Positions.{fieldsAt}
 use Rattle.market.proofs.Inside.{Inside, inside, inside-fits}
 use Rattle.reader.proofs.entry.Entered.{broken-line, bad-line, good-line}
 use Rattle.reader.proofs.entry.read_entry.Statement.{statement}

@@ -3,7 +3,7 @@ use borrow.Author.Needs.{needs}
 use mathlib.Core.Path.{refl}
 use Prim.Native.Nat.{_%_}
 use native.Mathlib.Omega.{arith}
-use Rattle.reader.specs.Marks.{isMarked, marked}
+use Rattle.reader.specs.code.Marks.{isMarked, marked}
 use Rattle.reader.proofs.marks.Bits.{one-bit}
 use Rattle.reader.proofs.marks.mark.Statement.{statement}
 use Rattle.reader.proofs.marks.mark.Tie as tie

@@ -7,8 +7,8 @@ use native.Mathlib.Omega.{arith}
 use lib.IntN.{ℤ, pos}
 use lib.ListN.{getD}
 use Rattle.market.specs.Parse.{triplet}
-use Rattle.compress.specs.Arrays.{tripletsOf}
-use Rattle.reader.specs.Marks.{Marks}
+use Rattle.compress.specs.code.Arrays.{tripletsOf}
+use Rattle.reader.specs.code.Marks.{Marks}
 use Rattle.reader.proofs.marks.Triangle.{marks-more}
 use Rattle.reader.proofs.entries.Triplets.{triplets-none, triplets-next}
 use Rattle.reader.proofs.marks.mark_all.Statement.{statement}

@@ -9,7 +9,7 @@ use lib.ListN.{length, drop}
 use lib.Seq.{drop-length}
 use Rattle.reader.specs.declared.opening.LineEnd.the-variants as end
 use Rattle.market.specs.Parse.{place, comments}
-use Rattle.reader.specs.Opening.{LineEnds}
+use Rattle.reader.specs.code.Opening.{LineEnds}
 use Rattle.reader.proofs.opening.Comments.{no-comment, a-comment, no-line}
 use Rattle.reader.proofs.opening.skip_comments.Statement.{statement}
 use Rattle.reader.proofs.opening.skip_comments.Tie as tie

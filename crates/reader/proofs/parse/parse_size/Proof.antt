@@ -16,7 +16,7 @@ use Rattle.base.specs.Refusals as why
 use Rattle.scan.specs.declared.lines.Fields.the-variants as fld
 use Rattle.market.specs.Fields.{fields}
 use Rattle.market.specs.Parse.{rejected, sizeLine, entries}
-use Rattle.scan.specs.Positions.{fieldsAt}
+use Rattle.scan.specs.code.Positions.{fieldsAt}
 use Rattle.base.proofs.Integers.{not-negative}
 use Rattle.reader.proofs.parse.Sizes.{fits-natural, size-broken, size-negative, size-tested, size-limits}
 use Rattle.reader.proofs.parse.parse_size.Statement.{statement}

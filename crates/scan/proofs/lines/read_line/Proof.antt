@@ -8,7 +8,7 @@ use mir.Facts.{toZ-ofZ}
 use Rattle.scan.specs.declared.numbers.Number.the-variants as num
 use Rattle.scan.specs.declared.lines.Value.the-variants as val
 use Rattle.market.specs.Fields.{numeral, field, valueField}
-use Rattle.scan.specs.Positions.{numberAt, valueAt}
+use Rattle.scan.specs.code.Positions.{numberAt, valueAt}
 use Rattle.scan.proofs.lines.Lines.{line-one, line-two, line-three, line-short, line-bad, line-good}
 use Rattle.scan.proofs.lines.read_line.Statement.{statement}
 use Rattle.scan.proofs.lines.read_line.Tie as tie

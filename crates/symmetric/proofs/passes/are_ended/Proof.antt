@@ -3,7 +3,7 @@ use mathlib.Core.Path.{refl}
 use Prim.Native.Nat.{_-_}
 use borrow.Author.Needs.{needs}
 use Rattle.base.specs.Lists.{range}
-use Rattle.symmetric.specs.Cursors.{ended}
+use Rattle.symmetric.specs.code.Cursors.{ended}
 use Rattle.base.proofs.Found.{Found, found-none, found-number, found-numbers}
 use Rattle.symmetric.proofs.passes.are_ended.Statement.{statement}
 use Rattle.symmetric.proofs.passes.are_ended.Tie as tie

@@ -5,7 +5,7 @@ use native.Mathlib.Omega.{arith}
 use lib.ListN.{length}
 use borrow.Author.Needs.{needs}
 use borrow.Author.Tests.{lt-leb, ne-eqb}
-use Rattle.matrix.specs.Checks.{shaped}
+use Rattle.matrix.specs.code.Checks.{shaped}
 use Rattle.matrix.proofs.Checks.{shape-fails, shape-rises}
 use Rattle.symmetric.proofs.passes.is_shaped.Statement.{statement}
 use Rattle.symmetric.proofs.passes.is_shaped.Tie as tie

@@ -11,8 +11,7 @@ use mir.Facts.{toZ-ofZ}
 use borrow.Author.Needs.{needs}
 use borrow.Author.Tests.{not-true, not-false}
 use Rattle.base.proofs.Integers.{never}
-use Rattle.matrix.specs.Matrix.{Matrix}
-use Rattle.matrix.specs.Checks.{matrixOf}
+use Rattle.matrix.specs.Matrix.{Matrix, matrixOf}
 use Rattle.matrix.proofs.Checks.{shape}
 use Rattle.matrix.proofs.Rows.{columns-in}
 use Rattle.symmetric.proofs.Cursors.{Turns, turns-first, isLower, meets, Turn, turn-in, turn, turn-falls, turn-misses, turn-ends, turn-next, own-met, turns-end}

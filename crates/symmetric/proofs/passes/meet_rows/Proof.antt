@@ -5,9 +5,8 @@ use native.Mathlib.Omega.{arith}
 use lib.ListN.{length, getD}
 use borrow.Author.Tests.{not-true, not-false}
 use Rattle.matrix.specs.Limits.{maxRows}
-use Rattle.matrix.specs.Matrix.{Matrix}
-use Rattle.matrix.specs.Checks.{matrixOf}
-use Rattle.symmetric.specs.Cursors.{Cursors}
+use Rattle.matrix.specs.Matrix.{Matrix, matrixOf}
+use Rattle.symmetric.specs.code.Cursors.{Cursors}
 use Rattle.matrix.proofs.Checks.{shape}
 use Rattle.symmetric.proofs.RowsMet.{RowsMet, rows-none, rows-next, rows-many, rows-all}
 use Rattle.symmetric.proofs.passes.meet_rows.Statement.{statement}

@@ -3,7 +3,7 @@ use Prim.Native.Nat.{_-_}
 use native.Mathlib.Numerals.{add-one}
 use borrow.Author.Needs.{needs}
 use Rattle.base.specs.Lists.{range}
-use Rattle.matrix.specs.Checks.{rises}
+use Rattle.matrix.specs.code.Checks.{rises}
 use Rattle.base.proofs.Found.{Found, found-none, found-number, found-numbers}
 use Rattle.symmetric.proofs.passes.starts_rise.Statement.{statement}
 use Rattle.symmetric.proofs.passes.starts_rise.Tie as tie

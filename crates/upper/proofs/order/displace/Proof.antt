@@ -6,7 +6,7 @@ use lib.ListN.{length, getD}
 use mir.Syntax.{w32}
 use mir.Facts.{toZ-ofZ}
 use Rattle.matrix.specs.Matrix.{displacement}
-use Rattle.upper.specs.Upper.{Displaced}
+use Rattle.upper.specs.code.Upper.{Displaced}
 use Rattle.upper.proofs.PositionTable.{displaced-none, displaced-next}
 use borrow.Author.Needs.{needs, sfits-of}
 use Rattle.upper.proofs.order.displace.Statement.{statement}

@@ -4,7 +4,7 @@ use Prim.Native.Nat.{ℕ, _-_, _≤_}
 use lib.ListN.{getD, take}
 use lib.Seq.{getD-take}
 use Rattle.plan.proofs.Once.{once}
-use Rattle.upper.specs.Upper.{Positions}
+use Rattle.upper.specs.code.Upper.{Positions}
 use Rattle.upper.proofs.PositionTable.{positions-none, positions-next, row-below}
 use borrow.Author.Needs.{needs}
 use Rattle.upper.proofs.order.positions.Statement.{statement}

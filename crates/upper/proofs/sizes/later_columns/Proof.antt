@@ -5,7 +5,7 @@ use native.Mathlib.Omega.{arith}
 use lib.ListN.{length, getD, take}
 use lib.Seq.{take-length}
 use lib.Dec.{ltb}
-use Rattle.upper.specs.Upper.{laterIn}
+use Rattle.upper.specs.code.Upper.{laterIn}
 use Rattle.upper.proofs.SizeRows.{later-next, later-few, byte-le}
 use borrow.Author.Needs.{needs}
 use Rattle.upper.proofs.sizes.later_columns.Statement.{statement}

@@ -6,13 +6,12 @@ use native.Mathlib.Omega.{arith}
 use lib.IntN.{ℤ}
 use lib.ListN.{length, getD, take}
 use lib.Seq.{getD-take}
-use Rattle.matrix.specs.Checks.{matrixOf}
-use Rattle.matrix.specs.Matrix.{Matrix, columnsOf}
+use Rattle.matrix.specs.Matrix.{matrixOf, Matrix, columnsOf}
 use Rattle.matrix.proofs.Matrix.{matrix-facts, column-low}
 use Rattle.matrix.proofs.Checks.{matrix-tidy}
 use Rattle.matrix.proofs.Rows.{columns-part, columns-in}
 use Rattle.matrix.proofs.Ascending.{isIn-get}
-use Rattle.upper.specs.Upper.{Lent, Sizes, upperOf}
+use Rattle.upper.specs.code.Upper.{Lent, Sizes, upperOf}
 use Rattle.upper.proofs.UpperRows.{upper-few}
 use Rattle.upper.proofs.PlacedRows.{row-low}
 use Rattle.upper.proofs.SizeRows.{size-is, sizes-none, sizes-next}

@@ -7,7 +7,7 @@ use lib.IntN.{natAbs}
 use lib.ListN.{length, length-set}
 use mir.Facts.{toZ-ofZ}
 use Rattle.market.specs.Text.{natural, integer}
-use Rattle.writer.specs.Puts.{Put}
+use Rattle.writer.specs.code.Puts.{Put}
 use Rattle.market.proofs.Decimal.{decimal-some}
 use Rattle.writer.proofs.puts.Signs.{length-integer, put-value}
 use Rattle.writer.proofs.puts.put_integer.Statement.{statement}

@@ -6,7 +6,7 @@ use native.Mathlib.Omega.{arith}
 use lib.ListN.{length}
 use mir.Facts.{toZ-ofZ}
 use Rattle.market.specs.Parse.{Triplet}
-use Rattle.writer.specs.Puts.{linesOf}
+use Rattle.writer.specs.code.Puts.{linesOf}
 use Rattle.writer.proofs.puts.Putting.{put-none, put-as}
 use Rattle.writer.proofs.rows.Entries.{before-diagonal, line-from-diagonal}
 use Rattle.writer.proofs.rows.put_entry.Statement.{statement}

@@ -10,7 +10,7 @@ use mir.Syntax.{w32}
 use mir.Val.{SFits}
 use mir.Facts.{toZ-ofZ}
 use Rattle.market.specs.Parse.{Triplet}
-use Rattle.writer.specs.Puts.{fromDiagonal, ifLower, linesOf}
+use Rattle.writer.specs.code.Puts.{fromDiagonal, ifLower, linesOf}
 use Rattle.writer.proofs.puts.Putting.{Putting, Next, putting-start, putting-room, putting-more, putting-end}
 use Rattle.writer.proofs.rows.Entries.{lines-append, diagonal-next, diagonal-end}
 use Rattle.writer.proofs.rows.put_row.Statement.{statement}

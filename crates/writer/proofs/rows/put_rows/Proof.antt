@@ -5,11 +5,11 @@ use mathlib.Core.List.{List}
 use Prim.Native.Nat.{_≤_, _-_, _+_}
 use native.Mathlib.Omega.{arith}
 use lib.ListN.{length, take, drop}
-use Rattle.matrix.specs.Matrix.{Matrix}
-use Rattle.matrix.specs.Checks.{matrixOf, RowIn}
+use Rattle.matrix.specs.Matrix.{Matrix, matrixOf}
+use Rattle.matrix.specs.code.Checks.{RowIn}
 use Rattle.market.specs.Parse.{Triplet}
 use Rattle.market.specs.Text.{lower}
-use Rattle.writer.specs.Puts.{fromDiagonal, linesOf}
+use Rattle.writer.specs.code.Puts.{fromDiagonal, linesOf}
 use Rattle.writer.proofs.puts.Putting.{Putting, Next, putting-start, putting-room, putting-more, putting-end}
 use Rattle.writer.proofs.rows.Entries.{lines-append}
 use Rattle.writer.proofs.rows.Rows.{lowerLeft, left-first, left-end, row-starts-inside, row-values-inside, row-taken, left-taken}

@@ -7,7 +7,7 @@ use lib.ListN.{length, getD, drop}
 use mir.Syntax.{w32}
 use mir.Val.{SFits}
 use mir.Facts.{toZ-ofZ}
-use Rattle.writer.specs.Puts.{fromDiagonal}
+use Rattle.writer.specs.code.Puts.{fromDiagonal}
 use Rattle.writer.proofs.rows.Entries.{diagonal-next, diagonal-end, diagonal-few}
 use Rattle.writer.proofs.rows.Tallies.{Tallying, tallying-start, tallying-more, tallying-small, tallying-end}
 use Rattle.writer.proofs.rows.tally_row.Statement.{statement}

@@ -5,8 +5,8 @@ use mathlib.Core.List.{List}
 use Prim.Native.Nat.{_≤_, _-_, _+_, _*_}
 use native.Mathlib.Omega.{arith}
 use lib.ListN.{length}
-use Rattle.matrix.specs.Matrix.{Matrix}
-use Rattle.matrix.specs.Checks.{matrixOf, RowIn}
+use Rattle.matrix.specs.Matrix.{Matrix, matrixOf}
+use Rattle.matrix.specs.code.Checks.{RowIn}
 use Rattle.market.specs.Parse.{Triplet}
 use Rattle.market.specs.Text.{lower}
 use Rattle.market.proofs.Lower.Count.{lower-few}

@@ -1,6 +1,6 @@
 -- `run::state::State::fresh` meets its contract.
 use borrow.Author.Needs.{needs}
-use Rattle.run.specs.Machine.{fresh}
+use Rattle.run.specs.State.{fresh}
 use Rattle.machine.proofs.state.State.fresh.Statement.{statement}
 use Rattle.machine.proofs.state.State.fresh.Tie as tie
 

@@ -3,7 +3,7 @@ use mathlib.Core.Path.{_≡_, _∙_}
 use Prim.Native.Nat.{_-_, _≤_}
 use borrow.Author.Needs.{needs}
 use borrow.Author.Tests.{le-leb, lt-leb}
-use Rattle.machine.specs.Record.{allBelow, fine}
+use Rattle.machine.specs.code.Tests.{allBelow, fine}
 use Rattle.machine.proofs.AllBelow.{below-pass, below-fail, below-none}
 use Rattle.machine.proofs.state.State.is_fine.Statement.{statement}
 use Rattle.machine.proofs.state.State.is_fine.Tie as tie

@@ -3,7 +3,7 @@ use mathlib.Core.Path.{_≡_, _∙_}
 use Prim.Native.Nat.{_-_, _≤_}
 use borrow.Author.Needs.{needs}
 use borrow.Author.Tests.{le-leb, lt-leb}
-use Rattle.machine.specs.Record.{allBelow, done}
+use Rattle.machine.specs.code.Tests.{allBelow, done}
 use Rattle.machine.proofs.AllBelow.{below-pass, below-fail, below-none}
 use Rattle.machine.proofs.state.State.is_finished.Statement.{statement}
 use Rattle.machine.proofs.state.State.is_finished.Tie as tie

@@ -10,7 +10,7 @@ use mir.Facts.{toZ-ofZ}
 use borrow.Author.Needs.{needs}
 use Rattle.base.proofs.Booleans.{fails, holds}
 use Rattle.plan.specs.Groups.{Group}
-use Rattle.plan.specs.Checks.{recordAt}
+use Rattle.plan.specs.code.Checks.{recordAt}
 use Rattle.machine.specs.Record.{stateOf}
 use Rattle.steps.proofs.TableSteps.{Bounds, step-bounds}
 use Rattle.machine.proofs.RunTurns.{Running, running-start, running-none, running-halt, running-past, running-renewed, running-on}

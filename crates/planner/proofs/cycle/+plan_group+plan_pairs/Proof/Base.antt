@@ -3,7 +3,7 @@ use Prim.Native.Nat.{ℕ, _<_, _+_, _*_}
 use borrow.Fn.Kinds.{In}
 use borrow.Fn.PlainCycle.{Measures, is, falls, and}
 use lib.ListN.{length}
-use Rattle.sort.specs.Sort.{maxLevels}
+use Rattle.sort.specs.code.Sort.{maxLevels}
 use Rattle.planner.proofs.cycle.plan_group.Reads as plan-group
 use Rattle.planner.proofs.cycle.plan_group.Kinds as plan-group-kinds
 use Rattle.planner.proofs.cycle.+plan_group+plan_pairs.Lts-plan_group as plan-group-lts

@@ -5,14 +5,14 @@ use Prim.Native.Nat.{ℕ, _≤_, _<_, _+_}
 use native.Mathlib.Omega.{arith}
 use lib.ListN.{length, take}
 use lib.Seq.{length-take-le}
-use Rattle.levels.specs.Rows.{adjOf}
-use Rattle.plan.specs.Checks.{groupOf}
-use Rattle.sort.specs.Sort.{maxLevels}
-use Rattle.extents.specs.Scans.{policyOf}
+use Rattle.levels.specs.code.Rows.{adjOf}
+use Rattle.plan.specs.Groups.{groupOf}
+use Rattle.sort.specs.code.Sort.{maxLevels}
+use Rattle.extents.specs.code.Scans.{policyOf}
 use Rattle.base.proofs.Lists.{getD-zeros}
 use Rattle.race.specs.Planner.{planGroup, leaf}
-use Rattle.planner.specs.Records.{Holds}
-use Rattle.planner.specs.Cycle.{GroupTask}
+use Rattle.planner.specs.code.Records.{Holds}
+use Rattle.planner.specs.code.Cycle.{GroupTask}
 use Rattle.planner.proofs.GroupPlans.{leaf-stages, leaf-workers, leaf-levels, holds-unsplit}
 use Rattle.planner.proofs.GroupTasks.{record-room, index-few, levels-few, unsorted, levelled-in, stretch-proper, ends-few, pairs-task, split-holds}
 use Rattle.planner.proofs.cycle.plan_group.Reads as plan-group

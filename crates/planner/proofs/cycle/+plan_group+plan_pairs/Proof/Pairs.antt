@@ -7,12 +7,12 @@ use borrow.Author.Needs.{needs}
 use lib.ListN.{length, take, length-drop}
 use lib.Seq.{length-take-le}
 use Rattle.levels.specs.Levels.{reach}
-use Rattle.levels.specs.Rows.{adjOf}
-use Rattle.plan.specs.Checks.{groupOf}
-use Rattle.extents.specs.Scans.{policyOf}
+use Rattle.levels.specs.code.Rows.{adjOf}
+use Rattle.plan.specs.Groups.{groupOf}
+use Rattle.extents.specs.code.Scans.{policyOf}
 use Rattle.race.specs.Planner.{planGroup}
-use Rattle.planner.specs.Records.{Holds}
-use Rattle.planner.specs.Cycle.{redGroup, blueGroup, Fits}
+use Rattle.planner.specs.code.Records.{Holds}
+use Rattle.planner.specs.code.Cycle.{redGroup, blueGroup, Fits}
 use Rattle.planner.specs.declared.cycle.Pair.{Pair}
 use Rattle.planner.proofs.Thirds.{fronted, part, patched}
 use Rattle.planner.proofs.PairTasks.{next-asked, parts-in, levels-in-ends, pair-fits, red-task, blue-task, one-length, two-length, last-held, rest-task, next-held, whole-length, part-to-end}

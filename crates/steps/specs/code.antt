@@ -1,0 +1,4 @@
+-- What the contracts of inner functions speak of: no promise rests on it.
+pub mod Steps
+pub mod Sum
+pub mod Updates
