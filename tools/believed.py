@@ -4,9 +4,9 @@
 The promises are what docs/THEOREMS.md links: a contract as [crate::function](../crates/..rt), a theorem as
 [name](../crates/..antt); and the contract of every function of crates/mazhoketh for C. Their words are followed
 through crates/*/specs. The files to read are printed in the order of crates.txt and of each specs/Lib.antt: their
-lines, how many of these are definitions that a promise rests on, and the path; or only what the named ones rest on,
-as `tools/believed.py every-run`. --check fails if a promise rests on something of specs/code, which is for the
-contracts of inner functions, or if a definition of specs beside it carries no promise.
+lines, how many of these are of definitions that a promise rests on (comments left out), and the path; or only what the
+named ones rest on, as `tools/believed.py every-run`. --check fails if a promise rests on something of specs/code, which
+is for the contracts of inner functions, or if a definition of specs beside it carries no promise.
 """
 import glob, os, re, sys
 
@@ -75,7 +75,8 @@ while wanted:
 total = [0, 0]
 for crate in re.findall(r"^(\w+):", read("crates.txt"), re.M):
     for module in re.findall(r"pub mod (\w+)", "".join(map(read, glob.glob("crates/%s/specs/Lib.antt" % crate)))):
-        resting = sum(defined[key].count("\n") + 1 for key in believed if key[:2] == (crate, module))
+        lines = [line for key in believed if key[:2] == (crate, module) for line in defined[key].split("\n")]
+        resting = len([line for line in lines if not re.match(r"\s*--", line)])
         if resting:
             sizes = (read(path_of[crate, module]).count("\n"), resting)
             total = [a + b for a, b in zip(total, sizes)]

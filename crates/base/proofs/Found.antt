@@ -1,4 +1,5 @@
--- Loops that test every element of a list and answer at the end alone: what was found of those passed decides, with those that are left.
+-- Loops that test every element of a list and answer at the end alone: what was found of those passed decides, with
+-- those that are left.
 use mathlib.Core.Path.{_≡_, refl, sym, ap, _∙_}
 use mathlib.Core.Bool.{Bool, true, _&&_, and-true, and-assoc}
 use mathlib.Core.List.{List}

@@ -6,7 +6,8 @@ use lib.Dec.{leb}
 use lib.ListN.{length, drop}
 use Rattle.base.specs.Refusals as why
 
--- "Each is a number and a place (0 unless named); an accepted call has number 0": accepted, with the call's count, or refused
+-- "Each is a number and a place (0 unless named); an accepted call has number 0": accepted, with the call's count, or
+-- refused
 pub data Reply : Type 0 where
   accepted : (count : ℕ) → Reply
   refused : (number place : ℕ) → Reply

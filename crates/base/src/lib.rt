@@ -4,7 +4,8 @@ pub mod numbers;
 pub mod shorts;
 pub mod slices;
 
-// What a call replies: accepted, with its count; or refused, with a number and a place. `replyOf` of specs/Verdicts.antt says it in document 01's words.
+// What a call replies: accepted, with its count; or refused, with a number and a place. `replyOf` of
+// specs/Verdicts.antt says it in document 01's words.
 pub enum Verdict {
     Accepted(u32),
     Refused(u32, u32),

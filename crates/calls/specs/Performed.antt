@@ -1,4 +1,5 @@
--- A call of the code as the definition's, document 01's numbers and values for each case of its answer, and what it comes to.
+-- A call of the code as the definition's, document 01's numbers and values for each case of its answer, and what it
+-- comes to.
 use mathlib.Core.Path.{_≡_}
 use mathlib.Core.List.{List}
 use Prim.Native.Nat.{ℕ}
@@ -25,7 +26,8 @@ asAnswer (response.Ready bits count) forces = calls.isReady bits count
 asAnswer response.Forces forces = calls.forces forces
 asAnswer (response.Refused number place) forces = calls.denied number place
 
--- A call c in state s on lent lists, with old in the list of forces: its answer, the state after it, and the list after it
+-- A call c in state s on lent lists, with old in the list of forces: its answer, the state after it, and the list after
+-- it
 pub record Performed (m : Matrix) (x : List ℤ) (order groups : List ℕ) (count : ℕ) (s : State) (c : calls.Call) (old : List ℤ) (answer : calls.Answer) (after : State) (new : List ℤ) : Type 0 where
   pub answers : answer ≡ answerLent m x order groups count s c
   pub leaves : after ≡ afterLent m x order groups count s c

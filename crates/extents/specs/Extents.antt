@@ -43,21 +43,24 @@ pub record Extent : Type 0 where
   pub levels : ℕ
   pub workers : ℕ
 
--- "If .. fewer than four levels would be left, or if b is not below the free workers, the pair takes all levels and workers left"
+-- "If .. fewer than four levels would be left, or if b is not below the free workers, the pair takes all levels and
+-- workers left"
 unfoldable pub extentOf : (b all free : ℕ) → End → Extent
 extentOf b all free e =
     cond (ltb (all - e .levels) (2 * reach) || leb free b)
     (record { levels = all; workers = free })
     (record { levels = e .levels; workers = b })
 
--- from the first end that serves, "this fixes b. Of this end and the later ends, take the one whose a is nearest to that b"; "If no end serves .. all levels and workers left"
+-- from the first end that serves, "this fixes b. Of this end and the later ends, take the one whose a is nearest to
+-- that b"; "If no end serves .. all levels and workers left"
 unfoldable pub extentFrom : (w R all free : ℕ) → List End → Extent
 extentFrom w R all free [] = record { levels = all; workers = free }
 extentFrom w R all free (e ∷ es) =
     let b = nearest (e .load) w R in
     extentOf b all free (best (λ f. off b (f .load) w R) e es)
 
--- the next pair: "From the first free level, at least four levels are taken, then more until closeness is above p per cent"
+-- the next pair: "From the first free level, at least four levels are taken, then more until closeness is above p per
+-- cent"
 unfoldable pub extent : (w R : ℕ) (policy : Policy) (free : ℕ) → List ℕ → Extent
 extent w R policy free qs = extentFrom w R (length qs) free (fromFirst (λ e. serves (e .load) w R (policy .p)) (drop (2 * reach - 1) (endsFrom 0 0 qs)))
 
@@ -65,6 +68,7 @@ unfoldable pub cutAt : ℕ → List End → ℕ
 cutAt R [] = reach
 cutAt R (e ∷ es) = best (λ f. distance (f .load) (R - f .load)) e es .levels
 
--- how many of a pair's levels are red: "each colour has at least two levels; the cut makes the loads differ least, earliest on a tie"
+-- how many of a pair's levels are red: "each colour has at least two levels; the cut makes the loads differ least,
+-- earliest on a tie"
 unfoldable pub cut : List ℕ → ℕ
 cut qs = cutAt (sum qs) (drop (reach - 1) (endsFrom 0 0 (take (length qs - reach) qs)))

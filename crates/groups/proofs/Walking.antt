@@ -1,4 +1,5 @@
--- What the walks of this crate share: the types of a group and of a flat list with their laws, parameters of which nothing is kept, what a callee ensures, and the order of a loop.
+-- What the walks of this crate share: the types of a group and of a flat list with their laws, parameters of which
+-- nothing is kept, what a callee ensures, and the order of a loop.
 use mathlib.Core.Path.{refl}
 use mathlib.Core.List.{List, [], _∷_}
 use mathlib.Core.WellFounded.{WellFounded, InvImage·wf}

@@ -1,5 +1,6 @@
-// "The plan's groups are a list of records": here in a lent slice of structs. The borrow checker covers no function over such a
-// slice, so there are four, and thin: each is proved by a walk of its own. The work is done on flat lists, by covered functions.
+// "The plan's groups are a list of records": here in a lent slice of structs. The borrow checker covers no function
+// over such a slice, so there are four, and thin: each is proved by a walk of its own. The work is done on flat lists,
+// by covered functions.
 use base::Verdict;
 use plan::MAX_GROUPS;
 use plan::fields;

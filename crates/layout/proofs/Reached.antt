@@ -1,4 +1,5 @@
--- The records of a sound plan in their order: each starts where the leaves before it end, the last leaf ends at n, and each has a first worker.
+-- The records of a sound plan in their order: each starts where the leaves before it end, the last leaf ends at n, and
+-- each has a first worker.
 use mathlib.Core.Path.{_≡_, refl, sym, ap, _∙_, subst}
 use mathlib.Core.Logic.{_⊎_, inl, inr}
 use mathlib.Core.Bool.{Bool, true, false, not, _&&_, cond, true≢false}
@@ -65,7 +66,8 @@ module _ (count : ℕ) (ns : List ℕ) (n : ℕ) where
   abbrev left : ℕ → List Group
   left i = drop i (records count ns)
 
-  -- the groups of a path, each with a smaller index than b, have children from record i on: the first group's start at s, those of each other group where the one before it ends, and the last ends at n
+  -- the groups of a path, each with a smaller index than b, have children from record i on: the first group's start at
+  -- s, those of each other group where the one before it ends, and the last ends at n
   abbrev Open : (i b : ℕ) (path : List ℕ) (s : ℕ) → Type 0
   Open i b [] s = s ≡ n
   Open i b (m ∷ path) s =

@@ -1,4 +1,5 @@
--- The tables have room for every update of an accepted job: one for each row, and two for each pair of adjacent rows, of which there are no more than entries below the diagonal.
+-- The tables have room for every update of an accepted job: one for each row, and two for each pair of adjacent rows,
+-- of which there are no more than entries below the diagonal.
 use mathlib.Core.Path.{_≡_, refl, sym}
 use mathlib.Core.Logic.{_⊎_, inl, inr, _≢_}
 use mathlib.Core.Bool.{Bool, true, false}

@@ -1,4 +1,5 @@
-// How many updates each worker has: where they begin and end, if each worker's stand after those of the workers before it.
+// How many updates each worker has: where they begin and end, if each worker's stand after those of the workers before
+// it.
 use crate::leaf::is_leaf;
 use matrix::limits::MAX_ROWS;
 use plan::MAX_WORKERS;

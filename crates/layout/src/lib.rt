@@ -1,4 +1,5 @@
-// The row of every worker's updates in one table: each worker's after those of the workers before it, leaf by leaf, row by row.
+// The row of every worker's updates in one table: each worker's after those of the workers before it, leaf by leaf, row
+// by row.
 pub mod counts;
 mod leaf;
 
@@ -16,7 +17,8 @@ ghost use Rattle.run.specs.Job.{Job};
 ghost use Rattle.tables.specs.code.Laid.{maxUpdates, nextOf, Counted, Laid, Bounded};
 ghost use Rattle.layout.specs.code.UpdateTable.{Sized, Planned, Stretch, Put, Filled, Blank};
 
-// Position p at the places of its row's updates, from a place on: one for the diagonal, two for each other entry of the row in the upper triangle. The place after them.
+// Position p at the places of its row's updates, from a place on: one for the diagonal, two for each other entry of the
+// row in the upper triangle. The place after them.
 fn put_row(p: usize, size: usize, place: usize, row: &mut [u16; MAX_UPDATES]) -> usize
     requires { ⌜ (p < maxRows) × (1 ≤ size) × (place + 2 * size ≤ maxUpdates + 1) × (length (now row) ≡ maxUpdates) ⌝ }
     ensures { λ r. ⌜ (r + 1 ≡ place + 2 * size) × Put p place r (now (row .entry)) (now (row .exit)) ⌝ }
@@ -30,7 +32,8 @@ fn put_row(p: usize, size: usize, place: usize, row: &mut [u16; MAX_UPDATES]) ->
     end
 }
 
-// The rows of leaf i, from position `start` on and before `end`: their updates from a place on, where they begin, and their leaf. The place after them.
+// The rows of leaf i, from position `start` on and before `end`: their updates from a place on, where they begin, and
+// their leaf. The place after them.
 fn put_leaf(
     sizes: &[u32; MAX_ROWS],
     i: usize,
@@ -57,7 +60,8 @@ fn put_leaf(
     next
 }
 
-// The updates of all workers, by where each one's begin: the row of each, where those of a row begin, its leaf, and where leaves end.
+// The updates of all workers, by where each one's begin: the row of each, where those of a row begin, its leaf, and
+// where leaves end.
 pub fn lay(
     groups: &[u32],
     count: usize,

@@ -1,4 +1,5 @@
--- T's own levels: they hold T's rows as often as T does, and rows of levels three or more apart are neither adjacent nor have a common adjacent row.
+-- T's own levels: they hold T's rows as often as T does, and rows of levels three or more apart are neither adjacent
+-- nor have a common adjacent row.
 use mathlib.Core.Path.{_≡_, refl, ap, _∙_, fun-ext}
 use mathlib.Core.Logic.{_⊎_, inl, inr}
 use mathlib.Core.Bool.{Bool, true, false}

@@ -1,4 +1,5 @@
--- Every row of the region is at some level, and the levels hold the region's rows as often as it does: 2 × n levels are enough.
+-- Every row of the region is at some level, and the levels hold the region's rows as often as it does: 2 × n levels are
+-- enough.
 use mathlib.Core.Path.{_≡_, refl, sym, ap, _∙_}
 use mathlib.Core.Logic.{_⊎_, inl, inr}
 use mathlib.Core.Bool.{Bool, true, false, not, true≢false}

@@ -18,17 +18,20 @@ near adj (suc k) T v = near adj k T v || any (near adj k T) (adj v)
 unfoldable pub region : (adj : ℕ → List ℕ) → ℕ → List ℕ → List ℕ
 region adj n T = filter (near adj (reach - 1) T) (range 0 n)
 
--- "The root is the lowest-numbered freedom of T not yet reached": of the rows not yet reached, ascending, it alone; none if T has none there
+-- "The root is the lowest-numbered freedom of T not yet reached": of the rows not yet reached, ascending, it alone;
+-- none if T has none there
 unfoldable pub root : (adj : ℕ → List ℕ) (T rest : List ℕ) → List ℕ
 root adj T rest = take 1 (filter (isIn T) rest)
 
--- Which of the rows not yet reached, rest, are on the next level: those adjacent to the last level.
--- At first, and after an empty level, the root of the next component (document 01's island) alone: so "each later one two above the highest level in use, the levels of joined outsiders counted"
+-- Which of the rows not yet reached, rest, are on the next level: those adjacent to the last level. At first, and after
+-- an empty level, the root of the next component (document 01's island) alone: so "each later one two above the highest
+-- level in use, the levels of joined outsiders counted"
 unfoldable pub isNext : (adj : ℕ → List ℕ) (T last rest : List ℕ) → ℕ → Bool
 isNext adj T [] rest v = isIn (root adj T rest) v
 isNext adj T (x ∷ xs) rest v = any (isIn (x ∷ xs)) (adj v)
 
--- the next k levels, each ascending: "each freedom the root reaches inside the region has as level its distance from the root plus the island's first level"
+-- the next k levels, each ascending: "each freedom the root reaches inside the region has as level its distance from
+-- the root plus the island's first level"
 unfoldable pub levelsFrom : (adj : ℕ → List ℕ) → ℕ → (T last rest : List ℕ) → List (List ℕ)
 levelsFrom adj zero T last rest = []
 levelsFrom adj (suc k) T last rest =
@@ -39,7 +42,7 @@ levelsFrom adj (suc k) T last rest =
 unfoldable pub levels : (adj : ℕ → List ℕ) → ℕ → List ℕ → List (List ℕ)
 levels adj n T = levelsFrom adj (2 * n) T [] (region adj n T)
 
--- T's own rows level by level, "sorted by level, then by number", up to the highest level that holds one.
--- "Let m be the highest level holding a freedom of T, plus 1 (0 if T is empty)": m is its length. "Empty levels count as levels"
+-- T's own rows level by level, "sorted by level, then by number", up to the highest level that holds one. "Let m be the
+-- highest level holding a freedom of T, plus 1 (0 if T is empty)": m is its length. "Empty levels count as levels"
 unfoldable pub ownLevels : (adj : ℕ → List ℕ) → ℕ → List ℕ → List (List ℕ)
 ownLevels adj n T = trim (map (filter (isIn T)) (levels adj n T))

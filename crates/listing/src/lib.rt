@@ -33,7 +33,8 @@ ghost use Rattle.listing.specs.code.Room.{maxOutput};
 // "24,576 bytes together at most"
 pub const MAX_INPUT: usize = 24576;
 
-// A number and the space or line feed beside it; the order's first word and the title; a record's line, after its index; all.
+// A number and the space or line feed beside it; the order's first word and the title; a record's line, after its
+// index; all.
 const NUMBER: usize = 11;
 
 const TITLES: usize = 53;

@@ -1,4 +1,5 @@
--- One pick, and one turn of the loop over a schedule: the step is the machine's, and who is blocked is as before until a count reaches its stop.
+-- One pick, and one turn of the loop over a schedule: the step is the machine's, and who is blocked is as before until
+-- a count reaches its stop.
 use mathlib.Core.Path.{_≡_, refl, sym, ap, _∙_, subst}
 use mathlib.Core.Logic.{_⊎_, inl, inr, _≢_}
 use mathlib.Core.Bool.{true, false}
@@ -144,7 +145,8 @@ module _ (T : Tables) where
   abbrev updateOf : (made : List ℕ) → ℕ → Update
   updateOf made w = updateIn (T .begins) (T .displaced) (T .at) (T .beside) (rowNext (T .first) (T .row) made w) (numberNext (T .first) (T .row) (T .begins) made w)
 
-  -- k picks of the schedule, n of them taken, led from s₀ to s; these groups are blocked now, and until a count reaches its stop
+  -- k picks of the schedule, n of them taken, led from s₀ to s; these groups are blocked now, and until a count reaches
+  -- its stop
   pub record Running (rule : Rule) (s₀ : State) (schedule : List ℕ) (n k : ℕ) (s : State) (blocks stops : List ℕ) : Type 0 where
     pub crew : T .crew ≡ recordAt (T .groups) 0 .workers
     pub long : length (s .made) ≡ maxWorkers

@@ -1,4 +1,5 @@
--- What the tables say of a worker's next access: whether there is one, whether it waits, and whether a state is fine or finished.
+-- What the tables say of a worker's next access: whether there is one, whether it waits, and whether a state is fine or
+-- finished.
 use mathlib.Core.Path.{_≡_, refl, ap}
 use mathlib.Core.Bool.{Bool, true, false}
 use mathlib.Core.List.{List}

@@ -39,7 +39,8 @@ pub struct State {
     pub held: [i64; MAX_WORKERS],
 }
 
-// What becomes of a schedule at a pick that its worker cannot make, for it is done or waits: it ends there, or passes over it. Any other refusal ends it.
+// What becomes of a schedule at a pick that its worker cannot make, for it is done or waits: it ends there, or passes
+// over it. Any other refusal ends it.
 pub enum Rule {
     Stop,
     Skip,
@@ -55,7 +56,8 @@ fn passes(rule: Rule, number: u32) -> bool
     }
 }
 
-// What a schedule comes to: the state, how many picks were taken, how many came before the one that ended it, and that one's number; 0 if none did.
+// What a schedule comes to: the state, how many picks were taken, how many came before the one that ended it, and that
+// one's number; 0 if none did.
 pub struct Walked {
     pub state: State,
     pub taken: usize,
@@ -80,7 +82,8 @@ impl State {
         }
     }
 
-    // The state that picks led to, with how many were taken, how many came before the one that ended them, and its number.
+    // The state that picks led to, with how many were taken, how many came before the one that ended them, and its
+    // number.
     fn ended(self, taken: usize, past: usize, number: u32) -> Walked
         ensures { λ r. ⌜ r ≡ endedWith self taken past number ⌝ }
     {
@@ -148,7 +151,8 @@ impl State {
     }
 
     // Takes the picks of a schedule one by one, up to the first that is refused and that the rule does not pass over.
-    // The step is made in place and not by `pick`: to hand the record over for every pick copies its 192 bytes twice, 24 ns a pick against 6.
+    // The step is made in place and not by `pick`: to hand the record over for every pick copies its 192 bytes twice,
+    // 24 ns a pick against 6.
     pub fn take(
         mut self,
         sums: &mut [i64],

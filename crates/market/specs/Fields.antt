@@ -86,7 +86,8 @@ abbrev pub onSigned : Signed → (ℤ → ℕ → Line) → Line
 onSigned (is v k) f = f v k
 onSigned no f = broken
 
--- the first line of a text: number, spaces, number, spaces, value, line feed; "none at the ends", "every line ends in one line feed"
+-- the first line of a text: number, spaces, number, spaces, value, line feed; "none at the ends", "every line ends in
+-- one line feed"
 unfoldable pub fields : List ℕ → Line
 fields xs =
     onNumber (numeral xs) (λ r a.

@@ -51,7 +51,8 @@ unfoldable pub readMatrix : Parsed → Matrix
 readMatrix (matrixText n es) = ofTriplets n es
 readMatrix (rejected q p) = ofTriplets 0 []
 
--- The reader's reply: 1, 2, 3, 4, then "9 follows the text". Each list is then `lent` of the reply and readMatrix's list
+-- The reader's reply: 1, 2, 3, 4, then "9 follows the text". Each list is then `lent` of the reply and readMatrix's
+-- list
 unfoldable pub readReply : Parsed → (starts columns values : ℕ) → Reply
 readReply (matrixText n es) a b c = inTurn refused (roomFor (n + 1) a ∷ roomFor (length (full es)) b ∷ roomFor (length (full es)) c ∷ []) (accepted n)
 readReply (rejected q p) a b c = refused q p

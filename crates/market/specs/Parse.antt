@@ -40,7 +40,8 @@ abbrev pub onLine : Line → Parsed → (ℕ → ℕ → ℤ → ℕ → Parsed)
 onLine (line r c v a) b f = f r c v a
 onLine broken b f = b
 
--- "as many lines of row, column, value": m are to come, from line k on; es are those before. "Nothing follows the last entry"
+-- "as many lines of row, column, value": m are to come, from line k on; es are those before. "Nothing follows the last
+-- entry"
 unfoldable pub entries : (n m k : ℕ) → List Triplet → List ℕ → Parsed
 entries n zero k es xs = cond (isEmpty xs) (matrixText n es) (rejected why.badForm k)
 entries n (suc m) k es xs =
@@ -49,7 +50,8 @@ entries n (suc m) k es xs =
     (entries n m (suc k) (es ++ triplet (r - 1) (c - 1) v ∷ []) (drop a xs))
     (rejected why.badEntry k))
 
--- the size line, line k: "rows differ from columns, or n or the entry count is outside its limits"; only a value may carry a sign
+-- the size line, line k: "rows differ from columns, or n or the entry count is outside its limits"; only a value may
+-- carry a sign
 abbrev pub sized : ℕ → ℕ → ℕ → ℤ → List ℕ → Parsed
 sized k r c (pos m) xs = cond (eqb r c && leb 1 r && leb r maxRows && leb m maxEntries) (entries r m (suc k) [] xs) (rejected why.badSize k)
 sized k r c (negsuc m) xs = rejected why.badForm k

@@ -1,4 +1,5 @@
--- Lent lists cut to what a matrix can need: 4,097 row starts, 65,536 columns and values. They are a matrix if the whole lists are, with the same rows.
+-- Lent lists cut to what a matrix can need: 4,097 row starts, 65,536 columns and values. They are a matrix if the whole
+-- lists are, with the same rows.
 use mathlib.Core.Path.{_≡_, refl, sym, ap, ap₂, _∙_, fun-ext}
 use mathlib.Core.Bool.{Bool, true, false, not, _&&_}
 use mathlib.Core.List.{List, map}

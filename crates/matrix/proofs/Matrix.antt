@@ -1,4 +1,5 @@
--- What it says that a matrix is one, and its laws: columns below n, adjacent rows both ways, symmetric and small entries.
+-- What it says that a matrix is one, and its laws: columns below n, adjacent rows both ways, symmetric and small
+-- entries.
 use mathlib.Core.Path.{_≡_, refl, sym, _∙_}
 use mathlib.Core.Logic.{_≢_}
 use mathlib.Core.Bool.{Bool, true, false, not, _&&_, cond, true≢false}

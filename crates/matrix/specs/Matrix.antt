@@ -1,4 +1,5 @@
--- A symmetric matrix in full rows, and its displacements (document 01's movements). A row of the matrix is document 01's freedom, adjacent rows are its joined freedoms.
+-- A symmetric matrix in full rows, and its displacements (document 01's movements). A row of the matrix is document
+-- 01's freedom, adjacent rows are its joined freedoms.
 use mathlib.Core.Bool.{Bool, true, not, _&&_, cond}
 use mathlib.Core.List.{List, [], _∷_}
 use Prim.Native.Nat.{ℕ, suc}
@@ -74,7 +75,8 @@ isRow m i =
 unfoldable pub lowerEntries : Matrix → ℕ
 lowerEntries m = sumBelow (λ i. length (filter (λ j. leb j i) (columnsOf m i))) (m .n)
 
--- "A matrix has n freedoms, 1 to 4,096 .. at most 32,768 stored entries on and below the diagonal"; lists long enough, every row as above
+-- "A matrix has n freedoms, 1 to 4,096 .. at most 32,768 stored entries on and below the diagonal"; lists long enough,
+-- every row as above
 unfoldable pub isMatrix : Matrix → Bool
 isMatrix m =
     leb 1 (m .n) && leb (m .n) maxRows

@@ -1,4 +1,5 @@
--- "Force is then in mN, signed 64 bits; the largest possible sum is 4,096,000,000,000,000,000": no force of a matrix and its displacements passes that, either side of 0.
+-- "Force is then in mN, signed 64 bits; the largest possible sum is 4,096,000,000,000,000,000": no force of a matrix
+-- and its displacements passes that, either side of 0.
 use mathlib.Core.Path.{_≡_}
 use mathlib.Core.Bool.{true}
 use mathlib.Core.List.{List}

@@ -24,7 +24,8 @@ pub const MAX_DISPLACEMENT: u32 = 1000000;
 // "Text is at most 1,048,576 bytes"
 pub const MAX_TEXT: usize = 1048576;
 
-// Whether every number is within the limit. Each is tested, with no branch between, so that the compiler tests several at once.
+// Whether every number is within the limit. Each is tested, with no branch between, so that the compiler tests several
+// at once.
 pub fn all_within(numbers: &[i32], limit: u32) -> bool
     requires { ⌜ limit ≤ maxValue ⌝ }
     ensures { λ r. ⌜ r ≡ all (within limit) (now (numbers .entry)) ⌝ }

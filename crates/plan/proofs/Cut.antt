@@ -1,4 +1,5 @@
--- Lent lists of a plan cut to what a plan can need: places of the order and records. They are a plan if the whole lists are.
+-- Lent lists of a plan cut to what a plan can need: places of the order and records. They are a plan if the whole lists
+-- are.
 use mathlib.Core.Path.{_≡_, refl, ap}
 use mathlib.Core.Bool.{Bool, true, false, _&&_}
 use mathlib.Core.List.{List}

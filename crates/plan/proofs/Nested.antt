@@ -1,4 +1,5 @@
--- Where the children of a group stand among records that are depth first: after it, and before the first later record whose parent is before it.
+-- Where the children of a group stand among records that are depth first: after it, and before the first later record
+-- whose parent is before it.
 use mathlib.Core.Path.{_≡_, refl, sym, ap, _∙_, subst}
 use mathlib.Core.Logic.{_⊎_, inl, inr, _≢_}
 use mathlib.Core.Bool.{Bool, true, false, cond, true≢false}

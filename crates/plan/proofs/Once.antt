@@ -1,4 +1,5 @@
--- What it says that an order has each row once: its length, who stands in it and how often, and that no two places hold the same row.
+-- What it says that an order has each row once: its length, who stands in it and how often, and that no two places hold
+-- the same row.
 use mathlib.Core.Path.{_≡_, refl, sym, _∙_, subst}
 use mathlib.Core.Logic.{_⊎_, inl, inr, _≢_}
 use mathlib.Core.Bool.{Bool, true, false}

@@ -1,4 +1,5 @@
--- Children that tile their parent have stretches one after the other, so their rows are disjoint and marks tell whether they are apart.
+-- Children that tile their parent have stretches one after the other, so their rows are disjoint and marks tell whether
+-- they are apart.
 use mathlib.Core.Path.{_≡_, sym, _∙_}
 use mathlib.Core.Logic.{_⊎_}
 use mathlib.Core.Bool.{true}

@@ -5,7 +5,8 @@ use lib.ListN.{take, drop, getD, length}
 use Rattle.base.specs.Lists.{concat}
 use Rattle.plan.specs.declared.fields.Group as code
 
--- "a list of records ..: start, length, first worker, worker count, colour (0 whole, 1 red, 2 blue), parent's index (0 for the whole)"
+-- "a list of records ..: start, length, first worker, worker count, colour (0 whole, 1 red, 2 blue), parent's index (0
+-- for the whole)"
 pub record Group : Type 0 where
   pub start : ℕ
   pub length : ℕ
@@ -27,7 +28,8 @@ red = 1
 abbrev pub blue : ℕ
 blue = 2
 
--- "its order", original row numbers by plan position, and its groups, "depth first (a group, then each child in order with all below it)"
+-- "its order", original row numbers by plan position, and its groups, "depth first (a group, then each child in order
+-- with all below it)"
 pub record Plan : Type 0 where
   pub order : List ℕ
   pub groups : List Group

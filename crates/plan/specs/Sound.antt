@@ -26,7 +26,8 @@ maxGroups = 512
 unfoldable pub eachOnce : ℕ → List ℕ → Bool
 eachOnce n order = eqb (length order) n && all (isIn order) (range 0 n)
 
--- "its records stand in that order with those .. parents", "depth is at most 4": each record's parent is the record before it, or an ancestor of that. path: the last record's index and its ancestors', up to 0
+-- "its records stand in that order with those .. parents", "depth is at most 4": each record's parent is the record
+-- before it, or an ancestor of that. path: the last record's index and its ancestors', up to 0
 unfoldable pub depthFirst : (path : List ℕ) (index : ℕ) → List Group → Bool
 depthFirst path index [] = true
 depthFirst path index (g ∷ gs) =
@@ -37,7 +38,9 @@ depthFirst path index (g ∷ gs) =
 unfoldable pub children : ℕ → List Group → List Group
 children index gs = filter (λ h. eqb (h .parent) index) gs
 
--- "children tile their parent's stretch, alternate red and blue beginning with red, and are even in number; a red and the next blue have the same workers, at least one, and pairs tile the parent's workers in order": from position s and worker f on
+-- "children tile their parent's stretch, alternate red and blue beginning with red, and are even in number; a red and
+-- the next blue have the same workers, at least one, and pairs tile the parent's workers in order": from position s and
+-- worker f on
 unfoldable pub tiled : Group → (s f : ℕ) → List Group → Bool
 tiled g s f [] = eqb s (g .start + g .length) && eqb f (g .first + g .workers)
 tiled g s f (r ∷ []) = false
@@ -73,7 +76,8 @@ unfoldable pub allSound : (adj : ℕ → List ℕ) (order : List ℕ) (below : L
 allSound adj order below index [] = true
 allSound adj order below index (g ∷ gs) = childrenSound adj order g (children index below) && allSound adj order below (index + 1) gs
 
--- "A plan is sound if its order has each freedom once; its records stand in that order ..; the whole covers all freedoms and 1 to 16 workers from 0; .."
+-- "A plan is sound if its order has each freedom once; its records stand in that order ..; the whole covers all
+-- freedoms and 1 to 16 workers from 0; .."
 unfoldable pub sound : (adj : ℕ → List ℕ) (n : ℕ) (order : List ℕ) → List Group → Bool
 sound adj n order [] = false
 sound adj n order (g ∷ gs) =

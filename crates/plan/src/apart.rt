@@ -49,7 +49,8 @@ fn touch_like(
     touch_rows(n, starts, columns, marks, &order[from..to], low, mine)
 }
 
-// The children of a colour of the group at k are apart. Marks above low are theirs: the child at i marks with low + i what it touches.
+// The children of a colour of the group at k are apart. Marks above low are theirs: the child at i marks with low + i
+// what it touches.
 pub fn apart_below(
     n: usize,
     starts: &[u32],

@@ -11,7 +11,8 @@ use crate::fields::RED;
 use crate::fields::Record;
 use crate::fields::record_at;
 
-// The next child of the group at k among the records from an index on; count if there is none. The first record whose parent is before k ends the group.
+// The next child of the group at k among the records from an index on; count if there is none. The first record whose
+// parent is before k ends the group.
 pub fn next_child(groups: &[u32], count: usize, k: usize, from: usize) -> usize
     requires { ⌜ (width * count ≤ length (now groups)) × (standsDepthFirst count (now groups) ≡ true) × (k < from) × (from ≤ count) ⌝ }
     ensures { λ r. ⌜ NextChild count (now (groups .entry)) k from r ⌝ }
@@ -30,7 +31,8 @@ pub fn next_child(groups: &[u32], count: usize, k: usize, from: usize) -> usize
     i
 }
 
-// The record is the next child at position s from worker f on; w is the workers of a red whose blue is next, 0 where a red is next.
+// The record is the next child at position s from worker f on; w is the workers of a red whose blue is next, 0 where a
+// red is next.
 fn fits(h: Record, s: usize, f: usize, w: usize) -> bool
     ensures { λ r. ⌜ r ≡ fitting s f w (ofRecord h) ⌝ }
 {

@@ -1,4 +1,5 @@
--- A pair's planner: what it hands to the planners of its red and its blue group and to itself, and what the lists hold after it.
+-- A pair's planner: what it hands to the planners of its red and its blue group and to itself, and what the lists hold
+-- after it.
 use mathlib.Core.Path.{_≡_, refl, sym, ap, _∙_}
 use mathlib.Core.List.{List, [], _∷_, _++_, map}
 use Prim.Native.Nat.{ℕ, zero, suc, _+_, _*_, _-_, _≤_, _<_}

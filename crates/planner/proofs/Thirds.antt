@@ -1,4 +1,5 @@
--- A list of three parts, each lent in turn and given back: the first, the one after it, and the rest. The first has a elements, the first two b.
+-- A list of three parts, each lent in turn and given back: the first, the one after it, and the rest. The first has a
+-- elements, the first two b.
 use mathlib.Core.Path.{_≡_, refl, sym}
 use mathlib.Core.List.{List, [], _++_, append-assoc, append-nil}
 use Prim.Native.Nat.{ℕ, _+_, _-_}

@@ -32,7 +32,8 @@ pub struct Parent {
     pub load: u32,
 }
 
-// What is left of a group's stretch: how many rows are done, the next worker, how many are free, and the next record's index.
+// What is left of a group's stretch: how many rows are done, the next worker, how many are free, and the next record's
+// index.
 pub struct Left {
     pub done: u32,
     pub first: u32,

@@ -43,7 +43,8 @@ fn sort_rows(starts: &[u32], columns: &[u32], order: &mut [u32], n: usize)
     level_sort(starts, columns, order, &mut ends, n, 0);
 }
 
-// The plan of all rows; the answer is how many groups it has. If it is one, the whole is a leaf, and its rows are still by their numbers.
+// The plan of all rows; the answer is how many groups it has. If it is one, the whole is a leaf, and its rows are still
+// by their numbers.
 pub fn plan_rows(
     starts: &[u32],
     columns: &[u32],

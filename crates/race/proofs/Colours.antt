@@ -1,4 +1,5 @@
--- Like-coloured parts of a group keep apart: any relation that holds of rows whose levels are more than reach apart holds between them.
+-- Like-coloured parts of a group keep apart: any relation that holds of rows whose levels are more than reach apart
+-- holds between them.
 use mathlib.Core.Path.{_≡_, sym}
 use mathlib.Core.Bool.{true, true≢false}
 use mathlib.Core.List.{List, [], _∷_}

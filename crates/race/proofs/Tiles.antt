@@ -1,4 +1,5 @@
--- The pairs of a group tile its levels and its workers, whatever the loads: what is said of them here is all that soundness asks.
+-- The pairs of a group tile its levels and its workers, whatever the loads: what is said of them here is all that
+-- soundness asks.
 use mathlib.Core.Path.{_≡_, sym, _∙_, subst}
 use mathlib.Core.Logic.{_⊎_, inl, inr}
 use mathlib.Core.List.{List, [], _∷_, map}
@@ -12,7 +13,8 @@ use Rattle.extents.specs.Extents.{Policy, Extent, extent, cut}
 use Rattle.race.specs.Planner.{Pair, pairs}
 use Rattle.extents.proofs.Extents.{Taken, extent-taken, cut-levels}
 
--- cs are pairs of the levels ls, in order, with the free workers: of the first c levels m are red, reach of each colour at least
+-- cs are pairs of the levels ls, in order, with the free workers: of the first c levels m are red, reach of each colour
+-- at least
 pub data Tiles : (free : ℕ) → List (List ℕ) → List Pair → Type 0 where
   done : Tiles 0 [] []
   more : {free : ℕ} {ls : List (List ℕ)} {cs : List Pair} (c m w : ℕ) → reach ≤ m → m + reach ≤ c → c ≤ length ls → 1 ≤ w → w ≤ free → Tiles (free - w) (drop c ls) cs

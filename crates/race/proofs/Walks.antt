@@ -1,4 +1,5 @@
--- Records that stand depth first: the test's path after a group's records is the path before them, but for later indices in front.
+-- Records that stand depth first: the test's path after a group's records is the path before them, but for later
+-- indices in front.
 use mathlib.Core.Path.{_≡_, refl, sym, ap, _∙_, subst}
 use mathlib.Core.List.{List, [], _∷_, _++_, append-assoc}
 use Prim.Native.Nat.{ℕ, suc, _+_, _≤_, _<_}

@@ -1,5 +1,5 @@
--- "The planner's plans are sound", for every matrix, 1 to 16 workers and p from 50 to 99; they never need more than 481 of the 512 records.
--- So are the plans that its call leaves in lent lists: no later call refuses one with 8.
+-- "The planner's plans are sound", for every matrix, 1 to 16 workers and p from 50 to 99; they never need more than 481
+-- of the 512 records. So are the plans that its call leaves in lent lists: no later call refuses one with 8.
 use mathlib.Core.Path.{_≡_}
 use mathlib.Core.Bool.{true}
 use mathlib.Core.List.{List}

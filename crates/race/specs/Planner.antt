@@ -43,7 +43,8 @@ childOf up start size first workers colour = record { start = start; length = si
 abbrev pub wholeOf : (n w : ℕ) → Group
 wholeOf n w = record { start = 0; length = n; first = 0; workers = w; colour = whole; parent = 0 }
 
--- The pairs of a group of w workers and load R, in the levels ls and the free workers that are left: "The pair gets b workers, the next ones free". k bounds how many
+-- The pairs of a group of w workers and load R, in the levels ls and the free workers that are left: "The pair gets b
+-- workers, the next ones free". k bounds how many
 unfoldable pub pairs : (adj : ℕ → List ℕ) (k w R : ℕ) (policy : Policy) (free : ℕ) → List (List ℕ) → List Pair
 pairs adj zero w R policy free ls = []
 pairs adj (suc k) w R policy free [] = []

@@ -32,7 +32,8 @@ pub(crate) struct Reached {
     pub pos: usize,
 }
 
-// The entry lines from a position on whose places rise, by column, then by row: no place is given twice. The first line that is no entry, or does not rise, ends them.
+// The entry lines from a position on whose places rise, by column, then by row: no place is given twice. The first line
+// that is no entry, or does not rise, ends them.
 fn read_sorted(
     classes: &[u8; 256],
     s: &[u8],

@@ -16,7 +16,8 @@ ghost use Rattle.base.specs.Replies.{lent};
 ghost use Rattle.market.specs.Parse.{parse};
 ghost use Rattle.market.specs.FullRows.{readMatrix, readReply};
 
-// The matrix of a text in full rows, into three lists: 1, 2, 3 or 4 line by line, then 9. Nothing is written on a refusal.
+// The matrix of a text in full rows, into three lists: 1, 2, 3 or 4 line by line, then 9. Nothing is written on a
+// refusal.
 pub fn read(text: &[u8], starts: &mut [u32], columns: &mut [u32], values: &mut [i32]) -> Verdict
     ensures { λ r. ⌜ replyOf r ≡ readReply (parse (now (text .entry))) (length (now (starts .entry))) (length (now (columns .entry))) (length (now (values .entry))) ⌝ }
     ensures { λ _. ⌜ now (starts .exit) ≡ lent (readReply (parse (now (text .entry))) (length (now (starts .entry))) (length (now (columns .entry))) (length (now (values .entry)))) (readMatrix (parse (now (text .entry))) .starts) (now (starts .entry)) ⌝ }

@@ -1,4 +1,5 @@
--- Two workers that may both move work on rows that have no sum in common: by induction on the tree, at the group where their leaves part.
+-- Two workers that may both move work on rows that have no sum in common: by induction on the tree, at the group where
+-- their leaves part.
 use mathlib.Core.Path.{_≡_, refl, sym, ap, _∙_}
 use mathlib.Core.Logic.{inl, inr, _≢_}
 use mathlib.Core.Bool.{Bool, true, false, not, _&&_, _||_}
@@ -87,7 +88,8 @@ module _ (adj : ℕ → List ℕ) (order : List ℕ) (fin : Group → Bool) wher
     active-blue h c = not-blocked-blue fin g below next all q (a .free) h c
 
   module _ {n : ℕ} (G : Graph adj n) where
-    -- p in the group g, q in a later sibling: of one colour they are apart, of two the red one's group is open and the blue one waits
+    -- p in the group g, q in a later sibling: of one colour they are apart, of two the red one's group is open and the
+    -- blue one waits
     cross : (g : Group) (p : ℕ) → holds g p ≡ true → p < length order → Coloured g
         → (all : Tree) → (g .colour ≡ red → redOpen fin all ≡ true) → (g .colour ≡ blue → redOpen fin all ≡ false)
         → (T : Tree) (leader s e q w : ℕ) → Tiles adj order T s e

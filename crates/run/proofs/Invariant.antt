@@ -1,4 +1,5 @@
--- What holds of every state of a run: each sum has what was stored in it, and who is inside an update holds its sum as it is now.
+-- What holds of every state of a run: each sum has what was stored in it, and who is inside an update holds its sum as
+-- it is now.
 use mathlib.Core.Path.{_≡_, refl, sym, _∙_}
 use mathlib.Core.Bool.{Bool, true, false}
 use mathlib.Core.List.{List}

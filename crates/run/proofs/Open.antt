@@ -1,4 +1,5 @@
--- Which groups have an unfinished leaf, and which siblings have an open red group: laws, and what changes when more leaves are finished.
+-- Which groups have an unfinished leaf, and which siblings have an open red group: laws, and what changes when more
+-- leaves are finished.
 use mathlib.Core.Path.{_≡_, refl, sym, ap}
 use mathlib.Core.Logic.{_⊎_, inl, inr}
 use mathlib.Core.Bool.{Bool, true, not, _&&_, _||_}

@@ -1,4 +1,5 @@
--- Siblings with an unfinished leaf have a worker that can go on: in an open red group if there is one, else in an open blue one.
+-- Siblings with an unfinished leaf have a worker that can go on: in an open red group if there is one, else in an open
+-- blue one.
 use mathlib.Core.Path.{_≡_, refl, sym, ap, _∙_, subst}
 use mathlib.Core.Logic.{_≢_}
 use mathlib.Core.Bool.{Bool, true, false, not, _||_, true≢false}

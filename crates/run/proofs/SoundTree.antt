@@ -1,4 +1,5 @@
--- What a sound plan's tree is like: siblings tile their parent's positions and workers, and those of one colour are apart.
+-- What a sound plan's tree is like: siblings tile their parent's positions and workers, and those of one colour are
+-- apart.
 use mathlib.Core.Path.{_≡_}
 use mathlib.Core.Logic.{_⊎_}
 use mathlib.Core.Bool.{true}

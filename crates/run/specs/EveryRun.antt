@@ -71,7 +71,8 @@ pub record EveryRun (j : Job) (cs : List Call) : Type 0 where
   -- "it is empty only in a finished run, if begun fresh"
   pub ready-set : finishedRun j cs ≡ false → (bits count : ℕ) × (answer j (runState j cs) readySet ≡ isReady bits count) × (1 ≤ count)
 
--- "Two finished runs over equally many freedoms, whatever their matrices, movements, plans, workers and picks, leave equal force lists exactly when their two full products are equal"
+-- "Two finished runs over equally many freedoms, whatever their matrices, movements, plans, workers and picks, leave
+-- equal force lists exactly when their two full products are equal"
 pub record EqualForces (j k : Job) (cs ds : List Call) : Type 0 where
   pub products : runForces j cs ≡ runForces k ds → product (j .matrix) (j .displacements) ≡ product (k .matrix) (k .displacements)
   pub lists : product (j .matrix) (j .displacements) ≡ product (k .matrix) (k .displacements) → runForces j cs ≡ runForces k ds

@@ -1,4 +1,5 @@
--- The calls on lent lists that pass their checks are the calls on the job in them: what every-run says of the one, it says of the other.
+-- The calls on lent lists that pass their checks are the calls on the job in them: what every-run says of the one, it
+-- says of the other.
 use mathlib.Core.Path.{_≡_}
 use mathlib.Core.Bool.{Bool, true}
 use mathlib.Core.List.{List}

@@ -58,7 +58,8 @@ stepIf (suc k) s w u = halted (suc k)
 unfoldable pub step : Job → State → ℕ → Outcome
 step j s w = stepIf (refusal j (s .made) w) s w (next j (s .made) w)
 
--- what a schedule (document 01's list of picks) comes to: the state, how many steps were taken, and the number that ended it
+-- what a schedule (document 01's list of picks) comes to: the state, how many steps were taken, and the number that
+-- ended it
 pub record Stepped : Type 0 where
   pub state : State
   pub taken : ℕ

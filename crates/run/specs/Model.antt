@@ -1,5 +1,6 @@
--- The model of a run (document 01's book): "fed the run's calls alone: their arguments without the state and sums, and no answers".
--- What a worker's accesses are and when it waits it takes from Updates.antt, as the machine does; of the machine it takes nothing.
+-- The model of a run (document 01's book): "fed the run's calls alone: their arguments without the state and sums, and
+-- no answers". What a worker's accesses are and when it waits it takes from Updates.antt, as the machine does; of the
+-- machine it takes nothing.
 use mathlib.Core.Bool.{Bool, cond}
 use mathlib.Core.List.{List, [], _∷_, _++_, map}
 use Prim.Native.Nat.{ℕ, zero, suc, _^_}
@@ -21,7 +22,8 @@ noCounts = replicate maxWorkers 0
 unfoldable pub added : (counts : List ℕ) → ℕ → List ℕ
 added counts w = set counts w (suc (count counts w))
 
--- "One naming no worker of the plan ends its call with 10, one whose worker's count is all its moves with 12, .. waits by these counts with 13"; 0: it is taken
+-- "One naming no worker of the plan ends its call with 10, one whose worker's count is all its moves with 12, .. waits
+-- by these counts with 13"; 0: it is taken
 unfoldable pub ending : Job → (counts : List ℕ) → ℕ → ℕ
 ending j counts w = cond (ltb w (workers j)) (cond (eqb (count counts w) (accesses j w)) why.allDone (cond (waits j counts w) why.mustWait 0)) why.noWorker
 
@@ -48,8 +50,9 @@ able j counts = filter (λ w. eqb (ending j counts w) 0) (range 0 (workers j))
 unfoldable pub isFinished : Job → (counts : List ℕ) → Bool
 isFinished j counts = all (λ w. eqb (count counts w) (accesses j w)) (range 0 (workers j))
 
--- "The answer is the number that the call took and that ending, or 0 at 0 as its ending if it took all" (those before the pick's index were taken);
--- a bit for each worker "whose pick would be taken, and their count"; "15 until then, afterwards 9 at n .., else 0 with the full product in original order"
+-- "The answer is the number that the call took and that ending, or 0 at 0 as its ending if it took all" (those before
+-- the pick's index were taken); a bit for each worker "whose pick would be taken, and their count"; "15 until then,
+-- afterwards 9 at n .., else 0 with the full product in original order"
 unfoldable pub modelAnswer : Job → (counts : List ℕ) → Call → Answer
 modelAnswer j counts (picks ws) = picked (note j counts ws .taken) (note j counts ws .number) (cond (eqb (note j counts ws .number) 0) 0 (note j counts ws .taken))
 modelAnswer j counts readySet = isReady (sum (map (_^_ 2) (able j counts))) (length (able j counts))

@@ -10,7 +10,8 @@ use Rattle.run.specs.Sequence.{answersFrom, stateAfter}
 use Rattle.run.specs.Model.{noCounts, takenPicks, modelAnswers}
 use Rattle.run.specs.EveryRun.{runState, runAnswers}
 
--- a machine by its answers and the states it leaves: the model's answers, and one access for each pick that the model takes
+-- a machine by its answers and the states it leaves: the model's answers, and one access for each pick that the model
+-- takes
 pub record Meets (j : Job) (answers : State → Call → Answer) (leaves : State → Call → State) : Type 0 where
   pub answered : (cs : List Call) → answersFrom answers leaves (fresh (j .matrix .n)) cs ≡ modelAnswers j noCounts cs
   pub walked : (cs : List Call) → Walk j (fresh (j .matrix .n)) (takenPicks j noCounts cs) (stateAfter leaves (fresh (j .matrix .n)) cs)

@@ -5,7 +5,8 @@ use lib.ListN.{replicate}
 use lib.IntN.{ℤ, pos}
 use Rattle.plan.specs.Sound.{maxWorkers}
 
--- "A run's state ..: moves made (32 bits) and held number (64 bits) for each of 16 workers, beside a lent list of n sums in plan order"
+-- "A run's state ..: moves made (32 bits) and held number (64 bits) for each of 16 workers, beside a lent list of n
+-- sums in plan order"
 pub record State : Type 0 where
   pub made : List ℕ
   pub held : List ℤ

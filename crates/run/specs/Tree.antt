@@ -28,7 +28,8 @@ leaves (node g (node h hb hn) next) = leaves (node h hb hn) ++ leaves next
 unfoldable pub holds : Group → ℕ → Bool
 holds g q = leb (g .start) q && ltb q (g .start + g .length)
 
--- "a leaf, run by its first worker": the first worker of the leaf that holds q (leader: the first worker of the group around)
+-- "a leaf, run by its first worker": the first worker of the leaf that holds q (leader: the first worker of the group
+-- around)
 unfoldable pub ownerIn : (leader q : ℕ) → Tree → ℕ
 ownerIn leader q none = leader
 ownerIn leader q (node g below next) = elim (holds g q) [ true ↦ ownerIn (g .first) q below | false ↦ ownerIn leader q next ]
@@ -44,7 +45,8 @@ unfoldable pub redOpen : (finished : Group → Bool) → Tree → Bool
 redOpen finished none = false
 redOpen finished (node g below next) = (eqb (g .colour) red && unfinished finished (node g below none)) || redOpen finished next
 
--- the leaf that holds q "lies in, or is, a blue group one of whose red siblings has an unfinished leaf"; all: the siblings of the groups looked at
+-- the leaf that holds q "lies in, or is, a blue group one of whose red siblings has an unfinished leaf"; all: the
+-- siblings of the groups looked at
 unfoldable pub blocked : (finished : Group → Bool) (q : ℕ) (all : Tree) → Tree → Bool
 blocked finished q all none = false
 blocked finished q all (node g below next) =

@@ -29,7 +29,8 @@ displacementAt j p = displacement (j .displacements) (rowAt j p)
 unfoldable pub later : Job → ℕ → List ℕ
 later j p = filter (λ q. adjacent (j .matrix) (rowAt j p) (rowAt j q)) (range (suc p) (j .matrix .n - suc p))
 
--- "it loads and stores its own sum, adding their entry × the other's movement, then loads and stores the other's, adding the entry × own movement"
+-- "it loads and stores its own sum, adding their entry × the other's movement, then loads and stores the other's,
+-- adding the entry × own movement"
 unfoldable pub withEach : Job → ℕ → List ℕ → List Update
 withEach j p [] = []
 withEach j p (q ∷ qs) =
@@ -49,7 +50,8 @@ unfoldable pub when : Bool → List Update → List Update
 when true us = us
 when false us = []
 
--- "A worker's moves are its leaves in order, row by row in plan order": worker w's updates in the rows before plan position e
+-- "A worker's moves are its leaves in order, row by row in plan order": worker w's updates in the rows before plan
+-- position e
 unfoldable pub upTo : Job → (w e : ℕ) → List Update
 upTo j w zero = []
 upTo j w (suc e) = upTo j w e ++ when (eqb (owner j e) w) (rowUpdates j e)
@@ -76,7 +78,8 @@ noUpdate = record { row = 0; target = 0; amount = pos 0 }
 unfoldable pub next : Job → (made : List ℕ) → ℕ → Update
 next j made w = getD (updates j w) (count made w / 2) noUpdate
 
--- "A worker waits if the leaf of its next move lies in, or is, a blue group one of whose red siblings has an unfinished leaf"
+-- "A worker waits if the leaf of its next move lies in, or is, a blue group one of whose red siblings has an unfinished
+-- leaf"
 unfoldable pub waits : Job → (made : List ℕ) → ℕ → Bool
 waits j made w = blocked (finished j made) (next j made w .row) (tree (j .plan .groups)) (tree (j .plan .groups))
 

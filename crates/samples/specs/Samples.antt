@@ -173,7 +173,8 @@ samples =
     ∷ (ofPlan (plan unjoined 2 60) is numbers (range 0 8) ++ groups8)
     -- P: "two joined freedoms, 16 workers: one leaf"
     ∷ (ofPlan (plan two 16 60) is numbers (0 ∷ 1 ∷ 0 ∷ 2 ∷ 0 ∷ 16 ∷ 0 ∷ 0 ∷ []))
-    -- P: "level loads 1, 2, .. 16, 15, .. 1, w = 8, p = 60: first pair is levels 0 to 6 (28 of 256), cut before level 5 (15 against 13)"
+    -- P: "level loads 1, 2, .. 16, 15, .. 1, w = 8, p = 60: first pair is levels 0 to 6 (28 of 256), cut before level 5
+    -- (15 against 13)"
     ∷ (ofExtent (extent 8 (sum hill) (record { p = 60 }) 8 hill) is numbers (7 ∷ 1 ∷ []))
     ∷ (numbers (sum (take 7 hill) ∷ sum hill ∷ []) is numbers (28 ∷ 256 ∷ []))
     ∷ (numbers (cut (take 7 hill) ∷ []) is numbers (5 ∷ []))
@@ -193,7 +194,8 @@ samples =
     ∷ (ofParsed (parse []) is numbers (1 ∷ 1 ∷ []))
     -- "freedoms 0, 2 and 3 of T, joined only to outsider 1, have levels 0, 2 and 2"
     ∷ (ofLevels (ownLevels (neighbours star) 4 (0 ∷ 2 ∷ 3 ∷ [])) is numbers (1 ∷ 0 ∷ 0 ∷ 2 ∷ 2 ∷ 3 ∷ []))
-    -- a whole run of the chain: the machine's answers and the model's; 2 picks for each row and 4 for each adjacent pair
+    -- a whole run of the chain: the machine's answers and the model's; 2 picks for each row and 4 for each adjacent
+    -- pair
     ∷ (ofAnswers (runAnswers chainJob chainCalls) is ofAnswers chainAnswers)
     ∷ (ofAnswers (modelAnswers chainJob noCounts chainCalls) is ofAnswers chainAnswers)
     ∷ (numbers (takenIn chainAnswers ∷ []) is numbers (wholeRun chainJob ∷ []))

@@ -1,4 +1,5 @@
--- A turn of the search is a level: the rows not yet reached that pass a test get the next mark, and the test is who is next.
+-- A turn of the search is a level: the rows not yet reached that pass a test get the next mark, and the test is who is
+-- next.
 use mathlib.Core.Path.{_≡_, refl, sym, ap, _∙_}
 use mathlib.Core.Logic.{_≢_}
 use mathlib.Core.Bool.{Bool, true, false, not, _&&_, cond, true≢false}
@@ -28,7 +29,8 @@ pub atMark-none : (n : ℕ) (marks : List ℕ) (c : ℕ) → ((v : ℕ) → v < 
 atMark-none n marks c h =
     filter-none (λ v. eqb (getD marks v 0) c) (range 0 n) (λ v i. ne-eqb (getD marks v 0) c (h v (omega (arith, range-in v 0 n i .1))))
 
--- a row's mark m, before and after it becomes k + 3 if it is 1 and the row passes: is it that, is it 1, is it an older one
+-- a row's mark m, before and after it becomes k + 3 if it is 1 and the row passes: is it that, is it 1, is it an older
+-- one
 module _ (m k : ℕ) where
   is-new : (b : Bool) → m ≤ k + 2 → eqb (cond b (k + 3) m) (k + 3) ≡ b
   is-new true h = eq-eqb (k + 3) (k + 3) refl

@@ -1,4 +1,5 @@
--- Visits in two arrays, marks and queue, the queue filled up to tail: one visit, a list of visits, and a whole level expanded row by row.
+-- Visits in two arrays, marks and queue, the queue filled up to tail: one visit, a list of visits, and a whole level
+-- expanded row by row.
 use mathlib.Core.Path.{_≡_, refl, sym, ap, _∙_, subst}
 use mathlib.Core.Logic.{_≢_}
 use mathlib.Core.Bool.{Bool, true, false, not, _&&_, cond}

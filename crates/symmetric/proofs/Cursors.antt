@@ -1,4 +1,5 @@
--- Cursors: rows are met in ascending order, so the mirror of an entry below the diagonal stands at the cursor of its own row.
+-- Cursors: rows are met in ascending order, so the mirror of an entry below the diagonal stands at the cursor of its
+-- own row.
 use mathlib.Core.Path.{_≡_, refl, sym, ap, _∙_, subst}
 use mathlib.Core.Logic.{_⊎_, inl, inr, _≢_}
 use mathlib.Core.Bool.{Bool, true, false, _&&_, _||_, and-true}
@@ -55,8 +56,9 @@ met-more m {b} {i} {e} t h up r = record {
 
 -- ---- a turn of the loop over a row
 
--- Row i is met up to place p, its columns are below `least`; the rows before it are met up to their cursors.
--- In a regular matrix the columns that are left are at least `least`, and the cursor of row j has passed its columns below i, and column i too if row i has met column j.
+-- Row i is met up to place p, its columns are below `least`; the rows before it are met up to their cursors. In a
+-- regular matrix the columns that are left are at least `least`, and the cursor of row j has passed its columns below
+-- i, and column i too if row i has met column j.
 pub record Turns (m : Matrix) (i p least : ℕ) (cursors : List ℕ) : Type 0 where
   pub size : m .n ≤ length cursors
   pub own : Met m least i p

@@ -1,4 +1,5 @@
--- A regular matrix, whose rows' columns ascend and whose entries are mirrored: what it says, and how it follows from what stands at each place of the lists.
+-- A regular matrix, whose rows' columns ascend and whose entries are mirrored: what it says, and how it follows from
+-- what stands at each place of the lists.
 use mathlib.Core.Path.{_≡_, refl, sym, ap, _∙_, subst}
 use mathlib.Core.Bool.{Bool, true, false, _&&_, and-comm}
 use mathlib.Core.List.{List}

@@ -67,8 +67,8 @@ pub fn is_small(n: usize, starts: &[u32], values: &[i32]) -> bool
     all_within(&values[..end], MAX_VALUE)
 }
 
-// Row i's entries below the diagonal: their columns ascend, and the mirror of each stands at the cursor of its row, which then goes on.
-// Row i's own cursor is set past its diagonal.
+// Row i's entries below the diagonal: their columns ascend, and the mirror of each stands at the cursor of its row,
+// which then goes on. Row i's own cursor is set past its diagonal.
 fn meet_row(
     n: usize,
     starts: &[u32],
@@ -135,7 +135,8 @@ fn meet_rows(n: usize, starts: &[u32], columns: &[u32], values: &[i32], cursors:
     are_ended(n, starts, cursors)
 }
 
-// Every row's columns ascend and are below n, every entry is mirrored, and those on and below the diagonal are not too many.
+// Every row's columns ascend and are below n, every entry is mirrored, and those on and below the diagonal are not too
+// many.
 pub fn is_regular(n: usize, starts: &[u32], columns: &[u32], values: &[i32]) -> bool
     requires { ⌜ shaped (matrixOf n (now starts) (now columns) (now values)) ≡ true ⌝ }
     ensures { λ r. ⌜ r ≡ regular (matrixOf n (now (starts .entry)) (now (columns .entry)) (now (values .entry))) && leb (lowerEntries (matrixOf n (now (starts .entry)) (now (columns .entry)) (now (values .entry)))) maxEntries ⌝ }

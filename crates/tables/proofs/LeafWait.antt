@@ -1,4 +1,5 @@
--- The wait of a leaf by one forward pass along the parents: a record is blocked if its parent is, or if it is blue and has an open red sibling.
+-- The wait of a leaf by one forward pass along the parents: a record is blocked if its parent is, or if it is blue and
+-- has an open red sibling.
 use mathlib.Core.Path.{_≡_, refl, sym, ap, _∙_, subst}
 use mathlib.Core.Bool.{Bool, true, false, _&&_, _||_}
 use mathlib.Core.List.{List, [], _∷_}

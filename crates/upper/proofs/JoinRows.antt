@@ -1,4 +1,5 @@
--- Position q joins the parts of the rows before it that are adjacent to its row, and begins its own: column by column of that row.
+-- Position q joins the parts of the rows before it that are adjacent to its row, and begins its own: column by column
+-- of that row.
 use mathlib.Core.Path.{_≡_, refl, sym, ap, _∙_, subst}
 use mathlib.Core.Logic.{_⊎_, inl, inr, _≢_}
 use mathlib.Core.Bool.{Bool, true, false, _&&_, _||_, cond}

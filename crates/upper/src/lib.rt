@@ -13,8 +13,8 @@ ghost use lib.ListN.{take};
 ghost use Rattle.matrix.specs.Matrix.{matrixOf};
 ghost use Rattle.upper.specs.code.Upper.{Positions, Lent, Parts, Upper};
 
-// Position q begins its own part, and joins the part of each row before it that is adjacent to its row.
-// The next place of every column's row is written: it counts once the place after it is the next. Rows from q on have no place yet:
+// Position q begins its own part, and joins the part of each row before it that is adjacent to its row. The next place
+// of every column's row is written: it counts once the place after it is the next. Rows from q on have no place yet:
 // the diagonal entry goes to the own place, and what rows after q get is written over in their turn.
 fn join(
     n: usize,
@@ -55,8 +55,8 @@ fn join(
     next[q] = own as u32 + 1;
 }
 
-// The upper triangle: for each row its own position and the later adjacent ones, beside their entries, from where its part begins.
-// Each row's next place is where its part begins, then where it ends.
+// The upper triangle: for each row its own position and the later adjacent ones, beside their entries, from where its
+// part begins. Each row's next place is where its part begins, then where it ends.
 pub fn upper(
     n: usize,
     starts: &[u32],

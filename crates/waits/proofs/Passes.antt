@@ -1,4 +1,5 @@
--- The passes over the records by which waits are found: from the last record to the first for the open groups, from the first to the last for the blocked ones.
+-- The passes over the records by which waits are found: from the last record to the first for the open groups, from the
+-- first to the last for the blocked ones.
 use mathlib.Core.Path.{_≡_, refl, ap, _∙_}
 use mathlib.Core.Bool.{Bool, false, _&&_, _||_}
 use mathlib.Core.List.{List, [], _∷_}

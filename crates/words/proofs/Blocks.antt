@@ -1,4 +1,5 @@
--- Lists of numbers in blocks of bytes: what a loop over the numbers does in one turn, loading or storing, for any width and any code of one number.
+-- Lists of numbers in blocks of bytes: what a loop over the numbers does in one turn, loading or storing, for any width
+-- and any code of one number.
 use mathlib.Core.Path.{_≡_, refl, ap, _∙_}
 use mathlib.Core.List.{List, [], _∷_, _++_, map, map-append, append-assoc, append-nil}
 use Prim.Native.Nat.{ℕ, zero, suc, _+_, _*_, _/_, _≤_, _<_, min}

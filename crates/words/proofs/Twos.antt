@@ -1,4 +1,5 @@
--- Two's complement at every width: `toSigned` and `ofSigned` are the machine's reading of a signed number's bits and its bits; and each way by -1 - x.
+-- Two's complement at every width: `toSigned` and `ofSigned` are the machine's reading of a signed number's bits and
+-- its bits; and each way by -1 - x.
 use mathlib.Core.Path.{_≡_, refl, ap, _∙_}
 use mathlib.Core.Bool.{Bool, true, false, cond}
 use Prim.Native.Nat.{ℕ, zero, suc, _*_, _-_, _^_, _≤_, _<_}

@@ -1,4 +1,5 @@
--- Lists of numbers as lists of bytes: each number takes `width` bytes, the low byte first; signed numbers stand in two's complement.
+-- Lists of numbers as lists of bytes: each number takes `width` bytes, the low byte first; signed numbers stand in
+-- two's complement.
 use mathlib.Core.Bool.{cond}
 use mathlib.Core.List.{List, [], _∷_, _++_, map}
 use Prim.Native.Nat.{ℕ, zero, suc, _+_, _*_, _-_, _/_, _%_, _^_}

@@ -11,7 +11,8 @@ ghost use Rattle.market.specs.Bytes.{header};
 ghost use Rattle.market.specs.Text.{natural, integer, lineOf};
 ghost use Rattle.writer.specs.code.Puts.{Put, digitAt};
 
-// How many digits a number of at most `most` digits has: one, and one for each power of ten from 10 on that it has reached.
+// How many digits a number of at most `most` digits has: one, and one for each power of ten from 10 on that it has
+// reached.
 fn width(v: u32, most: usize) -> usize
     requires { ⌜ (1 ≤ most) × (most ≤ 10) × (v < 10 ^ most) ⌝ }
     ensures { λ r. ⌜ r ≡ length (natural v) ⌝ }

@@ -1,4 +1,5 @@
--- What the scans over loads of levels leave: for the contracts of src/lib.rt. qs are the loads of the levels that are left.
+-- What the scans over loads of levels leave: for the contracts of src/lib.rt. qs are the loads of the levels that are
+-- left.
 use mathlib.Core.List.{List, [], _∷_}
 use Prim.Native.Nat.{ℕ, _*_, _-_, _≤_, _<_, _^_}
 use lib.ListN.{drop}

@@ -1,5 +1,5 @@
--- `flatten` meets its contract: a walk of its MIR, by hand. Each turn of the loop looks into the slice for one group, and lends the local list to `put`.
--- Assumes nothing.
+-- `flatten` meets its contract: a walk of its MIR, by hand. Each turn of the loop looks into the slice for one group,
+-- and lends the local list to `put`. Assumes nothing.
 use mathlib.Core.Path.{_≡_, refl, sym}
 use mathlib.Core.List.{List, [], _∷_, _++_}
 use Prim.Native.Nat.{ℕ, _+_, _*_, _-_, _≤_, _<_, _^_}
@@ -108,7 +108,8 @@ module _ {M : Type 1} (𝓤 : URA M) (H : Heap 𝓤) (A : Atoms 𝓤) (W : Given
     abbrev Λ : Loops 𝓤 H
     Λ = 𝓣 .Λ
 
-    -- the locals: 0 the result; 1 groups; 2 numbers; 3 k; 4 and 6 the tests; 5 the count, then bytes; 7 what `put` returns; 8 the list lent; 9 the place of groups[k]; 10 groups[k]
+    -- the locals: 0 the result; 1 groups; 2 numbers; 3 k; 4 and 6 the tests; 5 the count, then bytes; 7 what `put`
+    -- returns; 8 the list lent; 9 the place of groups[k]; 10 groups[k]
     abbrev En : Env 𝓤 H
     En = (numbersTy, l₀) ∷ (groupsTy, l₁) ∷ (numbersTy, l₂) ∷ (tyInt w64, l₃) ∷ (tyBool, l₄) ∷ (tyInt w64, l₅) ∷ (tyBool, l₆) ∷ (tyUnit, l₇) ∷ (lentTy, l₈) ∷ (tyPtr, l₉) ∷ (T′.mir, l₁₀) ∷ []
 
@@ -126,7 +127,8 @@ module _ {M : Type 1} (𝓤 : URA M) (H : Heap 𝓤) (A : Atoms 𝓤) (W : Given
     leaves t m =
         move ! (16 ∷ []) $ fpick ! (λ vs. fsplit ! $ move ! (1 ∷ []) $ peeks ! Flat (Is Flat) (shows 𝓤 H A Flat) (t .numbers) vs (λ is.
         rewrite ! 0 (λ (ws : List Val). ‵ (Flat .own (t .numbers) ws)) (is .1 .0 .0) refl $ rewrite ! 1 (λ (ws : List Val). ‵ (cellAt fullShare (Flat .mir) ws l₂ 0)) (is .1 .0 .0) refl $
-        -- [what the list owns; _2; _10; …; _9; …; _8; …; _7; …; _6; …; _5; …; _4; …; _3; …; …; _1; …; room for _0; …; the token; the borrow]
+        -- [what the list owns; _2; _10; …; _9; …; _8; …; _7; …; _6; …; _5; …; _4; …; _3; …; …; _1; …; room for _0; …;
+        -- the token; the borrow]
         assigns ! (of-opd ! (load ! (from ! (stop !)) (look ! 1 refl))) (from ! (stop !)) (init ! 21 refl (flat-lawful 𝓤 H A W .typed (t .numbers) (arrayVal (is .0) ∷ []) (is .0, ((refl, is .1 .0 .1), is .1 .1)) .0)) $
         returns ! (look ! 21 refl) $ forget ! 1 refl $ forget ! 16 refl $ forget ! 19 refl $ forget ! 21 refl $
         move ! (21 ∷ 22 ∷ []) $ free1 ! $ move ! (19 ∷ 20 ∷ []) $ free1 ! $ move ! (1 ∷ 18 ∷ []) $ free1 ! $ move ! (15 ∷ 16 ∷ []) $ free1 ! $ move ! (13 ∷ 14 ∷ []) $ free1 ! $ move ! (11 ∷ 12 ∷ []) $ free1 ! $
@@ -170,7 +172,8 @@ module _ {M : Type 1} (𝓤 : URA M) (H : Heap 𝓤) (A : Atoms 𝓤) (W : Given
           rewrite ! 2 (λ (p : ℕ). ‵ (fat fullShare tyPtr l₉ 0 (vptr b p))) (sym (place-is groupBytes o (t .k))) refl $
           move ! (23 ∷ 22 ∷ []) $ looks-slice ! tt T.the-row (Is T.the-row) (shows 𝓤 H A T.the-row) group-vals group-tells (group-copy 𝓤 H A W) gs b o (λ q′.
           elem-out ! T.the-row (Is T.the-row) (shows 𝓤 H A T.the-row) group-vals group-tells q′ gs (t .k) none b o within (λ is.
-          -- [groups[k]; what it owns; the others; what shuts; the borrow; _10; …; _9; …; _8; …; _7; …; _6; …; _5; …; _4; …; _3; …; _2; …; _1; …; _0; …]
+          -- [groups[k]; what it owns; the others; what shuts; the borrow; _10; …; _9; …; _8; …; _7; …; _6; …; _5; …;
+          -- _4; …; _3; …; _2; …; _1; …; _0; …]
           assigns ! (of-opd ! (load ! (from ! (hop ! (look ! 7 refl) (stop !))) (look-raw ! 0 refl))) (from ! (stop !)) (init ! 5 refl (group-lawful 𝓤 H A W .typed g _ is .0)) $
           elem-back ! T.the-row q′ gs (t .k) none (group-vals g) b o within $ shuts-slice ! tt T.the-row q′ gs b o $
           -- [the token; the borrow; _10; …]: the list is lent for a lifetime α of the call
@@ -219,7 +222,8 @@ module _ {M : Type 1} (𝓤 : URA M) (H : Heap 𝓤) (A : Atoms 𝓤) (W : Given
       pass1 ! (init ! 18 refl (tt, (tt, (record { fits = room .0 }, tt)))) $ pass0 ! $
       owned ! u32 (Is u32) (uint-makes 𝓤 H A W w32) 0 (vint w32 0 ∷ []) (refl, lit< tt) $
       use1 W (‵ (Flat .own zeros (arrayVal (replicate maxFields (vint w32 0)) ∷ []))) (array-repeat 𝓤 H A W u32 (uint-copy 𝓤 H A W w32) maxFields 0 (vint w32 0)) $ peeks ! Flat (Is Flat) (shows 𝓤 H A Flat) zeros _ (λ is.
-      -- [what the list owns; _10; …; _9; …; _8; …; _7; …; _6; …; _5; …; _4; …; _3; …; _2; …; _1; …; _0; …; the token; what the slice owns]
+      -- [what the list owns; _10; …; _9; …; _8; …; _7; …; _6; …; _5; …; _4; …; _3; …; _2; …; _1; …; _0; …; the token;
+      -- what the slice owns]
       assigns ! (rep ! maxFields (lit ! tt)) (from ! (stop !)) (init ! 17 refl (flat-lawful 𝓤 H A W .typed zeros _ is .0)) $
       assigns ! (of-opd ! (lit ! tt)) (from ! (stop !)) (init ! 15 refl (tt, record { fits = lit< tt })) $
       move ! (17 ∷ 0 ∷ []) $ fjoin ! $ fpack ! (List Val) (λ us. fsep (cellAt fullShare (Flat .mir) us l₂ 0) (Flat .own zeros us)) (arrayVal (replicate maxFields (vint w32 0)) ∷ []) $

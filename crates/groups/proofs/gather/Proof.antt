@@ -1,5 +1,5 @@
--- `gather` meets its contract: a walk of its MIR, by hand. The slice is opened before the loop and closed after it; each turn lends the local list to `get`, and stores one group.
--- Assumes nothing.
+-- `gather` meets its contract: a walk of its MIR, by hand. The slice is opened before the loop and closed after it;
+-- each turn lends the local list to `get`, and stores one group. Assumes nothing.
 use mathlib.Core.Path.{_≡_, refl, sym, ap, subst}
 use mathlib.Core.List.{List, [], _∷_}
 use Prim.Native.Nat.{ℕ, _+_, _*_, _-_, _≤_, _<_, _^_}
@@ -132,7 +132,8 @@ module _ {M : Type 1} (𝓤 : URA M) (H : Heap 𝓤) (A : Atoms 𝓤) (W : Given
     abbrev Λ : Loops 𝓤 H
     Λ = 𝓣 .Λ
 
-    -- the locals: 0 the result; 1 to 3 the parameters; 4 numbers; 5 k; 6 the test; 7 what `get` returns; 8 the list lent; 9 bytes; 10 the place of groups[k]
+    -- the locals: 0 the result; 1 to 3 the parameters; 4 numbers; 5 k; 6 the test; 7 what `get` returns; 8 the list
+    -- lent; 9 bytes; 10 the place of groups[k]
     abbrev En : Env 𝓤 H
     En = (tyUnit, l₀) ∷ (numbersTy, l₁) ∷ (tyInt w64, l₂) ∷ (groupsTy, l₃) ∷ (numbersTy, l₄) ∷ (tyInt w64, l₅) ∷ (tyBool, l₆) ∷ (T′.mir, l₇) ∷ (lentTy, l₈) ∷ (tyInt w64, l₉) ∷ (tyPtr, l₁₀) ∷ []
 
@@ -151,7 +152,8 @@ module _ {M : Type 1} (𝓤 : URA M) (H : Heap 𝓤) (A : Atoms 𝓤) (W : Given
     leaves t m =
         assigns ! (of-opd ! (unit-lit !)) (from ! (stop !)) (init ! 20 refl (tt, tt)) $
         move ! (12 ∷ []) $ fpick ! (λ vs. fsplit ! $ move ! (1 ∷ []) $ peeks ! Flat (Is Flat) (shows 𝓤 H A Flat) ns vs (λ is. drop ! $ rewrite ! 0 (λ (ws : List Val). ‵ (cellAt fullShare (Flat .mir) ws l₄ 0)) (is .1 .0 .0) refl $
-        -- [_4; _10; …; _9; …; _8; …; _7; …; _6; …; _5; …; …; _3; …; _2; …; _1; …; _0; …; the groups; the open borrow; obs; auth]
+        -- [_4; _10; …; _9; …; _8; …; _7; …; _6; …; _5; …; …; _3; …; _2; …; _1; …; _0; …; the groups; the open borrow;
+        -- obs; auth]
         move ! (22 ∷ 23 ∷ 24 ∷ 25 ∷ []) $ rewrite ! 0 (λ (k : ℕ). ‵ (row T.the-row fullShare (gathered k ns gs) b o)) k-is refl $ closes-slice ! tt T.the-row gs all all-long b o $
         -- [obs; the borrow; the token; _4; _10; …; _9; …; _8; …; _7; …; _6; …; _5; …; …; _3; …; _2; …; _1; …; _0; …]
         returns ! (look ! 23 refl) $ forget ! 3 refl $ forget ! 14 refl $ forget ! 17 refl $ forget ! 19 refl $ forget ! 21 refl $ forget ! 23 refl $
@@ -193,16 +195,19 @@ module _ {M : Type 1} (𝓤 : URA M) (H : Heap 𝓤) (A : Atoms 𝓤) (W : Given
           drop ! $ split ! $ move ! (1 ∷ []) $ peeks ! T.the-row (Is T.the-row) (shows 𝓤 H A T.the-row) r (w ∷ []) (λ is.
           -- [what the group owns; the token of α; the lender's part; _10; …; _9; …; _8; …; _7; …]
           land ! (from ! (stop !)) (init ! 9 refl (group-lawful 𝓤 H A W .typed r _ is .0)) $ move ! (1 ∷ []) $ split ! $ lft-end ! tt $ move ! (0 ∷ 3 ∷ []) $ lent-back ! tt $
-          -- [_4; …; what the group owns; _10; …; _9; …; _8; …; _7; …; _6; …; _5; …; …; _3; …; _2; …; _1; …; _0; …; the groups; …]
+          -- [_4; …; what the group owns; _10; …; _9; …; _8; …; _7; …; _6; …; _5; …; …; _3; …; _2; …; _1; …; _0; …; the
+          -- groups; …]
           assigns ! (bin ! (load ! (from ! (stop !)) (look ! 13 refl)) (lit ! tt) (record { fits = small })) (from ! (stop !)) (init ! 5 refl (tt, record { fits = small })) $
           assigns ! (bin ! (load ! (from ! (fld ! refl (stop !))) (look-in ! 16 (sub ! 0 refl (whole !)))) (load ! (from ! (stop !)) (look ! 5 refl)) tt) (from ! (stop !)) (init ! 3 refl (tt, tt)) $
           rewrite ! 3 (λ (p : ℕ). ‵ (fat fullShare tyPtr l₁₀ 0 (vptr b p))) (sym (place-is groupBytes o (t .0))) refl $
           move ! (24 ∷ []) $ elem-out ! T.the-row (Is T.the-row) (shows 𝓤 H A T.the-row) group-vals group-tells fullShare (gathered (t .0) ns gs) (t .0) none b o in-row (λ _.
-          -- [groups[k]; what it owns; the others; _4; …; what the group owns; _10; …; _9; …; _8; …; _7; …; _6; …; _5; …]
+          -- [groups[k]; what it owns; the others; _4; …; what the group owns; _10; …; _9; …; _8; …; _7; …; _6; …; _5;
+          -- …]
           assigns ! (of-opd ! (load ! (from ! (stop !)) (look ! 12 refl))) (from ! (hop ! (look ! 6 refl) (stop !))) (store-raw ! 0 refl (group-lawful 𝓤 H A W .typed r _ is .0)) $
           move ! (0 ∷ 5 ∷ 2 ∷ []) $ elem-put ! T.the-row fullShare (gathered (t .0) ns gs) (t .0) r (w ∷ []) b o in-row $
           rewrite ! 0 (λ (l : List Group). ‵ (row T.the-row fullShare l b o)) (subst (λ (h : Group). set (gathered (t .0) ns gs) (t .0) h ≡ gathered (t .0 + 1) ns gs) (sym e) (gathered-next ns gs (t .0) none (omega arith))) refl $
-          -- [the groups; …; _4; …; _10; …; _9; …; _8; …; _7; …; _6; …; _5; …; …; _3; …; _2; …; _1; …; _0; …; the open borrow; obs; auth]
+          -- [the groups; …; _4; …; _10; …; _9; …; _8; …; _7; …; _6; …; _5; …; …; _3; …; _2; …; _1; …; _0; …; the open
+          -- borrow; obs; auth]
           assigns-last ! (bin ! (load ! (from ! (stop !)) (look ! 14 refl)) (lit ! tt) (record { fits = next-small })) (from ! (stop !)) (store ! 14 refl (tt, record { fits = next-small })) $
           forget ! 4 refl $ forget ! 6 refl $ forget ! 8 refl $ forget ! 10 refl $
           keep ! (4 ∷ 5 ∷ 6 ∷ 7 ∷ 8 ∷ 9 ∷ 10 ∷ 11 ∷ 12 ∷ 13 ∷ 14 ∷ 15 ∷ 2 ∷ 16 ∷ 17 ∷ 18 ∷ 19 ∷ 20 ∷ 21 ∷ 22 ∷ 23 ∷ 24 ∷ 0 ∷ 25 ∷ 26 ∷ 27 ∷ []) $
@@ -234,9 +239,11 @@ module _ {M : Type 1} (𝓤 : URA M) (H : Heap 𝓤) (A : Atoms 𝓤) (W : Given
       pass1 ! (init ! 18 refl numbers-typed) $ pass1 ! (init ! 16 refl (tt, record { fits = count-small })) $ pass1 ! (init ! 14 refl (tt, (tt, (record { fits = room .0 }, tt)))) $ pass0 ! $
       assigns ! (of-opd ! (load ! (from ! (stop !)) (look ! 18 refl))) (from ! (stop !)) (init ! 12 refl numbers-typed) $
       assigns ! (of-opd ! (lit ! tt)) (from ! (stop !)) (init ! 10 refl (tt, record { fits = lit< tt })) $
-      -- [_10; …; _9; …; _8; …; _7; …; _6; …; _5; …; _4; …; _3; …; _2; …; _1; …; _0; …; the token; what the parameters own]
+      -- [_10; …; _9; …; _8; …; _7; …; _6; …; _5; …; _4; …; _3; …; _2; …; _1; …; _0; …; the token; what the parameters
+      -- own]
       owned ! Flat (Is Flat) (flat-makes 𝓤 H A W) ns _ are-numbers $ move ! (13 ∷ 0 ∷ []) $ fjoin ! $ fpack ! (List Val) (λ us. fsep (cellAt fullShare (Flat .mir) us l₄ 0) (Flat .own ns us)) (nv ∷ []) $
-      -- [_4; _10; …; _9; …; _8; …; _7; …; _6; …; _5; …; …; _3; …; _2; …; _1; …; _0; …; the token; what the parameters own]: of these, the slice is opened
+      -- [_4; _10; …; _9; …; _8; …; _7; …; _6; …; _5; …; …; _3; …; _2; …; _1; …; _0; …; the token; what the parameters
+      -- own]: of these, the slice is opened
       move ! (23 ∷ []) $ fsplit ! $ drop ! $ fsplit ! $ drop ! $ fsplit ! $ fsplit ! $ drop ! $ fsplit ! $ move ! (25 ∷ []) $ split ! $ move ! (2 ∷ 3 ∷ 0 ∷ []) $
       opens-slice ! tt T.the-row gs b o $ rewrite ! 0 (λ (l : List Group). ‵ (row T.the-row fullShare l b o)) (sym (gathered-none ns gs)) refl $
       -- [the groups; the open borrow; obs; auth; …; …; _4; _10; …]

@@ -1,5 +1,5 @@
--- `plan` meets its contract: a walk of its MIR, by hand. `plan_flat` is called, and `gather` with what it returns. The order and the groups are passed on for good.
--- Assumes nothing.
+-- `plan` meets its contract: a walk of its MIR, by hand. `plan_flat` is called, and `gather` with what it returns. The
+-- order and the groups are passed on for good. Assumes nothing.
 use mathlib.Core.Path.{_≡_, refl, _∙_, ap, subst}
 use mathlib.Core.List.{List, [], _∷_, map, map-id}
 use Prim.Native.Nat.{ℕ, _<_, _^_}
@@ -198,8 +198,9 @@ module _ {M : Type 1} (𝓤 : URA M) (H : Heap 𝓤) (A : Atoms 𝓤) (W : Given
         pass1 ! (init ! 24 refl (shr-slice-lawful 𝓤 H A W (named 1) κ₁ u32 .typed columns _ is₂ .0)) $ pass1 ! (init ! 22 refl (shr-slice-lawful 𝓤 H A W (named 2) κ₂ i32 .typed values _ is₃ .0)) $
         pass1 ! (init ! 20 refl (tt, record { fits = workers-small })) $ pass1 ! (init ! 18 refl (tt, record { fits = p-small })) $
         pass1 ! (init ! 16 refl (mut-slice-lawful 𝓤 H A W (named 3) κ₃ u32 .typed order _ is₄ .0)) $ pass1 ! (init ! 14 refl (mut-slice-lawful 𝓤 H A W (named 4) κ₄ T.the-row .typed groups _ is₅ .0)) $ pass0 ! $
-        -- the locals: 0 the answer; 1 to 8 the parameters; 9 what `plan_flat` returns; 10 and 11 the order lent on; 12 the room; 13 what `gather` returns; 14 and 15 the groups lent on
-        -- [_15; …; _14; …; … _1; …; _0; …; the tokens; what the parameters own]
+        -- the locals: 0 the answer; 1 to 8 the parameters; 9 what `plan_flat` returns; 10 and 11 the order lent on; 12
+        -- the room; 13 what `gather` returns; 14 and 15 the groups lent on [_15; …; _14; …; … _1; …; _0; …; the tokens;
+        -- what the parameters own]
         assigns ! (addr ! (from ! (fld ! refl (hop ! (look-in ! 16 (sub ! 0 refl (whole !))) (stop !))))) (from ! (stop !)) (init ! 10 refl (tt, tt)) $
         assigns ! (agg ! (and-then ! (load ! (from ! (stop !)) (look ! 10 refl)) (and-then ! (load ! (from ! (fld ! refl (stop !))) (look-in ! 16 (sub ! 1 refl (whole !)))) (no-more !)))) (from ! (stop !)) (init ! 8 refl (tt, (tt, (record { fits = is₄ .0 .1 .0 }, tt)))) $
         assigns ! (of-opd ! (load ! (from ! (fld ! refl (stop !))) (look-in ! 14 (sub ! 1 refl (whole !))))) (from ! (stop !)) (init ! 6 refl (tt, record { fits = is₅ .0 .1 .0 })) $
@@ -213,17 +214,20 @@ module _ {M : Type 1} (𝓤 : URA M) (H : Heap 𝓤) (A : Atoms 𝓤) (W : Given
         hears ! tt Four (λ (r : Made). R.the-row .own r (w ∷ [])) (lasts plan-flat.ended lent-on passed) Said (id⊢ 𝓤 _) (λ r ws said.
         fsplit ! $ drop ! $ fsplit ! $ drop ! $ fsplit ! $ drop ! $ fsplit ! $ drop ! $ fsplit ! $ drop ! $ fsplit ! $ drop ! $ fsplit ! $ fsplit ! $ move ! (1 ∷ []) $ feqL ! (λ long.
         move ! (2 ∷ []) $ split ! $ move ! (1 ∷ []) $ peeks ! R.the-row (Is R.the-row) (shows 𝓤 H A R.the-row) r (w ∷ []) (λ is.
-        -- [what the plan made owns; the tokens; the last order; …; the token of groups; what groups owns; …; _15; …; _14; …; … _1; …; _0; …]
+        -- [what the plan made owns; the tokens; the last order; …; the token of groups; what groups owns; …; _15; …;
+        -- _14; …; … _1; …; _0; …]
         land ! (from ! (stop !)) (init ! 19 refl (LL.lawful R.the-type R′.the-laws 𝓤 H A W .typed r _ is .0)) $ rewrite ! 19 (λ (u : Val). ‵ (fat fullShare R′.mir l₉ 0 u)) (ap only (LL.tells R.the-type R′.the-laws r (w ∷ []) is)) refl $
         assigns ! (addr ! (from ! (fld ! refl (hop ! (look-in ! 21 (sub ! 0 refl (whole !))) (stop !))))) (from ! (stop !)) (init ! 9 refl (tt, tt)) $
         assigns ! (agg ! (and-then ! (load ! (from ! (stop !)) (look ! 9 refl)) (and-then ! (load ! (from ! (fld ! refl (stop !))) (look-in ! 21 (sub ! 1 refl (whole !)))) (no-more !)))) (from ! (stop !)) (init ! 7 refl (tt, (tt, (record { fits = is₅ .0 .1 .0 }, tt)))) $
         move ! (4 ∷ 5 ∷ []) $ use2 W (raw (Gather 𝓤 H A memory run .pre (to-gather r))) (goes-gather r w is _ said) $
-        -- [what `gather` asks; what the plan made owns; the tokens; the last order; …; …; _15; …; _14; …; … _1; …; _0; …]
+        -- [what `gather` asks; what the plan made owns; the tokens; the last order; …; …; _15; …; _14; …; … _1; …; _0;
+        -- …]
         calls-at ! (fmOf 𝓤 H (W .laws) 𝓣) (Gather 𝓤 H A memory run) known-gather (to-gather r) (and-then ! (load ! (from ! (fld ! refl (stop !))) (look-in ! 18 (sub ! 0 refl (whole !)))) (and-then ! (load ! (from ! (fld ! refl (stop !))) (look-in ! 18 (sub ! 1 refl (whole !))))
         (and-then ! (load ! (from ! (stop !)) (look ! 6 refl)) (no-more !)))) (λ u.
         hears ! tt Last (λ (e : Unit {0}). Nothing .own e (u ∷ [])) (lasts gather.ended (κ₄, tt) (given-on r)) (λ _ hs. Got r hs) (id⊢ 𝓤 _) (λ e hs got. fsplit ! $ drop ! $ fsplit ! $ drop ! $ fsplit ! $ fsplit ! $ move ! (1 ∷ []) $ feqL ! (λ long′.
         move ! (2 ∷ []) $ split ! $ move ! (1 ∷ []) $ facts ! Nothing (Is Nothing) (shows 𝓤 H A Nothing) e (u ∷ []) (λ is-unit.
-        -- [the token of groups; the last groups; …; what the plan made owns; the tokens; the last order; …; …; _15; …; _14; …; … _1; …; _0; …]
+        -- [the token of groups; the last groups; …; what the plan made owns; the tokens; the last order; …; …; _15; …;
+        -- _14; …; … _1; …; _0; …]
         land ! (from ! (stop !)) (init ! 12 refl (nothing-lawful 𝓤 H A W .typed e _ is-unit .0)) $
         assigns ! (of-opd ! (load ! (from ! (fld ! refl (stop !))) (look-in ! 20 (sub ! 2 refl (whole !))))) (from ! (stop !)) (init ! 38 refl (EL.lawful S.the-type S′.the-laws 𝓤 H A W tt .typed (r .answer) _ (is-answer r w is) .0)) $
         returns ! (look ! 38 refl) $ forget ! 8 refl $ forget ! 10 refl $ forget ! 12 refl $ forget ! 14 refl $ forget ! 16 refl $ forget ! 18 refl $ forget ! 20 refl $ forget ! 22 refl $ forget ! 24 refl $ forget ! 26 refl $ forget ! 28 refl $ forget ! 30 refl $ forget ! 32 refl $ forget ! 34 refl $ forget ! 36 refl $ forget ! 38 refl $

@@ -1,4 +1,5 @@
--- What the tables of updates hold while they are made: the updates of each worker after those of the workers before it, leaf by leaf.
+-- What the tables of updates hold while they are made: the updates of each worker after those of the workers before it,
+-- leaf by leaf.
 use mathlib.Core.Path.{_≡_}
 use mathlib.Core.Bool.{cond}
 use mathlib.Core.List.{List}
@@ -22,7 +23,8 @@ pub record Given (n : ℕ) (starts columns : List ℕ) (values displacements : L
   pub order-long : n ≤ length order
   pub groups-long : width * count ≤ length groups
 
--- an accepted job, and for each position how many entries its row has in the upper triangle: its diagonal one, and those of the later adjacent rows
+-- an accepted job, and for each position how many entries its row has in the upper triangle: its diagonal one, and
+-- those of the later adjacent rows
 pub record Sized (j : Job) (sizes : List ℕ) : Type 0 where
   pub accepted : Accepted j
   pub is : (p : ℕ) → p < j .matrix .n → getD sizes p 0 ≡ suc (length (later j p))

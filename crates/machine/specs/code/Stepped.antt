@@ -21,7 +21,8 @@ unfoldable pub passesOver : Rule → ℕ → Bool
 passesOver Stop k = false
 passesOver Skip k = eqb k why.allDone || eqb k why.mustWait
 
--- what a schedule comes to: the state, how many steps were taken, how many picks came before the one that ended it, and that one's number
+-- what a schedule comes to: the state, how many steps were taken, how many picks came before the one that ended it, and
+-- that one's number
 pub record Walked : Type 0 where
   pub state : run.State
   pub taken : ℕ

@@ -1,4 +1,6 @@
--- Parts of the check of a matrix, for the contracts of the code. `isMatrix` says that it is shaped, its rows ordered and its entries mirrored, and that those on and below the diagonal are not too many (`matrix-parts` of proofs/Checks.antt).
+-- Parts of the check of a matrix, for the contracts of the code. `isMatrix` says that it is shaped, its rows ordered
+-- and its entries mirrored, and that those on and below the diagonal are not too many (`matrix-parts` of
+-- proofs/Checks.antt).
 use mathlib.Core.Bool.{Bool, _&&_}
 use mathlib.Core.List.{List}
 use Prim.Native.Nat.{ℕ, suc, _+_, _≤_, _<_}

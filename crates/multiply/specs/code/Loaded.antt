@@ -11,7 +11,8 @@ use Rattle.matrix.specs.Limits.{maxRows, maxDisplacement}
 use Rattle.matrix.specs.Matrix.{Matrix, isMatrix, areDisplacements}
 use Rattle.matrix.specs.code.Checks.{isOrdered}
 
--- what the sum of a row times displacements asks: few columns, in order, as many values, and displacements within their limit
+-- what the sum of a row times displacements asks: few columns, in order, as many values, and displacements within their
+-- limit
 pub record RowOk (columns : List ℕ) (values displacements : List ℤ) : Type 0 where
   pub order : isOrdered (length displacements) columns values ≡ true
   pub beside : length columns ≡ length values

@@ -1,4 +1,5 @@
--- What the check of a plan goes through, pass by pass. `isPlan` is the conjunction of the passes (proofs/PlanTests.antt).
+-- What the check of a plan goes through, pass by pass. `isPlan` is the conjunction of the passes
+-- (proofs/PlanTests.antt).
 use mathlib.Core.Path.{_≡_}
 use mathlib.Core.Bool.{Bool, true, _&&_, cond}
 use mathlib.Core.List.{List, [], _∷_}
@@ -55,7 +56,8 @@ pub record NextChild (count : ℕ) (ns : List ℕ) (k i r : ℕ) : Type 0 where
   pub same : children k (drop i (records count ns)) ≡ children k (drop r (records count ns))
   pub child : r < count → recordAt ns r .parent ≡ k
 
--- h is the next child at position s from worker f on; w is the workers of a red whose blue is next, 0 where a red is next
+-- h is the next child at position s from worker f on; w is the workers of a red whose blue is next, 0 where a red is
+-- next
 unfoldable pub fitting : (s f w : ℕ) → Group → Bool
 fitting s f w h = eqb (h .start) s && eqb (h .first) f && cond (eqb w 0) (eqb (h .colour) red && leb 1 (h .workers)) (eqb (h .colour) blue && eqb (h .workers) w)
 

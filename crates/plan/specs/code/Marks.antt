@@ -34,7 +34,8 @@ ofColour colour gs = filter (λ g. eqb (g .colour) colour) gs
 unfoldable pub touchedLike : (n : ℕ) (starts columns order : List ℕ) (colour : ℕ) → Group → List ℕ
 touchedLike n starts columns order colour g = cond (eqb (g .colour) colour) (touchedBy n starts columns (stretchOf order g)) []
 
--- The mark of z is another child's: marks above low are of the children that are compared, and mine is of the one at hand
+-- The mark of z is another child's: marks above low are of the children that are compared, and mine is of the one at
+-- hand
 unfoldable pub clashes : (low mine : ℕ) (marks : List ℕ) → ℕ → Bool
 clashes low mine marks z = ltb low (getD marks z 0) && not (eqb (getD marks z 0) mine)
 

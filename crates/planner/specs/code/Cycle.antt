@@ -1,4 +1,5 @@
--- What the two planners require of each other: for the contracts of src/cycle.rt. `adj v` lists the rows adjacent to row v, and there are n rows.
+-- What the two planners require of each other: for the contracts of src/cycle.rt. `adj v` lists the rows adjacent to
+-- row v, and there are n rows.
 use mathlib.Core.Path.{_≡_}
 use mathlib.Core.List.{List, map}
 use Prim.Native.Nat.{ℕ, _+_, _-_, _*_, _≤_}
@@ -61,7 +62,8 @@ pub record GroupTask (n : ℕ) (policy : Policy) (stages index : ℕ) (starts co
   pub few : length records ≤ width * maxGroups
   pub room : width * (index + length (planGroup (adjOf n starts columns) n policy stages index (groupOf g) stretch .groups)) ≤ length records
 
--- a stretch that a pair's planner takes: the levels that are left, their loads, the workers that are free, and room for the records of their plan
+-- a stretch that a pair's planner takes: the levels that are left, their loads, the workers that are free, and room for
+-- the records of their plan
 pub record PairsTask (n : ℕ) (policy : Policy) (stages : ℕ) (starts columns stretch ends loads records : List ℕ) (up : Parent) (left : Left) (ls : List (List ℕ)) : Type 0 where
   pub rows : Rows n starts columns
   pub proper : Proper n stretch

@@ -5,7 +5,8 @@ use Prim.Native.Nat.{ℕ, _+_, _*_}
 use lib.ListN.{length, take}
 use Rattle.plan.specs.Groups.{Plan, width, flat}
 
--- A stretch and the records after a planner: the plan's order, and its groups from an index on, after the records before it. count: the index past them
+-- A stretch and the records after a planner: the plan's order, and its groups from an index on, after the records
+-- before it. count: the index past them
 pub record Holds (o : Plan) (index : ℕ) (before order records : List ℕ) (count : ℕ) : Type 0 where
   pub order-is : order ≡ o .order
   pub count-is : count ≡ index + length (o .groups)

@@ -1,4 +1,5 @@
--- Marks, one for each row: 0 outside the region, 1 not yet reached, k + 3 at level k. Mark 2 stands for the empty level before the first.
+-- Marks, one for each row: 0 outside the region, 1 not yet reached, k + 3 at level k. Mark 2 stands for the empty level
+-- before the first.
 use mathlib.Core.Path.{_≡_}
 use mathlib.Core.Bool.{cond}
 use mathlib.Core.List.{List}

@@ -1,4 +1,5 @@
--- What the functions of the search require and ensure. The rows found stand in a queue, a level after the other; marks are as in Marks.
+-- What the functions of the search require and ensure. The rows found stand in a queue, a level after the other; marks
+-- are as in Marks.
 use mathlib.Core.Path.{_≡_}
 use mathlib.Core.Logic.{_⊎_, _≢_}
 use mathlib.Core.Bool.{true, cond}
@@ -49,8 +50,8 @@ Front n marks rows = (u : ℕ) → isIn rows u ≡ true → (u < n) × (getD mar
 
 -- ---- levels
 
--- k levels are done, the last stands in the queue from lo to hi, no mark is higher, and 2 × n levels are enough for the rows not yet reached.
--- Between two components the last level is empty: lo and hi are 0
+-- k levels are done, the last stands in the queue from lo to hi, no mark is higher, and 2 × n levels are enough for the
+-- rows not yet reached. Between two components the last level is empty: lo and hi are 0
 pub record Frontier (n k : ℕ) (marks queue : List ℕ) (lo hi : ℕ) : Type 0 where
   pub ready : Ready n marks queue hi
   pub low : lo ≤ hi
@@ -59,7 +60,8 @@ pub record Frontier (n k : ℕ) (marks queue : List ℕ) (lo hi : ℕ) : Type 0 
   pub front-is : (u : ℕ) → u < n → isIn (slice lo hi queue) u ≡ eqb (getD marks u 0) (k + 2)
   pub enough : k + 2 * unreached n marks + (1 - (1 - (hi - lo))) ≤ 2 * n
 
--- T's first k levels are the rows with marks 3 .. k + 2, and the next ones come from the last of them and the rows not yet reached
+-- T's first k levels are the rows with marks 3 .. k + 2, and the next ones come from the last of them and the rows not
+-- yet reached
 abbrev pub SoFar : (adj : ℕ → List ℕ) (n : ℕ) (T : List ℕ) (k : ℕ) (marks : List ℕ) → Type 0
 SoFar adj n T k marks =
     levels adj n T ≡ map (atMark n marks) (range 3 k) ++ levelsFrom adj (2 * n - k) T (atMark n marks (k + 2)) (atMark n marks 1)
@@ -83,7 +85,8 @@ pub record Roots (adj : ℕ → List ℕ) (n : ℕ) (T roots : List ℕ) : Type 
 abbrev pub Passed : (rows marks : List ℕ) (i : ℕ) → Type 0
 Passed rows marks i = (j : ℕ) → j < i → getD marks (getD rows j 0) 0 ≢ 1
 
--- between two components: T's first k levels are done, the last of them empty, and the first i rows to start from are reached
+-- between two components: T's first k levels are done, the last of them empty, and the first i rows to start from are
+-- reached
 pub record Between (adj : ℕ → List ℕ) (n : ℕ) (T roots : List ℕ) (k i : ℕ) (marks queue : List ℕ) : Type 0 where
   pub frontier : Frontier n k marks queue 0 0
   pub so-far : SoFar adj n T k marks

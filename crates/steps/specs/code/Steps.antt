@@ -54,7 +54,8 @@ unfoldable pub outcomeOf : Pick → State → (w : ℕ) (sums : List ℤ) → Ou
 outcomeOf (Taken z) s w sums = moved (stepTaken s w z sums)
 outcomeOf (Refused k) s w sums = halted k
 
--- A step of worker w with update u, refused for this reason or none: its answer, and the sums after it, the old ones where it is refused
+-- A step of worker w with update u, refused for this reason or none: its answer, and the sums after it, the old ones
+-- where it is refused
 pub record StepMade (why : ℕ) (s : State) (w : ℕ) (u : Update) (answer : Pick) (sums : List ℤ) : Type 0 where
   pub is : outcomeOf answer s w sums ≡ stepIf why s w u
   pub kept : (k : ℕ) → answer ≡ Refused k → sums ≡ s .sums

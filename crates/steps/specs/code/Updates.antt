@@ -1,4 +1,5 @@
--- The updates of a row by the upper triangle of the matrix in plan order: number 0 is the row's own, numbers 2 c - 1 and 2 c are those with the c-th later row that is adjacent to it.
+-- The updates of a row by the upper triangle of the matrix in plan order: number 0 is the row's own, numbers 2 c - 1
+-- and 2 c are those with the c-th later row that is adjacent to it.
 use mathlib.Core.Bool.{cond}
 use mathlib.Core.List.{List, _∷_}
 use mathlib.Core.Path.{_≡_}

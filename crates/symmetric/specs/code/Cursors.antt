@@ -34,7 +34,8 @@ pub record Met (m : Matrix) (most i end : ℕ) : Type 0 where
   pub below : (p : ℕ) → getD (m .starts) i 0 ≤ p → p < end → getD (m .columns) p 0 < most
   pub mirror : (p : ℕ) → getD (m .starts) i 0 ≤ p → p < end → Mirror m i p
 
--- Cursors of the rows below i: each row is met up to its cursor, which in a regular matrix has passed the columns below i
+-- Cursors of the rows below i: each row is met up to its cursor, which in a regular matrix has passed the columns below
+-- i
 pub record Cursors (m : Matrix) (i : ℕ) (cursors : List ℕ) : Type 0 where
   pub size : m .n ≤ length cursors
   pub met : (j : ℕ) → j < i → Met m i j (getD cursors j 0)

@@ -1,4 +1,5 @@
--- The tables that a call makes of an accepted job, once, before its first step: every worker's updates, and where its leaves end.
+-- The tables that a call makes of an accepted job, once, before its first step: every worker's updates, and where its
+-- leaves end.
 use mathlib.Core.Path.{_≡_}
 use mathlib.Core.Bool.{Bool, true, false, _||_}
 use mathlib.Core.List.{List, [], _∷_}
@@ -69,7 +70,8 @@ pub record Counted (j : Job) (first : List ℕ) : Type 0 where
 abbrev pub updatesIn : (first : List ℕ) → ℕ → ℕ
 updatesIn first w = getD first (w + 1) 0 - getD first w 0
 
--- The updates of the row at p begin at place begins[p], each of their places has p in row, and leaves[p] is the record number of its leaf. A leaf i ends at access ends[i] of its worker.
+-- The updates of the row at p begin at place begins[p], each of their places has p in row, and leaves[p] is the record
+-- number of its leaf. A leaf i ends at access ends[i] of its worker.
 pub record Laid (j : Job) (first row begins leaves ends : List ℕ) : Type 0 where
   pub counted : Counted j first
   pub begins-long : length begins ≡ maxRows

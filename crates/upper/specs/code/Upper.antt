@@ -1,4 +1,5 @@
--- The upper triangle of the matrix in plan order, with its diagonal: what the tables hold of it while they are made, and then.
+-- The upper triangle of the matrix in plan order, with its diagonal: what the tables hold of it while they are made,
+-- and then.
 use mathlib.Core.Path.{_≡_}
 use mathlib.Core.Logic.{_≢_}
 use mathlib.Core.Bool.{true, _||_}
@@ -55,7 +56,8 @@ pub record Parts (m : Matrix) (order begins : List ℕ) : Type 0 where
   pub room : (p : ℕ) → p < m .n → getD begins p 0 + length (upperOf m order p) ≤ maxUpdates
   pub apart : (p r c d : ℕ) → p < m .n → r < m .n → p ≢ r → c < length (upperOf m order p) → d < length (upperOf m order r) → getD begins p 0 + c ≢ getD begins r 0 + d
 
--- For each position p a list of positions L p. They stand in `at` from p's part on, beside their entries, and next[p] is the place after them
+-- For each position p a list of positions L p. They stand in `at` from p's part on, beside their entries, and next[p]
+-- is the place after them
 pub record Placed (m : Matrix) (order begins : List ℕ) (L : ℕ → List ℕ) (next at : List ℕ) (beside : List ℤ) : Type 0 where
   pub next-long : length next ≡ maxRows
   pub at-long : length at ≡ maxUpdates

@@ -28,7 +28,8 @@ Ended count groups ends made fin =
 
 -- ---- one record
 
--- a group is open if it is no parent, so a leaf, and its count is below its end, or if one below it is open; 1 or 0, as all here
+-- a group is open if it is no parent, so a leaf, and its count is below its end, or if one below it is open; 1 or 0, as
+-- all here
 abbrev pub openIf : (parent below made end : ℕ) → ℕ
 openIf parent below made end = cond (eqb parent 0) (bit (ltb made end)) below
 

@@ -1,4 +1,5 @@
--- `run::sum::add_checked` meets its contract. Each arm's facts are carried to the integers themselves, `neg` to `most`, and omega has the rest.
+-- `run::sum::add_checked` meets its contract. Each arm's facts are carried to the integers themselves, `neg` to `most`,
+-- and omega has the rest.
 use mathlib.Core.Path.{_≡_}
 use mathlib.Core.Bool.{true, false}
 use Prim.Native.Nat.{_≤_, _<_, _+_, _^_}

@@ -1,4 +1,5 @@
--- `passes::meet_rows`: the rows passed are met and their entries on and below the diagonal counted; at the end the cursors decide.
+-- `passes::meet_rows`: the rows passed are met and their entries on and below the diagonal counted; at the end the
+-- cursors decide.
 use mathlib.Core.Path.{_≡_, refl, sym, _∙_}
 use Prim.Native.Nat.{_+_, _-_, _≤_}
 use native.Mathlib.Omega.{arith}

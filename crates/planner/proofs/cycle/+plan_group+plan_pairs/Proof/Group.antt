@@ -1,4 +1,5 @@
--- The answers of `plan_group`. A need goes back to the last milestone, and from there by their names: put, sort, some, loads, done.
+-- The answers of `plan_group`. A need goes back to the last milestone, and from there by their names: put, sort, some,
+-- loads, done.
 use mathlib.Core.Path.{_≡_, refl, sym, _∙_, subst}
 use mathlib.Core.List.{List}
 use Prim.Native.Nat.{ℕ, _≤_, _<_, _+_}

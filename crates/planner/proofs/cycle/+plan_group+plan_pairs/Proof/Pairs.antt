@@ -1,4 +1,5 @@
--- The answers of `plan_pairs`. A need goes back to the last milestone, and from there by their names: next, red, blue, rest, done.
+-- The answers of `plan_pairs`. A need goes back to the last milestone, and from there by their names: next, red, blue,
+-- rest, done.
 use mathlib.Core.Path.{_≡_, sym, ap, _∙_}
 use mathlib.Core.List.{List}
 use Prim.Native.Nat.{ℕ, _≤_, _*_}
