@@ -18,7 +18,10 @@ use Rattle.planner.proofs.plan.Tie as tie
 abbrev given : tie.Start → Matrix
 given c = let a = c .args in matrixOf (a .n) (a .starts .now) (a .columns .now) (a .values .now)
 
--- ---- milestones, and the way back from each to the one before it: it is a matrix; the parameters are in their limits; the order has room; the plan is made; the groups have room; the order is copied
+-- ---- milestones, and the way back from each to the one before it
+
+-- it is a matrix; the parameters are in their limits; the order has room; the plan is made; the groups have room; the
+-- order is copied
 
 abbrev start : tie.Else1 → tie.Start
 start c = c .before .before .before .before .before .before

@@ -21,7 +21,10 @@ use Rattle.planner.proofs.cycle.+plan_group+plan_pairs.Lts-plan_group a
 use Rattle.planner.proofs.cycle.+plan_group+plan_pairs.Proof.Base.{plan-group-at, plan-group-calls}
 
 module _ (t : ℕ) where
-  -- ---- milestones: the start; the record is written; the group is sorted; it has enough levels; their loads are known; its pairs are planned
+  -- ---- milestones
+
+  -- the start; the record is written; the group is sorted; it has enough levels; their loads are known; its pairs are
+  -- planned
 
   abbrev Start : Type 0
   Start = lts.Start (plan-group-calls t) (plan-group-at t) plan-group.Post

@@ -22,7 +22,10 @@ use Rattle.planner.proofs.cycle.+plan_group+plan_pairs.Lts-plan_pairs a
 use Rattle.planner.proofs.cycle.+plan_group+plan_pairs.Proof.Base.{plan-pairs-at, plan-pairs-calls}
 
 module _ (t : ℕ) where
-  -- ---- milestones: the start; the next pair is known; its red group is planned; its blue group too; what is left is known; its pairs are planned
+  -- ---- milestones
+
+  -- the start; the next pair is known; its red group is planned; its blue group too; what is left is known; its pairs
+  -- are planned
 
   abbrev Start : Type 0
   Start = lts.Start (plan-pairs-calls t) (plan-pairs-at t) plan-pairs.Post
