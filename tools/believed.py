@@ -1,8 +1,8 @@
 #!/usr/bin/env python3
 """What a sceptic must read: the definitions that the promises rest on, and no others.
 
-The promises are what docs/THEOREMS.md links: a contract as [crate::function](../crates/..rt), a theorem as
-[name](../crates/..antt); and the contract of every function of crates/mazhoketh for C. Their words are followed
+The promises are what docs/THEOREMS.md links: a contract as [crate::function] with ../crates/..rt, a theorem as [name]
+with ../crates/..antt; and the contract of every function of crates/mazhoketh for C. Their words are followed
 through crates/*/specs. The files to read are printed in the order of crates.txt and of each specs/Lib.antt: their
 lines, how many of these are of definitions that a promise rests on (comments left out), and the path; or only what the
 named ones rest on, as `tools/believed.py every-run`. --check fails if a promise rests on something of specs/code, which
@@ -56,7 +56,8 @@ for path in glob.glob("crates/*/specs/**/[A-Z]*.antt", recursive=True):
 
 exports = glob.glob("crates/mazhoketh/src/*.rt")
 promises = {(name, path) for path in exports for name in re.findall(r'"C" fn (\w+)', read(path))}
-promises |= set(re.findall(r"\[(?:\w+::)?([\w-]+)\]\(\.\./(crates/\S+?\.(?:rt|antt))\)", read("docs/THEOREMS.md")))
+link = r"\[(?:\w+::)?([\w-]+)\](?:\(|: )\.\./(crates/\S+?\.(?:rt|antt))\b"  # in the text, or at its end
+promises |= set(re.findall(link, read("docs/THEOREMS.md")))
 only = {word for word in sys.argv[1:] if word != "--check"}
 wanted = set()
 for name, path in promises:
