@@ -35,7 +35,7 @@ reason-none w workers made all waiting e = go (ltb w workers) refl (leb all made
     go true x false y c e = (ltb-true w workers x, leb-false all made y)
 
 -- none refuses a step that moved
-moved-none : (s : State) (w : ℕ) (u : Update) (why : ℕ) (t : State) → moved t ≡ stepIf why s w u → why ≡ 0
+moved-none : (s : State) (w : ℕ) (u : Update) (cause : ℕ) (t : State) → moved t ≡ stepIf cause s w u → cause ≡ 0
 unfolding stepIf
 moved-none s w u zero t e = refl
 moved-none s w u (suc k) t e = absurd (let q : _≡_ {A = ℕ} 0 1 = cc in omega arith)
@@ -55,24 +55,24 @@ step-bounds {crew} {n} {first} few b blocks {s} {w} {u} {answer} {sums} h {z} q 
     record { worker = low; few = omega (arith, left, b .rising .few (w + 1) (omega arith)) }
 
 -- a step that is refused leaves the sums
-pub step-refused : (why number : ℕ) (s : State) (w : ℕ) (u : Update) → number ≡ why → number ≢ 0 → StepMade why s w u (Refused number) (s .sums)
+pub step-refused : (cause number : ℕ) (s : State) (w : ℕ) (u : Update) → number ≡ cause → number ≢ 0 → StepMade cause s w u (Refused number) (s .sums)
 unfolding outcomeOf stepIf
 step-refused zero number s w u e d = absurd (d e)
 step-refused (suc k) number s w u e d = record { is = ap halted e; kept = λ k q. refl }
 
-module _ (why : ℕ) (none : why ≡ 0) (made : List ℕ) (held sums : List ℤ) (w : ℕ) (u : Update) where
+module _ (cause : ℕ) (none : cause ≡ 0) (made : List ℕ) (held sums : List ℤ) (w : ℕ) (u : Update) where
   abbrev s : State
   s = stateWith made held sums
 
   -- at an even count it loads
-  pub step-loads : count made w % 2 ≡ 0 → StepMade why s w u (Taken (getD sums (u .target) (pos 0))) sums
+  pub step-loads : count made w % 2 ≡ 0 → StepMade cause s w u (Taken (getD sums (u .target) (pos 0))) sums
   unfolding outcomeOf stepIf move access load onward
   step-loads e = record { is = rw (none, eq-eqb (count made w % 2) 0 e, add-one (count made w)) refl; kept = λ k q. refl }
 
   -- at an odd count the sum is held number plus amount
   module _ (odd : count made w % 2 ≢ 0) where
     -- .. that is stored if it fits, and leaves the held number
-    pub step-stores : (z : ℤ) → sumOf (getD held w (pos 0)) (u .amount) ≡ Fits z → StepMade why s w u (Taken (getD held w (pos 0))) (set sums (u .target) z)
+    pub step-stores : (z : ℤ) → sumOf (getD held w (pos 0)) (u .amount) ≡ Fits z → StepMade cause s w u (Taken (getD held w (pos 0))) (set sums (u .target) z)
     unfolding outcomeOf stepIf move access store onward total
     step-stores z e = record {
       is = rw (none, ne-eqb (count made w % 2) 0 odd, add-one (count made w), set-getD held w (pos 0)) (go (fits64 y) refl e);
@@ -90,7 +90,7 @@ module _ (why : ℕ) (none : why ≡ 0) (made : List ℕ) (held sums : List ℤ)
         go false f e = absurd (let q : _≡_ {A = ℕ} 0 1 = cc in omega arith)
 
     -- .. and refused if it does not
-    pub step-passes : sumOf (getD held w (pos 0)) (u .amount) ≡ Passes → StepMade why s w u (Refused why.overflow) sums
+    pub step-passes : sumOf (getD held w (pos 0)) (u .amount) ≡ Passes → StepMade cause s w u (Refused why.overflow) sums
     unfolding outcomeOf stepIf move access total
     step-passes e = record { is = rw (none, ne-eqb (count made w % 2) 0 odd) (go (fits64 (getD held w (pos 0) +ℤ u .amount)) refl e); kept = λ k q. refl }
       where

@@ -40,8 +40,8 @@ use denote.Triple.Clauses.{Lasts, lasts}
 use denote.Triple.Table.{entered, cited}
 use denote.Triple.Walked.{says, Stays, stay-dropped, gave-slice, walkOf, goes-gave-slice, Walks, ends-at, walked, walk-meets}
 use denote.Exit.{yes}
-use Rattle.base.proofs.Answer as S
-use Rattle.base.proofs.Answer.Laws as S′
+use Rattle.base.proofs.Verdict as S
+use Rattle.base.proofs.Verdict.Laws as S′
 use Rattle.matrix.specs.Matrix.{matrixOf, Matrix}
 use Rattle.plan.specs.declared.fields.Group.{Group}
 use Rattle.plan.proofs.fields.Group as T

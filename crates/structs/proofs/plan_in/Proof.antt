@@ -54,8 +54,8 @@ use borrow.Rule.Slice.Shared.{parts-cells}
 use Rattle.base.specs.Verdicts.{replyOf}
 use Rattle.base.specs.Replies.{Reply, lent}
 use Rattle.base.specs.declared.Verdict.{Verdict}
-use Rattle.base.proofs.Answer as S
-use Rattle.base.proofs.Answer.Laws as S′
+use Rattle.base.proofs.Verdict as S
+use Rattle.base.proofs.Verdict.Laws as S′
 use Rattle.matrix.specs.Matrix.{Matrix, matrixOf}
 use Rattle.plan.specs.Groups.{width}
 use Rattle.plan.specs.declared.fields.Group.{Group}
