@@ -5,10 +5,10 @@ use mathlib.Core.List.{List, [], _∷_, _++_}
 use Prim.Native.Nat.{ℕ, zero, suc, _+_, _-_, _≤_, _<_}
 use native.Mathlib.Numerals.{add-one}
 use native.Mathlib.Omega.{arith}
-use lib.IntN.{ℤ, pos}
-use lib.ListN.{length, getD, take, drop, take-append-drop}
+use lib.IntN.{ℤ}
+use lib.ListN.{length, getD, take, take-append-drop}
 use lib.Seq.{slice, length-slice, take-take}
-use borrow.Author.Tests.{lt-ltb, le-ltb, leb-true}
+use borrow.Author.Tests.{lt-ltb, leb-true}
 use Rattle.base.specs.Lists.{all, range}
 use Rattle.base.proofs.Lists.{all-range, range-snoc}
 use Rattle.matrix.specs.Matrix.{Matrix, partOf, columnsOf, valuesOf, lookup, entry}
@@ -35,11 +35,6 @@ values-part m i l = row-part m (m .values) i l
 pub entry-row : (m : Matrix) (i j : ℕ) {cs : List ℕ} {vs : List ℤ} → cs ≡ columnsOf m i → vs ≡ valuesOf m i → lookup j cs vs ≡ entry m i j
 unfolding entry
 entry-row m i j e f = rw (e, f)
-
--- past the last row every entry is 0
-pub entry-past : (m : Matrix) (i j : ℕ) → m .n ≤ i → entry m i j ≡ pos 0
-unfolding entry columnsOf partOf lookup
-entry-past m i j h = rw (le-ltb i (m .n) h)
 
 -- row starts never fall
 starts-climb : (starts : List ℕ) (n : ℕ) → all (rises starts) (range 0 n) ≡ true → (i d : ℕ) → i + d ≤ n → getD starts i 0 ≤ getD starts (i + d) 0

@@ -1,18 +1,13 @@
 -- Rows in order: their columns ascend, and there are as many as values.
 use mathlib.Core.Path.{_≡_, sym, ap, _∙_}
-use mathlib.Core.Bool.{true, _&&_}
+use mathlib.Core.Bool.{true}
 use mathlib.Core.List.{List}
 use Prim.Native.Nat.{ℕ, _<_}
-use lib.Dec.{ltb}
 use lib.IntN.{ℤ}
 use lib.ListN.{length}
-use Rattle.base.specs.Lists.{all}
-use Rattle.base.specs.Integers.{within}
-use Rattle.base.proofs.Booleans.{and-left}
 use Rattle.base.proofs.Lists.{all-range}
-use Rattle.matrix.specs.Limits.{maxValue}
-use Rattle.matrix.specs.Matrix.{Matrix, columnsOf, valuesOf, ascending}
-use Rattle.matrix.specs.code.Checks.{shaped, isOrdered}
+use Rattle.matrix.specs.Matrix.{Matrix, columnsOf, valuesOf}
+use Rattle.matrix.specs.code.Checks.{shaped}
 use Rattle.matrix.proofs.Checks.{orderedRow, ordered}
 use Rattle.matrix.proofs.Rows.{length-columns, length-values}
 
@@ -21,14 +16,6 @@ module _ (m : Matrix) (o : ordered m ≡ true) where
   pub row-ordered : (i : ℕ) → i < m .n → orderedRow m i ≡ true
   unfolding ordered
   row-ordered i l = all-range (orderedRow m) (m .n) i o l
-
-  -- row i's columns ascend
-  pub row-ascends : {cs : List ℕ} (i : ℕ) → i < m .n → cs ≡ columnsOf m i → ascending cs ≡ true
-  unfolding isOrdered
-  row-ascends i l e =
-      let cs = columnsOf m i in
-      let below = all (λ j. ltb j (m .n)) cs in
-      rw e (and-left (ascending cs) below (and-left (ascending cs && below) (all (within maxValue) (valuesOf m i)) (row-ordered i l)))
 
 -- a row has as many columns as values
 pub row-lengths : (m : Matrix) → shaped m ≡ true → {cs : List ℕ} {vs : List ℤ} (i : ℕ) → i < m .n → cs ≡ columnsOf m i → vs ≡ valuesOf m i → length cs ≡ length vs
