@@ -1,15 +1,14 @@
 -- A group's levels depend on who is in it, not on its order. A group's rows in ascending order are as many.
 use mathlib.Core.Path.{_≡_, refl, sym, ap, _∙_, fun-ext}
-use mathlib.Core.Bool.{Bool, true, false, not, _||_, cond}
+use mathlib.Core.Bool.{Bool, true, false, not, _||_}
 use mathlib.Core.List.{List, [], _∷_, map}
 use Prim.Native.Nat.{ℕ, zero, suc, _*_, _≤_}
 use native.Mathlib.Omega.{arith}
-use lib.Dec.{eqb}
-use lib.ListN.{length, getD}
+use lib.ListN.{length}
 use Rattle.base.specs.Lists.{filter, any, isIn, range, trim, bit}
 use Rattle.base.specs.code.Counts.{count}
 use Rattle.base.proofs.Booleans.{both-ways}
-use Rattle.base.proofs.Lists.{filter-ext, filter-passes, filter-of, isIn-range, length-filter-le, length-range}
+use Rattle.base.proofs.Lists.{filter-passes, filter-of, isIn-range, length-filter-le, length-range}
 use Rattle.base.proofs.Counts.{same-length, count-filter, count-range, in-count, out-count}
 use Rattle.levels.specs.code.Group.{Proper}
 use Rattle.levels.specs.Levels.{near, region, isNext, levelsFrom, levels, ownLevels}
