@@ -21,7 +21,7 @@ use Rattle.plan.specs.Sound.{maxWorkers, maxDepth, maxGroups, eachOnce, depthFi
 use Rattle.plan.proofs.Once.{same-once}
 use Rattle.extents.specs.Extents.{Policy}
 use Rattle.race.specs.Loads.{loadOf}
-use Rattle.race.specs.Planner.{Planner, nothing, leaf, pairs, planPairs, splits, split, planGroup, wholeOf, planRows}
+use Rattle.race.specs.Planner.{Planner, nothing, _then_, leaf, pairs, planPairs, splits, split, planGroup, wholeOf, planRows}
 use Rattle.race.proofs.Tiles.{Tiles, pairs-tile}
 use Rattle.race.proofs.Parts.{Part, parts, allRows, recordOf, planParts, planPairs-parts, tiles-rows, tiles-tiled, tiles-groups}
 use Rattle.race.proofs.Colours.{tiles-apart}
