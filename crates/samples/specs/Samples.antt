@@ -9,7 +9,7 @@ use lib.ListN.{length, take, drop, replicate}
 use Rattle.base.specs.Lists.{concat, range, sum, sumBelow, bit}
 use Rattle.base.specs.Ascii.{ascii}
 use Rattle.base.specs.Integers.{sumℤ, within, same, fits64}
-use Rattle.base.specs.Replies.{Reply, accepted, inTurn}
+use Rattle.base.specs.Replies.{Reply, accepted, refused, inTurn}
 use Rattle.matrix.specs.Matrix.{Matrix, partOf, columnsOf, valuesOf, lookup, entry, neighbours, adjacent, adjacentPairs, ascending, mirrored, isRow, lowerEntries, isMatrix, matrixCheck, displacement, areDisplacements}
 use Rattle.matrix.specs.Product.{forceAt, product}
 use Rattle.market.specs.Bytes.{classOf, header}
@@ -42,7 +42,7 @@ numbers ns = map pos ns
 
 abbrev ofReply : Reply → List ℤ
 ofReply (accepted k) = pos 0 ∷ pos k ∷ []
-ofReply (denied q p) = pos q ∷ pos p ∷ []
+ofReply (refused q p) = pos q ∷ pos p ∷ []
 
 abbrev ofTriplet : Triplet → List ℤ
 ofTriplet e = pos (e .row) ∷ pos (e .column) ∷ e .value ∷ []
