@@ -190,7 +190,26 @@ module _ (m : Matrix) (order position begins : List ℕ) (o : Ordered m order) (
             diagonal = diagonal-next values values-long (d .diagonal);
           }
 
-      -- one column more, whose row stands at r
+      -- one column more, whose row stands after q
+      pub join-past : {r : ℕ} → r ≡ p → q < r → {next at : List ℕ} {values : List ℤ} → Joined m order begins q cs k next at values → Joined m order begins q cs (k + 1) next at values
+      join-past e l d =
+          let x : q < p = omega (arith, e) in
+          let far : p ≢ q = λ y. omega arith in
+          record {
+            placed = placed-same m order begins (joined m order q cs k) (joined m order q cs (k + 1)) (λ r h. same (ltb p q) (le-ltb p q (omega arith)) r ∙ joined-next r h) (d .placed);
+            own = d .own;
+            diagonal = rw (taken row, ne-eqb row i (λ y. injective (m .n) order rows p q (back .0) low far (back .1 ∙ sym y)), or-false (isIn (take k cs) row)) (d .diagonal);
+          }
+        where
+          -- no list grows
+          same : (b : Bool) → b ≡ false → (r : ℕ) → joined m order q cs k r ≡ grown (joined m order q cs k) p b q r
+          same b e r = rw e (go (same-or r p))
+            where
+              go : (r ≡ p) ⊎ (r ≢ p) → joined m order q cs k r ≡ grown (joined m order q cs k) p false q r
+              go (inl y) = rw (eq-eqb r p y, append-nil (joined m order q cs k p)) (ap (joined m order q cs k) y)
+              go (inr y) = rw (ne-eqb r p y) refl
+
+      -- .. whose row stands at r
       pub record Turn (r : ℕ) (next at : List ℕ) (values : List ℤ) : Type 0 where
         pub inside : r < m .n
         pub beside-long : k < length vs

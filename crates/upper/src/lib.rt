@@ -14,8 +14,7 @@ ghost use Rattle.matrix.specs.Matrix.{matrixOf};
 ghost use Rattle.upper.specs.code.Upper.{Positions, Lent, Parts, Upper};
 
 // Position q begins its own part, and joins the part of each row before it that is adjacent to its row. The next place
-// of every column's row is written: it counts once the place after it is the next. Rows from q on have no place yet:
-// the diagonal entry goes to the own place, and what rows after q get is written over in their turn.
+// of a column's row is written: it counts once the place after it is the next, which that of q's own is in the end.
 fn join(
     n: usize,
     starts: &[u32],
@@ -46,6 +45,10 @@ fn join(
     let mut k = 0;
     while k < row_columns.len() {
         let p = position[wide_at(row_columns, k)] as usize;
+        if q < p {
+            k += 1;
+            continue;
+        }
         let place = next[p] as usize;
         at[place] = q as u16;
         beside[place] = row_values[k];

@@ -11,7 +11,7 @@ use mir.Syntax.{w32}
 use mir.Facts.{toZ-ofZ}
 use Rattle.matrix.specs.Matrix.{matrixOf, Matrix, columnsOf, valuesOf}
 use Rattle.upper.specs.code.Upper.{Parts, Upper}
-use Rattle.upper.proofs.JoinRows.{Joined, Turn, join-turn, column-inside, own-next, join-begun, join-ended}
+use Rattle.upper.proofs.JoinRows.{Joined, Turn, join-past, join-turn, column-inside, own-next, join-begun, join-ended}
 use Rattle.upper.proofs.PlacedRows.{row-low}
 use Rattle.upper.proofs.SizeRows.{byte-le}
 use Rattle.matrix.proofs.Matrix.{matrix-facts}
@@ -190,55 +190,6 @@ element-copy-out-p c = let h = column c in search needs
 cast-p : tie.Need-cast-p Inv-loop μ-loop
 cast-p c = let b = bounds (c .before) in search needs
 
-mul-place : tie.Need-mul-place Inv-loop μ-loop
-mul-place c = let b = bounds (c .before) in search needs
-
-element-copy-out-place : tie.Need-element-copy-out-place Inv-loop μ-loop
-element-copy-out-place c = let b = bounds (c .before) in search needs
-
-cast-place : tie.Need-cast-place Inv-loop μ-loop
-cast-place c = let b = bounds (c .before .before) in search needs
-
-cast-at-2 : tie.Need-cast-at-2 Inv-loop μ-loop
-cast-at-2 c = let b = bounds (c .before .before) in search needs
-
-mul-at-2 : tie.Need-mul-at-2 Inv-loop μ-loop
-mul-at-2 c = let b = bounds (c .before .before) in search needs
-
-element-write-at-2 : tie.Need-element-write-at-2 Inv-loop μ-loop
-element-write-at-2 c = let b = bounds (c .before .before) in search needs
-
-mul-beside-2 : tie.Need-mul-beside-2 Inv-loop μ-loop
-mul-beside-2 c = search needs
-
-shared-slice-copy-out-beside : tie.Need-shared-slice-copy-out-beside Inv-loop μ-loop
-shared-slice-copy-out-beside c = turn-given (c .before .before) .beside-long
-
-mul-t29 : tie.Need-mul-t29 Inv-loop μ-loop
-mul-t29 c = let b = bounds (c .before .before .before) in search needs
-
-element-set-from-beside : tie.Need-element-set-from-beside Inv-loop μ-loop
-element-set-from-beside c = let b = bounds (c .before .before .before) in search needs
-
-cast-next : tie.Need-cast-next Inv-loop μ-loop
-cast-next c = let b = bounds (c .before .before .before) in search needs
-
-cast-next-2 : tie.Need-cast-next-2 Inv-loop μ-loop
-cast-next-2 c = search needs
-
-add-next : tie.Need-add-next Inv-loop μ-loop
-add-next c =
-    let w = c .before .before .before in
-    let b = bounds w in
-    let a = given (w .before .before .before .before .before) .args in
-    omega (arith, byte-le (ltb (getD (a .position .now) (w .wide-at2 .result) 0) (a .q)))
-
-mul-next : tie.Need-mul-next Inv-loop μ-loop
-mul-next c = let b = bounds (c .before .before .before) in search needs
-
-element-write-next : tie.Need-element-write-next Inv-loop μ-loop
-element-write-next c = let b = bounds (c .before .before .before) in search needs
-
 add-k : tie.Need-add-k Inv-loop μ-loop
 add-k c = search needs
 
@@ -247,7 +198,73 @@ loop-less c = search needs
 
 loop-again : tie.Need-loop-again Inv-loop μ-loop
 loop-again c =
-    let w = c .before .before .before in
+    let w = c .before .before in
+    let l = w .before .before in
+    let v = l .before in
+    let s = given (v .before .before) in (
+      search needs,
+      λ begins parts u. join-past (matrix s) (order s) (s .args .position .now) begins (s .pre .0 .ordered) (s .pre .1) parts (s .args .q) (s .pre .2)
+          (columns v) (values v) (l .loop .k) (w .before .loop-test .taken) (ap (λ (i : ℕ). getD (s .args .position .now) i 0) (w .wide-at2 .ensures .0)) (c .if1 .taken) (l .loop .inv .1 begins parts u),
+    )
+
+mul-place : tie.Need-mul-place Inv-loop μ-loop
+mul-place c = let b = bounds (c .before .before) in search needs
+
+element-copy-out-place : tie.Need-element-copy-out-place Inv-loop μ-loop
+element-copy-out-place c = let b = bounds (c .before .before) in search needs
+
+cast-place : tie.Need-cast-place Inv-loop μ-loop
+cast-place c = let b = bounds (c .before .before .before) in search needs
+
+cast-at-2 : tie.Need-cast-at-2 Inv-loop μ-loop
+cast-at-2 c = let b = bounds (c .before .before .before) in search needs
+
+mul-at-2 : tie.Need-mul-at-2 Inv-loop μ-loop
+mul-at-2 c = let b = bounds (c .before .before .before) in search needs
+
+element-write-at-2 : tie.Need-element-write-at-2 Inv-loop μ-loop
+element-write-at-2 c = let b = bounds (c .before .before .before) in search needs
+
+mul-beside-2 : tie.Need-mul-beside-2 Inv-loop μ-loop
+mul-beside-2 c = search needs
+
+shared-slice-copy-out-beside : tie.Need-shared-slice-copy-out-beside Inv-loop μ-loop
+shared-slice-copy-out-beside c = turn-given (c .before .before .before) .beside-long
+
+mul-t29 : tie.Need-mul-t29 Inv-loop μ-loop
+mul-t29 c = let b = bounds (c .before .before .before .before) in search needs
+
+element-set-from-beside : tie.Need-element-set-from-beside Inv-loop μ-loop
+element-set-from-beside c = let b = bounds (c .before .before .before .before) in search needs
+
+cast-next : tie.Need-cast-next Inv-loop μ-loop
+cast-next c = let b = bounds (c .before .before .before .before) in search needs
+
+cast-next-2 : tie.Need-cast-next-2 Inv-loop μ-loop
+cast-next-2 c = search needs
+
+add-next : tie.Need-add-next Inv-loop μ-loop
+add-next c =
+    let w = c .before .before .before .before in
+    let b = bounds w in
+    let a = given (w .before .before .before .before .before) .args in
+    omega (arith, byte-le (ltb (getD (a .position .now) (w .wide-at2 .result) 0) (a .q)))
+
+mul-next : tie.Need-mul-next Inv-loop μ-loop
+mul-next c = let b = bounds (c .before .before .before .before) in search needs
+
+element-write-next : tie.Need-element-write-next Inv-loop μ-loop
+element-write-next c = let b = bounds (c .before .before .before .before) in search needs
+
+add-k-2 : tie.Need-add-k-2 Inv-loop μ-loop
+add-k-2 c = search needs
+
+loop-less-2 : tie.Need-loop-less-2 Inv-loop μ-loop
+loop-less-2 c = search needs
+
+loop-again-2 : tie.Need-loop-again-2 Inv-loop μ-loop
+loop-again-2 c =
+    let w = c .before .before .before .before in
     let l = w .before .before in (
       search needs,
       λ begins parts u. rw (toZ-ofZ {w = w32} {z = getD (l .before .values-of .result .now) (l .loop .k) (pos 0)} (sfits-of (c .beside .given))) (turn w begins parts (l .loop .inv .1 begins parts u) .after),
@@ -298,6 +315,9 @@ join-spec =
     mul-p
     element-copy-out-p
     cast-p
+    add-k
+    loop-less
+    loop-again
     mul-place
     element-copy-out-place
     cast-place
@@ -313,9 +333,9 @@ join-spec =
     add-next
     mul-next
     element-write-next
-    add-k
-    loop-less
-    loop-again
+    add-k-2
+    loop-less-2
+    loop-again-2
     cast-next-3
     add-next-2
     mul-next-2
