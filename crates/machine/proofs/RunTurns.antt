@@ -26,7 +26,7 @@ use Rattle.steps.specs.declared.Pick.{Pick}
 use Rattle.steps.specs.declared.Pick.the-variants.{Taken, Refused}
 use Rattle.steps.specs.code.Updates.{updateIn, Triangle}
 use Rattle.steps.specs.code.Steps.{stateWith, rowNext, numberNext, reasonAt, stepTaken, outcomeOf, StepMade}
-use Rattle.machine.specs.code.Stepped.{passesOver, walk, comesTo}
+use Rattle.machine.specs.code.Stepped.{passesOver, walk}
 use Rattle.machine.specs.declared.state.Rule.{Rule}
 use Rattle.run.proofs.Able.{able}
 use Rattle.machine.proofs.TableWaits.{table-reason}
@@ -58,16 +58,6 @@ module _ (j : Job) {first row begins leaves ends : List ℕ} (laid : Laid j firs
     -- what the code answers is the machine's outcome
     step-answer : {given : Pick} → answer ≡ given → step j s w ≡ outcomeOf given s w sums
     step-answer q = sym (table-step crew e few s blocks waiting w) ∙ sym (h .is) ∙ ap (λ (y : Pick). outcomeOf y s w sums) q
-
-    -- one pick: it is refused
-    pub pick-refused : {number : ℕ} → answer ≡ Refused number → (stateWith (s .made) (s .held) sums, number) ≡ comesTo s (step j s w)
-    unfolding outcomeOf
-    pick-refused {number} q = rw (step-answer q, h .kept number q) refl
-
-    -- .. or taken
-    pub pick-taken : {z : ℤ} → answer ≡ Taken z → (stepTaken s w z sums, 0) ≡ comesTo s (step j s w)
-    unfolding outcomeOf
-    pick-taken q = rw (step-answer q) refl
 
 -- ---- who is blocked stays so
 

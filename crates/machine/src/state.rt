@@ -13,7 +13,6 @@ use tables::MAX_UPDATES;
 use waits::blocked_groups;
 use waits::next_ends;
 ghost use mathlib.Core.Path.{_≡_};
-ghost use mathlib.Core.List.{List};
 ghost use Prim.Native.Nat.{ℕ, _≤_, _<_};
 ghost use lib.IntN.{pos};
 ghost use lib.ListN.{length, replicate};
@@ -27,11 +26,11 @@ ghost use Rattle.run.specs.Job as job;
 ghost use Rattle.run.specs.State as run;
 ghost use Rattle.machine.specs.Record.{stateOf};
 ghost use Rattle.machine.specs.code.Tests.{allBelow, fine, done};
-ghost use Rattle.tables.specs.code.Laid.{Rising, Laid, Waits};
+ghost use Rattle.tables.specs.code.Laid.{Rising, Laid};
 ghost use Rattle.waits.specs.code.Waits.{Recorded};
 ghost use Rattle.steps.specs.code.Updates.{Triangle};
 ghost use Rattle.steps.specs.code.Steps.{StepTables};
-ghost use Rattle.machine.specs.code.Stepped.{passesOver, walk, endedWith, walkedOf, comesTo};
+ghost use Rattle.machine.specs.code.Stepped.{passesOver, walk, endedWith, walkedOf};
 
 // Accesses made, and the number held, of each of 16 workers.
 pub struct State {
@@ -65,12 +64,6 @@ pub struct Walked {
     pub number: u32,
 }
 
-// What a pick comes to: the state after it, and the number that refuses it, 0 if it was taken.
-pub struct Outcome {
-    pub state: State,
-    pub number: u32,
-}
-
 impl State {
     // The state that a run begins with.
     pub fn fresh() -> State
@@ -95,64 +88,8 @@ impl State {
         }
     }
 
-    // Takes one pick of worker w: its next load or store.
-    pub fn pick(
-        mut self,
-        sums: &mut [i64],
-        w: usize,
-        workers: usize,
-        first: &[u32; FIRSTS],
-        row: &[u16; MAX_UPDATES],
-        begins: &[u32; MAX_ROWS],
-        leaves: &[u16; MAX_ROWS],
-        blocks: &[u8; MAX_GROUPS],
-        displaced: &[i32; MAX_ROWS],
-        at: &[u16; MAX_UPDATES],
-        beside: &[i32; MAX_UPDATES],
-    ) -> Outcome
-        requires { ⌜ (workers ≤ maxWorkers)
-            × StepTables (length (now sums)) (now first) (now row) (now begins) (now leaves) (now at) ⌝ }
-        ensures { λ r. ⌜ ((j : Job) (ends : List ℕ) → workers ≡ job.workers j
-            → Laid j (now (first .entry)) (now (row .entry)) (now (begins .entry)) (now (leaves .entry)) ends
-            → Triangle j (now (begins .entry)) (now (displaced .entry)) (now (at .entry)) (now (beside .entry))
-            → Waits j (self .made) (now (blocks .entry))
-            → (stateOf (r .state) (now (sums .exit)), r .number) ≡ comesTo (stateOf self (now (sums .entry))) (machine.step j (stateOf self (now (sums .entry))) w)) ⌝ }
-    {
-        let answer = step(
-            &self.made,
-            &self.held,
-            sums,
-            w,
-            workers,
-            first,
-            row,
-            begins,
-            leaves,
-            blocks,
-            displaced,
-            at,
-            beside,
-        );
-        let held = match answer {
-            Pick::Refused(number) => {
-                return Outcome {
-                    state: self,
-                    number: number,
-                };
-            }
-            Pick::Taken(held) => held,
-        };
-        self.made[w] += 1;
-        self.held[w] = held;
-        Outcome {
-            state: self,
-            number: 0,
-        }
-    }
-
     // Takes the picks of a schedule one by one, up to the first that is refused and that the rule does not pass over.
-    // The step is made in place and not by `pick`: to hand the record over for every pick copies its 192 bytes twice,
-    // 24 ns a pick against 6.
+    // Each is a step in place: to hand the record over for every pick copies its 192 bytes twice.
     pub fn take(
         mut self,
         sums: &mut [i64],

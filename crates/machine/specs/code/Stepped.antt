@@ -51,8 +51,3 @@ endedWith r taken past number = record { state = r; taken = taken; past = past; 
 -- the record that the code makes, beside the lent sums
 abbrev pub walkedOf : code.Walked → (sums : List ℤ) → Walked
 walkedOf r sums = record { state = stateOf (r .state) sums; taken = r .taken; past = r .past; number = r .number }
-
--- what a pick in state s comes to: the state that it moved to, and 0; or s as it is, and the number that halted it
-abbrev pub comesTo : (s : run.State) → machine.Outcome → run.State × ℕ
-comesTo s (machine.moved t) = (t, 0)
-comesTo s (machine.halted k) = (s, k)
