@@ -33,8 +33,7 @@ fn lent_sums(state: &[u8], size: usize) -> usize
     if state.len() == STATE_BYTES { size } else { 0 }
 }
 
-// The lists are decoded, as far as any job can reach; the sums into `new`,
-// where the call leaves them. Forces are stored.
+// The lists are decoded, as far as any job can reach; the sums into `new`, where they are left. Forces are stored.
 pub fn perform_in(
     n: u32,
     row_starts: &[u8],

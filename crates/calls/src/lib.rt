@@ -1,5 +1,4 @@
-// A call on a run, by the lists that a caller lends: the checks, how many accesses each worker makes, then what is
-// asked.
+// A call on a run, by the lists that a caller lends: the checks, the accesses of each worker, then what is asked.
 mod checks;
 mod force_list;
 mod picks;
@@ -24,16 +23,15 @@ ghost use Rattle.run.specs.Calls.{placeOf};
 ghost use Rattle.machine.specs.Record.{stateOf};
 ghost use Rattle.calls.specs.Performed.{asCall, asAnswer, Performed};
 
-// What is asked of a run: that it take the picks of a lent schedule, which workers are ready, its forces for a lent
-// list.
+// What is asked of a run: that it take the picks of a lent schedule, who is ready, its forces for a lent list.
 pub enum Call {
     Picks,
     ReadySet,
     ForceList,
 }
 
-// The answer: picks taken, with the number and place of the one that ended them; sixteen bits, bit 0 for worker 0, and
-// the count of those set; forces, which stand in the lent list; or a refusal's number and place.
+// The answer: picks taken, and what ended them where; a bit for each worker, and their count; forces, which stand in the
+// lent list; or a refusal's number and place.
 pub enum Response {
     Picked(usize, u32, usize),
     Ready(u16, u32),
