@@ -1,5 +1,5 @@
 // How many rows are adjacent to a row.
-use crate::wide;
+use base::numbers::wide;
 use matrix::row::columns_of;
 ghost use mathlib.Core.Path.{_≡_};
 ghost use mathlib.Core.Bool.{not};
