@@ -75,7 +75,9 @@ fn plan_group(matrix: &Matrix, p: u32, plan: &mut Plan, record: Fields, depth: u
 
 /// "A freedom's load becomes 1 plus the number of freedoms joined to it in the whole matrix."
 fn weight(matrix: &Matrix, row: u32) -> u32 {
-    1 + (0..matrix.n).filter(|&other| joined(matrix, row, other)).count() as u32
+    1 + (0..matrix.n)
+        .filter(|&other| joined(matrix, row, other))
+        .count() as u32
 }
 
 /// The records of a split group's children.
@@ -237,7 +239,12 @@ fn children_fit(records: &[[u64; FIELDS]], parent: usize) -> bool {
 }
 
 /// Whether like-coloured children of a parent are apart; their records tile it.
-fn children_apart(matrix: &Matrix, order: &[u32], records: &[[u64; FIELDS]], parent: usize) -> bool {
+fn children_apart(
+    matrix: &Matrix,
+    order: &[u32],
+    records: &[[u64; FIELDS]],
+    parent: usize,
+) -> bool {
     let children = children(records, parent);
     let stretch = |child: usize| {
         let [start, length, ..] = records[child];
