@@ -105,7 +105,7 @@ uint64_t mzk_product(uint32_t n,
  * workers, colour, parent); returns the number of groups. Start and length are positions in the order, the colour is 0
  * for the whole, 1 for red and 2 for blue, the parent is the number of its record, and the whole's is 0.
  * p, 50 to 99, is how near, in per cent, the load of a red and a blue group must come to a whole number of workers.
- * Take 60 first: on the matrices of data/ 50 to 80 keep about as many workers moving, and 99 less than half as many.
+ * Take 60 first: on the matrices of data/ 50 to 70 keep about as many workers moving, and 99 less than half as many.
  * Refused: 5; 7; 9 (order, groups). */
 uint64_t mzk_plan(uint32_t n,
                   const uint8_t *row_starts, size_t row_starts_bytes,

@@ -61,34 +61,45 @@ fn plan_group(matrix: &Matrix, p: u32, plan: &mut Plan, record: Fields, depth: u
         plan.order[stretch].sort_by_key(|freedom| (levels[freedom], *freedom));
     }
     if split {
-        let at = |level: &&u32, from, end| (from..end).contains(*level);
-        let levels: Vec<u32> = own.iter().map(|freedom| levels[freedom]).collect();
-        let load = |from, end| levels.iter().filter(|level| at(level, from, end)).count() as u32;
-        for child in pairs(&load, m, record, index, p) {
+        let between = |row: &&u32, from, end| (from..end).contains(&levels[*row]);
+        let count = |from, end| own.iter().filter(|row| between(row, from, end)).count() as u32;
+        let load = |from, end| {
+            let rows = own.iter().filter(|row| between(row, from, end));
+            rows.map(|&row| weight(matrix, row)).sum()
+        };
+        for child in pairs(&count, &load, m, record, index, p) {
             plan_group(matrix, p, plan, child, depth + 1);
         }
     }
 }
 
+/// "A freedom's load becomes 1 plus the number of freedoms joined to it in the whole matrix."
+fn weight(matrix: &Matrix, row: u32) -> u32 {
+    1 + (0..matrix.n)
+        .filter(|&other| joined(matrix, row, other))
+        .count() as u32
+}
+
 /// The records of a split group's children.
 fn pairs(
+    count: &dyn Fn(u32, u32) -> u32,
     load: &dyn Fn(u32, u32) -> u32,
     m: u32,
     record: Fields,
     index: u32,
     p: u32,
 ) -> Vec<Fields> {
-    let [start, length, first, workers, ..] = record;
+    let [start, _, first, workers, ..] = record;
     let mut children = Vec::new();
     let (mut level, mut worker, mut place) = (0, first, start);
     while level < m {
         let free = first + workers - worker;
-        let (end, crew) = pair(load, level, m, workers, length, free, p);
+        let (end, crew) = pair(load, level, m, workers, free, p);
         let differ = |&cut: &u32| (load(level, cut).abs_diff(load(cut, end)), cut);
         let cut = (level + 2..=end - 2).min_by_key(differ).expect("a cut");
         for (colour, from, end) in [(1, level, cut), (2, cut, end)] {
-            children.push([place, load(from, end), worker, crew, colour, index]);
-            place += load(from, end);
+            children.push([place, count(from, end), worker, crew, colour, index]);
+            place += count(from, end);
         }
         level = end;
         worker += crew;
@@ -102,12 +113,11 @@ fn pair(
     from: u32,
     m: u32,
     w: u32,
-    whole: u32,
     free: u32,
     p: u32,
 ) -> (u32, u32) {
     let scaled = |end: u32| i64::from(load(from, end) * w);
-    let unit = i64::from(whole);
+    let unit = i64::from(load(0, m));
     let all = (m, free);
     for end in from + 4..=m {
         let b = (0..)
@@ -229,7 +239,12 @@ fn children_fit(records: &[[u64; FIELDS]], parent: usize) -> bool {
 }
 
 /// Whether like-coloured children of a parent are apart; their records tile it.
-fn children_apart(matrix: &Matrix, order: &[u32], records: &[[u64; FIELDS]], parent: usize) -> bool {
+fn children_apart(
+    matrix: &Matrix,
+    order: &[u32],
+    records: &[[u64; FIELDS]],
+    parent: usize,
+) -> bool {
     let children = children(records, parent);
     let stretch = |child: usize| {
         let [start, length, ..] = records[child];

@@ -6,3 +6,4 @@ pub mod Reached
 pub mod Own
 pub mod Rows
 pub mod Members
+pub mod Degrees

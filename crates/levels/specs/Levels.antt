@@ -2,7 +2,7 @@
 use mathlib.Core.Bool.{Bool, not, _||_}
 use mathlib.Core.List.{List, [], _∷_, map}
 use Prim.Native.Nat.{ℕ, zero, suc, _-_, _*_}
-use lib.ListN.{take}
+use lib.ListN.{length, take}
 use Rattle.base.specs.Lists.{filter, any, isIn, range, trim}
 
 -- the distance that a colouring keeps: rows of two like-coloured children of one parent are more than two joins apart
@@ -13,6 +13,10 @@ reach = 2
 unfoldable pub near : (adj : ℕ → List ℕ) (k : ℕ) → List ℕ → ℕ → Bool
 near adj zero T v = isIn T v
 near adj (suc k) T v = near adj k T v || any (near adj k T) (adj v)
+
+-- "the number of freedoms joined to it in the whole matrix"
+abbrev pub degree : (adj : ℕ → List ℕ) → ℕ → ℕ
+degree adj v = length (adj v)
 
 -- "The level region of T is T and every freedom joined to it", ascending
 unfoldable pub region : (adj : ℕ → List ℕ) → ℕ → List ℕ → List ℕ

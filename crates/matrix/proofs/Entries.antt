@@ -44,7 +44,7 @@ count-before c (d ∷ cs) v h l =
     rw (ne-eqb v d (λ e. omega arith)) (omega (arith, count-before d cs v (ascending-tail c (d ∷ cs) h) (omega arith)))
 
 -- an ascending list has each number once
-count-once : (cs : List ℕ) (v : ℕ) → ascending cs ≡ true → count v cs ≤ 1
+pub count-once : (cs : List ℕ) (v : ℕ) → ascending cs ≡ true → count v cs ≤ 1
 count-once [] v h = omega arith
 count-once (c ∷ cs) v h =
     ⊎-elim

@@ -8,8 +8,10 @@ use lib.ListN.{length, take, drop, getD, take-append-drop}
 use lib.Seq.{take-suc}
 use Rattle.base.specs.Lists.{concat, sum}
 use Rattle.levels.specs.code.Group.{Proper}
+use Rattle.levels.specs.Levels.{degree}
 use Rattle.levels.specs.code.Rows.{Rows, adjOf}
 use Rattle.levels.proofs.Members.{proper-short}
+use Rattle.levels.proofs.Rows.{degrees-few}
 use Rattle.race.specs.Loads.{weight, loadOf}
 use Rattle.extents.specs.code.Scans.{maxLoad}
 use Rattle.extents.proofs.Ends.{sum-append}
@@ -33,16 +35,16 @@ module _ (adj : ℕ → List ℕ) where
   load-concat [] = refl
   load-concat (l ∷ ls) = load-append l (concat ls) ∙ omega (arith, load-concat ls)
 
-  -- every row counts
-  load-length : (vs : List ℕ) → loadOf adj vs ≡ length vs
+  -- every row counts, and every row adjacent to one
+  load-degrees : (vs : List ℕ) → loadOf adj vs ≡ length vs + sum (map (degree adj) vs)
   unfolding loadOf weight
-  load-length [] = refl
-  load-length (v ∷ vs) = omega (arith, load-length vs)
+  load-degrees [] = refl
+  load-degrees (v ∷ vs) = omega (arith, load-degrees vs)
 
   -- some rows have some load
   pub load-some : (vs : List ℕ) → 1 ≤ length vs → 1 ≤ loadOf adj vs
-  load-some vs l = omega (arith, load-length vs)
+  load-some vs l = omega (arith, load-degrees vs)
 
 -- a group's load is within its limit
 pub load-few : (n : ℕ) (starts columns T : List ℕ) → Rows n starts columns → Proper n T → loadOf (adjOf n starts columns) T ≤ maxLoad
-load-few n starts columns T rows pr = omega (arith, load-length (adjOf n starts columns) T, proper-short pr, rows .small)
+load-few n starts columns T rows pr = omega (arith, load-degrees (adjOf n starts columns) T, degrees-few rows T pr, proper-short pr, rows .small, rows .few)

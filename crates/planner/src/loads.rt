@@ -1,4 +1,5 @@
 // What rows and levels add to their group's load.
+use search::degree::degree;
 use sort::MAX_LEVELS;
 ghost use mathlib.Core.Path.{_≡_};
 ghost use Prim.Native.Nat.{_<_, _≤_};
@@ -14,7 +15,7 @@ fn weight(starts: &[u32], columns: &[u32], n: usize, v: u32) -> u32
     requires { ⌜ Rows n (now starts) (now columns) × (v < n) ⌝ }
     ensures { λ r. ⌜ r ≡ weight (adjOf n (now (starts .entry)) (now (columns .entry))) v ⌝ }
 {
-    1
+    1 + degree(starts, columns, n, v)
 }
 
 // The load of some rows.

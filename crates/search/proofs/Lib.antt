@@ -1,4 +1,5 @@
 pub mod Marks
+pub mod Degrees
 pub mod Waves
 pub mod Visits
 pub mod Turns

@@ -2,7 +2,7 @@
 //!
 //! `cargo run --release --bin bench` prints it all; `bench picks roof` the lines of a call, of a net, or of both.
 //! A line for each net and call: the least time of many rounds of each, their ratio, and how the library's time grows
-//! from the net of half the size.
+//! from the net of half the size. Then, for each net, what its plan for 16 workers is worth (`bench efficiency` alone).
 
 use std::hint::black_box;
 use std::thread;
@@ -11,10 +11,12 @@ use std::time::{Duration, Instant};
 use mazhoketh_tests::given::{At, Given};
 use mazhoketh_tests::guarded::STACK;
 use mazhoketh_tests::lists::{MatrixLists, PlanLists, RunLists};
-use mazhoketh_tests::oracle::calls;
+use mazhoketh_tests::oracle::leaves::leaves_of;
 use mazhoketh_tests::oracle::matrix::Matrix;
 use mazhoketh_tests::oracle::nets::{self, Roof};
+use mazhoketh_tests::oracle::planner::{self, Load};
 use mazhoketh_tests::oracle::prng::Prng;
+use mazhoketh_tests::oracle::{calls, WORKERS};
 use mazhoketh_tests::{files, library};
 
 /// A call is timed at least so long, and in so many rounds.
@@ -177,11 +179,26 @@ impl Asked {
         arguments.iter().all(is_known).then_some(Asked(arguments))
     }
 
-    /// The calls, each once.
+    /// The calls, each once, and the table of efficiency.
     fn calls() -> Vec<&'static str> {
         let mut calls: Vec<&str> = WORKS.iter().map(|(work, _)| call_of(work)).collect();
         calls.dedup();
+        calls.push(EFFICIENCY);
         calls
+    }
+
+    /// Whether some call is asked for.
+    fn has_calls(&self) -> bool {
+        WORKS
+            .iter()
+            .any(|(work, _)| self.has(call_of(work), &Asked::calls()))
+    }
+
+    /// The nets that are asked for.
+    fn nets(&self) -> impl Iterator<Item = Net> + '_ {
+        let names = NETS.map(|(name, _, _)| name);
+        NETS.into_iter()
+            .filter(move |(name, _, _)| self.has(name, &names))
     }
 
     /// The calls and the nets.
@@ -221,11 +238,50 @@ fn print_net(asked: &Asked, name: &str, net: &Matrix, half: Option<&Matrix>) {
 fn print_table(asked: &Asked) {
     println!("| net | call | library µs | Rust µs | ratio | growth from half |");
     println!("|---|---|---:|---:|---:|---:|");
-    for (name, title, make) in NETS {
-        if asked.has(name, &NETS.map(|(name, _, _)| name)) {
-            let (net, half) = make();
-            print_net(asked, title, &net, half.as_ref());
-        }
+    for (_, title, make) in asked.nets() {
+        let (net, half) = make();
+        print_net(asked, title, &net, half.as_ref());
+    }
+}
+
+/// The table that is no call's.
+const EFFICIENCY: &str = "efficiency";
+
+/// The share of 16 workers' time that a plan uses, in per cent, with its groups and the updates of its longest chain.
+fn worth(load: Load, net: &Matrix) -> String {
+    let plan = planner::plan_by(load, net.rows(), WORKERS as u32, 60);
+    let leaves = leaves_of(net, &plan);
+    let share = 100.0 * leaves.efficiency();
+    format!(
+        "{share:.0} % ({}, {})",
+        plan.groups.len(),
+        leaves.longest_chain() / 2
+    )
+}
+
+/// Prints what the plan of each net is worth: all its updates, by those of the longest chain for each of 16 workers.
+fn print_efficiency(asked: &Asked) {
+    println!(
+        "| net | rows | updates | loads by rows: used (groups, longest chain) | loads by entries |"
+    );
+    println!("|---|---:|---:|---:|---:|");
+    for (_, title, make) in asked.nets() {
+        let net = make().0;
+        let updates = net.n as usize + 2 * net.rows().joined_pairs();
+        let [rows, entries] =
+            [planner::by_rows, planner::by_entries as Load].map(|load| worth(load, &net));
+        println!("| {title} | {} | {updates} | {rows} | {entries} |", net.n);
+    }
+}
+
+/// Prints what is asked for.
+fn print_all(asked: &Asked) {
+    if asked.has_calls() {
+        print_table(asked);
+    }
+    if asked.has(EFFICIENCY, &Asked::calls()) {
+        println!();
+        print_efficiency(asked);
     }
 }
 
@@ -236,7 +292,7 @@ fn main() {
     };
     let thread = thread::Builder::new().stack_size(STACK);
     let ended = thread
-        .spawn(move || print_table(&asked))
+        .spawn(move || print_all(&asked))
         .expect("a thread can be started")
         .join();
     ended.expect("the table is printed");
