@@ -8,7 +8,7 @@ import re
 import sys
 
 CHECK = re.compile(r"rt: (\w+) proved \((\d+) s\)")
-EDIT = re.compile(r"must-fail (\w+)/\S+: refused, as it must be \(.*?(\d+) s\)$")
+EDIT = re.compile(r"rt: must-fail (\w+)/\S+: refused, as it must be \(.*?(\d+) s\)$")
 
 
 def read(path):
