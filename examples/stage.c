@@ -3,26 +3,23 @@
  *     gcc -O2 -pthread -Iinclude examples/stage.c target/staticlib/libmazhoketh.a -o target/stage
  *     target/stage data/bcsstk14.mtx 16 --seed 7
  *
- * `stage MATRIX WORKERS MOVEMENTS` plans the net for the workers and starts a thread for each. A thread picks itself,
- * in bursts of any length, whenever it comes to the lock; where its pick waits it sleeps until another has moved. The
- * forces are printed one a line, if they are those of one core; progress goes to standard error. In place of the file
- * MOVEMENTS, `--seed NUMBER` draws movements. refusals.h has the exit statuses. */
+ * `stage MATRIX WORKERS MOVEMENTS` plans the net for the workers and starts a thread for each; in place of WORKERS,
+ * `--plan FILE` takes the plan of a file that `plan` wrote (plan.c), and a thread for each of its workers. A thread
+ * picks itself, in bursts of any length, whenever it comes to the lock; where its pick waits it sleeps until another
+ * has moved. The forces are printed one a line, if they are those of one core; progress goes to standard error. In place
+ * of the file MOVEMENTS, `--seed NUMBER` draws movements. refusals.h has the exit statuses. */
 
 #include <pthread.h>
 #include <sched.h>
 
-#include "net.h"
+#include "plans.h"
 
 /* A call judges all its lists anew, so bursts are long. It keeps its tables in local arrays, so threads have a stack of
  * twice what a call needs. */
 enum { CLOSENESS = 60, BURST = 1000, STACK = 2 * MZK_STACK_BYTES };
 
 static struct net net;
-
-static struct {
-    uint8_t order[4 * MZK_ROWS], groups[4 * MZK_GROUP_FIELDS * MZK_GROUPS];
-    uint32_t count;
-} plan;
+static struct plan plan;
 
 /* What the threads share; the lock guards state, sums and moves. */
 static struct {
@@ -33,8 +30,7 @@ static struct {
 } run = { .lock = PTHREAD_MUTEX_INITIALIZER, .moved = PTHREAD_COND_INITIALIZER };
 
 /* The arguments that hand the whole job to a call, and those that hand over the state. */
-#define JOB MATRIX(&net), MOVEMENTS(&net), plan.order, 4 * (size_t)net.n, \
-    plan.groups, 4 * MZK_GROUP_FIELDS * (size_t)plan.count, plan.count
+#define JOB MATRIX(&net), MOVEMENTS(&net), PLAN(&plan)
 #define AT run.state, sizeof run.state, run.sums, 8 * (size_t)net.n
 
 /* Draws movements for all rows from a seed. */
@@ -44,6 +40,14 @@ static void draw_movements(uint64_t bits)
         bits = bits * 6364136223846793005u + 1442695040888963407u;
         put_movement(&net, row, (int64_t)((bits >> 33) % (2 * LARGEST + 1)) - LARGEST);
     }
+}
+
+/* Takes the plan of a file, if it is sound for the net; the workers that it is for. */
+static uint8_t take_plan(const char *path)
+{
+    read_plan(&plan, path);
+    accepted(path, mzk_check(MATRIX(&net), PLAN(&plan)));
+    return group_field(&plan, 0, 3);
 }
 
 /* Says how far the run is, now and then. */
@@ -110,13 +114,11 @@ static void run_threads(uint8_t workers)
     pthread_attr_destroy(&attributes);
 }
 
-/* Plans the net, runs the plan, and prints its forces if they are those of one core; the exit status. */
+/* Runs the plan, and prints its forces if they are those of one core; the exit status. */
 static int run_stage(uint8_t workers)
 {
     static uint8_t forces[8 * MZK_ROWS], product[8 * MZK_ROWS];
     size_t length = 8 * (size_t)net.n;
-    plan.count = accepted("plan", mzk_plan(MATRIX(&net), workers, CLOSENESS, plan.order, sizeof plan.order,
-                                           plan.groups, sizeof plan.groups));
     fprintf(stderr, "%u rows, %u workers, %u groups\n", net.n, workers, plan.count);
     run_threads(workers);
     accepted("forces", mzk_forces(JOB, AT, forces, length));
@@ -132,17 +134,23 @@ static int run_stage(uint8_t workers)
 
 int main(int argc, char **argv)
 {
-    bool drawn = argc == 5 && strcmp(argv[3], "--seed") == 0;
-    if (!drawn && (argc != 4 || strcmp(argv[3], "--seed") == 0)) {
-        fprintf(stderr, "usage: stage MATRIX WORKERS MOVEMENTS\n       stage MATRIX WORKERS --seed NUMBER\n");
+    bool carried = argc > 2 && strcmp(argv[2], "--plan") == 0;
+    int at = carried ? 4 : 3; /* where the movements stand */
+    bool drawn = argc == at + 2 && strcmp(argv[at], "--seed") == 0;
+    if (!drawn && (argc != at + 1 || strcmp(argv[at], "--seed") == 0)) {
+        fprintf(stderr, "usage: stage MATRIX (WORKERS | --plan FILE) (MOVEMENTS | --seed NUMBER)\n");
         return REFUSED;
     }
-    uint8_t workers = argument_number("WORKERS", argv[2], 1, MZK_WORKERS);
-    int64_t seed = drawn ? argument_number("NUMBER", argv[4], 0, UINT32_MAX) : 0;
+    uint8_t workers = carried ? 0 : argument_number("WORKERS", argv[2], 1, MZK_WORKERS);
+    int64_t seed = drawn ? argument_number("NUMBER", argv[at + 1], 0, UINT32_MAX) : 0;
     read_matrix(&net, argv[1]);
+    if (carried)
+        workers = take_plan(argv[3]);
+    else
+        make_plan(&plan, &net, workers, CLOSENESS);
     if (drawn)
         draw_movements(seed);
     else
-        read_movements(&net, argv[3]);
+        read_movements(&net, argv[at]);
     return run_stage(workers);
 }

@@ -4,9 +4,9 @@
  * starts, columns, order and group fields are 32 bits without sign; values and movements 32 bits in two's complement;
  * sums and forces 64 bits in two's complement. A list's length in numbers is its bytes divided by the number's width,
  * rounded down; a trailing part is neither read nor written.
- * Text and picks are read whole, and movements, sums and state have exactly the length needed: lend lengths there, not
- * capacities. Other lists may be longer than what is read or written; but a call decodes what it is lent, up to the
- * largest sizes below, so exact lengths are the fastest.
+ * Text, plan files and picks are read whole, and movements, sums and state have exactly the length needed: lend lengths
+ * there, not capacities. Other lists may be longer than what is read or written; but a call decodes what it is lent, up
+ * to the largest sizes below, so exact lengths are the fastest.
  *
  * Values are whole N/mm, at most 1,000,000,000 either side of 0; movements whole micrometres, at most 1,000,000 either
  * side of 0; forces then mN. A matrix is symmetric and held in full rows, each by ascending column.
@@ -15,8 +15,9 @@
  * list of another; lists that are only read may be shared. In a call, a list that is written overlaps no other list.
  * No pointer is null, also of an empty list.
  *
- * Stack: mzk_read uses up to 2 MiB, mzk_picks, mzk_ready and mzk_forces up to 1.3 MiB, mzk_plan up to 1 MiB, the others
- * up to 0.6 MiB. A thread with MZK_STACK_BYTES and its own needs can make any call. */
+ * Stack: mzk_read uses up to 2 MiB, mzk_picks, mzk_ready and mzk_forces up to 1.3 MiB, mzk_plan up to 1 MiB,
+ * mzk_write_plan and mzk_read_plan up to 8 KiB, the others up to 0.6 MiB. A thread with MZK_STACK_BYTES and its own
+ * needs can make any call. */
 #ifndef MAZHOKETH_H
 #define MAZHOKETH_H
 
@@ -40,6 +41,7 @@ enum {
     MZK_STATE_BYTES = 192,       /* the state of a run, always */
     MZK_TEXT_BYTES = 1048576,    /* a text that is read, at most */
     MZK_WRITTEN_BYTES = 720963,  /* a text that is written, at most: 51 + 16 + 32,768 x 22 */
+    MZK_FILE_BYTES = 28 + 4 * MZK_ROWS + 4 * MZK_GROUP_FIELDS * MZK_GROUPS_LIMIT, /* a plan file, at most */
     MZK_STACK_BYTES = 2097152    /* the stack of a call, at most */
 };
 
@@ -60,14 +62,15 @@ enum {
     MZK_NO_MATRIX = 5,    /* the lists are no matrix of n rows */
     MZK_MOVEMENTS = 6,    /* not n movements (0), or one is too large (its index) */
     MZK_PARAMETERS = 7,   /* workers not 1 to 16, or p not 50 to 99 */
-    MZK_UNSOUND = 8,      /* the plan is not sound for the matrix */
+    MZK_UNSOUND = 8,      /* the plan is not sound for the matrix, or its lists fall short of its counts */
     MZK_TOO_SHORT = 9,    /* a list to be written is too short (the numbers it needs; groups: the records) */
     MZK_NO_WORKER = 10,   /* the pick names no worker of the plan (its index) */
     MZK_NO_STATE = 11,    /* not 192 bytes of state, not n sums, or a count past its worker's moves */
     MZK_DONE = 12,        /* the pick's worker is done: it has made all its moves (index) */
     MZK_WAITS = 13,       /* the pick's worker waits: pick it again when another worker has moved (index) */
     MZK_OVERFLOW = 14,    /* the sum to store passes 64 bits (index); never met in a run that began with zeros */
-    MZK_UNFINISHED = 15   /* a worker has moves left */
+    MZK_UNFINISHED = 15,  /* a worker has moves left */
+    MZK_NO_FILE = 16      /* no plan file; or a plan of other than 1 to 4,096 rows or 1 to 512 groups */
 };
 
 /* The matrix of a text, in full rows, into row_starts, columns and values; returns its number of rows. It has one row
@@ -127,6 +130,28 @@ uint64_t mzk_check(uint32_t n,
                    const uint8_t *order, size_t order_bytes,
                    const uint8_t *groups, size_t groups_bytes,
                    uint32_t group_count);
+
+/* A plan file carries a plan from where it is made to where it runs. It starts with seven numbers of 32 bits without
+ * sign, low byte first: 2 (bodies); then 1 (order), 28 and the bytes of the order, 4 a row; then 2 (groups), where the
+ * order ends, and the bytes of the groups, 24 a group. The order follows, then the groups, and nothing else: each plan
+ * has one file, and each file is of one plan. No matrix is asked for, and soundness is not judged: mzk_check and the
+ * calls on a run do so. */
+
+/* The file of a plan of n rows and group_count records, 1 to 512; returns its bytes.
+ * Refused: 16; 8 (order or groups fall short of the counts); 9 (file). */
+uint64_t mzk_write_plan(uint32_t n,
+                        const uint8_t *order, size_t order_bytes,
+                        const uint8_t *groups, size_t groups_bytes,
+                        uint32_t group_count,
+                        uint8_t *file, size_t file_bytes);
+
+/* The plan in a file, into order and groups; returns its number of rows, and 65,536 times its number of groups.
+ * Refused: 16; 9 (order, groups). */
+#define MZK_PLAN_ROWS(word) (MZK_COUNT(word) & 0xffff)
+#define MZK_PLAN_GROUPS(word) (MZK_COUNT(word) >> 16)
+uint64_t mzk_read_plan(const uint8_t *file, size_t file_bytes,
+                       uint8_t *order, size_t order_bytes,
+                       uint8_t *groups, size_t groups_bytes);
 
 /* A run of a matrix of n rows, n movements and a sound plan is kept by the caller: a state of 192 bytes, and n sums in
  * plan order. The state has 16 counts of 32 bits without sign, the moves that each worker has made, and then the 16

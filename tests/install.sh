@@ -16,4 +16,6 @@ gcc $(pkg-config --cflags mazhoketh) tests/c/header.c $(pkg-config --libs mazhok
 seq 1 135 > "$into/movements"
 "$into/net/bin/stage" data/roof_45.mtx 5 "$into/movements" > "$into/run" 2>> "$into/log"
 "$into/net/bin/force" data/roof_45.mtx "$into/movements" | diff - "$into/run"
+"$into/net/bin/plan" data/roof_45.mtx 5 60 "$into/plan"
+"$into/net/bin/stage" data/roof_45.mtx --plan "$into/plan" "$into/movements" 2>> "$into/log" | diff - "$into/run"
 echo "installed, built and run"

@@ -1,6 +1,6 @@
 /* mazhoketh.h from C and from C++: its macros against real words, its sizes against what calls take and need.
  *
- * Document 01's chain of eight rows is planned and run; then the longest text that is written is read. */
+ * Document 01's chain of eight rows is planned, filed and run; then the longest text that is written is read. */
 
 #include <stdio.h>
 #include <stdlib.h>
@@ -82,6 +82,27 @@ static void check_chain(void)
     CHECK(is(mzk_forces(JOB, state, sizeof state, sums, 64, forces, sizeof forces), MZK_UNFINISHED, 0));
 }
 
+/* The chain's plan as a file, read back; and the largest file. */
+static void check_files(void)
+{
+    static uint8_t file[MZK_FILE_BYTES], all_order[4 * MZK_ROWS], all_groups[4 * MZK_GROUP_FIELDS * MZK_GROUPS_LIMIT];
+    const uint32_t length = 28 + 4 * 8 + 4 * MZK_GROUP_FIELDS * 5;
+    CHECK(is(mzk_write_plan(8, order, 32, groups, sizeof groups, 5, file, length - 1), MZK_TOO_SHORT, length));
+    CHECK(is(mzk_write_plan(8, order, 32, groups, 4 * MZK_GROUP_FIELDS * 5, 5, file, length), MZK_ACCEPTED, length));
+    CHECK(is(mzk_write_plan(8, order, 31, groups, sizeof groups, 5, file, sizeof file), MZK_UNSOUND, 0));
+    CHECK(is(mzk_write_plan(0, order, 32, groups, sizeof groups, 5, file, sizeof file), MZK_NO_FILE, 0));
+    uint64_t word = mzk_read_plan(file, length, all_order, 32, all_groups, 4 * MZK_GROUP_FIELDS * 5);
+    CHECK(MZK_NUMBER(word) == MZK_ACCEPTED && MZK_PLAN_ROWS(word) == 8 && MZK_PLAN_GROUPS(word) == 5);
+    CHECK(memcmp(order, all_order, 32) == 0 && memcmp(groups, all_groups, 4 * MZK_GROUP_FIELDS * 5) == 0);
+    CHECK(is(mzk_read_plan(file, length, all_order, 31, all_groups, 0), MZK_TOO_SHORT, 8));
+    CHECK(is(mzk_read_plan(file, length, all_order, 32, all_groups, 4 * MZK_GROUP_FIELDS * 5 - 1), MZK_TOO_SHORT, 5));
+    CHECK(is(mzk_read_plan(file, length - 1, all_order, 32, all_groups, sizeof all_groups), MZK_NO_FILE, 0));
+    CHECK(is(mzk_write_plan(MZK_ROWS, all_order, sizeof all_order, all_groups, sizeof all_groups, MZK_GROUPS_LIMIT,
+                            file, sizeof file), MZK_ACCEPTED, MZK_FILE_BYTES));
+    word = mzk_read_plan(file, sizeof file, all_order, sizeof all_order, all_groups, sizeof all_groups);
+    CHECK(MZK_PLAN_ROWS(word) == MZK_ROWS && MZK_PLAN_GROUPS(word) == MZK_GROUPS_LIMIT);
+}
+
 /* A run ends after 2 picks a row and 4 a pair of joined rows: 44 of the chain. */
 static void check_run(void)
 {
@@ -134,6 +155,7 @@ int main(void)
     CHECK(is(word, MZK_WAITS, 0x89abcdef));
     check_texts();
     check_chain();
+    check_files();
     check_run();
     check_longest();
     check_text_bytes();

@@ -180,6 +180,22 @@ pub fn check(matrix: &MatrixTwins, plan: &PlanTwins) -> u64 {
     alike("check", ours, theirs, matrix.lists(), &lists)
 }
 
+/// Writes the file of a plan.
+pub fn write_plan(n: u32, plan: &PlanTwins, file: &mut Twin) -> u64 {
+    let ours = library::write_plan(n, plan.ours(), file.ours_mut());
+    let theirs = calls::write_plan(n, plan.theirs(), &mut file.theirs);
+    let lists = vec![&plan.order, &plan.groups];
+    alike("write_plan", ours, theirs, lists, &[file])
+}
+
+/// Reads the plan in a file.
+pub fn read_plan(file: &Twin, lists: &mut [Twin; 2]) -> u64 {
+    let [order, groups] = lists;
+    let ours = library::read_plan(file.ours(), order.ours_mut(), groups.ours_mut());
+    let theirs = calls::read_plan(&file.theirs, &mut order.theirs, &mut groups.theirs);
+    alike("read_plan", ours, theirs, vec![file], &[order, groups])
+}
+
 /// Takes picks.
 pub fn picks(run: &RunTwins, at: &mut StateTwins, picks: &Twin) -> u64 {
     let StateTwins { state, sums } = at;

@@ -1,7 +1,8 @@
-//! C programs over the library, built for a test.
+//! C programs over the library, built and run for a test.
 
-use std::path::Path;
-use std::process::Command;
+use std::fs::File;
+use std::path::{Path, PathBuf};
+use std::process::{Command, Output, Stdio};
 
 /// The repository.
 const ROOT: &str = concat!(env!("CARGO_MANIFEST_DIR"), "/..");
@@ -20,4 +21,45 @@ pub fn compile(compiler: &str, arguments: &[&str], source: &str, program: &Path)
         .status();
     let built = built.unwrap_or_else(|error| panic!("{compiler}: {error}"));
     assert!(built.success(), "{compiler} builds {source}");
+}
+
+/// Builds an example into a folder, for a test; the program.
+pub fn example(folder: &str, name: &str, test: &str) -> PathBuf {
+    let program = Path::new(folder).join(format!("{name} for {test}"));
+    compile("gcc", &[], &format!("examples/{name}.c"), &program);
+    program
+}
+
+/// Runs a program.
+pub fn run(program: &Path, arguments: &[&str]) -> Output {
+    run_into(program, arguments, Stdio::piped())
+}
+
+/// Runs a program with its output to a device that is always full.
+pub fn run_full(program: &Path, arguments: &[&str]) -> Output {
+    let full = File::options().write(true).open("/dev/full");
+    let full = full.expect("the device can be opened");
+    run_into(program, arguments, full.into())
+}
+
+/// Runs a program with its output to a file or a pipe.
+fn run_into(program: &Path, arguments: &[&str], stdout: Stdio) -> Output {
+    let mut command = Command::new(program);
+    command.args(arguments).stdout(stdout);
+    let output = command.stderr(Stdio::piped()).output();
+    output.expect("the program can be run")
+}
+
+/// Panics unless a program printed nothing, ended with this status, and this is the last line that it told.
+pub fn check_ended(output: Output, status: i32, line: &str) {
+    let told = String::from_utf8_lossy(&output.stderr);
+    assert_eq!(output.status.code(), Some(status), "{told}");
+    assert_eq!(told.lines().last(), Some(line));
+    assert!(output.stdout.is_empty(), "printed beside: {told}");
+}
+
+/// The path of a file of a folder.
+pub fn path_in(folder: &str, name: &str) -> String {
+    let path = Path::new(folder).join(name);
+    path.to_str().expect("a path of Unicode").to_string()
 }

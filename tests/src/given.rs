@@ -2,7 +2,7 @@
 
 use crate::lists::{bytes, MatrixLists, PlanLists, RunLists};
 use crate::oracle::matrix::Matrix;
-use crate::oracle::{calls, planner, text};
+use crate::oracle::{calls, plan_file, planner, text};
 
 /// The lists that a whole run is cut into.
 const LISTS: usize = 1_000;
@@ -35,6 +35,8 @@ pub struct Given {
     pub order: Vec<u8>,
     pub groups: Vec<u8>,
     pub group_count: u32,
+    /// The plan's file.
+    pub file: Vec<u8>,
     /// Picks that take a fresh run to its end, and the states halfway and at the end.
     pub schedule: Vec<u8>,
     pub halfway: At,
@@ -57,6 +59,7 @@ impl Given {
             order: bytes(&plan.order, u32::to_le_bytes),
             groups: bytes(&plan.flat(), u32::to_le_bytes),
             group_count: plan.group_count(),
+            file: plan_file::write(&plan.order, &plan.flat()),
             schedule: Vec::new(),
             halfway: At::fresh(matrix.n),
             finished: At::fresh(matrix.n),

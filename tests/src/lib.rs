@@ -1,5 +1,5 @@
-//! Another implementation of document 01, written from its sentences alone, and the verified library to test and time
-//! against it.
+//! Another implementation of documents 01 and 02, written from their sentences alone, and the verified library to test
+//! and time against it.
 
 pub mod both;
 pub mod built;

@@ -35,6 +35,13 @@ extern "C" {
         row_starts: In, row_starts_bytes: usize, columns: In, columns_bytes: usize, values: In, values_bytes: usize,
         order: In, order_bytes: usize, groups: In, groups_bytes: usize, group_count: u32,
     ) -> u64;
+    fn mzk_write_plan(
+        n: u32, order: In, order_bytes: usize, groups: In, groups_bytes: usize, group_count: u32,
+        file: Out, file_bytes: usize,
+    ) -> u64;
+    fn mzk_read_plan(
+        file: In, file_bytes: usize, order: Out, order_bytes: usize, groups: Out, groups_bytes: usize,
+    ) -> u64;
     fn mzk_picks(
         n: u32,
         row_starts: In, row_starts_bytes: usize, columns: In, columns_bytes: usize, values: In, values_bytes: usize,
@@ -115,6 +122,28 @@ pub fn check(matrix: MatrixLists, plan: PlanLists) -> u64 {
         mzk_check(
             n, row_starts.as_ptr(), row_starts.len(), columns.as_ptr(), columns.len(), values.as_ptr(), values.len(),
             order.as_ptr(), order.len(), groups.as_ptr(), groups.len(), group_count,
+        )
+    }
+}
+
+/// The file of a plan; counts the bytes written.
+#[rustfmt::skip]
+pub fn write_plan(n: u32, plan: PlanLists, file: &mut [u8]) -> u64 {
+    let PlanLists { order, groups, group_count } = plan;
+    unsafe {
+        mzk_write_plan(
+            n, order.as_ptr(), order.len(), groups.as_ptr(), groups.len(), group_count,
+            file.as_mut_ptr(), file.len(),
+        )
+    }
+}
+
+/// The plan in a file; counts its rows, and its groups × 65,536.
+#[rustfmt::skip]
+pub fn read_plan(file: &[u8], order: &mut [u8], groups: &mut [u8]) -> u64 {
+    unsafe {
+        mzk_read_plan(
+            file.as_ptr(), file.len(), order.as_mut_ptr(), order.len(), groups.as_mut_ptr(), groups.len(),
         )
     }
 }

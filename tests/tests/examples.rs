@@ -1,9 +1,9 @@
 //! The C examples, built and run: right input against the other implementation, wrong input against its sentence.
 
-use std::fs::File;
 use std::path::{Path, PathBuf};
-use std::process::{Command, Output, Stdio};
+use std::process::{Command, Output};
 
+use mazhoketh_tests::built::{check_ended, run, run_full};
 use mazhoketh_tests::oracle::nets;
 use mazhoketh_tests::oracle::prng::Prng;
 use mazhoketh_tests::{built, files};
@@ -22,33 +22,14 @@ const MOVEMENT: &str = "wanted a whole number of -1000000 to 1000000";
 
 /// Builds an example for a test; the program.
 fn build(name: &str, test: &str) -> PathBuf {
-    let program = Path::new(BUILT).join(format!("{name} for {test}"));
-    built::compile("gcc", &[], &format!("examples/{name}.c"), &program);
-    program
-}
-
-/// Runs a program.
-fn run(program: &Path, arguments: &[&str]) -> Output {
-    let output = Command::new(program).args(arguments).output();
-    output.expect("the program can be run")
-}
-
-/// Runs a program with its output to a device that is always full.
-fn run_full(program: &Path, arguments: &[&str]) -> Output {
-    let full = File::options().write(true).open("/dev/full");
-    let output = Command::new(program)
-        .args(arguments)
-        .stdout(full.expect("the device can be opened"))
-        .stderr(Stdio::piped())
-        .output();
-    output.expect("the program can be run")
+    built::example(BUILT, name, test)
 }
 
 /// A file of the tests' folder with this content; its path.
-fn file(name: &str, content: &str) -> String {
-    let path = Path::new(BUILT).join(name);
+fn file(name: &str, content: impl AsRef<[u8]>) -> String {
+    let path = built::path_in(BUILT, name);
     std::fs::write(&path, content).expect("a file can be written");
-    path.to_str().expect("a path of Unicode").to_string()
+    path
 }
 
 /// A matrix file, a file of movements, and the lines of their product.
@@ -85,14 +66,6 @@ impl Net {
 fn lines<T: ToString>(numbers: impl IntoIterator<Item = T>) -> String {
     let line = |number: T| number.to_string() + "\n";
     numbers.into_iter().map(line).collect()
-}
-
-/// Panics unless a program printed nothing, ended with this status, and this is the last line that it told.
-fn check_ended(output: Output, status: i32, line: &str) {
-    let told = String::from_utf8_lossy(&output.stderr);
-    assert_eq!(output.status.code(), Some(status), "{told}");
-    assert_eq!(told.lines().last(), Some(line));
-    assert!(output.stdout.is_empty(), "printed beside: {told}");
 }
 
 #[test]
@@ -300,13 +273,17 @@ fn arguments_refused() {
         let sentence = format!("NUMBER: found '{seed}', wanted a whole number of 0 to 4294967295");
         check_ended(run(&stage, &[SMALL, "2", "--seed", seed]), 2, &sentence);
     }
-    let usage = "       stage MATRIX WORKERS --seed NUMBER";
+    let usage = "usage: stage MATRIX (WORKERS | --plan FILE) (MOVEMENTS | --seed NUMBER)";
     for arguments in [
         &[][..],
         &[SMALL],
         &[SMALL, "2"],
         &[SMALL, "2", "--seed"],
         &[SMALL, "2", &movements, "7"],
+        &[SMALL, "--plan"],
+        &[SMALL, "--plan", &movements],
+        &[SMALL, "--plan", &movements, "--seed"],
+        &[SMALL, "--plan", &movements, &movements, "7"],
     ] {
         check_ended(run(&stage, arguments), 2, usage);
     }

@@ -3,10 +3,11 @@
 use std::os::unix::process::ExitStatusExt;
 use std::process::Command;
 
-/// The header's sentence, and its figures in tenths of a MiB.
+/// The header's sentence, and its figures in tenths of a MiB; beside them, the calls that need next to nothing.
 const SENTENCE: &str =
     "mzk_read uses up to 2 MiB, mzk_picks, mzk_ready and mzk_forces up to 1.3 MiB, mzk_plan up to \
-                        1 MiB, the others up to 0.6 MiB.";
+                        1 MiB, mzk_write_plan and mzk_read_plan up to 8 KiB, the others up to 0.6 MiB.";
+const SMALL: [&str; 2] = ["write_plan", "read_plan"];
 const TENTHS: [(&str, usize); 8] = [
     ("read", 20),
     ("picks", 13),
@@ -34,6 +35,9 @@ fn is_enough() {
     for (call, tenths) in TENTHS {
         let bytes = tenths * (1 << 20) / 10;
         assert_eq!(run(call, bytes), None, "{call} needs more than {bytes}");
+    }
+    for call in SMALL {
+        assert_eq!(run(call, 8 << 10), None, "{call} needs more than 8 KiB");
     }
 }
 

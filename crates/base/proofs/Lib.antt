@@ -5,6 +5,7 @@ pub mod Integers
 pub mod Sums
 pub mod Graph
 pub mod Each
+pub mod Begins
 pub mod Left
 pub mod Found
 pub mod Replies

@@ -1,4 +1,5 @@
--- The number of each refusal, here and nowhere else (document 01, "From the input" and "From the state").
+-- The number of each refusal, here and nowhere else (document 01, "From the input" and "From the state"; document 02 at
+-- its requests).
 use Prim.Native.Nat.{ℕ}
 
 -- "line 1, its line feed included, differs"
@@ -60,3 +61,7 @@ overflow = 14
 -- "force list wanted before every move is made"
 abbrev pub tooEarly : ℕ
 tooEarly = 15
+
+-- Q-2: "file breaks this layout or these counts, or a plan to be written does"
+abbrev pub badLayout : ℕ
+badLayout = 16

@@ -41,3 +41,5 @@ pub const WAITING: u32 = 13;
 pub const OVERFLOW: u32 = 14;
 
 pub const EARLY: u32 = 15;
+
+pub const LAYOUT: u32 = 16;

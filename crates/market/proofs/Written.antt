@@ -10,7 +10,8 @@ use lib.IntN.{ℤ, pos, negsuc, natAbs}
 use lib.ListN.{length, getD, drop, length-append}
 use lib.Seq.{drop-append-seam, drop-drop}
 use borrow.Author.Tests.{le-ltb, le-leb, eqb-true, eq-eqb, ne-eqb}
-use Rattle.base.specs.Lists.{concat, begins}
+use Rattle.base.specs.Lists.{concat}
+use Rattle.base.proofs.Begins.{begins-append}
 use Rattle.market.specs.Bytes.{classOf, header, isDigit, isSpace}
 use Rattle.market.specs.Fields.{got, is, line, spaces, field, value, valueField, fields}
 use Rattle.market.specs.Parse.{Triplet, matrixText, isAmong, isEntry, entries, sizeLine, place, comments, parse}
@@ -92,14 +93,6 @@ comments-none : (k : ℕ) (xs : List ℕ) → eqb (getD xs 0 0) 37 ≡ false →
 unfolding comments
 comments-none k [] e = refl
 comments-none k (b ∷ bs) e = rw e
-
-begins-append : (ys xs : List ℕ) → begins (ys ++ xs) ys ≡ true
-begins-append [] xs = go xs
-  where
-    go : (xs : List ℕ) → begins xs [] ≡ true
-    go [] = refl
-    go (x ∷ xs) = refl
-begins-append (y ∷ ys) xs = rw (eq-eqb y y refl) (begins-append ys xs)
 
 digit-no-comment : (b : ℕ) → isDigit b ≡ true → eqb b 37 ≡ false
 unfolding classOf

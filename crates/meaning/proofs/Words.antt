@@ -2,7 +2,7 @@
 use mathlib.Core.Path.{_≡_, refl, ap}
 use mathlib.Core.Bool.{Bool, true, false, _&&_, not, cond}
 use mathlib.Core.List.{List, [], _∷_, _++_}
-use Prim.Native.Nat.{ℕ, zero, suc, _+_, _-_, _^_, _≤_, _<_}
+use Prim.Native.Nat.{ℕ, zero, suc, _+_, _*_, _-_, _^_, _≤_, _<_}
 use native.Mathlib.Nat.{pow-le-pow-right}
 use native.Mathlib.Omega.{arith}
 use lib.Dec.{eqb, ltb, leb}
@@ -27,6 +27,10 @@ use Rattle.market.specs.Text.{written, writeReply}
 use Rattle.market.proofs.Accepted.{parse-accepted}
 use Rattle.market.proofs.WriteThenRead.{write-then-read}
 use Rattle.plan.specs.Sound.{maxWorkers, planCheck, checkReply}
+use Rattle.planfile.specs.File.{fileSize, freedomsIn, groupsIn}
+use Rattle.planfile.specs.Calls.{writePlanReply, readPlanReply}
+use Rattle.planfile.proofs.Sized as counts
+use Rattle.planfile.proofs.Files.{file-sized}
 use Rattle.race.specs.Planner.{plan, planReply}
 use Rattle.race.proofs.PlannedSound.{planned-sound}
 use Rattle.run.specs.Job.{Job, jobOf, Accepted, workers}
@@ -280,6 +284,26 @@ module _ (m : Matrix) (x : List ℤ) (order groups : List ℕ) (count : ℕ) whe
           (rw (length-decoded number 4 (take countBytes state), length-take-le countBytes state (omega arith))) c)
       go false e = checks-tell _ (λ h. tells-refused why.notState 0 (omega arith) (omega arith))
 
+-- ---- plan files
+
+write-plan-told : (n : ℕ) (order groups : List ℕ) (count room : ℕ) → Told (writePlanReply n order groups count room)
+unfolding writePlanReply fileSize
+write-plan-told n order groups count room =
+    turn Told refused _ _ _ (told-refused why.badLayout 0 (omega arith) (omega arith)) (λ e.
+    let s = counts.sized n count e in
+    turn Told refused _ _ _ (told-refused why.unsound 0 (omega arith) (omega arith)) (λ f.
+    turn Told refused _ [] _ (told-refused why.tooShort (fileSize n count) (omega arith) (omega (arith, s .few, s .records))) (λ g.
+    last Told refused _ (told-accepted (fileSize n count) (omega (arith, s .few, s .records))))))
+
+read-plan-told : (planFile order groups : List ℕ) → Told (readPlanReply planFile order groups)
+unfolding readPlanReply
+read-plan-told planFile order groups =
+    turn Told refused _ _ _ (told-refused why.badLayout 0 (omega arith) (omega arith)) (λ e.
+    let s = file-sized planFile e in
+    turn Told refused _ _ _ (told-refused why.tooShort (freedomsIn planFile) (omega arith) (omega (arith, s .few))) (λ f.
+    turn Told refused _ [] _ (told-refused why.tooShort (groupsIn planFile) (omega arith) (omega (arith, s .records))) (λ g.
+    last Told refused _ (told-accepted (freedomsIn planFile + 65536 * groupsIn planFile) (omega (arith, s .few, s .records))))))
+
 -- the theorem
 pub words : Words
-words = record { read = λ text starts columns values. read-told text _ _ _; write = write-told; product = product-told; plan = λ m w p order groups. plan-told m w p _ _; check = check-told; run = run-tells; one = one }
+words = record { read = λ text starts columns values. read-told text _ _ _; write = write-told; product = product-told; plan = λ m w p order groups. plan-told m w p _ _; check = check-told; write-plan = write-plan-told; read-plan = read-plan-told; run = run-tells; one = one }

@@ -8,6 +8,7 @@ use Rattle.matrix.specs.Matrix.{Matrix}
 use Rattle.matrix.specs.Product.{productReply}
 use Rattle.market.specs.Text.{writeReply}
 use Rattle.plan.specs.Sound.{checkReply}
+use Rattle.planfile.specs.Calls.{writePlanReply, readPlanReply}
 use Rattle.run.specs.Answers.{Call}
 use Rattle.lent.specs.Word.{word}
 use Rattle.office.specs.Lent.{readIn, planIn}
@@ -36,6 +37,8 @@ pub record Words : Type 0 where
   pub product : (m : Matrix) (x : List ℤ) (room : ℕ) → Told (productReply m x room)
   pub plan : (m : Matrix) (workers p : ℕ) (order groups : List ℕ) → Told (planIn m workers p order groups)
   pub check : (m : Matrix) (order groups : List ℕ) (count : ℕ) → Told (checkReply m order groups count)
+  pub write-plan : (n : ℕ) (order groups : List ℕ) (count room : ℕ) → Told (writePlanReply n order groups count room)
+  pub read-plan : (planFile order groups : List ℕ) → Told (readPlanReply planFile order groups)
   pub run : (m : Matrix) (x : List ℤ) (order groups : List ℕ) (count : ℕ) (state sums : List ℕ) (c : Call) → Told (replyTo (answerIn m x order groups count state sums c))
   -- so two replies with the same word are the same
   pub one : (r s : Reply) → Told r → Told s → word r ≡ word s → r ≡ s

@@ -1,10 +1,10 @@
 -- The records of a flat list, one by one, and of a list that records were flattened to.
-use mathlib.Core.Path.{_≡_, refl, ap, _∙_}
+use mathlib.Core.Path.{_≡_, refl, sym, ap, ap₂, _∙_}
 use mathlib.Core.List.{List, [], _∷_, _++_}
 use Prim.Native.Nat.{ℕ, zero, suc, _+_, _*_, _≤_, _<_}
 use native.Mathlib.Omega.{arith}
-use lib.ListN.{length, getD, take, drop, drop-of-length-le}
-use lib.Seq.{drop-drop, drop-cons, getD-drop, take-at}
+use lib.ListN.{length, getD, take, drop, length-drop, drop-of-length-le}
+use lib.Seq.{drop-drop, drop-cons, getD-drop, take-add, take-at}
 use Rattle.plan.specs.Groups.{Group, Plan, width, fieldsOf, ofFields, flat, records, planOf}
 use Rattle.plan.specs.code.Checks.{recordAt}
 
@@ -59,6 +59,15 @@ part-reads ns i (suc k) l = rw (drop-cons ns i 0 (omega arith)) (ap (λ (xs : Li
 pub fields-read : (ns : List ℕ) → width ≤ length ns → take width ns ≡ fieldsOf (ofFields ns)
 unfolding fieldsOf ofFields
 fields-read ns l = part-reads ns 0 width (omega arith)
+
+-- the numbers of the first records
+pub flat-records : (count : ℕ) (ns : List ℕ) → width * count ≤ length ns → flat (records count ns) ≡ take (width * count) ns
+unfolding flat records
+flat-records zero ns h = refl
+flat-records (suc count) ns h =
+    let next : width * suc count ≡ width + width * count = omega arith in
+    let later = flat-records count (drop width ns) (rw (length-drop width ns) (omega arith)) in
+    ap₂ (λ (x y : List ℕ). x ++ y) (sym (fields-read ns (omega arith))) later ∙ sym (take-add width (width * count) ns) ∙ ap (λ (j : ℕ). take j ns) (sym next)
 
 -- ---- records that were flattened
 

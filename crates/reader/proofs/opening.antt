@@ -1,2 +1,1 @@
-pub mod Line1
 pub mod Comments

@@ -4,3 +4,4 @@ pub mod Copies
 pub mod Blocks
 pub mod RoundTrip
 pub mod Codes
+pub mod Bytes

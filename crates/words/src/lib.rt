@@ -1,5 +1,6 @@
-// Lists of numbers in byte slices, low byte first: loaded into slices of numbers, and stored from them.
+// Lists of numbers in byte slices, low byte first: loaded into slices of numbers, stored from them, or copied.
+pub mod copy;
 pub mod load;
-mod number;
+pub mod number;
 mod signs;
 pub mod store;

@@ -31,6 +31,7 @@ struct Lent {
     values: Vec<u8>,
     order: Vec<u8>,
     groups: Vec<u8>,
+    file: Vec<u8>,
     forces: Vec<u8>,
     at: At,
 }
@@ -45,6 +46,7 @@ impl Lent {
             values: given.values.clone(),
             order: given.order.clone(),
             groups: given.groups.clone(),
+            file: given.file.clone(),
             forces: vec![0; 8 * given.n as usize],
             at: At::fresh(given.n),
         }
@@ -68,6 +70,8 @@ struct Implementation {
     product: fn(MatrixLists, &[u8], Out) -> u64,
     plan: fn(MatrixLists, u32, u32, Out, Out) -> u64,
     check: fn(MatrixLists, PlanLists) -> u64,
+    write_plan: fn(u32, PlanLists, Out) -> u64,
+    read_plan: fn(&[u8], Out, Out) -> u64,
     picks: fn(RunLists, Out, Out, &[u8]) -> u64,
     ready: fn(RunLists, &[u8], &[u8]) -> u64,
     forces: fn(RunLists, &[u8], &[u8], Out) -> u64,
@@ -79,6 +83,8 @@ const LIBRARY: Implementation = Implementation {
     product: library::product,
     plan: library::plan,
     check: library::check,
+    write_plan: library::write_plan,
+    read_plan: library::read_plan,
     picks: library::picks,
     ready: library::ready,
     forces: library::forces,
@@ -90,6 +96,8 @@ const RUST: Implementation = Implementation {
     product: calls::product,
     plan: calls::plan,
     check: calls::check,
+    write_plan: calls::write_plan,
+    read_plan: calls::read_plan,
     picks: calls::picks,
     ready: calls::ready,
     forces: calls::forces,
@@ -100,12 +108,14 @@ type Work = fn(&Implementation, &Given, &mut Lent) -> u64;
 
 /// All that is timed, by name.
 #[rustfmt::skip]
-const WORKS: [(&str, Work); 9] = [
+const WORKS: [(&str, Work); 11] = [
     ("read", |by, given, lent| (by.read)(&given.text, &mut lent.row_starts, &mut lent.columns, &mut lent.values)),
     ("write", |by, given, lent| (by.write)(given.matrix(), &mut lent.text)),
     ("product", |by, given, lent| (by.product)(given.matrix(), &given.movements, &mut lent.forces)),
     ("plan", |by, given, lent| (by.plan)(given.matrix(), 16, given.p, &mut lent.order, &mut lent.groups)),
     ("check", |by, given, _| (by.check)(given.matrix(), given.plan())),
+    ("write_plan", |by, given, lent| (by.write_plan)(given.n, given.plan(), &mut lent.file)),
+    ("read_plan", |by, given, lent| (by.read_plan)(&given.file, &mut lent.order, &mut lent.groups)),
     ("picks, a run in 1 list", |by, given, lent| {
         let At { state, sums } = lent.fresh();
         (by.picks)(given.run(), state, sums, &given.schedule)
@@ -218,6 +228,15 @@ impl Asked {
     }
 }
 
+/// A time in µs, a short one with two decimals.
+fn told(time: f64) -> String {
+    if time < 10.0 {
+        format!("{time:.2}")
+    } else {
+        format!("{time:.0}")
+    }
+}
+
 /// Prints the lines of a net, with the growth from a net of half its size if there is one.
 fn print_net(asked: &Asked, name: &str, net: &Matrix, half: Option<&Matrix>) {
     let given = Given::new(net, 60);
@@ -229,8 +248,8 @@ fn print_net(asked: &Asked, name: &str, net: &Matrix, half: Option<&Matrix>) {
         let [ours, theirs] = least_times(work, &given);
         let growth = half.as_ref().map(|half| ours / least_times(work, half)[0]);
         let growth = growth.map_or(String::new(), |growth| format!("{growth:.2}"));
-        let ratio = ours / theirs;
-        println!("| {name} | {call} | {ours:.0} | {theirs:.0} | {ratio:.2} | {growth} |");
+        let (ratio, ours, theirs) = (ours / theirs, told(ours), told(theirs));
+        println!("| {name} | {call} | {ours} | {theirs} | {ratio:.2} | {growth} |");
     }
 }
 

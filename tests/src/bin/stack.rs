@@ -52,7 +52,7 @@ fn make(call: &str, stack: usize, given: &Given) -> Option<u64> {
     let (mut order, mut groups, mut text) = (blank(&given.order), blank(&given.groups), blank(&given.text));
     let (mut starts, mut columns, mut values) = (blank(&given.row_starts), blank(&given.columns), blank(&given.values));
     let At { mut state, mut sums } = At::fresh(given.n);
-    let mut forces = blank(&sums);
+    let (mut forces, mut file) = (blank(&sums), blank(&given.file));
     let end = &given.finished;
     Some(match call {
         "read" => on_stack(stack, || library::read(&given.text, &mut starts, &mut columns, &mut values)),
@@ -60,6 +60,8 @@ fn make(call: &str, stack: usize, given: &Given) -> Option<u64> {
         "product" => on_stack(stack, || library::product(given.matrix(), &given.movements, &mut forces)),
         "plan" => on_stack(stack, || library::plan(given.matrix(), 16, given.p, &mut order, &mut groups)),
         "check" => on_stack(stack, || library::check(given.matrix(), given.plan())),
+        "write_plan" => on_stack(stack, || library::write_plan(given.n, given.plan(), &mut file)),
+        "read_plan" => on_stack(stack, || library::read_plan(&given.file, &mut order, &mut groups)),
         "picks" => on_stack(stack, || library::picks(given.run(), &mut state, &mut sums, &given.schedule)),
         "ready" => on_stack(stack, || library::ready(given.run(), &state, &sums)),
         "forces" => on_stack(stack, || library::forces(given.run(), &end.state, &end.sums, &mut forces)),
@@ -85,7 +87,7 @@ fn run(call: &str, stack: usize) {
 /// Says how the program is called.
 fn usage() -> ! {
     eprintln!(
-        "usage: stack CALL BYTES (read, write, product, plan, check, picks, ready or forces)"
+        "usage: stack CALL BYTES (read, write, product, plan, check, write_plan, read_plan, picks, ready or forces)"
     );
     exit(2);
 }

@@ -2,6 +2,7 @@
 
 pub mod matrix;
 pub mod plan;
+pub mod plan_file;
 pub mod run;
 
 use std::fmt::{self, Display, Formatter};
@@ -19,7 +20,7 @@ use crate::progress::Progress;
 
 /// How often each refusal's number was met; at 0, how many calls were accepted.
 #[derive(Default)]
-pub struct Seen([usize; 16]);
+pub struct Seen([usize; 17]);
 
 impl Seen {
     /// Counts an answer word.
@@ -180,7 +181,7 @@ pub fn matrix_twins(rng: &mut Prng, matrix: &Matrix) -> MatrixTwins {
 
 /// A case of any call.
 pub fn any(rng: &mut Prng, seen: &mut Seen) {
-    match rng.below(32) {
+    match rng.below(34) {
         0..8 => matrix::read(rng, seen),
         8..11 => matrix::write(rng, seen),
         11..14 => matrix::product(rng, seen),
@@ -189,6 +190,8 @@ pub fn any(rng: &mut Prng, seen: &mut Seen) {
         20..25 => run::picks(rng, seen),
         25..28 => run::ready(rng, seen),
         28..31 => run::forces(rng, seen),
+        31 => plan_file::write(rng, seen),
+        32 => plan_file::read(rng, seen),
         _ => run::whole(rng, seen),
     }
 }

@@ -1,10 +1,10 @@
-//! The eight calls on byte lists, as C makes them: little-endian numbers, and one answer word.
+//! The calls on byte lists, as C makes them: little-endian numbers, and one answer word.
 //!
 //! The word has the refusal's number in its high half; its low half is the refusal's place or the call's count.
 
 use super::machine::{self, Lent, State};
 use super::matrix::Rows;
-use super::{planner, soundness, text, Refusal, WORKERS};
+use super::{plan_file, planner, soundness, text, Refusal, FIELDS, WORKERS};
 use crate::lists::{MatrixLists, PlanLists, RunLists};
 
 /// The bytes of a state: sixteen counts of moves, then sixteen held numbers.
@@ -70,6 +70,38 @@ pub fn check(matrix: MatrixLists, plan: PlanLists) -> u64 {
         soundness::check(rows, &lists.order, &lists.groups, lists.group_count).map(|_| 0)
     });
     word(checked)
+}
+
+/// The file of a plan; counts the bytes written.
+pub fn write_plan(n: u32, plan: PlanLists, file: &mut [u8]) -> u64 {
+    let (rows, records) = (n as usize, plan.group_count as usize);
+    let mut write = || {
+        plan_file::judge_counts(rows, records)?;
+        let order = get(plan.order, rows, u32::from_le_bytes);
+        let groups = get(plan.groups, FIELDS * records, u32::from_le_bytes);
+        if order.len() < rows || groups.len() < FIELDS * records {
+            return Err(Refusal::at(8, 0));
+        }
+        let written = plan_file::write(&order, &groups);
+        super::room(file.len(), written.len())?;
+        file[..written.len()].copy_from_slice(&written);
+        Ok(written.len() as u32)
+    };
+    word(write())
+}
+
+/// The plan in a file; counts its rows, and its groups × 65,536.
+pub fn read_plan(file: &[u8], order: &mut [u8], groups: &mut [u8]) -> u64 {
+    let mut read = || {
+        let [rows, records] = plan_file::read(file)?;
+        let group_count = records.len() / FIELDS;
+        super::room(order.len() / 4, rows.len())?;
+        super::room(groups.len() / 4 / FIELDS, group_count)?;
+        put(order, &rows, u32::to_le_bytes);
+        put(groups, &records, u32::to_le_bytes);
+        Ok(rows.len() as u32 + ((group_count as u32) << 16))
+    };
+    word(read())
 }
 
 /// Picks of a run; counts those taken.

@@ -1,4 +1,4 @@
-//! Texts of every legal look, and damage to texts, rows and plans.
+//! Texts of every legal look, and damage to texts, rows, plans and plan files.
 
 use super::matrix::{Entry, Matrix};
 use super::prng::Prng;
@@ -238,4 +238,35 @@ fn shift_border(rng: &mut Prng, groups: &mut [u32]) {
         record[0] = moved(start);
         record[1] = moved(end).wrapping_sub(moved(start));
     }
+}
+
+/// Damages a plan file once, most often in its table; some damage does no harm.
+pub fn damage_file(rng: &mut Prng, file: &mut Vec<u8>) {
+    let at = rng.below(file.len() + 1);
+    match rng.below(8) {
+        0 => file.truncate(at),
+        1 => drop(file.splice(at..at, [0; 4])),
+        2 => file.extend([0; 4]),
+        3 if at < file.len() => drop(file.remove(at)),
+        4 if at < file.len() => file[at] = rng.one_of(&[0, 1, 2, 0xff]),
+        _ => damage_table(rng, file),
+    }
+}
+
+/// Changes a number of a plan file's table: by what a body's length may differ, or to an odd one.
+fn damage_table(rng: &mut Prng, file: &mut [u8]) {
+    let table = file.len().min(28);
+    let words = file[..table].as_chunks_mut::<4>().0;
+    if words.is_empty() {
+        return;
+    }
+    let at = rng.below(words.len());
+    let number = u32::from_le_bytes(words[at]);
+    let by = rng.one_of(&[1, 2, 4, 24, 1 << 16]);
+    let number = match rng.below(3) {
+        0 => number.wrapping_add(by),
+        1 => number.wrapping_sub(by),
+        _ => rng.one_of(&ODD_NUMBERS),
+    };
+    words[at] = number.to_le_bytes();
 }

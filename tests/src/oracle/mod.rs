@@ -1,4 +1,4 @@
-//! Document 01 a second time, in plain Rust with lists on the heap.
+//! Documents 01 and 02 a second time, in plain Rust with lists on the heap.
 
 pub mod book;
 pub mod calls;
@@ -8,6 +8,7 @@ pub mod machine;
 pub mod matrix;
 pub mod netplan;
 pub mod nets;
+pub mod plan_file;
 pub mod planner;
 pub mod plans;
 pub mod prng;

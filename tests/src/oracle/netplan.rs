@@ -33,7 +33,7 @@ fn answer(input: &[u8]) -> Result<planner::Plan, Refusal> {
 }
 
 /// The lines of a plan.
-fn print(plan: &planner::Plan) -> String {
+pub fn print(plan: &planner::Plan) -> String {
     let mut out = String::from("order");
     for freedom in &plan.order {
         out += &format!(" {freedom}");

@@ -23,7 +23,7 @@ use Rattle.market.specs.Parse.{rejected, entries, sized, sizeLine, Place, place
 use Rattle.scan.specs.code.Positions.{fieldsAt}
 use Rattle.scan.proofs.Left.{left-later}
 use Rattle.scan.proofs.lines.Lines.{line-at, line-no}
-use Rattle.reader.proofs.opening.Line1.{begins-length}
+use Rattle.base.proofs.Begins.{begins-length}
 
 pub fits-natural : (v : ℤ) → SFits w64 v → Fits w64 (natAbs v)
 fits-natural (pos n) f = record { fits = omega (arith, f .sfits) }

@@ -6,7 +6,7 @@ use native.Mathlib.Omega.{arith}
 use lib.ListN.{length, drop}
 use Rattle.base.specs.Lists.{begins}
 use Rattle.market.specs.Bytes.{header}
-use Rattle.reader.proofs.opening.Line1.{begins-more, begins-bad, begins-short, begins-end}
+use Rattle.base.proofs.Begins.{begins-more, begins-bad, begins-short, begins-end}
 use Rattle.reader.proofs.opening.has_header.Statement.{statement}
 use Rattle.reader.proofs.opening.has_header.Tie as tie
 

@@ -1,0 +1,5 @@
+pub mod Sized
+pub mod Files
+pub mod Judged
+pub mod Parts
+pub mod PlanFiles

@@ -1,0 +1,39 @@
+-- `write::write` meets its contract.
+use borrow.Author.Needs.{needs}
+use mathlib.Core.Path.{sym, ap, _∙_}
+use Rattle.base.specs.Verdicts.{replyOf}
+use Rattle.base.proofs.Replies.{lent-refused, lent-accepted}
+use Rattle.planfile.proofs.Parts.{write-accepted}
+use Rattle.planfile.proofs.write.write.Statement.{statement}
+use Rattle.planfile.proofs.write.write.Tie as tie
+
+reply-requires : tie.Need-reply-requires
+reply-requires c κs = search needs
+
+enum-told : tie.Need-enum-told
+enum-told c = search needs
+
+enum-told-2 : tie.Need-enum-told-2
+enum-told-2 c = search needs
+
+returns : tie.Need-returns
+returns c =
+    let m = c .before .before .reply in
+    (m .ensures, sym (lent-refused _ _ (replyOf (m .result)) _ _ (ap replyOf (c .enum-told2 .given .1))))
+
+fill-requires : tie.Need-fill-requires
+fill-requires c κs = write-accepted _ _ _ _ _ _ (sym (c .before .before .before .reply .ensures) ∙ ap replyOf (c .before .enum-told .given .1))
+
+same-length : tie.Need-same-length
+same-length c = search needs
+
+returns-2 : tie.Need-returns-2
+returns-2 c =
+    let told = c .before .before .before .before in
+    let m = told .before .before .reply in
+    (m .ensures, c .before .before .fill .ensures ∙ sym (lent-accepted _ _ (replyOf (m .result)) _ (ap replyOf (told .enum-told .given .1))))
+
+pub write-spec : {M : Type 1} → statement M
+write-spec =
+    tie.close
+    (tie.spec reply-requires enum-told enum-told-2 returns fill-requires same-length returns-2)
