@@ -9,7 +9,7 @@ use lib.Seq.{take-suc}
 use Rattle.plan.specs.Groups.{width, fieldsOf, flat, groupOf}
 use Rattle.plan.specs.Sound.{maxGroups}
 use Rattle.plan.specs.declared.fields.Group.{Group}
-use Rattle.planner.proofs.Holding.{flat-append}
+use Rattle.cycle.proofs.Holding.{flat-append}
 use Rattle.groups.specs.code.Flattened.{few, Flattened}
 
 -- a list of numbers that begins with the records of the first k groups

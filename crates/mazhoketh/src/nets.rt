@@ -2,8 +2,8 @@
 use office::check::check_in;
 use office::planning::plan_in;
 use office::product::product_in;
-use office::read::read_in;
-use office::write::write_in;
+use texts::read::read_in;
+use texts::write::write_in;
 ghost use mathlib.Core.Path.{_≡_};
 ghost use Prim.Native.Nat.{_/_};
 ghost use lib.ListN.{length};
@@ -13,7 +13,8 @@ ghost use Rattle.plan.specs.Sound.{checkReply};
 ghost use Rattle.words.specs.LittleEndian.{unsigned, signed, signedBytes};
 ghost use Rattle.lent.specs.Bytes.{matrixIn};
 ghost use Rattle.lent.specs.Word.{word, Answered};
-ghost use Rattle.office.specs.Lent.{ReadAnswered, PlanAnswered};
+ghost use Rattle.texts.specs.Lent.{ReadAnswered};
+ghost use Rattle.office.specs.Lent.{PlanAnswered};
 
 // The matrix of a text.
 #[no_mangle]

@@ -37,7 +37,8 @@ use Rattle.race.proofs.Rooms.{Planned, planned}
 use Rattle.words.specs.LittleEndian.{unsigned, signed, unsignedBytes, signedBytes}
 use Rattle.words.proofs.Codes.{Holds, HoldsSigned, unsigned-append, signed-append}
 use Rattle.lent.specs.Word.{word, Answered}
-use Rattle.office.specs.Lent.{readIn, planIn, PlanAnswered}
+use Rattle.texts.specs.Lent.{readIn}
+use Rattle.office.specs.Lent.{planIn, PlanAnswered}
 use Rattle.meaning.specs.ByteLists.{Reading, leftBy, RoomFor, ByteLists}
 use Rattle.meaning.proofs.SmallMatrix.{starts-small, columns-small, values-small}
 use Rattle.meaning.proofs.SmallPlan.{Small, sound-small}

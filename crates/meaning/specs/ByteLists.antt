@@ -15,7 +15,8 @@ use Rattle.plan.specs.Sound.{checkReply}
 use Rattle.words.specs.LittleEndian.{unsigned}
 use Rattle.lent.specs.Word.{Answered}
 use Rattle.lent.specs.Bytes.{matrixIn}
-use Rattle.office.specs.Lent.{readIn, ReadAnswered, planIn, PlanAnswered}
+use Rattle.texts.specs.Lent.{readIn, ReadAnswered}
+use Rattle.office.specs.Lent.{planIn, PlanAnswered}
 
 -- a call that reads a text: what it is given, returns and leaves
 pub record Reading (text : List ℕ) : Type 0 where

@@ -11,7 +11,8 @@ use Rattle.plan.specs.Sound.{checkReply}
 use Rattle.planfile.specs.Calls.{writePlanReply, readPlanReply}
 use Rattle.run.specs.Answers.{Call}
 use Rattle.lent.specs.Word.{word}
-use Rattle.office.specs.Lent.{readIn, planIn}
+use Rattle.texts.specs.Lent.{readIn}
+use Rattle.office.specs.Lent.{planIn}
 use Rattle.cabinet.specs.Runs.{answerIn, replyTo}
 
 -- "an accepted call has number 0"

@@ -1,5 +1,3 @@
-pub mod TextReads
-pub mod TextWrites
 pub mod Products
 pub mod Plans
 pub mod PlanChecks

@@ -1,12 +1,2 @@
-pub mod Weights
-pub mod Stretches
-pub mod LevelLoads
-pub mod Thirds
-pub mod Holding
-pub mod PairPlans
-pub mod GroupPlans
-pub mod GroupTasks
-pub mod NextPair
-pub mod PairTasks
 pub mod WholePlan
 pub mod PlanReply

@@ -16,7 +16,7 @@ use Rattle.levels.proofs.Rows.{pattern-neighbours, rows-of, rows-graph}
 use Rattle.plan.specs.Groups.{Plan, width, flat}
 use Rattle.plan.specs.Sound.{maxWorkers}
 use Rattle.race.specs.Planner.{planRows, plan, areParameters, planReply}
-use Rattle.planner.specs.code.Records.{Holds}
+use Rattle.cycle.specs.code.Records.{Holds}
 use Rattle.race.proofs.Planned.{rows-few}
 
 -- parameters are within their limits

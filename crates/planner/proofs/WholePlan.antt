@@ -20,11 +20,11 @@ use Rattle.plan.specs.Groups.{Plan, width, whole, flat, groupOf}
 use Rattle.plan.specs.Sound.{maxWorkers, maxDepth, maxGroups}
 use Rattle.extents.specs.Extents.{Policy}
 use Rattle.race.specs.Planner.{leaf, planGroup, planRows}
-use Rattle.planner.specs.code.Records.{Holds}
-use Rattle.planner.specs.code.Cycle.{GroupTask}
+use Rattle.cycle.specs.code.Records.{Holds}
+use Rattle.cycle.specs.code.Cycle.{GroupTask}
 use Rattle.plan.specs.declared.fields.Group.{Group}
 use Rattle.race.proofs.Planned.{rows-few}
-use Rattle.planner.proofs.GroupPlans.{two-orders}
+use Rattle.cycle.proofs.GroupPlans.{two-orders}
 
 map-same : (xs : List ℕ) → map (λ x. x) xs ≡ xs
 map-same [] = refl

@@ -12,8 +12,6 @@ use plan::fields::MAX_FIELDS;
 use plan::fields::WIDTH;
 use symmetric::is_matrix;
 
-mod cycle;
-mod loads;
 mod whole;
 
 ghost use mathlib.Core.Path.{_≡_};

@@ -1,5 +1,5 @@
 // The whole: all rows, sorted by level, and their plan.
-use crate::cycle::plan_group;
+use cycle::plan_group;
 use extents::Policy;
 use plan::MAX_DEPTH;
 use plan::fields::Group;
@@ -16,7 +16,7 @@ ghost use Rattle.plan.specs.Groups.{width};
 ghost use Rattle.plan.specs.Sound.{maxWorkers, maxGroups};
 ghost use Rattle.extents.specs.code.Scans.{policyOf};
 ghost use Rattle.race.specs.Planner.{planRows};
-ghost use Rattle.planner.specs.code.Records.{Holds};
+ghost use Rattle.cycle.specs.code.Records.{Holds};
 ghost use Rattle.matrix.specs.Limits.{maxRows};
 
 // A group at depth 0 may be split so often.

@@ -3,7 +3,7 @@ use mathlib.Core.Path.{_≡_, ap, _∙_}
 use native.Mathlib.Omega.{arith}
 use Rattle.base.specs.Lists.{range}
 use Rattle.extents.specs.code.Scans.{policyOf}
-use Rattle.planner.specs.code.Records.{Holds}
+use Rattle.cycle.specs.code.Records.{Holds}
 use Rattle.planner.proofs.WholePlan.{numberedPlan, whole-task, leaf-held, split-held}
 use Rattle.planner.proofs.whole.plan_rows.Statement.{statement}
 use Rattle.planner.proofs.whole.plan_rows.Tie as tie

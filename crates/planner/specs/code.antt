@@ -1,4 +1,0 @@
--- What the contracts of inner functions speak of: no promise rests on it.
-pub mod Cycle
-pub mod Records
-pub mod Stretches

@@ -1,0 +1,2 @@
+pub mod TextReads
+pub mod TextWrites
