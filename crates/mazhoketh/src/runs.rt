@@ -1,7 +1,7 @@
 // The calls on a run.
-use cabinet::in_bytes::perform_in;
-use cabinet::stored::store_picks;
-use cabinet::word::word_of;
+use answers::stored::store_picks;
+use answers::word::word_of;
+use cabinet::perform_in;
 use calls::Call;
 use matrix::limits::MAX_STARTS;
 ghost use mathlib.Core.Path.{_≡_};
@@ -13,7 +13,7 @@ ghost use Rattle.run.specs.Answers as calls;
 ghost use Rattle.words.specs.LittleEndian.{unsigned, signed};
 ghost use Rattle.lent.specs.Bytes.{matrixIn};
 ghost use Rattle.lent.specs.Word.{word};
-ghost use Rattle.cabinet.specs.Runs.{stateIn, answerIn, replyTo, PicksAnswered, ForcesAnswered};
+ghost use Rattle.answers.specs.Runs.{stateIn, answerIn, replyTo, PicksAnswered, ForcesAnswered};
 
 // A list of picks, made one load or store at a time.
 #[no_mangle]

@@ -26,10 +26,10 @@ use Rattle.run.proofs.Invariant.{Inv, inv-fresh}
 use Rattle.run.proofs.LentRuns.{lent-runs}
 use Rattle.words.specs.LittleEndian.{signedBytes, stored}
 use Rattle.lent.specs.Word.{word}
-use Rattle.cabinet.specs.Runs.{stateBytes, answerIn, replyTo, forceBytes, ForcesAnswered, bytesIn, leftBy}
+use Rattle.answers.specs.Runs.{stateBytes, answerIn, replyTo, forceBytes, ForcesAnswered, bytesIn, leftBy}
 use Rattle.meaning.specs.ByteRuns.{inBytes, byteAnswer, picksLeave, byteAfter, byteAnswers, runBytes, ByteRun, ByteRuns}
 use Rattle.meaning.proofs.StateBack.{Sized, state-length, state-back, sums-length, zeros-fresh}
-use Rattle.cabinet.proofs.StateBytes.{stored-over}
+use Rattle.answers.proofs.StateBytes.{stored-over}
 
 -- a force-list call that is answered with forces
 forces-left : {a : Answer} {zs : List ℤ} {old : List ℕ} {returned : ℕ} {new : List ℕ} → a ≡ forces zs → ForcesAnswered a old returned new → (returned ≡ 0) × (new ≡ stored (signedBytes 8 zs) old)

@@ -16,9 +16,9 @@ use Rattle.words.specs.LittleEndian.{bytesOf, ofSigned, signedBytesOf, unsigned
 use Rattle.words.proofs.Blocks.{length-encoded}
 use Rattle.words.proofs.Codes.{HoldsSigned, unsigned-back, signed-back}
 use Rattle.words.proofs.Digits.{length-signedBytesOf}
-use Rattle.cabinet.specs.Runs.{stateBytes, countBytes, stateIn, bytesIn}
+use Rattle.answers.specs.Runs.{stateBytes, countBytes, stateIn, bytesIn}
 use Rattle.meaning.specs.ByteRuns.{inBytes, zeros}
-use Rattle.cabinet.proofs.StateBytes.{counts-length, numbers-length}
+use Rattle.answers.proofs.StateBytes.{counts-length, numbers-length}
 
 -- ---- numbers of 64 bits
 

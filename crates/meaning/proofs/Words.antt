@@ -46,8 +46,8 @@ use Rattle.calls.proofs.ReadyBits.{bits-below}
 use Rattle.words.specs.LittleEndian.{number}
 use Rattle.words.proofs.Blocks.{length-decoded}
 use Rattle.lent.specs.Word.{word}
-use Rattle.cabinet.specs.Runs.{stateBytes, countBytes, stateIn, answerIn, replyTo}
-use Rattle.cabinet.proofs.TakenFew.{taken-few}
+use Rattle.answers.specs.Runs.{stateBytes, countBytes, stateIn, answerIn, replyTo}
+use Rattle.answers.proofs.TakenFew.{taken-few}
 use Rattle.meaning.specs.Words.{numberIn, placeIn, Told, Words}
 use Rattle.meaning.proofs.SmallMatrix.{full-few}
 

@@ -13,7 +13,7 @@ use Rattle.run.specs.Answers.{Call}
 use Rattle.lent.specs.Word.{word}
 use Rattle.texts.specs.Lent.{readIn}
 use Rattle.office.specs.Lent.{planIn}
-use Rattle.cabinet.specs.Runs.{answerIn, replyTo}
+use Rattle.answers.specs.Runs.{answerIn, replyTo}
 
 -- "an accepted call has number 0"
 unfoldable pub numberIn : Reply → ℕ

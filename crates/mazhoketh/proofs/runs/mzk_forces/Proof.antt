@@ -1,6 +1,6 @@
 -- `mzk_forces` meets its contract: the call, which stores the forces, then its word.
 use borrow.Author.Needs.{needs}
-use Rattle.cabinet.proofs.RunPicks.{ran-low, ran-word}
+use Rattle.answers.proofs.RunPicks.{ran-low, ran-word}
 use Rattle.mazhoketh.proofs.runs.mzk_forces.Statement.{statement}
 use Rattle.mazhoketh.proofs.runs.mzk_forces.Tie as tie
 

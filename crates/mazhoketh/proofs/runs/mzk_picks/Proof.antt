@@ -1,6 +1,6 @@
 -- `mzk_picks` meets its contract: the call, then what it leaves is stored.
 use borrow.Author.Needs.{needs}
-use Rattle.cabinet.proofs.RunPicks.{ran-low, ran-fits, picks-answered}
+use Rattle.answers.proofs.RunPicks.{ran-low, ran-fits, picks-answered}
 use Rattle.mazhoketh.proofs.runs.mzk_picks.Statement.{statement}
 use Rattle.mazhoketh.proofs.runs.mzk_picks.Tie as tie
 

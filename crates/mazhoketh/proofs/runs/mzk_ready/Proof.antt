@@ -1,6 +1,6 @@
 -- `mzk_ready` meets its contract: the call, then its word.
 use borrow.Author.Needs.{needs}
-use Rattle.cabinet.proofs.RunPicks.{ran-low, ran-word}
+use Rattle.answers.proofs.RunPicks.{ran-low, ran-word}
 use Rattle.mazhoketh.proofs.runs.mzk_ready.Statement.{statement}
 use Rattle.mazhoketh.proofs.runs.mzk_ready.Tie as tie
 

@@ -1,0 +1,233 @@
+-- A call on a run whose state and sums are decoded; and picks, which are stored.
+use mathlib.Core.Path.{_≡_, refl, sym, ap, _∙_}
+use mathlib.Core.Logic.{_≢_, ⊎-elim}
+use mathlib.Core.Bool.{Bool, true, false, cond}
+use mathlib.Core.List.{List, [], _∷_, _++_}
+use Prim.Native.Nat.{ℕ, zero, suc, _/_, _^_, _≤_, _<_}
+use native.Mathlib.Omega.{arith}
+use lib.Dec.{eqb, leb}
+use lib.IntN.{ℤ}
+use lib.ListN.{length, take, length-append, length-take}
+use lib.Seq.{take-at, take-all, length-take-le}
+use types.Run.{OneOf}
+use denote.Enum.Declared.{tagOf}
+use borrow.Author.Tests.{eqb-true, eq-eqb}
+use Rattle.base.specs.Refusals as why
+use Rattle.base.specs.Replies as replies
+use Rattle.base.specs.Replies.{Check, inTurn}
+use Rattle.base.proofs.Booleans.{and-left}
+use Rattle.base.proofs.Replies.{accepted-all}
+use Rattle.matrix.specs.Matrix.{Matrix}
+use Rattle.matrix.specs.code.Room.{maxStarts}
+use Rattle.matrix.proofs.Matrix.{matrix-facts}
+use Rattle.plan.specs.Sound.{maxWorkers}
+use Rattle.run.specs.Job.{Job, jobOf, Accepted}
+use Rattle.run.specs.Machine.{steps, over, original, isState, countsFine}
+use Rattle.run.specs.State.{State}
+use Rattle.run.specs.Calls.{placeOf, pickedOf, readyOf, forcesOf, answerOf, stateCheck, answer, jobChecks, answerLent, afterLent}
+use Rattle.run.specs.Answers.{Call, picks, readySet, forceList, Answer, picked, denied}
+use Rattle.machine.specs.Record.{stateOf}
+use Rattle.machine.specs.declared.state.State as code
+use Rattle.calls.specs.Performed.{asAnswer, Performed}
+use Rattle.calls.proofs.Response.{the-type}
+use Rattle.calls.specs.declared.Response.{Response}
+use Rattle.calls.specs.declared.Response.the-variants.{Picked, Ready, Forces, Refused}
+use Rattle.calls.proofs.JobChecked.{job-given}
+use Rattle.words.specs.LittleEndian.{number, signedNumber, signed, signedBytes, stored}
+use Rattle.words.proofs.Blocks.{length-decoded}
+use Rattle.lent.specs.Word.{word}
+use Rattle.answers.specs.Runs.{stateBytes, countBytes, stateIn, answerIn, replyTo, forceBytes, bytesIn, leftBy, PicksAnswered}
+use Rattle.answers.specs.code.Ran.{StateIs, Taken, Ran, LowPlace, PicksFit}
+use Rattle.answers.proofs.RunCalls.{decoded, always-refused}
+use Rattle.answers.proofs.TakenFew.{taken-few}
+
+-- ---- a call that took picks, or none, and was not refused
+
+-- its checks pass
+turn-picked : (cs : List Check) (a : Answer) {t q p : ℕ} → picked t q p ≡ inTurn denied cs a → (inTurn replies.refused cs (replies.accepted 0) ≡ replies.accepted 0) × (picked t q p ≡ a)
+unfolding inTurn
+turn-picked [] a e = (refl, e)
+turn-picked (c ∷ cs) a {t} {q} {p} e = go (c .holds) (turn-picked cs a) e
+  where
+    go : (b : Bool) → (picked t q p ≡ inTurn denied cs a → (inTurn replies.refused cs (replies.accepted 0) ≡ replies.accepted 0) × (picked t q p ≡ a))
+        → picked t q p ≡ cond b (inTurn denied cs a) (denied (c .number) (c .place))
+        → (cond b (inTurn replies.refused cs (replies.accepted 0)) (replies.refused (c .number) (c .place)) ≡ replies.accepted 0) × (picked t q p ≡ a)
+    go true h e = h e
+    go false h e = absurd (let z : _≡_ {A = ℕ} 0 1 = cc in omega arith)
+
+-- the place of an ending is no more than the picks taken
+place-low : (number taken : ℕ) → placeOf number taken ≤ taken
+unfolding placeOf
+place-low zero taken = omega arith
+place-low (suc k) taken = omega arith
+
+module _ (m : Matrix) (x : List ℤ) (order groups : List ℕ) (count : ℕ) (s : State) (c : Call) {t q p : ℕ} (e : picked t q p ≡ answerLent m x order groups count s c) where
+  abbrev job : Job
+  job = jobOf m x order groups count
+
+  checked : (inTurn replies.refused (jobChecks m x order groups count) (replies.accepted 0) ≡ replies.accepted 0) × (picked t q p ≡ answer job s c)
+  unfolding answerLent
+  checked = turn-picked (jobChecks m x order groups count) (answer job s c) e
+
+  stated : (inTurn replies.refused (stateCheck job s) (replies.accepted 0) ≡ replies.accepted 0) × (picked t q p ≡ answerOf job s c)
+  unfolding answer
+  stated = turn-picked (stateCheck job s) (answerOf job s c) (checked .1)
+
+  accepted : Accepted job
+  accepted = job-given m x order groups count 0 (checked .0) .accepted
+
+  -- there are n sums
+  pub enough : length (s .sums) ≡ m .n
+  unfolding stateCheck isState jobOf
+  enough = eqb-true (length (s .sums)) (m .n) (and-left (eqb (length (s .sums)) (m .n)) (countsFine job (s .made) maxWorkers) (accepted-all (stateCheck job s) (replies.accepted 0) 0 (stated .0) .0))
+
+  -- the place fits a word's low half
+  pub picked-low : length (s .made) ≡ maxWorkers → p < 2 ^ 32
+  unfolding answerOf pickedOf readyOf forcesOf jobOf
+  picked-low long = go c (stated .1)
+    where
+      other : (a b : Bool) (zs : List ℤ) → picked t q p ≡ forcesOf a b (m .n) zs → p < 2 ^ 32
+      other false b zs told = absurd (let z : _≡_ {A = ℕ} 0 1 = cc in omega arith)
+      other true false zs told = absurd (let z : _≡_ {A = ℕ} 0 1 = cc in omega arith)
+      other true true zs told = absurd (let z : _≡_ {A = ℕ} 0 1 = cc in omega arith)
+
+      go : (d : Call) → picked t q p ≡ answerOf job s d → p < 2 ^ 32
+      go (picks ws) told =
+          let r = steps job s ws in
+          let same : picked t q p ≡ picked (r .taken) (r .number) (placeOf (r .number) (r .taken)) = told in
+          let place : p ≡ placeOf (r .number) (r .taken) = cc in
+          omega (arith, place-low (r .number) (r .taken), taken-few job accepted s ws long)
+      go readySet told = absurd (let z : _≡_ {A = ℕ} 0 1 = cc in omega arith)
+      go (forceList room) told = other (over job (s .made)) (leb (m .n) room) (original job (s .sums)) told
+
+  -- the sums were not cut
+  pub picked-sums : {sums : List ℤ} → s .sums ≡ take maxStarts sums → take maxStarts sums ≡ sums
+  unfolding jobOf
+  picked-sums {sums} f = take-all maxStarts sums (omega (arith, ap length f, enough, length-take maxStarts sums, matrix-facts m (accepted .matrix) .few))
+
+-- ---- what the call leaves
+
+-- picks that a call in bytes took
+module _ (m : Matrix) (x : List ℤ) (order groups : List ℕ) (count : ℕ) (c : Call) (state sums : List ℕ) (r : code.State) {zs : List ℤ}
+    (is : length state ≡ stateBytes → StateIs r state) (lent : zs ≡ cond (eqb (length state) stateBytes) (take maxStarts (signed 8 sums)) [])
+    {k q p : ℕ} (e : answerIn m x order groups count state sums c ≡ picked k q p) where
+  told : picked k q p ≡ answerLent m x order groups count (stateOf r zs) c
+  told = sym (decoded m x order groups count c state sums r is lent ∙ e)
+
+  -- its bytes are a state: no other is taken
+  whole : length state ≡ stateBytes
+  unfolding answerIn
+  whole = go (eqb (length state) stateBytes) refl e
+    where
+      go : (b : Bool) → eqb (length state) stateBytes ≡ b
+          → cond b (answerLent m x order groups count (stateIn state sums) c) (inTurn denied (jobChecks m x order groups count) (denied why.notState 0)) ≡ picked k q p → length state ≡ stateBytes
+      go true t f = eqb-true (length state) stateBytes t
+      go false t f = let a = always-refused (jobChecks m x order groups count) why.notState 0 in absurd (let g = a .2 in let z : _≡_ {A = ℕ} 0 1 = cc in omega arith)
+
+  -- all its sums are lent on
+  all-lent : zs ≡ signed 8 sums
+  all-lent =
+      let cut : zs ≡ take maxStarts (signed 8 sums) = lent ∙ rw (eq-eqb (length state) stateBytes whole) in
+      cut ∙ picked-sums m x order groups count (stateOf r zs) c told cut
+
+  same-state : stateOf r zs ≡ stateIn state sums
+  same-state = let d = is whole in rw (d .made, d .held, all-lent)
+
+  -- what is stored of it
+  picks-taken : {after : code.State} {part : List ℤ} (rest : List ℤ) → length part ≡ length zs → stateOf after part ≡ afterLent m x order groups count (stateOf r zs) c
+      → Taken (m .n) (afterLent m x order groups count (stateIn state sums) c) p state sums after (part ++ rest)
+  picks-taken {after} {part} rest long f =
+      let rows : length zs ≡ m .n = enough m x order groups count (stateOf r zs) c told in
+      let room : length zs ≡ length sums / 8 = ap (λ (ys : List ℤ). length ys) all-lent ∙ length-decoded (signedNumber 8) 8 sums in
+      let counts : length (r .made) ≡ maxWorkers = rw (is whole .made, length-decoded number 4 (take countBytes state), length-take-le countBytes state (omega (arith, whole))) in
+      record {
+        left = ap (stateOf after) (take-at part rest (m .n) (long ∙ rows)) ∙ f ∙ ap (λ (s : State). afterLent m x order groups count s c) same-state;
+        whole = whole;
+        inside = omega (arith, long, rows, length-append part rest);
+        room = omega (arith, rows, room);
+        low = picked-low m x order groups count (stateOf r zs) c told counts;
+      }
+
+-- a call in bytes, whose forces are stored
+pub ran : (m : Matrix) (x : List ℤ) (order groups : List ℕ) (count : ℕ) (c : Call) (state sums : List ℕ) (r : code.State) {zs : List ℤ}
+    → (length state ≡ stateBytes → StateIs r state) → zs ≡ cond (eqb (length state) stateBytes) (take maxStarts (signed 8 sums)) []
+    → {old : List ℤ} {answer : Response} (made : List ℤ) {after : code.State} {part : List ℤ} (rest : List ℤ) {forces : List ℤ} → length part ≡ length zs
+    → Performed m x order groups count (stateOf r zs) c old (asAnswer answer made) (stateOf after part) forces
+    → {bytes left : List ℕ} → left ≡ replies.lent (replyTo (asAnswer answer made)) (forceBytes (asAnswer answer made)) bytes
+    → Ran (m .n) (answerIn m x order groups count state sums c) (afterLent m x order groups count (stateIn state sums) c) state sums bytes answer after (part ++ rest) left
+ran m x order groups count c state sums r is lent made rest long h {bytes} f =
+    let told = h .answers ∙ decoded m x order groups count c state sums r is lent in
+    record {
+      made = made;
+      answers = told;
+      lists = f ∙ ap (λ (a : Answer). replies.lent (replyTo a) (forceBytes a) bytes) told;
+      taken = λ k q p e. picks-taken m x order groups count c state sums r is lent e rest long (h .leaves);
+    }
+
+-- the sums that are lent on: all that were loaded, or none
+module _ (b : Bool) (size : ℕ) {kept : ℕ} (e : kept ≡ cond b size 0) (array : List ℤ) where
+  pub kept-few : size ≤ length array → kept ≤ length array
+  kept-few l = go b e
+    where
+      go : (t : Bool) → kept ≡ cond t size 0 → kept ≤ length array
+      go true f = omega arith
+      go false f = omega arith
+
+  pub kept-is : {list : List ℤ} → take size array ≡ list → take kept array ≡ cond b list []
+  kept-is {list} l = go b e
+    where
+      go : (t : Bool) → kept ≡ cond t size 0 → take kept array ≡ cond t list []
+      go true f = rw f l
+      go false f = rw f
+
+-- ---- what is stored
+
+-- the reply of picks that one ended
+pub ended : (k q p : ℕ) → q ≢ 0 → replyTo (picked k q p) ≡ replies.refused q p
+unfolding replyTo
+ended k zero p h = absurd (h refl)
+ended k (suc q) p h = refl
+
+-- other answers leave both lists
+pub picks-kept : (r : Response) → OneOf (1 ∷ 2 ∷ 3 ∷ []) (tagOf the-type r) → (zs : List ℤ) (new old : List ℕ) → old ≡ leftBy (asAnswer r zs) new old
+unfolding leftBy
+picks-kept (Picked k q p) h zs new old = absurd (⊎-elim (λ e. omega arith) (⊎-elim (λ e. omega arith) (λ e. omega arith)) h)
+picks-kept (Ready b k) h zs new old = refl
+picks-kept Forces h zs new old = refl
+picks-kept (Refused q p) h zs new old = refl
+
+-- sums for which there is room
+pub sums-stored : (zs : List ℤ) (bytes : List ℕ) {new : List ℕ} → length zs ≤ length bytes / 8 → new ≡ stored (signedBytes 8 (take (length bytes / 8) zs)) bytes → new ≡ stored (signedBytes 8 zs) bytes
+sums-stored zs bytes l e = e ∙ rw (take-all (length bytes / 8) zs l)
+
+module _ {n : ℕ} {a : Answer} {s : State} {state sums old : List ℕ} {answer : Response} {after : code.State} {new : List ℤ} {left : List ℕ} (h : Ran n a s state sums old answer after new left) where
+  picked-is : (k q p : ℕ) → answer ≡ Picked k q p → Taken n s p state sums after new
+  picked-is k q p e = h .taken k q p (sym (h .answers) ∙ ap (λ (r : Response). asAnswer r (h .made)) e)
+
+  -- what is asked before
+  pub ran-low : LowPlace answer
+  ran-low k q p e = picked-is k q p e .low
+
+  pub ran-fits : PicksFit n answer new state sums
+  ran-fits k q p e = let t = picked-is k q p e in (t .whole, t .inside, t .room)
+
+  -- what any call returns
+  pub ran-word : {w : ℕ} → ((zs : List ℤ) → w ≡ word (replyTo (asAnswer answer zs))) → w ≡ word (replyTo a)
+  ran-word f = f (h .made) ∙ ap (λ (b : Answer). word (replyTo b)) (h .answers)
+
+  -- whatever stands for forces that picks do not have
+  left-is : (zs : List ℤ) (f : State → List ℕ) (bytes : List ℕ) → leftBy (asAnswer answer zs) (f (stateOf after (take n new))) bytes ≡ leftBy a (f s) bytes
+  unfolding leftBy
+  left-is zs f bytes = go answer refl ∙ ap (λ (b : Answer). leftBy b (f s) bytes) (h .answers)
+    where
+      go : (r : Response) → answer ≡ r → leftBy (asAnswer r zs) (f (stateOf after (take n new))) bytes ≡ leftBy (asAnswer r (h .made)) (f s) bytes
+      go (Picked k q p) e = ap (λ (u : State). stored (f u) bytes) (picked-is k q p e .left)
+      go (Ready b k) e = refl
+      go Forces e = refl
+      go (Refused q p) e = refl
+
+  -- a call of picks
+  pub picks-answered : {w : ℕ} → ((zs : List ℤ) → w ≡ word (replyTo (asAnswer answer zs))) → (zs : List ℤ) {newState newSums : List ℕ}
+      → newState ≡ leftBy (asAnswer answer zs) (bytesIn (stateOf after (take n new))) state → newSums ≡ leftBy (asAnswer answer zs) (signedBytes 8 (take n new)) sums
+      → PicksAnswered a s state sums w newState newSums
+  picks-answered f zs g i = record { returns = ran-word f; state-left = g ∙ left-is zs bytesIn state; sums-left = i ∙ left-is zs (λ (u : State). signedBytes 8 (u .sums)) sums }

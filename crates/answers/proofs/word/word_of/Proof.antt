@@ -1,0 +1,30 @@
+-- `word_of` meets its contract, case by case.
+use borrow.Author.Needs.{needs}
+use Rattle.lent.specs.Word.{word}
+use Rattle.answers.specs.Runs.{replyTo}
+use Rattle.answers.proofs.word.word_of.Statement.{statement}
+use Rattle.answers.proofs.word.word_of.Tie as tie
+
+word-of-end-requires : tie.Need-word-of-end-requires
+word-of-end-requires c κs = c .before .before .before .pre _ _ _ (c .before .answer .given .1)
+
+returns : tie.Need-returns
+returns c forces = rw (c .before .before .answer .given .1) (c .word-of-end .ensures)
+
+returns-2 : tie.Need-returns-2
+unfolding word replyTo
+returns-2 c forces = rw (c .before .answer2 .given .1)
+
+returns-3 : tie.Need-returns-3
+unfolding word replyTo
+returns-3 c forces = rw (c .enum-told .given .1)
+
+returns-4 : tie.Need-returns-4
+unfolding replyTo
+returns-4 c forces = rw (c .before .before .answer3 .given .1) (c .word-of .ensures)
+
+pub word-of-spec : {M : Type 1} → statement M
+word-of-spec =
+    tie.close
+    (tie.spec (search needs) word-of-end-requires (search needs) (search needs) (search needs) (search needs)
+    (search needs) (search needs) (search needs) (search needs) returns returns-2 returns-3 returns-4)

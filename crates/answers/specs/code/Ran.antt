@@ -1,0 +1,50 @@
+-- A call on a run in bytes before its answer is stored, and what the code needs to store it.
+use mathlib.Core.Path.{_≡_}
+use mathlib.Core.List.{List}
+use Prim.Native.Nat.{ℕ, _/_, _^_, _≤_, _<_}
+use lib.IntN.{ℤ}
+use lib.ListN.{length, take, drop}
+use Rattle.base.specs.Replies.{lent}
+use Rattle.run.specs.State.{State}
+use Rattle.run.specs.Answers.{Answer, picked}
+use Rattle.machine.specs.Record.{stateOf}
+use Rattle.machine.specs.declared.state.State as code
+use Rattle.calls.specs.Performed.{asAnswer}
+use Rattle.calls.specs.declared.Response.{Response}
+use Rattle.calls.specs.declared.Response.the-variants.{Picked, Forces}
+use Rattle.words.specs.LittleEndian.{unsigned, signed}
+use Rattle.answers.specs.Runs.{stateBytes, countBytes, replyTo, forceBytes}
+
+-- the record that 192 bytes stand for
+pub record StateIs (r : code.State) (bytes : List ℕ) : Type 0 where
+  pub made : r .made ≡ unsigned 4 (take countBytes bytes)
+  pub held : r .held ≡ signed 8 (drop countBytes bytes)
+
+-- picks that were taken leave state s: it is in the record and the first n numbers of
+-- `new`, there is room for it, and a place fits a word's low half
+pub record Taken (n : ℕ) (s : State) (place : ℕ) (state sums : List ℕ) (after : code.State) (new : List ℤ) : Type 0 where
+  pub left : stateOf after (take n new) ≡ s
+  pub whole : length state ≡ stateBytes
+  pub inside : n ≤ length new
+  pub room : n ≤ length sums / 8
+  pub low : place < 2 ^ 32
+
+-- a call with the answer a, that leaves state s if that is of picks: the code's answer,
+-- with the forces that it may have, and what stands in the lists
+pub record Ran (n : ℕ) (a : Answer) (s : State) (state sums old : List ℕ) (answer : Response) (after : code.State) (new : List ℤ) (left : List ℕ) : Type 0 where
+  pub made : List ℤ
+  pub answers : asAnswer answer made ≡ a
+  pub lists : left ≡ lent (replyTo a) (forceBytes a) old
+  pub taken : (k q p : ℕ) → a ≡ picked k q p → Taken n s p state sums after new
+
+-- the place of picks' ending fits a word's low half
+abbrev pub LowPlace : Response → Type 0
+LowPlace answer = (k q p : ℕ) → answer ≡ Picked k q p → p < 2 ^ 32
+
+-- picks have a whole state and n sums to be stored over
+abbrev pub PicksFit : (n : ℕ) → Response → (new : List ℤ) (state sums : List ℕ) → Type 0
+PicksFit n answer new state sums = (k q p : ℕ) → answer ≡ Picked k q p → (length state ≡ stateBytes) × (n ≤ length new) × (n ≤ length sums / 8)
+
+-- forces have n places
+abbrev pub ForcesFit : (n : ℕ) → Response → (made : List ℤ) (forces : List ℕ) → Type 0
+ForcesFit n answer made forces = answer ≡ Forces → (n ≤ length made) × (n ≤ length forces / 8)

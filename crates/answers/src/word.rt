@@ -1,0 +1,36 @@
+// The word of an answer to a call on a run.
+use base::Verdict;
+use calls::Response;
+ghost use mathlib.Core.Path.{_≡_};
+ghost use mathlib.Core.List.{List};
+ghost use Prim.Native.Nat.{_^_, _<_};
+ghost use lib.IntN.{ℤ};
+ghost use Rattle.run.specs.Answers.{picked};
+ghost use Rattle.calls.specs.Performed.{asAnswer};
+ghost use Rattle.answers.specs.Runs.{replyTo};
+ghost use Rattle.answers.specs.code.Ran.{LowPlace};
+ghost use Rattle.lent.specs.Word.{word};
+
+// The picks taken, or the number and place of the one that ended them.
+fn word_of_end(taken: usize, number: u32, place: usize) -> u64
+    requires { ⌜ place < 2 ^ 32 ⌝ }
+    ensures { λ r. ⌜ r ≡ word (replyTo (picked taken number place)) ⌝ }
+{
+    if number == 0 {
+        return taken as u64;
+    }
+    lent::word::word_of(Verdict::Refused(number, place as u32))
+}
+
+// .. or the bits in the low sixteen, and above them the count of those set; 0 for forces; a refusal's number and place.
+pub fn word_of(answer: Response) -> u64
+    requires { ⌜ LowPlace answer ⌝ }
+    ensures { λ r. ⌜ ((forces : List ℤ) → r ≡ word (replyTo (asAnswer answer forces))) ⌝ }
+{
+    match answer {
+        Response::Picked(taken, number, place) => word_of_end(taken, number, place),
+        Response::Ready(bits, count) => bits as u64 + count as u64 * 65536,
+        Response::Forces => 0,
+        Response::Refused(number, place) => lent::word::word_of(Verdict::Refused(number, place)),
+    }
+}
