@@ -32,7 +32,7 @@ static void print_plan(void)
     printf("order");
     for (uint32_t place = 0; place < plan.n; place++)
         printf(" %u", (uint32_t)number_in(plan.order + 4 * place, 4));
-    printf("\ngroup start length first workers colour parent\n");
+    printf("\ngroup start length first workers colour parent depth\n");
     for (uint32_t group = 0; group < plan.count; group++) {
         printf("%u", group);
         for (uint32_t field = 0; field < MZK_GROUP_FIELDS; field++)

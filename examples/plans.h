@@ -33,7 +33,7 @@ static inline void read_plan(struct plan *plan, const char *path)
     plan->count = MZK_PLAN_GROUPS(word);
 }
 
-/* A field of a group's record: 0 start, 1 length, 2 first worker, 3 workers, 4 colour, 5 parent. */
+/* A field of a group's record: 0 start, 1 length, 2 first worker, 3 workers, 4 colour, 5 parent, 6 depth. */
 static inline uint32_t group_field(const struct plan *plan, uint32_t group, uint32_t field)
 {
     return number_in(plan->groups + 4 * (MZK_GROUP_FIELDS * (size_t)group + field), 4);

@@ -37,7 +37,7 @@ static const struct refusal {
     [MZK_WAITS] = { INDEX, "the worker waits for others" },
     [MZK_OVERFLOW] = { INDEX, "the sum to store passes 64 bits" },
     [MZK_UNFINISHED] = { NOWHERE, "a worker has moves left" },
-    [MZK_NO_FILE] = { NOWHERE, "no plan file, or a damaged one" },
+    [MZK_NO_FILE] = { NOWHERE, "no plan file, or a damaged or an older one" },
 };
 
 /* Prints the refusal in a word, of a file or of a call: `FILE:LINE: SENTENCE (refusal NUMBER)`. */

@@ -37,7 +37,7 @@ enum {
     MZK_WORKERS = 16,            /* workers, at most */
     MZK_GROUPS = 481,            /* records of a sound plan, at most: the room that mzk_plan needs */
     MZK_GROUPS_LIMIT = 512,      /* records that may be lent: a higher group_count is refused */
-    MZK_GROUP_FIELDS = 6,        /* numbers of a record */
+    MZK_GROUP_FIELDS = 7,        /* numbers of a record */
     MZK_STATE_BYTES = 192,       /* the state of a run, always */
     MZK_TEXT_BYTES = 1048576,    /* a text that is read, at most */
     MZK_WRITTEN_BYTES = 720963,  /* a text that is written, at most: 51 + 16 + 32,768 x 22 */
@@ -105,8 +105,9 @@ uint64_t mzk_product(uint32_t n,
                      uint8_t *forces, size_t forces_bytes);
 
 /* The plan of a matrix: its n rows into order, and for each group a record into groups (start, length, first worker,
- * workers, colour, parent); returns the number of groups. Start and length are positions in the order, the colour is 0
- * for the whole, 1 for red and 2 for blue, the parent is the number of its record, and the whole's is 0.
+ * workers, colour, parent, depth); returns the number of groups. Start and length are positions in the order, the
+ * colour is 0 for the whole, 1 for red and 2 for blue, the parent is the number of its record, and the depth is the
+ * parent's plus 1; the whole's parent and depth are 0.
  * p, 50 to 99, is how near, in per cent, the load of a red and a blue group must come to a whole number of workers.
  * Take 60 first: on the matrices of data/ 50 to 70 keep about as many workers moving, and 99 less than half as many.
  * Refused: 5; 7; 9 (order, groups). */
@@ -120,8 +121,8 @@ uint64_t mzk_plan(uint32_t n,
                   uint8_t *groups, size_t groups_bytes);
 
 /* Whether a plan of group_count records is sound for a matrix: it has each row once, its groups are a tree as mzk_plan
- * makes them, and no row of a group is joined to, or joined to a row that is joined to, a row of a sibling of the same
- * colour. Plans of mzk_plan are.
+ * makes them, with their depths, and no row of a group is joined to, or joined to a row that is joined to, a row of a
+ * sibling of the same colour. Plans of mzk_plan are.
  * Refused: 5; 8. */
 uint64_t mzk_check(uint32_t n,
                    const uint8_t *row_starts, size_t row_starts_bytes,
@@ -132,10 +133,10 @@ uint64_t mzk_check(uint32_t n,
                    uint32_t group_count);
 
 /* A plan file carries a plan from where it is made to where it runs. It starts with seven numbers of 32 bits without
- * sign, low byte first: 2 (bodies); then 1 (order), 28 and the bytes of the order, 4 a row; then 2 (groups), where the
- * order ends, and the bytes of the groups, 24 a group. The order follows, then the groups, and nothing else: each plan
- * has one file, and each file is of one plan. No matrix is asked for, and soundness is not judged: mzk_check and the
- * calls on a run do so. */
+ * sign, low byte first: 2 (bodies); then 1 (order), 28 and the bytes of the order, 4 a row; then 3 (groups), where the
+ * order ends, and the bytes of the groups, 28 a group. The order follows, then the groups, and nothing else: each plan
+ * has one file, and each file is of one plan. A file with 2 in place of the 3, as it was when records had no depth, is
+ * refused. No matrix is asked for, and soundness is not judged: mzk_check and the calls on a run do so. */
 
 /* The file of a plan of n rows and group_count records, 1 to 512; returns its bytes.
  * Refused: 16; 8 (order or groups fall short of the counts); 9 (file). */

@@ -42,15 +42,15 @@ fn plan(matrix: &Matrix, workers: u32, p: u32) -> Plan {
         order: (0..matrix.n).collect(),
         groups: Vec::new(),
     };
-    plan_group(matrix, p, &mut plan, [0, matrix.n, 0, workers, 0, 0], 0);
+    plan_group(matrix, p, &mut plan, [0, matrix.n, 0, workers, 0, 0, 0]);
     plan
 }
 
 /// Plans one group.
-fn plan_group(matrix: &Matrix, p: u32, plan: &mut Plan, record: Fields, depth: u32) {
+fn plan_group(matrix: &Matrix, p: u32, plan: &mut Plan, record: Fields) {
     let index = plan.groups.len() as u32;
     plan.groups.push(record);
-    let [start, length, _, workers, ..] = record;
+    let [start, length, _, workers, _, _, depth] = record;
     let stretch = start as usize..(start + length) as usize;
     let own: BTreeSet<u32> = plan.order[stretch.clone()].iter().copied().collect();
     let levels = levels(matrix, &own);
@@ -68,7 +68,7 @@ fn plan_group(matrix: &Matrix, p: u32, plan: &mut Plan, record: Fields, depth: u
             rows.map(|&row| weight(matrix, row)).sum()
         };
         for child in pairs(&count, &load, m, record, index, p) {
-            plan_group(matrix, p, plan, child, depth + 1);
+            plan_group(matrix, p, plan, child);
         }
     }
 }
@@ -89,7 +89,7 @@ fn pairs(
     index: u32,
     p: u32,
 ) -> Vec<Fields> {
-    let [start, _, first, workers, ..] = record;
+    let [start, _, first, workers, _, _, depth] = record;
     let mut children = Vec::new();
     let (mut level, mut worker, mut place) = (0, first, start);
     while level < m {
@@ -98,8 +98,9 @@ fn pairs(
         let differ = |&cut: &u32| (load(level, cut).abs_diff(load(cut, end)), cut);
         let cut = (level + 2..=end - 2).min_by_key(differ).expect("a cut");
         for (colour, from, end) in [(1, level, cut), (2, cut, end)] {
-            children.push([place, count(from, end), worker, crew, colour, index]);
-            place += count(from, end);
+            let (size, down) = (count(from, end), depth + 1);
+            children.push([place, size, worker, crew, colour, index, down]);
+            place += size;
         }
         level = end;
         worker += crew;
@@ -178,8 +179,8 @@ fn is_sound(matrix: &Matrix, order: &[u32], groups: &[u32], count: u32) -> bool 
     let order = &order[..n];
     let names: BTreeSet<u32> = order.iter().copied().collect();
     let records: Vec<[u64; FIELDS]> = groups.chunks(FIELDS).take(count).map(wide).collect();
-    let [start, length, first, workers, colour, parent] = records[0];
-    let whole = (start, length, first, colour, parent) == (0, n as u64, 0, 0, 0);
+    let [start, length, first, workers, colour, parent, depth] = records[0];
+    let whole = (start, length, first, colour, parent, depth) == (0, n as u64, 0, 0, 0, 0);
     names.len() == n
         && names.iter().all(|&freedom| (freedom as usize) < n)
         && whole
@@ -189,6 +190,7 @@ fn is_sound(matrix: &Matrix, order: &[u32], groups: &[u32], count: u32) -> bool 
             .skip(1)
             .all(|record| record[5] < count as u64)
         && reads_in(&records, 0, 0, &mut 0)
+        && (1..count).all(|group| is_one_deeper(&records, group))
         && (0..count).all(|parent| children_fit(&records, parent))
         && (0..count).all(|parent| children_apart(matrix, order, &records, parent))
 }
@@ -213,6 +215,11 @@ fn reads_in(records: &[[u64; FIELDS]], group: usize, depth: u32, next: &mut usiz
     let mut below = children(records, group).into_iter();
     let fits = below.all(|child| reads_in(records, child, depth + 1, next));
     fits && (group > 0 || *next == records.len())
+}
+
+/// Whether a record's depth is "its parent's plus 1".
+fn is_one_deeper(records: &[[u64; FIELDS]], group: usize) -> bool {
+    records[group][6] == records[records[group][5] as usize][6] + 1
 }
 
 /// Whether children tile, alternate, pair and share workers as they must.

@@ -1,7 +1,8 @@
 //! `mzk_write_plan` and `mzk_read_plan` beside the other implementation.
 
+use mazhoketh_tests::both::PlanTwins;
 use mazhoketh_tests::guarded::Twin;
-use mazhoketh_tests::oracle::{plan_file, planner, FIELDS};
+use mazhoketh_tests::oracle::{nets, plan_file, planner, FIELDS};
 use mazhoketh_tests::{both, cases};
 
 #[test]
@@ -31,6 +32,49 @@ fn every_byte() {
             let whole = at >= 28 || value == file[at];
             assert_eq!(word, if whole { accepted } else { 16 << 32 });
         }
+    }
+}
+
+/// The numbers of a file in bytes.
+fn bytes_of(numbers: &[u32]) -> Vec<u8> {
+    let bytes = numbers.iter().map(|number| number.to_le_bytes());
+    bytes.flatten().collect()
+}
+
+/// The file of the chain's plan, number by number.
+#[test]
+fn chain_of_eight() {
+    let numbers = [
+        &[2, 1, 28, 32, 3, 60, 140][..],
+        &[0, 1, 2, 3, 4, 5, 6, 7],
+        &[0, 8, 0, 2, 0, 0, 0],
+        &[0, 2, 0, 1, 1, 0, 1],
+        &[2, 2, 0, 1, 2, 0, 1],
+        &[4, 2, 1, 1, 1, 0, 1],
+        &[6, 2, 1, 1, 2, 0, 1],
+    ];
+    let expected = bytes_of(&numbers.concat());
+    let plan = PlanTwins {
+        order: Twin::new(expected[28..60].to_vec()),
+        groups: Twin::new(expected[60..].to_vec()),
+        group_count: 5,
+    };
+    let mut file = Twin::blank(200);
+    assert_eq!(both::write_plan(8, &plan, &mut file), 200);
+    assert_eq!(file.theirs, expected);
+    let made = planner::plan(nets::chain(8).rows(), 2, 60);
+    assert_eq!(plan_file::write(&made.order, &made.flat()), expected);
+}
+
+/// "kind 2 now breaks the layout": of groups without depths, as files were, and of groups with them.
+#[test]
+fn groups_of_kind_2() {
+    for width in [6, 7] {
+        let table = [2, 1, 28, 4, 2, 32, 4 * width];
+        let bodies = vec![0; 1 + width as usize];
+        let file = bytes_of(&[&table[..], &bodies].concat());
+        let mut lists = [Twin::blank(4), Twin::blank(4 * FIELDS)];
+        assert_eq!(both::read_plan(&Twin::new(file), &mut lists), 16 << 32);
     }
 }
 

@@ -54,8 +54,8 @@ fn chain_of_length(length: usize) -> Vec<u8> {
 
 #[test]
 fn plans_the_chain() {
-    let expected = "order 0 1 2 3 4 5 6 7\ngroup start length first workers colour parent\n\
-        0 0 8 0 2 0 0\n1 0 2 0 1 1 0\n2 2 2 0 1 2 0\n3 4 2 1 1 1 0\n4 6 2 1 1 2 0\n";
+    let expected = "order 0 1 2 3 4 5 6 7\ngroup start length first workers colour parent depth\n\
+        0 0 8 0 2 0 0 0\n1 0 2 0 1 1 0 1\n2 2 2 0 1 2 0 1\n3 4 2 1 1 1 0 1\n4 6 2 1 1 2 0 1\n";
     assert_eq!(run(&chain("2 60")), expected);
     assert_eq!(run(&chain_of_length(LONGEST)), expected);
     assert_eq!(run(&chain_of_length(LONGEST + 1)), "refused 2 0\n");

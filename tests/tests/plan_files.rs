@@ -20,7 +20,7 @@ const NETPLAN: &str = concat!(env!("CARGO_MANIFEST_DIR"), "/../target/bin/netpla
 const LONGEST: usize = 24_576;
 
 /// What is said of a file that is none.
-const DAMAGED: &str = "no plan file, or a damaged one (refusal 16)";
+const DAMAGED: &str = "no plan file, or a damaged or an older one (refusal 16)";
 
 /// What a program prints that ends well.
 fn printed(program: &Path, arguments: &[&str]) -> String {
@@ -100,7 +100,7 @@ fn run_from_a_file() {
     check_refused(&stage, &of_another, 2, &unsound);
 }
 
-/// Files that are cut, longer, empty, no plan files at all, missing, or folders.
+/// Files that are cut, longer, of groups without depths, empty, no plan files at all, missing, or folders.
 #[test]
 fn damaged_files() {
     let (plan, stage) = (
@@ -111,15 +111,15 @@ fn damaged_files() {
     printed(&plan, &[SMALL, "5", "60", &carried]);
     let file = fs::read(&carried).expect("the plan file can be read");
     let longer = [&file[..], b"\n"].concat();
-    let mut kind_3 = file.clone();
-    kind_3[16] = 3;
+    let mut kind_2 = file.clone();
+    kind_2[16] = 2;
     let matrix = fs::read(SMALL).expect("the matrix can be read");
     let zeros = vec![0; 1 << 20];
     for content in [
         &file[1..],
         &file[..file.len() - 4],
         &longer,
-        &kind_3,
+        &kind_2,
         &matrix,
         &zeros,
         b"",

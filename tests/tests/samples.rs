@@ -27,11 +27,11 @@ fn refusal_after_line_1(more: &str) -> (u32, u32) {
 
 /// The plan's records for eight freedoms at `2 60`.
 const CHAIN_GROUPS: [Fields; 5] = [
-    [0, 8, 0, 2, 0, 0],
-    [0, 2, 0, 1, 1, 0],
-    [2, 2, 0, 1, 2, 0],
-    [4, 2, 1, 1, 1, 0],
-    [6, 2, 1, 1, 2, 0],
+    [0, 8, 0, 2, 0, 0, 0],
+    [0, 2, 0, 1, 1, 0, 1],
+    [2, 2, 0, 1, 2, 0, 1],
+    [4, 2, 1, 1, 1, 0, 1],
+    [6, 2, 1, 1, 2, 0, 1],
 ];
 
 /// A run's lists beside state and sums.
@@ -121,7 +121,7 @@ fn chain_forces() {
 fn one_freedom() {
     let matrix = nets::of_triples(1, [(0, 0, 5)].into_iter());
     let lists = Lists::new(matrix, -3, 16, 50);
-    assert_eq!(lists.plan.groups, [[0, 1, 0, 16, 0, 0]]);
+    assert_eq!(lists.plan.groups, [[0, 1, 0, 16, 0, 0, 0]]);
     assert_eq!(lists.run(), (vec![-15], 2));
 }
 
@@ -137,7 +137,7 @@ fn eight_unjoined() {
 #[test]
 fn two_joined() {
     let plan = planner::plan(nets::chain(2).rows(), 16, 60);
-    assert_eq!(plan.groups, [[0, 2, 0, 16, 0, 0]]);
+    assert_eq!(plan.groups, [[0, 2, 0, 16, 0, 0, 0]]);
 }
 
 #[test]
@@ -312,7 +312,7 @@ fn six_freedoms_one_pair() {
     let plan = planner::plan(matrix.rows(), 2, 50);
     let pair = plan.groups.iter().skip(1).filter(|group| group[5] == 0);
     let pair: Vec<_> = pair.copied().collect();
-    assert_eq!(pair, [[0, 3, 0, 2, 1, 0], [3, 3, 0, 2, 2, 0]]);
+    assert_eq!(pair, [[0, 3, 0, 2, 1, 0, 1], [3, 3, 0, 2, 2, 0, 1]]);
 }
 
 /// The refusal of lent rows.
@@ -389,14 +389,14 @@ fn sound_and_not() {
     assert!(!is_sound(&chain, &records[..0]));
     assert!(!is_sound(&chain, &records[..3]));
     records[2][1] = 0;
-    records[3] = [2, 4, 1, 1, 1, 0];
+    records[3] = [2, 4, 1, 1, 1, 0, 1];
     assert!(
         !is_sound(&chain, &records),
         "freedoms 1 and 2 of two reds are joined"
     );
     assert!(is_sound(&nets::unjoined(8), &records));
-    records[2] = [2, 1, 0, 1, 2, 0];
-    records[3] = [3, 3, 1, 1, 1, 0];
+    records[2] = [2, 1, 0, 1, 2, 0, 1];
+    records[3] = [3, 3, 1, 1, 1, 0, 1];
     assert!(
         !is_sound(&chain, &records),
         "freedom 2 is joined to two reds"
@@ -407,41 +407,49 @@ fn sound_and_not() {
 fn sound_shapes() {
     let chain = nets::chain(4);
     let nested = [
-        [0, 4, 0, 1, 0, 0],
-        [0, 0, 0, 1, 1, 0],
-        [0, 4, 0, 1, 2, 0],
-        [0, 3, 0, 1, 1, 2],
-        [3, 1, 0, 1, 2, 2],
+        [0, 4, 0, 1, 0, 0, 0],
+        [0, 0, 0, 1, 1, 0, 1],
+        [0, 4, 0, 1, 2, 0, 1],
+        [0, 3, 0, 1, 1, 2, 2],
+        [3, 1, 0, 1, 2, 2, 2],
     ];
     assert!(is_sound(&chain, &nested), "one worker and an empty child");
     let mut late = nested;
     late[3][5] = 1;
     assert!(!is_sound(&chain, &late));
+    for (index, wrong) in [(0, 1), (1, 0), (2, 2), (3, 1), (4, 3)] {
+        let mut records = nested;
+        records[index][6] = wrong;
+        assert!(
+            !is_sound(&chain, &records),
+            "record {index} at depth {wrong}"
+        );
+    }
     let wrapped = [
-        [0, 4, 0, 1, 0, 0],
-        [0, u32::MAX, 0, 1, 1, 0],
-        [u32::MAX, 5, 0, 1, 2, 0],
+        [0, 4, 0, 1, 0, 0, 0],
+        [0, u32::MAX, 0, 1, 1, 0, 1],
+        [u32::MAX, 5, 0, 1, 2, 0, 1],
     ];
     assert!(!is_sound(&chain, &wrapped));
-    let crowd = [[0, 4, 0, 17, 0, 0]];
+    let crowd = [[0, 4, 0, 17, 0, 0, 0]];
     assert!(!is_sound(&chain, &crowd));
 }
 
 #[test]
 fn depths_and_empty_crews() {
     let chain = nets::chain(4);
-    let mut records = vec![[0, 4, 0, 2, 0, 0]];
+    let mut records = vec![[0, 4, 0, 2, 0, 0, 0]];
     for parent in [0, 1, 2, 3, 4] {
         assert!(is_sound(&chain, &nest(&records)));
-        records.push([0, 4, 0, 2, 1, parent]);
+        records.push([0, 4, 0, 2, 1, parent, parent + 1]);
     }
     assert!(!is_sound(&chain, &nest(&records)), "depth 5");
     let idle = [
-        [0, 4, 0, 2, 0, 0],
-        [0, 0, 0, 0, 1, 0],
-        [0, 0, 0, 0, 2, 0],
-        [0, 0, 0, 2, 1, 0],
-        [0, 4, 0, 2, 2, 0],
+        [0, 4, 0, 2, 0, 0, 0],
+        [0, 0, 0, 0, 1, 0, 1],
+        [0, 0, 0, 0, 2, 0, 1],
+        [0, 0, 0, 2, 1, 0, 1],
+        [0, 4, 0, 2, 2, 0, 1],
     ];
     assert!(!is_sound(&chain, &idle), "a pair without workers");
 }
@@ -449,7 +457,7 @@ fn depths_and_empty_crews() {
 /// Reds each in the one before, and after them their empty blues, the deepest first.
 fn nest(reds: &[Fields]) -> Vec<Fields> {
     let blues = reds.iter().skip(1).rev();
-    let blues = blues.map(|red| [4, 0, red[2], red[3], 2, red[5]]);
+    let blues = blues.map(|red| [4, 0, red[2], red[3], 2, red[5], red[6]]);
     reds.iter().copied().chain(blues).collect()
 }
 
@@ -459,12 +467,12 @@ fn sound_lists() {
     let check = |order: &[u32], groups: &[u32], count| {
         soundness::check(matrix.rows(), order, groups, count).is_ok()
     };
-    let whole = [0, 3, 0, 1, 0, 0];
+    let whole = [0, 3, 0, 1, 0, 0, 0];
     assert!(check(&[2, 0, 1, 9], &[whole, [7; FIELDS]].concat(), 1));
     assert!(!check(&[2, 0], &whole, 1));
     assert!(!check(&[2, 0, 2], &whole, 1));
     assert!(!check(&[2, 0, 3], &whole, 1));
-    assert!(!check(&[2, 0, 1], &whole[..5], 1));
+    assert!(!check(&[2, 0, 1], &whole[..6], 1));
     assert!(!check(&[2, 0, 1], &whole, 2));
     assert!(!check(&[2, 0, 1], &vec![0; FIELDS * 600], 513));
 }
@@ -545,8 +553,8 @@ fn chain_input(line: &str) -> Vec<u8> {
 #[test]
 fn netplan_prints() {
     let expected = "order 0 1 2 3 4 5 6 7\n\
-        group start length first workers colour parent\n\
-        0 0 8 0 2 0 0\n1 0 2 0 1 1 0\n2 2 2 0 1 2 0\n3 4 2 1 1 1 0\n4 6 2 1 1 2 0\n";
+        group start length first workers colour parent depth\n\
+        0 0 8 0 2 0 0 0\n1 0 2 0 1 1 0 1\n2 2 2 0 1 2 0 1\n3 4 2 1 1 1 0 1\n4 6 2 1 1 2 0 1\n";
     assert_eq!(netplan(&chain_input("2 60\n")), expected);
 }
 

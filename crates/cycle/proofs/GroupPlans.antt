@@ -95,7 +95,7 @@ module _ (adj : ℕ → List ℕ) (n : ℕ) (policy : Policy) where
   -- its record, then its pairs
   abbrev pub pairsBelow : (stages index : ℕ) (g : Group) → List (List ℕ) → Plan
   pairsBelow stages index g ls =
-      planPairs (planGroup adj n policy stages) index (g .start) (g .first) (index + 1) (pairs adj (length ls) (g .workers) (loadOf adj (concat ls)) policy (g .workers) ls)
+      planPairs (planGroup adj n policy stages) index (g .depth + 1) (g .start) (g .first) (index + 1) (pairs adj (length ls) (g .workers) (loadOf adj (concat ls)) policy (g .workers) ls)
 
   pub group-split : (stages index : ℕ) (g : Group) (T : List ℕ) → (stages ≡ 0 → ⊥) → 2 ≤ g .workers → 2 * reach ≤ length (ownLevels adj n T)
       → planGroup adj n policy stages index g T ≡ (leaf g [] then pairsBelow (stages - 1) index g (ownLevels adj n T))
@@ -139,10 +139,10 @@ module _ (adj : ℕ → List ℕ) (n : ℕ) (policy : Policy) where
   unfolding _then_
   then-some a b h = omega (arith, length-append (a .groups) (b .groups))
 
-  pairs-some : (stages up start first index : ℕ) (cs : List Pair) → 1 ≤ length cs → 1 ≤ length (planPairs (planGroup adj n policy stages) up start first index cs .groups)
+  pairs-some : (stages up depth start first index : ℕ) (cs : List Pair) → 1 ≤ length cs → 1 ≤ length (planPairs (planGroup adj n policy stages) up depth start first index cs .groups)
   unfolding planPairs
-  pairs-some stages up start first index [] l = absurd (omega arith)
-  pairs-some stages up start first index (c ∷ cs) l = then-some _ _ (groups-some stages index _ (c .reds))
+  pairs-some stages up depth start first index [] l = absurd (omega arith)
+  pairs-some stages up depth start first index (c ∷ cs) l = then-some _ _ (groups-some stages index _ (c .reds))
 
   -- a group that is split has more than its own record
   split-more : (stages index : ℕ) (g : Group) (ls : List (List ℕ)) → splits g ls ≡ true → 2 ≤ length (split adj (planGroup adj n policy stages) policy index g ls .groups)
@@ -151,7 +151,7 @@ module _ (adj : ℕ → List ℕ) (n : ℕ) (policy : Policy) where
       let long : 2 * reach ≤ length ls = leb-true (2 * reach) (length ls) (and-right (leb 2 (g .workers)) (leb (2 * reach) (length ls)) e) in
       let R = loadOf adj (concat ls) in
       let cs = pairs adj (length ls) (g .workers) R policy (g .workers) ls in
-      omega (arith, pairs-some stages index (g .start) (g .first) (index + 1) cs (pairs-first (g .workers) R (g .workers) ls (omega arith)))
+      omega (arith, pairs-some stages index (g .depth + 1) (g .start) (g .first) (index + 1) cs (pairs-first (g .workers) R (g .workers) ls (omega arith)))
 
   -- rows with the same levels: a leaf in both orders, or the same plan, of several groups
   pub two-orders : (stages index : ℕ) (g : Group) (S T : List ℕ) → ownLevels adj n S ≡ ownLevels adj n T

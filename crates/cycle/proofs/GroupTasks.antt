@@ -86,7 +86,7 @@ module _ {n : ℕ} {policy : Policy} {stages index : ℕ} {starts columns T reco
       module _ {all : ℕ} {loads : List ℕ} (loaded : Loaded adj stretch (levelsIn 0 (take m ends) stretch) all loads) where
         -- the group that is split, and what is left of it: all
         abbrev pub parentOf : Parent
-        parentOf = record { index = index; start = g .start; workers = g .workers; load = all }
+        parentOf = record { index = index; depth = g .depth; start = g .start; workers = g .workers; load = all }
 
         abbrev pub wholeLeft : Left
         wholeLeft = record { done = 0; first = g .first; free = g .workers; index = index + 1 }
@@ -121,6 +121,7 @@ module _ {n : ℕ} {policy : Policy} {stages index : ℕ} {starts columns T reco
             free = omega arith;
             inside = omega (arith, task .inside, ap length stretch-is, same-length (concat ls) T (own-same adj n T (task .proper)));
             workers = task .workers;
+            shallow = omega (arith, task .shallow, stages-left);
             few = omega (arith, task .few);
             room = rw (pairs-are (stages - 1)) (omega (arith, task .room, count-split adj n policy stages index (groupOf g) T stages-left workers (omega (arith, s .levels-are))));
           }

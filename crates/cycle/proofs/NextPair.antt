@@ -31,14 +31,14 @@ Found policy up left ends loads pair =
     × (pair .rows ≡ getD ends (pair .levels - 1) 0 - left .done)
 
 -- the plan of a pair and those after it, its sizes known
-pairs-cons : (child : Planner) (up start first index : ℕ) (rs bs : List ℕ) (v : ℕ) (cs : List planner.Pair) (a b : ℕ) → length rs ≡ a → length bs ≡ b
-    → let r = child index (childOf up start a first v red) rs in
+pairs-cons : (child : Planner) (up depth start first index : ℕ) (rs bs : List ℕ) (v : ℕ) (cs : List planner.Pair) (a b : ℕ) → length rs ≡ a → length bs ≡ b
+    → let r = child index (childOf up depth start a first v red) rs in
     let i = index + length (r .groups) in
-    let s = child i (childOf up (start + a) b first v blue) bs in
-    planPairs child up start first index (record { reds = rs; blues = bs; workers = v } ∷ cs)
-    ≡ (r then (s then planPairs child up (start + a + b) (first + v) (i + length (s .groups)) cs))
+    let s = child i (childOf up depth (start + a) b first v blue) bs in
+    planPairs child up depth start first index (record { reds = rs; blues = bs; workers = v } ∷ cs)
+    ≡ (r then (s then planPairs child up depth (start + a + b) (first + v) (i + length (s .groups)) cs))
 unfolding planPairs
-pairs-cons child up start first index rs bs v cs a b ea eb = rw (← ea, ← eb)
+pairs-cons child up depth start first index rs bs v cs a b ea eb = rw (← ea, ← eb)
 
 module _ {n : ℕ} {policy : Policy} {stages : ℕ} {starts columns stretch ends loads records : List ℕ} {up : Parent} {left : Left} {ls : List (List ℕ)}
     (task : PairsTask n policy stages starts columns stretch ends loads records up left ls) {pair : Pair} (found : Found policy up left ends loads pair) where
@@ -127,10 +127,10 @@ module _ {n : ℕ} {policy : Policy} {stages : ℕ} {starts columns stretch ends
       let one : concat (take c (take k ls)) ≡ reds = ap concat (take-take c k ls (omega (arith, bounds .blues))) in
       let start : up .start + left .done + pair .reds + (pair .rows - pair .reds) ≡ up .start + (left .done + pair .rows) = omega (arith, rows-length) in
       let next = pairs-next adj (up .workers) (up .load) policy (left .free) ls (task .free) (task .levels) in
-      ap (planPairs child (up .index) (up .start + left .done) (left .first) (left .index)) (rw (← found′ .0, ← found′ .1, one) at next)
-      ∙ pairs-cons child (up .index) (up .start + left .done) (left .first) (left .index) reds blues (pair .workers)
+      ap (planPairs child (up .index) (up .depth + 1) (up .start + left .done) (left .first) (left .index)) (rw (← found′ .0, ← found′ .1, one) at next)
+      ∙ pairs-cons child (up .index) (up .depth + 1) (up .start + left .done) (left .first) (left .index) reds blues (pair .workers)
       (pairs adj (length (drop k ls)) (up .workers) (up .load) policy (left .free - pair .workers) (drop k ls)) (pair .reds) (pair .rows - pair .reds) reds-length blues-length
-      ∙ ap (λ (x : ℕ). redPlan then (bluePlan blueIndex then planPairs child (up .index) x (left .first + pair .workers) restIndex
+      ∙ ap (λ (x : ℕ). redPlan then (bluePlan blueIndex then planPairs child (up .index) (up .depth + 1) x (left .first + pair .workers) restIndex
       (pairs adj (length (drop k ls)) (up .workers) (up .load) policy (left .free - pair .workers) (drop k ls)))) start
 
   pub count-next : length (pairsPlan adj n policy stages up left ls .groups) ≡ length (redPlan .groups) + (length (bluePlan blueIndex .groups) + length (restPlan restIndex .groups))

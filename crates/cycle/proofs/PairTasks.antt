@@ -97,7 +97,7 @@ module _ {n : ℕ} {policy : Policy} {stages : ℕ} {starts columns stretch ends
 
   -- its numbers are small
   pub pair-fits : Fits up left pair
-  pair-fits = record { parts = parts-in .0; inside = omega (arith, parts-in, task .inside); some = workers-most task found; workers = task .workers }
+  pair-fits = record { parts = parts-in .0; inside = omega (arith, parts-in, task .inside); some = workers-most task found; workers = task .workers; shallow = omega (arith, task .shallow) }
 
   pub red-task : GroupTask n policy stages (left .index) starts columns (take a stretch) records (redGroup up left pair)
   red-task = rw red-part (record {
@@ -107,6 +107,7 @@ module _ {n : ℕ} {policy : Policy} {stages : ℕ} {starts columns stretch ends
     size = sym (reds-length task found);
     inside = omega (arith, task .inside, stretch-length, reds-length task found, rows-length task found);
     workers = omega (arith, task .workers, workers-most task found);
+    shallow = task .shallow;
     few = task .few;
     room = omega (arith, task .room, count-next task found);
   })
@@ -144,6 +145,7 @@ module _ {n : ℕ} {policy : Policy} {stages : ℕ} {starts columns stretch ends
       size = sym (blues-length task found);
       inside = omega (arith, task .inside, stretch-length, rows-length task found);
       workers = omega (arith, task .workers, workers-most task found);
+      shallow = task .shallow;
       few = omega (arith, task .few);
       room = omega (arith, task .room, count-next task found);
     })
@@ -227,6 +229,7 @@ module _ {n : ℕ} {policy : Policy} {stages : ℕ} {starts columns stretch ends
           free = omega (arith, over);
           inside = omega (arith, task .inside, stretch-length, ap length rest-part);
           workers = omega (arith, task .workers, over);
+          shallow = task .shallow;
           few = omega (arith, task .few);
           room = rw j-is (omega (arith, task .room, count-next task found));
         })

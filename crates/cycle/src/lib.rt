@@ -24,9 +24,10 @@ ghost use Rattle.plan.specs.Groups.{groupOf};
 ghost use Rattle.cycle.specs.code.Records.{Holds};
 ghost use Rattle.cycle.specs.code.Cycle.{redGroup, blueGroup, leftAfter, Fits, GroupTask, PairsTask, pairsPlan};
 
-// A group that is split: its record's index, where it starts, its workers and its load.
+// A group that is split: its record's index, its depth, where it starts, its workers and its load.
 pub struct Parent {
     pub index: u32,
+    pub depth: u32,
     pub start: u32,
     pub workers: u32,
     pub load: u32,
@@ -83,6 +84,7 @@ fn red_of(up: Parent, left: Left, pair: Pair) -> Group
         workers: pair.workers,
         colour: RED,
         parent: up.index,
+        depth: up.depth + 1,
     }
 }
 
@@ -98,6 +100,7 @@ fn blue_of(up: Parent, left: Left, pair: Pair) -> Group
         workers: pair.workers,
         colour: BLUE,
         parent: up.index,
+        depth: up.depth + 1,
     }
 }
 
@@ -146,6 +149,7 @@ pub fn plan_group(
     let load = level_loads(starts, columns, n, order, &ends[..m], &mut loads);
     let up = Parent {
         index,
+        depth: g.depth,
         start: g.start,
         workers: g.workers,
         load,

@@ -43,7 +43,7 @@ Flat = Array u32 maxFields
 
 -- a group that stands for no element
 abbrev pub none : Group
-none = record { start = 0; length = 0; first = 0; workers = 0; colour = 0; parent = 0 }
+none = record { start = 0; length = 0; first = 0; workers = 0; colour = 0; parent = 0; depth = 0 }
 
 -- the machine values of a group
 abbrev pub group-vals : Group → List Val

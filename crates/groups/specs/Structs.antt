@@ -4,4 +4,4 @@ use Rattle.plan.specs.declared.fields.Group.{Group}
 
 -- the struct of a group; `groupOf` is the way back
 abbrev pub ofGroup : defined.Group → Group
-ofGroup g = record { start = g .start; length = g .length; first = g .first; workers = g .workers; colour = g .colour; parent = g .parent }
+ofGroup g = record { start = g .start; length = g .length; first = g .first; workers = g .workers; colour = g .colour; parent = g .parent; depth = g .depth }

@@ -59,9 +59,9 @@ unfoldable pub orderLine : List ℕ → List ℕ
 orderLine order = ascii "order" ++ spaced order ++ lineFeed ∷ []
 
 unfoldable pub titleLine : List ℕ
-titleLine = ascii "group start length first workers colour parent\n"
+titleLine = ascii "group start length first workers colour parent depth\n"
 
--- "each later line a record's six fields after its index"
+-- "each later line a record's .. fields after its index", and "a last column headed `depth`"
 unfoldable pub groupLines : ℕ → List Group → List ℕ
 groupLines i [] = []
 groupLines i (g ∷ gs) = natural i ++ spaced (fieldsOf g) ++ lineFeed ∷ groupLines (suc i) gs

@@ -37,7 +37,7 @@ pub const MAX_INPUT: usize = 24576;
 // index; all.
 const NUMBER: usize = 11;
 
-const TITLES: usize = 53;
+const TITLES: usize = 59;
 
 const LINE: usize = NUMBER * (WIDTH + 1);
 

@@ -60,7 +60,7 @@ fn put_order(output: &mut [u8], order: &[u32]) -> usize
     put_bytes(
         output,
         title,
-        b"group start length first workers colour parent\n",
+        b"group start length first workers colour parent depth\n",
     )
 }
 

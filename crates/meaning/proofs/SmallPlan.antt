@@ -1,21 +1,22 @@
--- Every number of a sound plan has 32 bits: rows and stretches lie in n rows, workers in 16, parents in 512 records.
+-- Every number of a sound plan has 32 bits: rows and stretches lie in n rows, workers in 16, parents in 512 records, and
+-- no depth is above 4.
 use mathlib.Core.Path.{_≡_, refl, sym}
 use mathlib.Core.Bool.{Bool, true, false, true≢false}
 use mathlib.Core.List.{List, [], _∷_}
 use Prim.Native.Nat.{ℕ, suc, _+_, _≤_, _<_}
 use native.Mathlib.Omega.{arith}
-use lib.Dec.{eqb}
+use lib.Dec.{eqb, leb}
 use lib.ListN.{length}
-use borrow.Author.Tests.{eqb-true, eqb-false}
+use borrow.Author.Tests.{eqb-true, eqb-false, leb-true}
 use Rattle.base.specs.Lists.{keep}
-use Rattle.base.proofs.Booleans.{and-left, and-right}
+use Rattle.base.proofs.Booleans.{and-left, and-right, conj-at}
 use Rattle.base.proofs.Each.{Each, each-map}
 use Rattle.matrix.specs.Limits.{maxRows}
 use Rattle.plan.specs.Groups.{Group, fieldsOf, flat}
-use Rattle.plan.specs.Sound.{maxWorkers, maxGroups, children, tiled, likeApart, childrenSound, sound}
+use Rattle.plan.specs.Sound.{maxWorkers, maxDepth, maxGroups, depthFirst, children, tiled, likeApart, childrenSound, sound}
 use Rattle.plan.proofs.Once.{Low, once}
 use Rattle.plan.proofs.Pair.{pair-of, tiled-le}
-use Rattle.plan.proofs.Records.{Down, Sounds}
+use Rattle.plan.proofs.Records.{Down, Sounds, ancestors, step-of}
 use Rattle.plan.proofs.Sound.{sound-facts}
 use Rattle.words.proofs.Codes.{Holds}
 use Rattle.meaning.proofs.EachIn.{each-concat}
@@ -82,14 +83,26 @@ parents-low i [] d = tt
 parents-low i (g ∷ gs) d =
     (omega (arith, d .0), each-map (λ h. h .parent < suc i + length gs) (λ h. h .parent < i + suc (length gs)) (λ h l. omega arith) gs (parents-low (suc i) gs (d .1)))
 
+-- no record is deeper than 4
+depths-low : (path : List ℕ) (i : ℕ) (gs : List Group) → depthFirst path i gs ≡ true → Each (λ g. g .depth ≤ maxDepth) gs
+unfolding depthFirst
+depths-low path i [] h = tt
+depths-low path i (g ∷ gs) h =
+    let s = step-of path i g gs h in
+    let up : List ℕ = ancestors path g in
+    let bs : List Bool = leb (length up) maxDepth ∷ eqb (g .depth) (length up) ∷ depthFirst (i ∷ up) (i + 1) gs ∷ [] in
+    let low = leb-true (length up) maxDepth (conj-at (leb 1 (length up)) bs h 0) in
+    (omega (arith, s .depth), depths-low (i ∷ up) (suc i) gs (s .rest))
+
 -- ---- all numbers
 
 abbrev Fine : ℕ → Group → Type 0
-Fine n g = Inside n g × (g .parent < maxGroups)
+Fine n g = Inside n g × ((g .parent < maxGroups) × (g .depth ≤ maxDepth))
 
 fields-small : (n : ℕ) → n ≤ maxRows → (g : Group) → Fine n g → Each (Holds 4) (fieldsOf g)
 unfolding fieldsOf
-fields-small n few g (i, p) = (omega (arith, i .rows), (omega (arith, i .rows), (omega (arith, i .crew), (omega (arith, i .crew), (omega (arith, i .coloured), (omega arith, tt))))))
+fields-small n few g (i, (p, d)) =
+    (omega (arith, i .rows), (omega (arith, i .rows), (omega (arith, i .crew), (omega (arith, i .crew), (omega (arith, i .coloured), (omega arith, (omega arith, tt)))))))
 
 both-each : (P Q : Group → Type 0) (gs : List Group) → Each P gs → Each Q gs → Each (λ g. P g × Q g) gs
 both-each P Q [] a b = tt
@@ -114,5 +127,8 @@ sound-small adj n order (g ∷ gs) few h =
     let first = known-more n 0 gs (known-none n gs) (children-inside adj order n g top (children 0 gs) (f .under .0)) in
     let below : Each (Inside n) gs = all-inside adj order n 1 gs (f .down) (f .under .1) first in
     let parents : Each (λ h. h .parent < maxGroups) gs = each-map (λ h. h .parent < 1 + length gs) (λ h. h .parent < maxGroups) (λ h l. omega (arith, f .short)) gs (parents-low 1 gs (f .down)) in
-    let fine : Each (Fine n) (g ∷ gs) = ((top, omega (arith, f .parent)), both-each (Inside n) (λ h. h .parent < maxGroups) gs below parents) in
+    let depths : Each (λ h. h .depth ≤ maxDepth) gs = depths-low (0 ∷ []) 1 gs (f .inOrder) in
+    let places : Each (λ h. (h .parent < maxGroups) × (h .depth ≤ maxDepth)) gs = both-each (λ h. h .parent < maxGroups) (λ h. h .depth ≤ maxDepth) gs parents depths in
+    let fine : Each (Fine n) (g ∷ gs)
+    = ((top, (omega (arith, f .parent), omega (arith, f .depth))), both-each (Inside n) (λ h. (h .parent < maxGroups) × (h .depth ≤ maxDepth)) gs below places) in
     record { rows = low-small n order few (once n order (f .once) .low); numbers = each-concat (Holds 4) (Fine n) fieldsOf (fields-small n few) (g ∷ gs) fine }

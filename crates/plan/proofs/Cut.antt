@@ -32,6 +32,7 @@ records-cut (suc k) most ns h =
       getD-take most ns 3 0 (omega arith),
       getD-take most ns 4 0 (omega arith),
       getD-take most ns 5 0 (omega arith),
+      getD-take most ns 6 0 (omega arith),
     ) in
     rw (first, ← take-drop width most ns, records-cut k (most - width) (drop width ns) (omega arith))
 

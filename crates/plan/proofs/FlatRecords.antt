@@ -35,10 +35,11 @@ pub record-fields : (ns : List ℕ) (i : ℕ) →
       workers = getD ns (width * i + 3) 0;
       colour = getD ns (width * i + 4) 0;
       parent = getD ns (width * i + 5) 0;
+      depth = getD ns (width * i + 6) 0;
     }
     ≡ recordAt ns i
 unfolding recordAt ofFields
-record-fields ns i = rw (field 0 ∙ ap (λ (k : ℕ). getD ns k 0) none, field 1, field 2, field 3, field 4, field 5)
+record-fields ns i = rw (field 0 ∙ ap (λ (k : ℕ). getD ns k 0) none, field 1, field 2, field 3, field 4, field 5, field 6)
   where
     none : width * i + 0 ≡ width * i
     none = omega arith

@@ -12,7 +12,7 @@ use lib.Seq.{getD-set-same, getD-set-other}
 use borrow.Author.Tests.{eq-eqb, ne-eqb}
 use Rattle.base.specs.Lists.{fromFirst}
 use Rattle.plan.specs.Groups.{records}
-use Rattle.plan.specs.Sound.{depthFirst}
+use Rattle.plan.specs.Sound.{maxDepth, depthFirst}
 use Rattle.plan.specs.code.Checks.{recordAt, pathOf}
 use Rattle.plan.proofs.FlatRecords.{records-at}
 
@@ -48,7 +48,7 @@ path-push path t v l = rw (add-one t, getD-set-same path t v 0 l, path-set path 
 -- ---- a turn
 
 -- the tests of record i, and what is left after it
-pub depth-turn : (count i t up p : ℕ) (ns path : List ℕ) → i < count → recordAt ns i .parent ≡ p → pathOf path up ≡ fromFirst (eqb p) (pathOf path t)
-    → depthFirst (pathOf path t) i (drop i (records count ns)) ≡ leb 1 up && leb up 4 && depthFirst (i ∷ pathOf path up) (i + 1) (drop (i + 1) (records count ns))
+pub depth-turn : (count i t up p d : ℕ) (ns path : List ℕ) → i < count → recordAt ns i .parent ≡ p → recordAt ns i .depth ≡ d → pathOf path up ≡ fromFirst (eqb p) (pathOf path t)
+    → depthFirst (pathOf path t) i (drop i (records count ns)) ≡ leb 1 up && leb up maxDepth && eqb d up && depthFirst (i ∷ pathOf path up) (i + 1) (drop (i + 1) (records count ns))
 unfolding depthFirst
-depth-turn count i t up p ns path l e u = rw (records-at count i ns l, e, ← u, length-path path up, add-one i)
+depth-turn count i t up p d ns path l e f u = rw (records-at count i ns l, e, f, ← u, length-path path up, add-one i)

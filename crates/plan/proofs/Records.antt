@@ -42,10 +42,13 @@ fromFirst-some v (x ∷ xs) l = go (eqb v x) refl l (fromFirst-some v xs)
 abbrev pub ancestors : List ℕ → Group → List ℕ
 ancestors path g = fromFirst (eqb (g .parent)) path
 
--- its parent is in the path of the record before it, so are all its ancestors, and the list goes on from it
+-- its parent is in the path of the record before it, so are all its ancestors, as many as its depth says, and the list
+-- goes on from it
 pub record Step (path : List ℕ) (i : ℕ) (g : Group) (gs : List Group) : Type 0 where
+  pub some : 1 ≤ length (ancestors path g)
   pub parentIn : isIn path (g .parent) ≡ true
   pub inPath : (m : ℕ) → isIn (ancestors path g) m ≡ true → isIn path m ≡ true
+  pub depth : g .depth ≡ length (ancestors path g)
   pub rest : depthFirst (i ∷ ancestors path g) (suc i) gs ≡ true
 
 -- what `depthFirst` tests of it
@@ -53,11 +56,14 @@ pub step-of : (path : List ℕ) (i : ℕ) (g : Group) (gs : List Group) → dept
 unfolding depthFirst
 step-of path i g gs h =
     let up : List ℕ = ancestors path g in
-    let bs : List Bool = leb (length up) maxDepth ∷ depthFirst (i ∷ up) (i + 1) gs ∷ [] in
+    let bs : List Bool = leb (length up) maxDepth ∷ eqb (g .depth) (length up) ∷ depthFirst (i ∷ up) (i + 1) gs ∷ [] in
+    let one = leb-true 1 (length up) (conj-first (leb 1 (length up)) bs h) in
     record {
-      parentIn = fromFirst-some (g .parent) path (leb-true 1 (length up) (conj-first (leb 1 (length up)) bs h));
+      some = one;
+      parentIn = fromFirst-some (g .parent) path one;
       inPath = λ m k. fromFirst-in (g .parent) m path k;
-      rest = subst (λ (k : ℕ). depthFirst (i ∷ up) k gs ≡ true) (add-one i) (conj-at (leb 1 (length up)) bs h 1);
+      depth = eqb-true (g .depth) (length up) (conj-at (leb 1 (length up)) bs h 1);
+      rest = subst (λ (k : ℕ). depthFirst (i ∷ up) k gs ≡ true) (add-one i) (conj-at (leb 1 (length up)) bs h 2);
     }
 
 -- the path has indices below i only

@@ -21,6 +21,7 @@ pub record SoundFacts (adj : ℕ → List ℕ) (n : ℕ) (order : List ℕ) (g :
   pub first : g .first ≡ 0
   pub colour : g .colour ≡ whole
   pub parent : g .parent ≡ 0
+  pub depth : g .depth ≡ 0
   pub some : 1 ≤ g .workers
   pub few : g .workers ≤ maxWorkers
   pub short : length (g ∷ gs) ≤ maxGroups
@@ -38,26 +39,27 @@ sound-facts adj n order g gs h = record {
   first = eqb-true (g .first) 0 (at 2);
   colour = eqb-true (g .colour) whole (at 3);
   parent = eqb-true (g .parent) 0 (at 4);
-  some = leb-true 1 (g .workers) (at 5);
-  few = leb-true (g .workers) maxWorkers (at 6);
-  short = leb-true (length (g ∷ gs)) maxGroups (at 7);
-  inOrder = at 8;
+  depth = eqb-true (g .depth) 0 (at 5);
+  some = leb-true 1 (g .workers) (at 6);
+  few = leb-true (g .workers) maxWorkers (at 7);
+  short = leb-true (length (g ∷ gs)) maxGroups (at 8);
+  inOrder = at 9;
   down = below;
   under = (
-    and-left (childrenSound adj order g (children 0 gs)) (allSound adj order gs (0 + 1) gs) (at 9),
-    sounds adj order gs 1 gs below (λ k l. refl) (and-right (childrenSound adj order g (children 0 gs)) (allSound adj order gs (0 + 1) gs) (at 9)),
+    and-left (childrenSound adj order g (children 0 gs)) (allSound adj order gs (0 + 1) gs) (at 10),
+    sounds adj order gs 1 gs below (λ k l. refl) (and-right (childrenSound adj order g (children 0 gs)) (allSound adj order gs (0 + 1) gs) (at 10)),
   );
 }
   where
     bs : List Bool
-    bs = eqb (g .start) 0 ∷ eqb (g .length) n ∷ eqb (g .first) 0 ∷ eqb (g .colour) whole ∷ eqb (g .parent) 0 ∷ leb 1 (g .workers) ∷ leb (g .workers) maxWorkers
+    bs = eqb (g .start) 0 ∷ eqb (g .length) n ∷ eqb (g .first) 0 ∷ eqb (g .colour) whole ∷ eqb (g .parent) 0 ∷ eqb (g .depth) 0 ∷ leb 1 (g .workers) ∷ leb (g .workers) maxWorkers
         ∷ leb (length (g ∷ gs)) maxGroups ∷ depthFirst (0 ∷ []) 1 gs ∷ allSound adj order gs 0 (g ∷ gs) ∷ []
 
     at : (k : ℕ) → getD bs k true ≡ true
     at = conj-at (eachOnce n order) bs h
 
     below : Down 1 gs
-    below = down (0 ∷ []) 1 gs before-one (at 8)
+    below = down (0 ∷ []) 1 gs before-one (at 9)
 
 -- a sound plan's order has all rows
 pub sound-long : (adj : ℕ → List ℕ) (n : ℕ) (order : List ℕ) (gs : List Group) → sound adj n order gs ≡ true → length order ≡ n

@@ -6,7 +6,7 @@ use Rattle.base.specs.Lists.{concat}
 use Rattle.plan.specs.declared.fields.Group as code
 
 -- "a list of records ..: start, length, first worker, worker count, colour (0 whole, 1 red, 2 blue), parent's index (0
--- for the whole)"
+-- for the whole)"; "Each record gets a seventh field, its depth: 0 for the whole, otherwise its parent's plus 1."
 pub record Group : Type 0 where
   pub start : ℕ
   pub length : ℕ
@@ -14,10 +14,11 @@ pub record Group : Type 0 where
   pub workers : ℕ
   pub colour : ℕ
   pub parent : ℕ
+  pub depth : ℕ
 
 -- the group that a struct stands for
 abbrev pub groupOf : code.Group → Group
-groupOf g = record { start = g .start; length = g .length; first = g .first; workers = g .workers; colour = g .colour; parent = g .parent }
+groupOf g = record { start = g .start; length = g .length; first = g .first; workers = g .workers; colour = g .colour; parent = g .parent; depth = g .depth }
 
 abbrev pub whole : ℕ
 whole = 0
@@ -36,13 +37,13 @@ pub record Plan : Type 0 where
 
 -- how many numbers a record has in a flat list, and which is where
 abbrev pub width : ℕ
-width = 6
+width = 7
 
 unfoldable pub fieldsOf : Group → List ℕ
-fieldsOf g = g .start ∷ g .length ∷ g .first ∷ g .workers ∷ g .colour ∷ g .parent ∷ []
+fieldsOf g = g .start ∷ g .length ∷ g .first ∷ g .workers ∷ g .colour ∷ g .parent ∷ g .depth ∷ []
 
 unfoldable pub ofFields : List ℕ → Group
-ofFields ns = record { start = getD ns 0 0; length = getD ns 1 0; first = getD ns 2 0; workers = getD ns 3 0; colour = getD ns 4 0; parent = getD ns 5 0 }
+ofFields ns = record { start = getD ns 0 0; length = getD ns 1 0; first = getD ns 2 0; workers = getD ns 3 0; colour = getD ns 4 0; parent = getD ns 5 0; depth = getD ns 6 0 }
 
 -- the records as one flat list
 unfoldable pub flat : List Group → List ℕ

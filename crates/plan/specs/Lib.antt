@@ -1,3 +1,4 @@
 pub mod Groups
 pub mod Sound
+pub mod Depths
 pub mod code

@@ -27,12 +27,13 @@ unfoldable pub eachOnce : ℕ → List ℕ → Bool
 eachOnce n order = eqb (length order) n && all (isIn order) (range 0 n)
 
 -- "its records stand in that order with those .. parents", "depth is at most 4": each record's parent is the record
--- before it, or an ancestor of that. path: the last record's index and its ancestors', up to 0
+-- before it, or an ancestor of that. path: the last record's index and its ancestors', up to 0. "A plan is sound only
+-- if the field says so": its depth is the number of its ancestors; Depths says it in the request's words
 unfoldable pub depthFirst : (path : List ℕ) (index : ℕ) → List Group → Bool
 depthFirst path index [] = true
 depthFirst path index (g ∷ gs) =
     let up = fromFirst (eqb (g .parent)) path in
-    leb 1 (length up) && leb (length up) maxDepth && depthFirst (index ∷ up) (index + 1) gs
+    leb 1 (length up) && leb (length up) maxDepth && eqb (g .depth) (length up) && depthFirst (index ∷ up) (index + 1) gs
 
 -- the children of the group at an index, among the records after the whole
 unfoldable pub children : ℕ → List Group → List Group
@@ -82,7 +83,7 @@ unfoldable pub sound : (adj : ℕ → List ℕ) (n : ℕ) (order : List ℕ) →
 sound adj n order [] = false
 sound adj n order (g ∷ gs) =
     eachOnce n order
-    && eqb (g .start) 0 && eqb (g .length) n && eqb (g .first) 0 && eqb (g .colour) whole && eqb (g .parent) 0
+    && eqb (g .start) 0 && eqb (g .length) n && eqb (g .first) 0 && eqb (g .colour) whole && eqb (g .parent) 0 && eqb (g .depth) 0
     && leb 1 (g .workers) && leb (g .workers) maxWorkers
     && leb (length (g ∷ gs)) maxGroups
     && depthFirst (0 ∷ []) 1 gs

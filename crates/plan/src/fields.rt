@@ -9,7 +9,7 @@ ghost use Rattle.plan.specs.Groups.{width, fieldsOf, groupOf};
 ghost use Rattle.plan.specs.code.Checks.{recordAt, Reads};
 
 // How many numbers a record has, and a list of all that a plan may have.
-pub const WIDTH: usize = 6;
+pub const WIDTH: usize = 7;
 
 pub const MAX_FIELDS: usize = MAX_GROUPS * WIDTH;
 
@@ -28,6 +28,7 @@ pub struct Group {
     pub workers: u32,
     pub colour: u32,
     pub parent: u32,
+    pub depth: u32,
 }
 
 // .. with numbers so wide that the sum of two does not wrap.
@@ -38,6 +39,7 @@ pub struct Record {
     pub workers: usize,
     pub colour: u32,
     pub parent: usize,
+    pub depth: usize,
 }
 
 // Reads the record at an index.
@@ -53,6 +55,7 @@ pub fn get(numbers: &[u32], i: usize) -> Group
         workers: numbers[at + 3],
         colour: numbers[at + 4],
         parent: numbers[at + 5],
+        depth: numbers[at + 6],
     }
 }
 
@@ -68,6 +71,7 @@ pub fn put(numbers: &mut [u32], i: usize, g: Group)
     numbers[at + 3] = g.workers;
     numbers[at + 4] = g.colour;
     numbers[at + 5] = g.parent;
+    numbers[at + 6] = g.depth;
 }
 
 // Reads the record at an index, and widens it.
@@ -83,5 +87,6 @@ pub fn record_at(groups: &[u32], i: usize) -> Record
         workers: wide(g.workers),
         colour: g.colour,
         parent: wide(g.parent),
+        depth: wide(g.depth),
     }
 }

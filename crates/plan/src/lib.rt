@@ -51,6 +51,9 @@ fn is_whole(g: Record, n: usize) -> bool
     if g.parent != 0 {
         return false;
     }
+    if g.depth != 0 {
+        return false;
+    }
     1 <= g.workers && g.workers <= MAX_WORKERS
 }
 

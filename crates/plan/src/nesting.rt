@@ -1,4 +1,4 @@
-// The records stand depth first, with their parents.
+// The records stand depth first, with their parents and depths.
 ghost use mathlib.Core.Path.{_≡_};
 ghost use Prim.Native.Nat.{_*_, _≤_};
 ghost use lib.Dec.{eqb};
@@ -24,7 +24,8 @@ fn up_to(path: &[usize; 5], t: usize, parent: usize) -> usize
     0
 }
 
-// Each record's parent is the record before it, or an ancestor of that; no record is deeper than 4.
+// Each record's parent is the record before it, or an ancestor of that; no record is deeper than 4, and each says how
+// deep it is.
 pub fn depth_first(groups: &[u32], count: usize) -> bool
     requires { ⌜ width * count ≤ length (now groups) ⌝ }
     ensures { λ r. ⌜ r ≡ standsDepthFirst count (now (groups .entry)) ⌝ }
@@ -39,6 +40,9 @@ pub fn depth_first(groups: &[u32], count: usize) -> bool
             return false;
         }
         if MAX_DEPTH < up {
+            return false;
+        }
+        if g.depth != up {
             return false;
         }
         path[up] = i;

@@ -1,4 +1,4 @@
--- Plan files (document 02, Q-2): one layout, the file of a plan, and the plan in a file.
+-- Plan files (document 02, Q-2 and Q-3): one layout, the file of a plan, and the plan in a file.
 use mathlib.Core.Bool.{Bool, _&&_}
 use mathlib.Core.List.{List, [], _∷_, _++_}
 use Prim.Native.Nat.{ℕ, _+_, _*_, _/_, _^_}
@@ -16,12 +16,12 @@ use Rattle.words.specs.LittleEndian.{unsigned, unsignedBytes}
 abbrev pub numberSize : ℕ
 numberSize = 4
 
--- "its kind (1 order, 2 groups)"
+-- "its kind (1 order, ..)", and for the groups "a body of kind 3 in place of 2, and kind 2 now breaks the layout"
 abbrev pub orderKind : ℕ
 orderKind = 1
 
 abbrev pub groupsKind : ℕ
-groupsKind = 2
+groupsKind = 3
 
 -- how many numbers stand in the table of contents
 abbrev pub tableLength : ℕ

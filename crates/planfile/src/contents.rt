@@ -13,10 +13,10 @@ pub(crate) const NUMBER: usize = 4;
 
 pub(crate) const TABLE: usize = 7;
 
-// "its kind (1 order, 2 groups)"
+// "its kind (1 order, ..)"; the groups, with their depth, are of "kind 3 in place of 2"
 const ORDER: u32 = 1;
 
-const GROUPS: u32 = 2;
+const GROUPS: u32 = 3;
 
 // Whether a file can carry so many freedoms and groups.
 pub(crate) fn is_sized(n: usize, count: usize) -> bool

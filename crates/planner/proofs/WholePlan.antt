@@ -47,7 +47,7 @@ module _ (n : ℕ) (starts columns : List ℕ) (rows : Rows n starts columns) wh
 
   -- the whole's record
   abbrev pub wholeGroup : (workers : ℕ) → Group
-  wholeGroup workers = record { start = 0; length = n; first = 0; workers = workers; colour = whole; parent = 0 }
+  wholeGroup workers = record { start = 0; length = n; first = 0; workers = workers; colour = whole; parent = 0; depth = 0 }
 
   module _ (policy : Policy) (workers : ℕ) where
     -- its plan by the group planner, its rows by their numbers
@@ -73,6 +73,7 @@ module _ (n : ℕ) (starts columns : List ℕ) (rows : Rows n starts columns) wh
       size = sym (length-range 0 n);
       inside = omega (arith, length-range 0 n, rows .small);
       workers = omega arith;
+      shallow = omega arith;
       few = omega arith;
       room = go cases;
     }

@@ -65,6 +65,7 @@ pub fn plan_rows(
         workers,
         colour: WHOLE,
         parent: 0,
+        depth: 0,
     };
     let count = plan_group(starts, columns, order, records, n, policy, STAGES, 0, whole);
     if count == 1 {

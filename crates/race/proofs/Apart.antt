@@ -34,10 +34,10 @@ module _ (adj : ℕ → List ℕ) where
           absurd (clash u v (h u v hu hv) (or-cases (isIn (adj v) u) (any (isIn (adj u)) (adj v)) g))
       go false e = refl
 
-  module _ (O : List ℕ) (up : ℕ) where
+  module _ (O : List ℕ) (up depth : ℕ) where
     -- no later part of the same colour is near x
     none-near : (x : Part) (s : ℕ) → Sub (take (length (x .rows)) (drop s O)) (x .rows) → (t : ℕ) (ys : List Part) → Covers O t ys → Each (Like (Apart adj) x) ys
-        → any (λ h. eqb (x .colour) (h .colour) && not (apart adj (stretchOf O (recordOf up s x)) (stretchOf O h))) (recordsOf up t ys) ≡ false
+        → any (λ h. eqb (x .colour) (h .colour) && not (apart adj (stretchOf O (recordOf up depth s x)) (stretchOf O h))) (recordsOf up depth t ys) ≡ false
     unfolding stretchOf
     none-near x s sub t [] c l = refl
     none-near x s sub t (y ∷ ys) c l = rw (go (eqb (x .colour) (y .colour)) refl) (none-near x s sub (t + length (y .rows)) ys (c .1) (l .1))
@@ -49,7 +49,7 @@ module _ (adj : ℕ → List ℕ) where
         go false e = refl
 
     -- like-coloured parts that are apart, each where its record says
-    pub like-apart : (s : ℕ) (xs : List Part) → Covers O s xs → Pairwise (Like (Apart adj)) xs → likeApart adj O (recordsOf up s xs) ≡ true
+    pub like-apart : (s : ℕ) (xs : List Part) → Covers O s xs → Pairwise (Like (Apart adj)) xs → likeApart adj O (recordsOf up depth s xs) ≡ true
     unfolding likeApart
     like-apart s [] c l = refl
     like-apart s (x ∷ xs) c l = rw (none-near x s (c .0) (s + length (x .rows)) xs (c .1) (l .0)) (like-apart (s + length (x .rows)) xs (c .1) (l .1))

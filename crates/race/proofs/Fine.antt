@@ -29,38 +29,38 @@ module _ (adj : ℕ → List ℕ) where
     pub same : Same order T
     pub parents : Each (Inside index (index + suc (length below))) below
     pub sound : (O : List ℕ) (world : List Group) → Placed O (g .start) order → Ready world below index (index + suc (length below)) → allSound adj O world index (g ∷ below) ≡ true
-    pub walked : (anc : List ℕ) (tail : List Group) → length anc + stages ≤ maxDepth → Walked index [] anc (index + 1) below tail
+    pub walked : (anc : List ℕ) (tail : List Group) → g .depth ≡ length anc → length anc + stages ≤ maxDepth → Walked index [] anc (index + 1) below tail
     pub few : length below ≤ g .workers * perWorker stages
 
-  -- the children xs of the group at index up, from place start and index on: their order and records
-  pub record Kids (stages up start index : ℕ) (xs : List Part) (order : List ℕ) (gs : List Group) : Type 0 where
+  -- the children xs of the group at index up, at their depth, from place start and index on: their order and records
+  pub record Kids (stages up depth start index : ℕ) (xs : List Part) (order : List ℕ) (gs : List Group) : Type 0 where
     pub same : Same order (allRows xs)
     pub under : Each (Under up index (index + length gs)) gs
-    pub own : children up gs ≡ recordsOf up start xs
+    pub own : children up gs ≡ recordsOf up depth start xs
     pub covers : (O : List ℕ) → Placed O start order → Covers O start xs
     pub sound : (O : List ℕ) (world : List Group) → Placed O start order → Ready world gs index (index + length gs) → allSound adj O world index gs ≡ true
-    pub walked : (es anc : List ℕ) (tail : List Group) → Above up es → suc (length anc) + stages ≤ maxDepth → Walked up es anc index gs tail
+    pub walked : (es anc : List ℕ) (tail : List Group) → Above up es → depth ≡ suc (length anc) → suc (length anc) + stages ≤ maxDepth → Walked up es anc index gs tail
     pub few : length gs ≤ groupsOf (perWorker stages) xs
 
   -- no child
-  pub kids-none : (stages up start index : ℕ) → Kids stages up start index [] [] []
+  pub kids-none : (stages up depth start index : ℕ) → Kids stages up depth start index [] [] []
   unfolding children allSound
-  kids-none stages up start index = record {
+  kids-none stages up depth start index = record {
     same = λ v. refl;
     under = tt;
     own = refl;
     covers = λ O h. tt;
     sound = λ O world h r. refl;
-    walked = λ es anc tail h b. walk-none up es anc index tail h;
+    walked = λ es anc tail h d b. walk-none up es anc index tail h;
     few = omega arith;
   }
 
   -- one child more
-  pub kids-more : (stages up start index : ℕ) (x : Part) (xs : List Part) (a r : List ℕ) (below later : List Group) → up < index
-      → Fine stages index (recordOf up start x) (x .rows) a below
-      → Kids stages up (start + length (x .rows)) (index + suc (length below)) xs r later
-      → Kids stages up start index (x ∷ xs) (a ++ r) ((recordOf up start x ∷ below) ++ later)
-  kids-more stages up start index x xs a r below later lt f k = record {
+  pub kids-more : (stages up depth start index : ℕ) (x : Part) (xs : List Part) (a r : List ℕ) (below later : List Group) → up < index
+      → Fine stages index (recordOf up depth start x) (x .rows) a below
+      → Kids stages up depth (start + length (x .rows)) (index + suc (length below)) xs r later
+      → Kids stages up depth start index (x ∷ xs) (a ++ r) ((recordOf up depth start x ∷ below) ++ later)
+  kids-more stages up depth start index x xs a r below later lt f k = record {
     same = λ v. omega (arith, f .same v, k .same v, count-append v a r, count-append v (x .rows) (allRows xs));
     under = block-under up index g below later lt refl (f .parents) (k .under);
     own = block-children up index g below later lt refl (f .parents) (k .under) ∙ ap (λ (l : List Group). g ∷ l) (k .own);
@@ -69,15 +69,15 @@ module _ (adj : ℕ → List ℕ) where
         all-append adj O world index (g ∷ below) later
         (f .sound O world (placed-left O start a r h) (ready-mine up index g below later lt refl (f .parents) (k .under) world ready))
         (k .sound O world (rest O h) (ready-theirs up index g below later lt refl (f .parents) (k .under) world ready));
-    walked = λ es anc tail h b.
+    walked = λ es anc tail h d b.
         walk-then up es anc index (g ∷ below) later tail
-        (walk-child up index es anc g below (later ++ tail) lt refl h (omega arith) (f .walked (up ∷ anc) (later ++ tail) b))
-        (λ out ab. k .walked out anc tail ab b);
+        (walk-child up index es anc g below (later ++ tail) lt refl d h (omega arith) (f .walked (up ∷ anc) (later ++ tail) d b))
+        (λ out ab. k .walked out anc tail ab d b);
     few = omega (arith, f .few, k .few, length-append (g ∷ below) later);
   }
     where
       g : Group
-      g = recordOf up start x
+      g = recordOf up depth start x
 
       rest : (O : List ℕ) → Placed O start (a ++ r) → Placed O (start + length (x .rows)) r
       rest O h = subst (λ (m : ℕ). Placed O (start + m) r) (same-length a (x .rows) (f .same)) (placed-right O start a r h)
@@ -89,7 +89,7 @@ module _ (adj : ℕ → List ℕ) where
     same = λ v. refl;
     parents = tt;
     sound = λ O world h ready. let e : children index world ≡ [] = ready index (omega arith) (omega arith) in rw e refl;
-    walked = λ anc tail b. walk-none index [] anc (index + 1) tail tt;
+    walked = λ anc tail d b. walk-none index [] anc (index + 1) tail tt;
     few = omega arith;
   }
 
@@ -101,21 +101,21 @@ module _ (adj : ℕ → List ℕ) where
 
   -- a group over its children
   pub fine-split : (stages index : ℕ) (g : Group) (T : List ℕ) (xs : List Part) (order : List ℕ) (gs : List Group)
-      → Kids stages index (g .start) (index + 1) xs order gs → Same (allRows xs) T
-      → tiled g (g .start) (g .first) (recordsOf index (g .start) xs) ≡ true → Pairwise (Like (Apart adj)) xs → groupsOf (perWorker stages) xs ≤ g .workers * perWorker (suc stages)
+      → Kids stages index (g .depth + 1) (g .start) (index + 1) xs order gs → Same (allRows xs) T
+      → tiled g (g .start) (g .first) (recordsOf index (g .depth + 1) (g .start) xs) ≡ true → Pairwise (Like (Apart adj)) xs → groupsOf (perWorker stages) xs ≤ g .workers * perWorker (suc stages)
       → Fine (suc stages) index g T order gs
   unfolding allSound
   fine-split stages index g T xs order gs k s tile like few = record {
     same = λ v. k .same v ∙ s v;
     parents = each-map (Under index (index + 1) (index + 1 + length gs)) (Inside index (index + suc (length gs))) inside gs (k .under);
     sound = λ O world h ready.
-        let mine : children index world ≡ recordsOf index (g .start) xs = ready index (omega arith) (omega arith) ∙ k .own in
+        let mine : children index world ≡ recordsOf index (g .depth + 1) (g .start) xs = ready index (omega arith) (omega arith) ∙ k .own in
         let here : childrenSound adj O g (children index world) ≡ true
         = ap (λ (l : List Group). childrenSound adj O g l) mine
-        ∙ children-sound O g (recordsOf index (g .start) xs) tile (like-apart adj O index (g .start) xs (k .covers O h) like) in
+        ∙ children-sound O g (recordsOf index (g .depth + 1) (g .start) xs) tile (like-apart adj O index (g .depth + 1) (g .start) xs (k .covers O h) like) in
         let there : allSound adj O world (index + 1) gs ≡ true = k .sound O world h (λ i lo hi. ready i (omega arith) (omega arith)) in
         rw (here, there) refl;
-    walked = λ anc tail b. k .walked [] anc tail tt (omega arith);
+    walked = λ anc tail d b. k .walked [] anc tail tt (omega arith) (omega arith);
     few = omega (arith, k .few);
   }
     where

@@ -34,31 +34,31 @@ allRows [] = []
 allRows (x ∷ xs) = x .rows ++ allRows xs
 
 -- the record of a child of the group at index up
-abbrev pub recordOf : (up start : ℕ) → Part → Group
-recordOf up start x = childOf up start (length (x .rows)) (x .first) (x .workers) (x .colour)
+abbrev pub recordOf : (up depth start : ℕ) → Part → Group
+recordOf up depth start x = childOf up depth start (length (x .rows)) (x .first) (x .workers) (x .colour)
 
 -- .. and of all its children
-abbrev pub recordsOf : (up start : ℕ) → List Part → List Group
-recordsOf up start [] = []
-recordsOf up start (x ∷ xs) = recordOf up start x ∷ recordsOf up (start + length (x .rows)) xs
+abbrev pub recordsOf : (up depth start : ℕ) → List Part → List Group
+recordsOf up depth start [] = []
+recordsOf up depth start (x ∷ xs) = recordOf up depth start x ∷ recordsOf up depth (start + length (x .rows)) xs
 
 -- each part with all below it
-abbrev pub planParts : (child : Planner) (up start index : ℕ) → List Part → Plan
-planParts child up start index [] = nothing
-planParts child up start index (x ∷ xs) =
-    let a = child index (recordOf up start x) (x .rows) in
-    a then planParts child up (start + length (x .rows)) (index + length (a .groups)) xs
+abbrev pub planParts : (child : Planner) (up depth start index : ℕ) → List Part → Plan
+planParts child up depth start index [] = nothing
+planParts child up depth start index (x ∷ xs) =
+    let a = child index (recordOf up depth start x) (x .rows) in
+    a then planParts child up depth (start + length (x .rows)) (index + length (a .groups)) xs
 
 -- planning pairs is planning their parts
-pub planPairs-parts : (child : Planner) (up start first index : ℕ) (cs : List Pair) → planPairs child up start first index cs ≡ planParts child up start index (parts first cs)
+pub planPairs-parts : (child : Planner) (up depth start first index : ℕ) (cs : List Pair) → planPairs child up depth start first index cs ≡ planParts child up depth start index (parts first cs)
 unfolding planPairs
-planPairs-parts child up start first index [] = refl
-planPairs-parts child up start first index (c ∷ cs) =
-    let a = child index (childOf up start (length (c .reds)) first (c .workers) red) (c .reds) in
+planPairs-parts child up depth start first index [] = refl
+planPairs-parts child up depth start first index (c ∷ cs) =
+    let a = child index (childOf up depth start (length (c .reds)) first (c .workers) red) (c .reds) in
     let mid = start + length (c .reds) in
     let index₁ = index + length (a .groups) in
-    let b = child index₁ (childOf up mid (length (c .blues)) first (c .workers) blue) (c .blues) in
-    ap (λ (r : Plan). a then b then r) (planPairs-parts child up (mid + length (c .blues)) (first + c .workers) (index₁ + length (b .groups)) cs)
+    let b = child index₁ (childOf up depth mid (length (c .blues)) first (c .workers) blue) (c .blues) in
+    ap (λ (r : Plan). a then b then r) (planPairs-parts child up depth (mid + length (c .blues)) (first + c .workers) (index₁ + length (b .groups)) cs)
 
 -- ---- what tiles gives
 
@@ -77,15 +77,15 @@ tiles-rows {ls = ls} f (more {cs = cs} c m w a b l pos le ts) =
     ∙ halves c ls
 
 -- the records of the parts tile their parent
-pub tiles-tiled : {free : ℕ} {ls : List (List ℕ)} {cs : List Pair} (g : Group) (up s f : ℕ) → Tiles free ls cs
-    → s + length (allRows (parts f cs)) ≡ g .start + g .length → f + free ≡ g .first + g .workers → tiled g s f (recordsOf up s (parts f cs)) ≡ true
+pub tiles-tiled : {free : ℕ} {ls : List (List ℕ)} {cs : List Pair} (g : Group) (up depth s f : ℕ) → Tiles free ls cs
+    → s + length (allRows (parts f cs)) ≡ g .start + g .length → f + free ≡ g .first + g .workers → tiled g s f (recordsOf up depth s (parts f cs)) ≡ true
 unfolding tiled
-tiles-tiled g up s f done e d = rw (eq-eqb s (g .start + g .length) (omega arith), eq-eqb f (g .first + g .workers) (omega arith)) refl
-tiles-tiled {ls = ls} g up s f (more {cs = cs} c m w a b l pos le ts) e d =
+tiles-tiled g up depth s f done e d = rw (eq-eqb s (g .start + g .length) (omega arith), eq-eqb f (g .first + g .workers) (omega arith)) refl
+tiles-tiled {ls = ls} g up depth s f (more {cs = cs} c m w a b l pos le ts) e d =
     let reds = concat (take m (take c ls)) in
     let blues = concat (drop m (take c ls)) in
     let later = parts (f + w) cs in
-    let ih = tiles-tiled g up (s + length reds + length blues) (f + w) ts
+    let ih = tiles-tiled g up depth (s + length reds + length blues) (f + w) ts
     (omega (arith, e, length-append reds (blues ++ allRows later), length-append blues (allRows later))) (omega arith) in
     rw (eq-eqb s s refl, eq-eqb (s + length reds) (s + length reds) refl, eq-eqb f f refl, le-leb 1 w pos, eq-eqb w w refl, ih) refl
 

@@ -37,19 +37,19 @@ module _ (adj : ℕ → List ℕ) (n : ℕ) where
   Plans stages child = (index : ℕ) (g : Group) (T : List ℕ) → Proper n T → g .length ≡ length T → Planned stages index g T (child index g T)
 
   -- the parts of a group, each planned
-  parts-kids : (stages : ℕ) (child : Planner) → Plans stages child → (up start index : ℕ) (xs : List Part) → up < index → Proper n (allRows xs)
-      → let pl = planParts child up start index xs in Kids adj stages up start index xs (pl .order) (pl .groups)
+  parts-kids : (stages : ℕ) (child : Planner) → Plans stages child → (up depth start index : ℕ) (xs : List Part) → up < index → Proper n (allRows xs)
+      → let pl = planParts child up depth start index xs in Kids adj stages up depth start index xs (pl .order) (pl .groups)
   unfolding nothing _then_
-  parts-kids stages child plans up start index [] lt pr = kids-none adj stages up start index
-  parts-kids stages child plans up start index (x ∷ xs) lt pr =
-      let a = child index (recordOf up start x) (x .rows) in
-      let r = planParts child up (start + length (x .rows)) (index + length (a .groups)) xs in
-      let (below, shape, fine) = plans index (recordOf up start x) (x .rows) (proper-left n (x .rows) (allRows xs) pr) refl in
-      let rest : Kids adj stages up (start + length (x .rows)) (index + length (a .groups)) xs (r .order) (r .groups)
-      = parts-kids stages child plans up (start + length (x .rows)) (index + length (a .groups)) xs (omega arith) (proper-right n (x .rows) (allRows xs) pr) in
-      subst (λ (gs : List Group). Kids adj stages up start index (x ∷ xs) (a .order ++ r .order) (gs ++ r .groups)) (sym shape)
-      (kids-more adj stages up start index x xs (a .order) (r .order) below (r .groups) lt fine
-      (subst (λ (gs : List Group). Kids adj stages up (start + length (x .rows)) (index + length gs) xs (r .order) (r .groups)) shape rest))
+  parts-kids stages child plans up depth start index [] lt pr = kids-none adj stages up depth start index
+  parts-kids stages child plans up depth start index (x ∷ xs) lt pr =
+      let a = child index (recordOf up depth start x) (x .rows) in
+      let r = planParts child up depth (start + length (x .rows)) (index + length (a .groups)) xs in
+      let (below, shape, fine) = plans index (recordOf up depth start x) (x .rows) (proper-left n (x .rows) (allRows xs) pr) refl in
+      let rest : Kids adj stages up depth (start + length (x .rows)) (index + length (a .groups)) xs (r .order) (r .groups)
+      = parts-kids stages child plans up depth (start + length (x .rows)) (index + length (a .groups)) xs (omega arith) (proper-right n (x .rows) (allRows xs) pr) in
+      subst (λ (gs : List Group). Kids adj stages up depth start index (x ∷ xs) (a .order ++ r .order) (gs ++ r .groups)) (sym shape)
+      (kids-more adj stages up depth start index x xs (a .order) (r .order) below (r .groups) lt fine
+      (subst (λ (gs : List Group). Kids adj stages up depth (start + length (x .rows)) (index + length gs) xs (r .order) (r .groups)) shape rest))
 
   module _ (graph : Graph adj n) (policy : Policy) where
     -- a group that is split
@@ -64,12 +64,12 @@ module _ (adj : ℕ → List ℕ) (n : ℕ) where
         let tile : Tiles (g .workers) ls cs = pairs-tile adj (length ls) (g .workers) (loadOf adj (concat ls)) policy (g .workers) ls (omega arith) long (omega arith) in
         let xs = parts (g .first) cs in
         let same : Same (allRows xs) T = λ v. ap (λ (l : List ℕ). count v l) (tiles-rows (g .first) tile) ∙ own-same adj n T pr v in
-        let kids = parts-kids stages child plans index (g .start) (index + 1) xs (omega arith) (proper-same n (allRows xs) T same pr) in
-        let pl = planPairs child index (g .start) (g .first) (index + 1) cs in
+        let kids = parts-kids stages child plans index (g .depth + 1) (g .start) (index + 1) xs (omega arith) (proper-same n (allRows xs) T same pr) in
+        let pl = planPairs child index (g .depth + 1) (g .start) (g .first) (index + 1) cs in
         let fine : Fine adj (suc stages) index g T (pl .order) (pl .groups)
-        = subst (λ (q : Plan). Fine adj (suc stages) index g T (q .order) (q .groups)) (sym (planPairs-parts child index (g .start) (g .first) (index + 1) cs))
+        = subst (λ (q : Plan). Fine adj (suc stages) index g T (q .order) (q .groups)) (sym (planPairs-parts child index (g .depth + 1) (g .start) (g .first) (index + 1) cs))
         (fine-split adj stages index g T xs _ _ kids same
-        (tiles-tiled g index (g .start) (g .first) tile (omega (arith, same-length (allRows xs) T same)) refl)
+        (tiles-tiled g index (g .depth + 1) (g .start) (g .first) tile (omega (arith, same-length (allRows xs) T same)) refl)
         (tiles-apart (Apart adj) (g .first) tile (own-apart adj n T pr graph))
         (tiles-groups (perWorker stages) (g .first) tile)) in
         (pl .groups, refl, fine)
@@ -113,7 +113,7 @@ module _ (adj : ℕ → List ℕ) (n : ℕ) where
         let O = planRows adj n policy w .order in
         let each : eachOnce n O ≡ true = same-once n O (λ v. fine .same v ∙ sorted-same v) in
         let all : allSound adj O below 0 (wholeOf n w ∷ below) ≡ true = fine .sound O below (take-length O) (λ i a b. refl) in
-        let (out, above, walk) = fine .walked [] [] (omega arith) in
+        let (out, above, walk) = fine .walked [] [] refl (omega arith) in
         let deep : depthFirst (0 ∷ []) 1 below ≡ true = ap (λ (l : List Group). depthFirst (0 ∷ []) 1 l) (sym (append-nil below)) ∙ walk in
         let few : suc (length below) ≤ maxGroups = omega (arith, fine .few) in
         ap (λ (l : List Group). sound adj n O l) shape

@@ -26,13 +26,13 @@ find-up q [] anc h = rw (eq-eqb q q refl) refl
 find-up q (e ∷ es) anc h = rw (ne-eqb q e (λ x. omega (arith, h .0))) (find-up q es anc (h .1))
 
 -- a child of up, when the path is up's with some later indices in front
-walk-one : (up index : ℕ) (es anc : List ℕ) (g : Group) (gs : List Group) → g .parent ≡ up → Above up es → suc (length anc) ≤ maxDepth
+walk-one : (up index : ℕ) (es anc : List ℕ) (g : Group) (gs : List Group) → g .parent ≡ up → g .depth ≡ suc (length anc) → Above up es → suc (length anc) ≤ maxDepth
     → depthFirst (es ++ (up ∷ anc)) index (g ∷ gs) ≡ depthFirst (index ∷ up ∷ anc) (index + 1) gs
 unfolding depthFirst
-walk-one up index es anc g gs e h b =
+walk-one up index es anc g gs e d h b =
     let f : fromFirst (eqb (g .parent)) (es ++ (up ∷ anc)) ≡ up ∷ anc
     = subst (λ (q : ℕ). fromFirst (eqb q) (es ++ (up ∷ anc)) ≡ up ∷ anc) (sym e) (find-up up es anc h) in
-    rw (f, le-leb 1 (suc (length anc)) (omega arith), le-leb (suc (length anc)) maxDepth b) refl
+    rw (f, le-leb 1 (suc (length anc)) (omega arith), le-leb (suc (length anc)) maxDepth b, eq-eqb (g .depth) (suc (length anc)) d) refl
 
 -- the records from index on, before tail, leave the path up's with some later indices in front
 abbrev pub Walked : (up : ℕ) (es anc : List ℕ) (index : ℕ) (gs tail : List Group) → Type 0
@@ -44,12 +44,12 @@ pub walk-none : (up : ℕ) (es anc : List ℕ) (index : ℕ) (tail : List Group)
 walk-none up es anc index tail h = (es, h, ap (λ (k : ℕ). depthFirst (es ++ (up ∷ anc)) k tail) (omega arith))
 
 -- a child of up with all below it
-pub walk-child : (up index : ℕ) (es anc : List ℕ) (g : Group) (below tail : List Group) → up < index → g .parent ≡ up → Above up es → suc (length anc) ≤ maxDepth
+pub walk-child : (up index : ℕ) (es anc : List ℕ) (g : Group) (below tail : List Group) → up < index → g .parent ≡ up → g .depth ≡ suc (length anc) → Above up es → suc (length anc) ≤ maxDepth
     → Walked index [] (up ∷ anc) (index + 1) below tail → Walked up es anc index (g ∷ below) tail
-walk-child up index es anc g below tail lt e h b (out, ab, w) = (
+walk-child up index es anc g below tail lt e d h b (out, ab, w) = (
   out ++ (index ∷ []),
   above-snoc up index out lt ab,
-  walk-one up index es anc g (below ++ tail) e h b
+  walk-one up index es anc g (below ++ tail) e d h b
       ∙ w
       ∙ ap (λ (l : List ℕ). depthFirst l (index + 1 + length below) tail) (sym (append-assoc out (index ∷ []) (up ∷ anc)))
       ∙ ap (λ (k : ℕ). depthFirst ((out ++ (index ∷ [])) ++ (up ∷ anc)) k tail) (omega arith),

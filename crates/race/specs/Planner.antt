@@ -37,11 +37,11 @@ pub record Pair : Type 0 where
   pub workers : ℕ
 
 -- the record of a child of the group at index up, and of the whole: "the whole has depth 0 and all workers"
-abbrev pub childOf : (up start size first workers colour : ℕ) → Group
-childOf up start size first workers colour = record { start = start; length = size; first = first; workers = workers; colour = colour; parent = up }
+abbrev pub childOf : (up depth start size first workers colour : ℕ) → Group
+childOf up depth start size first workers colour = record { start = start; length = size; first = first; workers = workers; colour = colour; parent = up; depth = depth }
 
 abbrev pub wholeOf : (n w : ℕ) → Group
-wholeOf n w = record { start = 0; length = n; first = 0; workers = w; colour = whole; parent = 0 }
+wholeOf n w = record { start = 0; length = n; first = 0; workers = w; colour = whole; parent = 0; depth = 0 }
 
 -- The pairs of a group of w workers and load R, in the levels ls and the free workers that are left: "The pair gets b
 -- workers, the next ones free". k bounds how many
@@ -55,15 +55,15 @@ pairs adj (suc k) w R policy free (l ∷ ls) =
     record { reds = concat (take c mine); blues = concat (drop c mine); workers = e .workers }
     ∷ pairs adj k w R policy (free - e .workers) (drop (e .levels) (l ∷ ls))
 
--- The children of the group at index up: "Within a pair red comes first", each child with all below it
-unfoldable pub planPairs : (child : Planner) (up start first index : ℕ) → List Pair → Plan
-planPairs child up start first index [] = nothing
-planPairs child up start first index (c ∷ cs) =
+-- The children of the group at index up, at their depth: "Within a pair red comes first", each child with all below it
+unfoldable pub planPairs : (child : Planner) (up depth start first index : ℕ) → List Pair → Plan
+planPairs child up depth start first index [] = nothing
+planPairs child up depth start first index (c ∷ cs) =
     let mid = start + length (c .reds) in
-    let a = child index (childOf up start (length (c .reds)) first (c .workers) red) (c .reds) in
+    let a = child index (childOf up depth start (length (c .reds)) first (c .workers) red) (c .reds) in
     let index₁ = index + length (a .groups) in
-    let b = child index₁ (childOf up mid (length (c .blues)) first (c .workers) blue) (c .blues) in
-    a then b then planPairs child up (mid + length (c .blues)) (first + c .workers) (index₁ + length (b .groups)) cs
+    let b = child index₁ (childOf up depth mid (length (c .blues)) first (c .workers) blue) (c .blues) in
+    a then b then planPairs child up depth (mid + length (c .blues)) (first + c .workers) (index₁ + length (b .groups)) cs
 
 -- "T is split if it has at least two workers, depth below 4 and m at least 4" (the depth: a stage is left)
 unfoldable pub splits : Group → List (List ℕ) → Bool
@@ -73,7 +73,7 @@ splits g ls = leb 2 (g .workers) && leb (2 * reach) (length ls)
 unfoldable pub split : (adj : ℕ → List ℕ) (child : Planner) (policy : Policy) (index : ℕ) → Group → List (List ℕ) → Plan
 split adj child policy index g ls =
     leaf g [] then
-    planPairs child index (g .start) (g .first) (index + 1) (pairs adj (length ls) (g .workers) (loadOf adj (concat ls)) policy (g .workers) ls)
+    planPairs child index (g .depth + 1) (g .start) (g .first) (index + 1) (pairs adj (length ls) (g .workers) (loadOf adj (concat ls)) policy (g .workers) ls)
 
 -- stages: 4 less the depth
 unfoldable pub planGroup : (adj : ℕ → List ℕ) (n : ℕ) (policy : Policy) (stages : ℕ) → Planner

@@ -17,7 +17,7 @@ use Rattle.market.specs.Fields.{digits, isNumber, valueOf, numeral, spaces, fie
 use Rattle.market.specs.Parse.{Triplet, Parsed, matrixText, rejected, entries, sizeLine, comments, parse}
 use Rattle.market.specs.FullRows.{full, cell, rowOf, rowsOf, startsFrom, rowStarts, columns, values, ofTriplets, readMatrix}
 use Rattle.market.specs.Text.{decimal, textOf, columnOf, lower, written}
-use Rattle.plan.specs.Groups.{Plan, fieldsOf, flat}
+use Rattle.plan.specs.Groups.{Plan, width, fieldsOf, flat}
 use Rattle.plan.specs.Sound.{eachOnce, depthFirst, children, tiled, apart, stretchOf, likeApart, childrenSound, allSound, sound, isSound}
 use Rattle.levels.specs.Levels.{near, region, root, isNext, levelsFrom, levels, ownLevels}
 use Rattle.extents.specs.Extents.{Extent, endsFrom, best, nearest, off, serves, extentOf, extentFrom, extent, cutAt, cut}
@@ -129,14 +129,14 @@ hill = range 1 16 ++ map (λ k. 16 - k) (range 1 15)
 
 abbrev groups8 : List ℤ
 groups8 = numbers (
-    0 ∷ 8 ∷ 0 ∷ 2 ∷ 0 ∷ 0
-    ∷ 0 ∷ 2 ∷ 0 ∷ 1 ∷ 1 ∷ 0
-    ∷ 2 ∷ 2 ∷ 0 ∷ 1 ∷ 2 ∷ 0
-    ∷ 4 ∷ 2 ∷ 1 ∷ 1 ∷ 1 ∷ 0
-    ∷ 6 ∷ 2 ∷ 1 ∷ 1 ∷ 2 ∷ 0 ∷ [])
+    0 ∷ 8 ∷ 0 ∷ 2 ∷ 0 ∷ 0 ∷ 0
+    ∷ 0 ∷ 2 ∷ 0 ∷ 1 ∷ 1 ∷ 0 ∷ 1
+    ∷ 2 ∷ 2 ∷ 0 ∷ 1 ∷ 2 ∷ 0 ∷ 1
+    ∷ 4 ∷ 2 ∷ 1 ∷ 1 ∷ 1 ∷ 0 ∷ 1
+    ∷ 6 ∷ 2 ∷ 1 ∷ 1 ∷ 2 ∷ 0 ∷ 1 ∷ [])
 
 abbrev chainListing : List ℕ
-chainListing = ascii "order 0 1 2 3 4 5 6 7\ngroup start length first workers colour parent\n0 0 8 0 2 0 0\n1 0 2 0 1 1 0\n2 2 2 0 1 2 0\n3 4 2 1 1 1 0\n4 6 2 1 1 2 0\n"
+chainListing = ascii "order 0 1 2 3 4 5 6 7\ngroup start length first workers colour parent depth\n0 0 8 0 2 0 0 0\n1 0 2 0 1 1 0 1\n2 2 2 0 1 2 0 1\n3 4 2 1 1 1 0 1\n4 6 2 1 1 2 0 1\n"
 
 -- a whole run of the chain, with each refusal that it can meet
 abbrev chainCalls : List Call
@@ -151,7 +151,7 @@ chainAnswers =
     ∷ forces (numbers (1 ∷ 0 ∷ 0 ∷ 0 ∷ 0 ∷ 0 ∷ 0 ∷ 1 ∷ [])) ∷ []
 
 abbrev parameterReply : (w p : ℕ) → List ℤ
-parameterReply w p = ofReply (planReply two w p 2 6)
+parameterReply w p = ofReply (planReply two w p 2 width)
 
 abbrev samples : List Bool
 samples =
@@ -172,7 +172,7 @@ samples =
     ∷ (ofLevels (ownLevels (neighbours unjoined) 8 (range 0 8)) is numbers (1 ∷ 0 ∷ 0 ∷ 1 ∷ 1 ∷ 0 ∷ 1 ∷ 2 ∷ 0 ∷ 1 ∷ 3 ∷ 0 ∷ 1 ∷ 4 ∷ 0 ∷ 1 ∷ 5 ∷ 0 ∷ 1 ∷ 6 ∷ 0 ∷ 1 ∷ 7 ∷ []))
     ∷ (ofPlan (plan unjoined 2 60) is numbers (range 0 8) ++ groups8)
     -- P: "two joined freedoms, 16 workers: one leaf"
-    ∷ (ofPlan (plan two 16 60) is numbers (0 ∷ 1 ∷ 0 ∷ 2 ∷ 0 ∷ 16 ∷ 0 ∷ 0 ∷ []))
+    ∷ (ofPlan (plan two 16 60) is numbers (0 ∷ 1 ∷ 0 ∷ 2 ∷ 0 ∷ 16 ∷ 0 ∷ 0 ∷ 0 ∷ []))
     -- P: "level loads 1, 2, .. 16, 15, .. 1, w = 8, p = 60: first pair is levels 0 to 6 (28 of 256), cut before level 5
     -- (15 against 13)"
     ∷ (ofExtent (extent 8 (sum hill) (record { p = 60 }) 8 hill) is numbers (7 ∷ 1 ∷ []))

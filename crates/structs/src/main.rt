@@ -1,5 +1,5 @@
 // structs: plans a chain of eight rows into a slice of group structs, and checks the plan.
-// A plan with a group twice is not sound, and a slice is too short for the plan of more rows.
+// A plan with a group twice, or with a wrong depth, is not sound, and a slice is too short for the plan of more rows.
 use base::Verdict;
 use libc::STDOUT_FILENO;
 use plan::fields::Group;
@@ -86,6 +86,7 @@ fn put_group(g: Group) {
     put_number(g.workers);
     put_number(g.colour);
     put_number(g.parent);
+    put_number(g.depth);
     io::write_all(STDOUT_FILENO, b"\n");
 }
 
@@ -105,6 +106,7 @@ fn none() -> Group {
         workers: 0,
         colour: 0,
         parent: 0,
+        depth: 0,
     }
 }
 
@@ -164,12 +166,28 @@ fn chain_values() -> [i32; 22] {
     ]
 }
 
-// Checks a plan of eight rows: it is sound; with a group twice it is not.
+// The group, said to be as deep as the whole.
+fn raised(g: Group) -> Group {
+    Group {
+        start: g.start,
+        length: g.length,
+        first: g.first,
+        workers: g.workers,
+        colour: g.colour,
+        parent: g.parent,
+        depth: 0,
+    }
+}
+
+// Checks a plan of eight rows: it is sound; with a group twice, or one at another depth, it is not.
 fn put_checks(starts: &[u32], columns: &[u32], values: &[i32], order: &[u32], groups: [Group; 5]) {
     put_answer(check_in(8, starts, columns, values, order, groups));
     let mut twice = groups;
     twice[2] = groups[1];
     put_answer(check_in(8, starts, columns, values, order, twice));
+    let mut other = groups;
+    other[1] = raised(groups[1]);
+    put_answer(check_in(8, starts, columns, values, order, other));
 }
 
 // The chain is planned for two workers, and its plan is checked.

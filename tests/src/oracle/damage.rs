@@ -178,7 +178,7 @@ pub fn damage_plan(
     groups: &mut Vec<u32>,
     group_count: &mut u32,
 ) {
-    match rng.below(12) {
+    match rng.below(13) {
         0 => damage_number(rng, order),
         1 => damage_length(rng, order),
         2 => damage_length(rng, groups),
@@ -191,6 +191,7 @@ pub fn damage_plan(
         5 => swap_places(rng, order),
         6 => swap_records(rng, groups),
         7 | 8 => shift_border(rng, groups),
+        9 => shift_depth(rng, groups),
         _ => damage_number(rng, groups),
     }
 }
@@ -214,6 +215,20 @@ fn swap_records(rng: &mut Prng, groups: &mut [u32]) {
         records.swap(one, two);
     } else {
         records[one] = records[two];
+    }
+}
+
+/// Makes a record's depth, and perhaps those of all after it, greater or less by 1.
+fn shift_depth(rng: &mut Prng, groups: &mut [u32]) {
+    let records = groups.as_chunks_mut::<FIELDS>().0;
+    if records.is_empty() {
+        return;
+    }
+    let first = rng.below(records.len());
+    let ends = [first + 1, records.len()];
+    let shift = rng.one_of(&[1, u32::MAX]);
+    for record in &mut records[first..rng.one_of(&ends)] {
+        record[6] = record[6].wrapping_add(shift);
     }
 }
 
@@ -248,7 +263,7 @@ pub fn damage_file(rng: &mut Prng, file: &mut Vec<u8>) {
         1 => drop(file.splice(at..at, [0; 4])),
         2 => file.extend([0; 4]),
         3 if at < file.len() => drop(file.remove(at)),
-        4 if at < file.len() => file[at] = rng.one_of(&[0, 1, 2, 0xff]),
+        4 if at < file.len() => file[at] = rng.one_of(&[0, 1, 2, 3, 0xff]),
         _ => damage_table(rng, file),
     }
 }
@@ -262,7 +277,7 @@ fn damage_table(rng: &mut Prng, file: &mut [u8]) {
     }
     let at = rng.below(words.len());
     let number = u32::from_le_bytes(words[at]);
-    let by = rng.one_of(&[1, 2, 4, 24, 1 << 16]);
+    let by = rng.one_of(&[1, 2, 4, 4 * FIELDS as u32, 1 << 16]);
     let number = match rng.below(3) {
         0 => number.wrapping_add(by),
         1 => number.wrapping_sub(by),

@@ -20,8 +20,8 @@ pub mod text;
 pub const WORKERS: usize = 16;
 
 /// The numbers of a group's record, and a record: start, length, first worker, worker count, colour (0 whole, 1 red,
-/// 2 blue), parent's index.
-pub const FIELDS: usize = 6;
+/// 2 blue), parent's index, depth.
+pub const FIELDS: usize = 7;
 pub type Fields = [u32; FIELDS];
 
 /// A refusal: "Each is a number and a place (0 unless named)".

@@ -38,9 +38,10 @@ pub fn print(plan: &planner::Plan) -> String {
     for freedom in &plan.order {
         out += &format!(" {freedom}");
     }
-    out += "\ngroup start length first workers colour parent\n";
-    for (index, [start, length, first, workers, colour, parent]) in plan.groups.iter().enumerate() {
-        out += &format!("{index} {start} {length} {first} {workers} {colour} {parent}\n");
+    out += "\ngroup start length first workers colour parent depth\n";
+    for (index, record) in plan.groups.iter().enumerate() {
+        let fields = record.map(|field| format!(" {field}")).concat();
+        out += &format!("{index}{fields}\n");
     }
     out
 }

@@ -1,10 +1,13 @@
-//! Plan files, document 02's request Q-2.
+//! Plan files, document 02's requests.
 
 use super::{Refusal, FIELDS};
 
 /// The most freedoms and the most groups of a plan that is carried.
 pub const MOST_ROWS: usize = 4_096;
 pub const MOST_GROUPS: usize = 512;
+
+/// The kinds of the bodies: the order, and the groups with their depths, "kind 3 in place of 2".
+const KINDS: [u32; 2] = [1, 3];
 
 /// "file breaks this layout or these counts, or a plan to be written does".
 const BROKEN: Refusal = Refusal::at(16, 0);
@@ -19,10 +22,9 @@ pub fn judge_counts(rows: usize, groups: usize) -> Result<(), Refusal> {
 
 /// The file of an order and flat groups, without a look at their counts: a table of contents and the bodies.
 pub fn write(order: &[u32], groups: &[u32]) -> Vec<u8> {
-    let bodies = [(1, order), (2, groups)];
-    let mut offset = 4 + 12 * bodies.len();
-    let mut numbers = vec![bodies.len() as u32];
-    for (kind, body) in bodies {
+    let mut offset = 4 + 12 * KINDS.len();
+    let mut numbers = vec![KINDS.len() as u32];
+    for (kind, body) in KINDS.into_iter().zip([order, groups]) {
         numbers.extend([kind, offset as u32, 4 * body.len() as u32]);
         offset += 4 * body.len();
     }
@@ -44,7 +46,7 @@ pub fn read(file: &[u8]) -> Result<[Vec<u32>; 2], Refusal> {
     }
     let mut bodies = file.get(28..).ok_or(BROKEN)?;
     let mut taken = [Vec::new(), Vec::new()];
-    for (kind, body) in (1..).zip(&mut taken) {
+    for (kind, body) in KINDS.into_iter().zip(&mut taken) {
         let (its_kind, offset, length);
         (its_kind, contents) = take_number(contents)?;
         (offset, contents) = take_number(contents)?;

@@ -84,19 +84,19 @@ fn tree_within(rng: &mut Prng, order: &[u32], workers: u32, limits: Limits) -> P
         order: order.to_vec(),
         groups: Vec::new(),
     };
-    let whole = [0, order.len() as u32, 0, workers, 0, 0];
-    grow(rng, &mut plan.groups, whole, 0, limits);
+    let whole = [0, order.len() as u32, 0, workers, 0, 0, 0];
+    grow(rng, &mut plan.groups, whole, limits);
     plan
 }
 
 /// Adds a group's record and, if it is split, all records below it.
-fn grow(rng: &mut Prng, groups: &mut Vec<Fields>, record: Fields, depth: u32, limits: Limits) {
+fn grow(rng: &mut Prng, groups: &mut Vec<Fields>, record: Fields, limits: Limits) {
     let index = groups.len() as u32;
     groups.push(record);
+    let [start, length, first_worker, workers, _, _, depth] = record;
     if depth == limits.depth || rng.chance(10 + 20 * depth as usize) {
         return;
     }
-    let [start, length, first_worker, workers, ..] = record;
     let least = limits.least_crew;
     let pairs = 1 + rng.below(limits.pairs.min(workers.max(1) as usize)) as u32;
     let crews = cut_in(rng, workers - least * pairs, pairs);
@@ -106,8 +106,16 @@ fn grow(rng: &mut Prng, groups: &mut Vec<Fields>, record: Fields, depth: u32, li
         let crew = crews[pair] + least;
         for colour in 1..=2 {
             let length = stretches[2 * pair + colour - 1];
-            let child = [start, length, first_worker, crew, colour as u32, index];
-            grow(rng, groups, child, depth + 1, limits);
+            let child = [
+                start,
+                length,
+                first_worker,
+                crew,
+                colour as u32,
+                index,
+                depth + 1,
+            ];
+            grow(rng, groups, child, limits);
             start += length;
         }
         first_worker += crew;

@@ -20,12 +20,13 @@ pub struct Record {
     pub workers: usize,
     pub colour: u32,
     pub parent: usize,
+    pub depth: usize,
 }
 
 impl Record {
     /// The record that its numbers stand for.
     pub fn of(fields: Fields) -> Record {
-        let [start, length, first_worker, workers, colour, parent] = fields;
+        let [start, length, first_worker, workers, colour, parent, depth] = fields;
         Record {
             start: start as usize,
             length: length as usize,
@@ -33,6 +34,7 @@ impl Record {
             workers: workers as usize,
             colour,
             parent: parent as usize,
+            depth: depth as usize,
         }
     }
 }
@@ -161,7 +163,7 @@ fn tree_leaves(records: &[Record], n: usize) -> Option<Vec<usize>> {
     let whole = &records[0];
     let covers = whole.start == 0 && whole.length == n && whole.first_worker == 0;
     let crew = (1..=WORKERS).contains(&whole.workers);
-    if !covers || !crew || whole.colour != 0 || whole.parent != 0 {
+    if !covers || !crew || whole.colour != 0 || whole.parent != 0 || whole.depth != 0 {
         return None;
     }
     let mut path = vec![Opened::new(0, whole)];
@@ -173,7 +175,7 @@ fn tree_leaves(records: &[Record], n: usize) -> Option<Vec<usize>> {
         }
         let depth = path.len();
         let parent = path.last_mut()?;
-        if depth > DEEPEST || !parent.take(record) {
+        if depth > DEEPEST || record.depth != depth || !parent.take(record) {
             return None;
         }
         if record.colour == RED {

@@ -2,7 +2,7 @@
 -- row v, and there are n rows.
 use mathlib.Core.Path.{_≡_}
 use mathlib.Core.List.{List, map}
-use Prim.Native.Nat.{ℕ, _+_, _-_, _*_, _≤_}
+use Prim.Native.Nat.{ℕ, _+_, _-_, _*_, _≤_, _<_}
 use lib.ListN.{length}
 use Rattle.base.specs.Lists.{sum}
 use Rattle.matrix.specs.Limits.{maxRows}
@@ -10,7 +10,7 @@ use Rattle.levels.specs.Levels.{reach}
 use Rattle.levels.specs.code.Group.{Proper}
 use Rattle.levels.specs.code.Rows.{Rows, adjOf}
 use Rattle.plan.specs.Groups.{Plan, red, blue, width, groupOf}
-use Rattle.plan.specs.Sound.{maxWorkers, maxGroups}
+use Rattle.plan.specs.Sound.{maxWorkers, maxDepth, maxGroups}
 use Rattle.race.specs.Loads.{loadOf}
 use Rattle.race.specs.Planner.{pairs, planPairs, planGroup}
 use Rattle.extents.specs.Extents.{Policy}
@@ -23,7 +23,7 @@ use Rattle.cycle.specs.declared.Pair.{Pair}
 
 -- the pair's groups, and what is left after it, with the next record's index
 abbrev pub redGroup : Parent → Left → Pair → Group
-redGroup up left pair = record { start = up .start + left .done; length = pair .reds; first = left .first; workers = pair .workers; colour = red; parent = up .index }
+redGroup up left pair = record { start = up .start + left .done; length = pair .reds; first = left .first; workers = pair .workers; colour = red; parent = up .index; depth = up .depth + 1 }
 
 abbrev pub blueGroup : Parent → Left → Pair → Group
 blueGroup up left pair = record {
@@ -33,22 +33,25 @@ blueGroup up left pair = record {
   workers = pair .workers;
   colour = blue;
   parent = up .index;
+  depth = up .depth + 1;
 }
 
 abbrev pub leftAfter : Left → Pair → (index : ℕ) → Left
 leftAfter left pair index = record { done = left .done + pair .rows; first = left .first + pair .workers; free = left .free - pair .workers; index = index }
 
--- the numbers of a pair are small: its rows lie in the order, its workers are free, and among the plan's
+-- the numbers of a pair are small: its rows lie in the order, its workers are free, and among the plan's, and its
+-- parent is not the deepest
 pub record Fits (up : Parent) (left : Left) (pair : Pair) : Type 0 where
   pub parts : pair .reds ≤ pair .rows
   pub inside : up .start + left .done + pair .rows ≤ maxRows
   pub some : pair .workers ≤ left .free
   pub workers : left .first + left .free ≤ maxWorkers
+  pub shallow : up .depth < maxDepth
 
 -- the plan of the pairs that are left: levels ls and the workers that are free
 abbrev pub pairsPlan : (adj : ℕ → List ℕ) (n : ℕ) (policy : Policy) (stages : ℕ) (up : Parent) (left : Left) → List (List ℕ) → Plan
 pairsPlan adj n policy stages up left ls =
-    planPairs (planGroup adj n policy stages) (up .index) (up .start + left .done) (left .first) (left .index)
+    planPairs (planGroup adj n policy stages) (up .index) (up .depth + 1) (up .start + left .done) (left .first) (left .index)
     (pairs adj (length ls) (up .workers) (up .load) policy (left .free) ls)
 
 -- a stretch that a group's planner takes: the group's rows, its workers, and room for the records of its plan
@@ -59,6 +62,7 @@ pub record GroupTask (n : ℕ) (policy : Policy) (stages index : ℕ) (starts co
   pub size : g .length ≡ length stretch
   pub inside : g .start + length stretch ≤ maxRows
   pub workers : g .first + g .workers ≤ maxWorkers
+  pub shallow : g .depth + stages ≤ maxDepth
   pub few : length records ≤ width * maxGroups
   pub room : width * (index + length (planGroup (adjOf n starts columns) n policy stages index (groupOf g) stretch .groups)) ≤ length records
 
@@ -76,5 +80,6 @@ pub record PairsTask (n : ℕ) (policy : Policy) (stages : ℕ) (starts columns 
   pub free : 1 ≤ left .free
   pub inside : up .start + left .done + length stretch ≤ maxRows
   pub workers : left .first + left .free ≤ maxWorkers
+  pub shallow : up .depth + 1 + stages ≤ maxDepth
   pub few : length records ≤ width * maxGroups
   pub room : width * (left .index + length (pairsPlan (adjOf n starts columns) n policy stages up left ls .groups)) ≤ length records

@@ -17,7 +17,7 @@ maxLine = maxNumber * (width + 1)
 
 -- the word `order` with its line feed, and the title line
 abbrev pub titles : ℕ
-titles = 53
+titles = 59
 
 -- what it writes is never longer: an order line, the title line and the group lines
 abbrev pub maxOutput : ℕ

@@ -23,7 +23,7 @@ recordAt ns i = ofFields (drop (width * i) ns)
 
 -- .. and one with wide numbers
 abbrev pub ofRecord : Record → Group
-ofRecord r = record { start = r .start; length = r .length; first = r .first; workers = r .workers; colour = r .colour; parent = r .parent }
+ofRecord r = record { start = r .start; length = r .length; first = r .first; workers = r .workers; colour = r .colour; parent = r .parent; depth = r .depth }
 
 -- sums of two numbers of a record fit 64 bits
 pub record Small (r : Record) : Type 0 where
@@ -90,5 +90,5 @@ pub record PlanLists (n : ℕ) (order groups : List ℕ) (count : ℕ) : Type 0 
 -- "the whole covers all freedoms and 1 to 16 workers from 0"
 unfoldable pub isWhole : (n : ℕ) → Group → Bool
 isWhole n g =
-    eqb (g .start) 0 && eqb (g .length) n && eqb (g .first) 0 && eqb (g .colour) whole && eqb (g .parent) 0
+    eqb (g .start) 0 && eqb (g .length) n && eqb (g .first) 0 && eqb (g .colour) whole && eqb (g .parent) 0 && eqb (g .depth) 0
     && leb 1 (g .workers) && leb (g .workers) maxWorkers

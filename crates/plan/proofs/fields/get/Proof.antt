@@ -58,8 +58,17 @@ mul-t24 c = search needs
 shared-slice-read-t26 : tie.Need-shared-slice-read-t26
 shared-slice-read-t26 c = search needs
 
+add-t27 : tie.Need-add-t27
+add-t27 c = search needs
+
+mul-t28 : tie.Need-mul-t28
+mul-t28 c = search needs
+
+shared-slice-read-t30 : tie.Need-shared-slice-read-t30
+shared-slice-read-t30 c = search needs
+
 returns : tie.Need-returns
-returns c = let a = c .before .before .before .before .before .before .args in record-fields (a .numbers .now) (a .i)
+returns c = let a = c .before .before .before .before .before .before .before .args in record-fields (a .numbers .now) (a .i)
 
 pub get-spec : {M : Type 1} → statement M
 get-spec =
@@ -83,4 +92,7 @@ get-spec =
     add-t23
     mul-t24
     shared-slice-read-t26
+    add-t27
+    mul-t28
+    shared-slice-read-t30
     returns)

@@ -1,6 +1,6 @@
 -- `fields::put` meets its contract.
 use Prim.Native.Nat.{_*_}
-use native.Mathlib.Numerals.{add-one, add-two, add-three, add-four, add-five}
+use native.Mathlib.Numerals.{add-one, add-two, add-three, add-four, add-five, add-six}
 use native.Mathlib.Omega.{arith}
 use borrow.Author.Needs.{needs}
 use lib.ListN.{length-set}
@@ -63,6 +63,15 @@ mul-numbers-6 c = search needs
 slice-write-numbers-6 : tie.Need-slice-write-numbers-6
 slice-write-numbers-6 c = simp length-set (omega arith)
 
+add-numbers-6 : tie.Need-add-numbers-6
+add-numbers-6 c = search needs
+
+mul-numbers-7 : tie.Need-mul-numbers-7
+mul-numbers-7 c = search needs
+
+slice-write-numbers-7 : tie.Need-slice-write-numbers-7
+slice-write-numbers-7 c = simp length-set (omega arith)
+
 same-length : tie.Need-same-length
 same-length c = search needs
 
@@ -71,7 +80,7 @@ unfolding fieldsOf
 returns c =
     let a = c .args in
     let vs = fieldsOf (groupOf (a .g)) in
-    rw (add-one (width * a .i), add-two (width * a .i), add-three (width * a .i), add-four (width * a .i), add-five (width * a .i))
+    rw (add-one (width * a .i), add-two (width * a .i), add-three (width * a .i), add-four (width * a .i), add-five (width * a .i), add-six (width * a .i))
     (stored-record vs (a .numbers .now) (a .i) (search needs))
 
 pub put-spec : {M : Type 1} → statement M
@@ -96,5 +105,8 @@ put-spec =
     add-numbers-5
     mul-numbers-6
     slice-write-numbers-6
+    add-numbers-6
+    mul-numbers-7
+    slice-write-numbers-7
     same-length
     returns)

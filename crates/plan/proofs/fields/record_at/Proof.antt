@@ -24,15 +24,19 @@ wide-requires-4 c κs = search needs
 wide-requires-5 : tie.Need-wide-requires-5
 wide-requires-5 c κs = search needs
 
+wide-requires-6 : tie.Need-wide-requires-6
+wide-requires-6 c κs = search needs
+
 returns : tie.Need-returns
 returns c =
-    let w₄ = c .before in
+    let w₅ = c .before in
+    let w₄ = w₅ .before in
     let w₃ = w₄ .before in
     let w₂ = w₃ .before in
     let w₁ = w₂ .before in
     let g = w₁ .before in
     record {
-      is = rw (w₁ .wide .ensures, w₂ .wide2 .ensures, w₃ .wide3 .ensures, w₄ .wide4 .ensures, c .wide5 .ensures) (g .get .ensures);
+      is = rw (w₁ .wide .ensures, w₂ .wide2 .ensures, w₃ .wide3 .ensures, w₄ .wide4 .ensures, w₅ .wide5 .ensures, c .wide6 .ensures) (g .get .ensures);
       small = let k = g .get .ok in record { start = omega (arith, k); length = omega (arith, k); first = omega (arith, k); workers = omega (arith, k) };
     }
 
@@ -46,4 +50,5 @@ record-at-spec =
     wide-requires-3
     wide-requires-4
     wide-requires-5
+    wide-requires-6
     returns)
