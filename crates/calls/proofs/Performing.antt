@@ -1,12 +1,15 @@
--- What a call on lent lists comes to: a check refuses it, or it is the call on their job.
+-- What a call on an accepted job comes to, and one on lent lists: a check refuses it, or it is the call on their job.
 use mathlib.Core.Path.{_≡_, refl, sym, ap, _∙_}
-use mathlib.Core.Logic.{_≢_}
+use mathlib.Core.Logic.{_≢_, ⊎-elim}
 use mathlib.Core.Bool.{Bool, true, false}
-use mathlib.Core.List.{List}
+use mathlib.Core.List.{List, [], _∷_}
 use Prim.Native.Nat.{ℕ, zero, suc}
+use native.Mathlib.Omega.{arith}
 use lib.IntN.{ℤ}
 use lib.Dec.{leb}
 use lib.ListN.{length}
+use types.Run.{OneOf}
+use denote.Enum.Declared.{tagOf}
 use borrow.Author.Tests.{ne-eqb}
 use Rattle.base.specs.Refusals as why
 use Rattle.base.specs.Replies.{Reply, accepted, refused, inTurn}
@@ -21,8 +24,12 @@ use Rattle.run.specs.Answers.{Call, picks, readySet, forceList}
 use Rattle.machine.specs.code.Stepped.{Walked, walk}
 use Rattle.machine.specs.declared.state.Rule.the-variants.{Stop}
 use Rattle.machine.proofs.StopSteps.{stop-steps}
+use Rattle.calls.specs.declared.Call as code
+use Rattle.calls.specs.declared.Call.the-variants as asked
 use Rattle.calls.specs.Performed.{Performed}
 use Rattle.calls.specs.code.Listed.{Listed}
+use Rattle.calls.specs.code.Made.{Made}
+use Rattle.calls.proofs.Call.{the-type}
 use Rattle.calls.proofs.InTurn.{turn-refused, turn-accepted}
 
 -- another number of sums
@@ -40,71 +47,83 @@ unfolding placeOf
 place-some zero past d = absurd (d refl)
 place-some (suc k) past d = refl
 
-module _ (m : Matrix) (x : List ℤ) (order groups : List ℕ) (count : ℕ) (s : State) (old : List ℤ) where
-  abbrev job : Job
-  job = jobOf m x order groups count
+-- ---- what is asked
 
+-- it is no pick
+pub not-picks : (c : code.Call) → OneOf (1 ∷ 2 ∷ []) (tagOf the-type c) → c ≢ asked.Picks
+not-picks asked.Picks h e = ⊎-elim (λ y. omega arith) (λ y. omega arith) h
+not-picks asked.ReadySet h e = absurd (let q : _≡_ {A = ℕ} 0 1 = cc in omega arith)
+not-picks asked.ForceList h e = absurd (let q : _≡_ {A = ℕ} 0 1 = cc in omega arith)
+
+-- .. nor a force list
+pub asks-ready : (c : code.Call) → OneOf (0 ∷ 1 ∷ []) (tagOf the-type c) → c ≢ asked.Picks → c ≡ asked.ReadySet
+asks-ready asked.Picks h d = absurd (d refl)
+asks-ready asked.ReadySet h d = refl
+asks-ready asked.ForceList h d = absurd (⊎-elim (λ y. omega arith) (λ y. omega arith) h)
+
+-- ---- on an accepted job
+
+module _ (j : Job) (s : State) (old : List ℤ) where
+  -- there is no state
+  pub made-refused : (c : Call) → isState j s ≡ false → Made j s c old (answers.denied why.notState 0) s old
+  unfolding calls.answer calls.after stateCheck inTurn forcesLent
+  made-refused c f = record { answers = rw f; leaves = rw f; forces = refl }
+
+  module _ (is : isState j s ≡ true) where
+    made : (c : Call) {a : answers.Answer} {t : State} {new : List ℤ} → a ≡ answerOf j s c → t ≡ afterOf j s c → new ≡ forcesLent a old → Made j s c old a t new
+    unfolding calls.answer calls.after stateCheck inTurn
+    made c ea et en = record { answers = rw is ea; leaves = rw is et; forces = en }
+
+    -- the steps that are taken, and why they end
+    pub made-picks : (ws : List ℕ) (r : Walked) → r ≡ walk Stop j s ws → (place : ℕ) → place ≡ placeOf (r .number) (r .past) → Made j s (picks ws) old (answers.picked (r .taken) (r .number) place) (r .state) old
+    unfolding answerOf afterOf pickedOf forcesLent
+    made-picks ws r f place p =
+        let g = f ∙ stop-steps j s ws in
+        made (picks ws)
+        (ap (answers.picked (r .taken) (r .number)) p ∙ ap (λ (y : Walked). answers.picked (y .taken) (y .number) (placeOf (y .number) (y .past))) g)
+        (ap (λ (y : Walked). y .state) g) refl
+
+    -- the workers that are ready
+    pub made-ready : (a : answers.Answer) → a ≡ readyOf j (s .made) → Made j s readySet old a s old
+    unfolding answerOf afterOf readyOf forcesLent
+    made-ready a f = made readySet f refl (sym (ap (λ (z : answers.Answer). forcesLent z old) f))
+
+    -- the forces
+    pub made-forces : (isOver : Bool) → isOver ≡ over j (s .made) → (a : answers.Answer) (new : List ℤ) → Listed j isOver (s .sums) old a new → Made j s (forceList (length old)) old a s new
+    unfolding answerOf afterOf
+    made-forces isOver o a new h =
+        made (forceList (length old))
+        (h .answers ∙ ap (λ (b : Bool). forcesOf b (leb (j .matrix .n) (length old)) (j .matrix .n) (original j (s .sums))) o) refl (h .forces)
+
+-- ---- on lent lists
+
+module _ (m : Matrix) (x : List ℤ) (order groups : List ℕ) (count : ℕ) (s : State) (old : List ℤ) where
   abbrev jobReply : Reply
   jobReply = inTurn refused (jobChecks m x order groups count) (accepted 0)
 
-  abbrev Made : Call → answers.Answer → State → List ℤ → Type 0
-  Made c = Performed m x order groups count s c old
-
-  -- ---- refused
-
-  -- a refusal leaves the lists
-  refusal : (c : Call) (q p : ℕ) → answerLent m x order groups count s c ≡ answers.denied q p → afterLent m x order groups count s c ≡ s → Made c (answers.denied q p) s old
-  unfolding forcesLent
-  refusal c q p a l = record { answers = sym a; leaves = sym l; forces = sym (ap (λ (z : answers.Answer). forcesLent z old) a) }
-
   -- the lists are refused
-  pub lists-refused : (c : Call) (q p : ℕ) → refused q p ≡ jobReply → Made c (answers.denied q p) s old
-  unfolding answerLent afterLent
+  pub lists-refused : (c : Call) (q p : ℕ) → refused q p ≡ jobReply → Performed m x order groups count s c old (answers.denied q p) s old
+  unfolding answerLent afterLent forcesLent
   lists-refused c q p e =
-      refusal c q p
-      (turn-refused answers.denied (calls.answer job s c) (accepted 0) (jobChecks m x order groups count) q p (λ u. cc) (sym e))
-      (turn-refused (λ number place. s) (calls.after job s c) (accepted 0) (jobChecks m x order groups count) q p (λ u. cc) (sym e))
+      let j : Job = jobOf m x order groups count in
+      let a = turn-refused answers.denied (calls.answer j s c) (accepted 0) (jobChecks m x order groups count) q p (λ u. cc) (sym e) in
+      record {
+        answers = sym a;
+        leaves = sym (turn-refused (λ number place. s) (calls.after j s c) (accepted 0) (jobChecks m x order groups count) q p (λ u. cc) (sym e));
+        forces = sym (ap (λ (z : answers.Answer). forcesLent z old) a);
+      }
 
-  module _ (k : ℕ) (e : accepted k ≡ jobReply) where
-    answer-is : (c : Call) → answerLent m x order groups count s c ≡ calls.answer job s c
-    unfolding answerLent
-    answer-is c = turn-accepted answers.denied (calls.answer job s c) (accepted 0) (jobChecks m x order groups count) k (sym e) .1
-
-    after-is : (c : Call) → afterLent m x order groups count s c ≡ calls.after job s c
-    unfolding afterLent
-    after-is c = turn-accepted (λ number place. s) (calls.after job s c) (accepted 0) (jobChecks m x order groups count) k (sym e) .1
-
-    -- the state is refused
-    pub state-refused : (c : Call) → isState job s ≡ false → Made c (answers.denied why.notState 0) s old
-    unfolding calls.answer calls.after stateCheck inTurn
-    state-refused c f = refusal c why.notState 0 (answer-is c ∙ rw f) (after-is c ∙ rw f)
-
-    -- ---- made
-
-    module _ (is : isState job s ≡ true) where
-      made : (c : Call) {a : answers.Answer} {t : State} {new : List ℤ} → a ≡ answerOf job s c → t ≡ afterOf job s c → new ≡ forcesLent a old → Made c a t new
-      unfolding calls.answer calls.after stateCheck inTurn
-      made c {a} ea et en =
-          let f : answerLent m x order groups count s c ≡ a = answer-is c ∙ rw is (sym ea) in
-          record { answers = sym f; leaves = et ∙ sym (after-is c ∙ rw is); forces = en ∙ sym (ap (λ (z : answers.Answer). forcesLent z old) f) }
-
-      -- the steps that are taken, and why they end
-      pub picks-made : (ws : List ℕ) (r : Walked) → r ≡ walk Stop job s ws → (place : ℕ) → place ≡ placeOf (r .number) (r .past) → Made (picks ws) (answers.picked (r .taken) (r .number) place) (r .state) old
-      unfolding answerOf afterOf pickedOf forcesLent
-      picks-made ws r f place p =
-          let g = f ∙ stop-steps job s ws in
-          made (picks ws)
-          (ap (answers.picked (r .taken) (r .number)) p ∙ ap (λ (y : Walked). answers.picked (y .taken) (y .number) (placeOf (y .number) (y .past))) g)
-          (ap (λ (y : Walked). y .state) g) refl
-
-      -- the workers that are ready
-      pub ready-made : (a : answers.Answer) → a ≡ readyOf job (s .made) → Made readySet a s old
-      unfolding answerOf afterOf readyOf forcesLent
-      ready-made a f = made readySet f refl (sym (ap (λ (z : answers.Answer). forcesLent z old) f))
-
-      -- the forces
-      pub forces-made : (isOver : Bool) → isOver ≡ over job (s .made) → (a : answers.Answer) (new : List ℤ) → Listed job isOver (s .sums) old a new → Made (forceList (length old)) a s new
-      unfolding answerOf afterOf
-      forces-made isOver o a new h =
-          made (forceList (length old))
-          (h .answers ∙ ap (λ (b : Bool). forcesOf b (leb (job .matrix .n) (length old)) (job .matrix .n) (original job (s .sums))) o) refl (h .forces)
+  -- they are not: the call is the one on their job
+  pub performed : (c : Call) {k : ℕ} → accepted k ≡ jobReply → {j : Job} → j ≡ jobOf m x order groups count → {a : answers.Answer} {t : State} {new : List ℤ} → Made j s c old a t new
+      → Performed m x order groups count s c old a t new
+  unfolding answerLent afterLent
+  performed c {k} e {j} is {a} {t} {new} h =
+      let f : a ≡ answerLent m x order groups count s c =
+      h .answers ∙ ap (λ (y : Job). calls.answer y s c) is
+      ∙ sym (turn-accepted answers.denied (calls.answer (jobOf m x order groups count) s c) (accepted 0) (jobChecks m x order groups count) k (sym e) .1) in
+      record {
+        answers = f;
+        leaves = h .leaves ∙ ap (λ (y : Job). calls.after y s c) is
+            ∙ sym (turn-accepted (λ number place. s) (calls.after (jobOf m x order groups count) s c) (accepted 0) (jobChecks m x order groups count) k (sym e) .1);
+        forces = h .forces ∙ ap (λ (z : answers.Answer). forcesLent z old) f;
+      }

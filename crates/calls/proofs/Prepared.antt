@@ -1,39 +1,29 @@
--- A job that passed the checks: its records, its workers, whether they are done, and the parts of its upper triangle.
-use mathlib.Core.Path.{_≡_, refl, sym, ap, _∙_}
-use mathlib.Core.Logic.{⊎-elim}
+-- A job that passed the checks: its records, its displacements, and whether its workers are done.
+use mathlib.Core.Path.{_≡_, refl, sym, ap, _∙_, subst}
 use mathlib.Core.Bool.{true}
-use mathlib.Core.List.{List}
-use Prim.Native.Nat.{ℕ, suc, _+_, _*_, _≤_, _<_}
+use mathlib.Core.List.{List, [], _++_, append-nil}
+use Prim.Native.Nat.{ℕ, _*_, _/_, _≤_, _<_}
 use native.Mathlib.Omega.{arith}
 use lib.IntN.{ℤ}
-use lib.ListN.{length, getD, replicate, take}
+use lib.ListN.{length, getD, take, length-take}
 use lib.Seq.{getD-take}
 use Rattle.base.specs.Replies.{accepted, refused, inTurn}
 use Rattle.matrix.specs.Limits.{maxRows}
-use Rattle.matrix.proofs.Matrix.{matrix-facts, displacements-many}
+use Rattle.matrix.proofs.Matrix.{displacements-many}
 use Rattle.matrix.specs.Matrix.{Matrix, matrixOf}
-use Rattle.plan.specs.Groups.{Group, width, planOf, records}
-use Rattle.plan.specs.Sound.{maxWorkers, maxGroups, eachOnce}
-use Rattle.plan.specs.code.Checks.{recordAt, Reads}
-use Rattle.plan.specs.declared.fields.Record.{Record}
-use Rattle.run.specs.Job.{Job, jobOf, workers}
-use Rattle.run.specs.Updates.{rowUpdates, owner}
+use Rattle.plan.specs.Groups.{width, planOf, records, flat}
+use Rattle.plan.specs.Sound.{maxWorkers, eachOnce}
+use Rattle.plan.proofs.FlatRecords.{length-records, flat-records, records-flat}
+use Rattle.run.specs.Job.{Job, jobOf, Accepted, workers}
 use Rattle.run.specs.Machine.{over, isState}
 use Rattle.run.specs.State.{State}
 use Rattle.run.specs.Calls.{jobChecks}
 use Rattle.run.proofs.Accepted.{facts, tree-of}
-use Rattle.run.proofs.RowUpdates.{row-length}
-use Rattle.tables.specs.code.Laid.{maxUpdates, beginOf, Counted, Laid}
-use Rattle.upper.specs.code.Upper.{Parts}
-use Rattle.upper.proofs.UpperRows.{upper-whole}
+use Rattle.tables.specs.code.Laid.{Counted}
 use Rattle.upper.proofs.PlacedRows.{row-low}
-use Rattle.waits.specs.code.Waits.{Recorded}
-use Rattle.layout.specs.code.UpdateTable.{Given, Planned, Blank}
-use Rattle.layout.proofs.UpdateRoom.{owners, span, spans-apart, room}
-use Rattle.layout.proofs.FilledRows.{blank-zeros}
+use Rattle.layout.specs.code.UpdateTable.{Given}
 use Rattle.layout.proofs.GivenRows.{lent-of, few-rows}
 use Rattle.machine.specs.code.Tests.{allBelow, fine, done}
-use Rattle.machine.proofs.BlockedLeaves.{whole-crew, recorded-of}
 use Rattle.machine.proofs.TableWaits.{table-over, table-state}
 use Rattle.calls.proofs.JobChecked.{job-given}
 
@@ -51,36 +41,31 @@ pub job-order : (m : Matrix) (x : List ℤ) (order groups : List ℕ) (count : �
 unfolding jobOf planOf
 job-order m x order groups count = refl
 
--- ---- a job with these records
+-- ---- the plan's records, cut from a longer list
 
-module _ {j : Job} {groups : List ℕ} {count : ℕ} {sizes : List ℕ} (g : Planned j groups count sizes) where
-  -- its tables are made of zeros
-  pub planned-blank : Blank (j .matrix .n) (replicate maxUpdates 0) (replicate maxRows 0) (replicate maxRows 0) (replicate maxGroups 0)
-  planned-blank = blank-zeros (j .matrix .n) (matrix-facts (j .matrix) (g .sized .accepted .matrix) .some)
+module _ (groups : List ℕ) (count : ℕ) (fits : width * count ≤ length groups) where
+  abbrev cut : List ℕ
+  cut = take (width * count) groups
 
-  -- the records are as the code needs them
-  pub planned-recorded : Recorded count groups
-  planned-recorded = recorded-of j (g .sized .accepted) count groups (g .groups-are) (g .groups-long)
+  pub cut-count : length cut / width ≡ count
+  cut-count = omega (arith, length-take (width * count) groups)
 
-  -- there is one
-  pub planned-record : width * (0 + 1) ≤ length groups
-  planned-record = omega (arith, g .groups-long, planned-recorded .some)
+  -- they are the plan's
+  cut-records : records count cut ≡ records count groups
+  cut-records =
+      rw (← flat-records count groups fits, ← append-nil (flat (records count groups)))
+      (ap (λ (k : ℕ). records k (flat (records count groups) ++ [])) (sym (length-records count groups)) ∙ records-flat (records count groups) [])
 
-  -- it has the plan's workers
-  whole-workers : recordAt groups 0 .workers ≡ workers j
-  whole-workers = whole-crew j count groups (planned-recorded .some) (g .groups-are)
+  pub cut-job : (m : Matrix) (x : List ℤ) (order : List ℕ) → jobOf m x order cut (length cut / width) ≡ jobOf m x order groups count
+  unfolding jobOf planOf
+  cut-job m x order = rw (cut-count, cut-records) refl
 
-  -- .. at most 16
-  pub whole-few : recordAt groups 0 .workers ≤ maxWorkers
-  whole-few = omega (arith, whole-workers, facts j (g .sized .accepted) .few)
-
-  -- .. as the code reads it
-  module _ (r : Record) (h : Reads r (recordAt groups 0)) where
-    pub read-crew : r .workers ≡ workers j
-    read-crew = ap (λ (w : Group). w .workers) (h .is) ∙ whole-workers
-
-    pub read-few : r .workers ≤ maxWorkers
-    read-few = omega (arith, ap (λ (w : Group). w .workers) (h .is), whole-few)
+  pub cut-given : {n : ℕ} {starts columns : List ℕ} {values x : List ℤ} {order : List ℕ} → Given n starts columns values x order groups count → Given n starts columns values x order cut (length cut / width)
+  cut-given g = record {
+    accepted = subst Accepted (sym (cut-job _ _ _)) (g .accepted);
+    order-long = g .order-long;
+    groups-long = omega (arith, cut-count, length-take (width * count) groups);
+  }
 
 -- ---- the job in lent lists
 
@@ -120,17 +105,3 @@ module _ {n : ℕ} {starts columns : List ℕ} {values x : List ℤ} {order grou
       -- whether they all made all their accesses
       pub counted-over : (made : List ℕ) {crew : ℕ} → crew ≡ workers j → allBelow (done first made) crew ≡ over j made
       counted-over made e = table-over j c made _ e (facts j (g .accepted) .few)
-
-    -- where the updates of a row begin its part of the upper triangle begins, and there is room for it
-    pub parts-of : {sizes first row begins leaves ends : List ℕ} → Planned j groups count sizes → Laid j first row begins leaves ends → Parts (matrixOf n starts columns values) (take n order) begins
-    unfolding jobOf planOf
-    parts-of p laid = record {
-      room = λ q l. omega (arith, laid .begun q l, ap length (upper-whole j q l), row-length j q, span-room q l);
-      apart = λ q r c d lq lr e a b y. ⊎-elim
-          (λ z. omega (arith, laid .begun q lq, laid .begun r lr, ap length (upper-whole j q lq), row-length j q, y, z))
-          (λ z. omega (arith, laid .begun q lq, laid .begun r lr, ap length (upper-whole j r lr), row-length j r, y, z))
-          (spans-apart j q r lq lr e);
-    }
-      where
-        span-room : (q : ℕ) → q < n → beginOf j q + length (rowUpdates j q) ≤ maxUpdates
-        span-room q l = omega (arith, span j q, room j (g .accepted) (owner j q) (suc q) (owners j (g .accepted) q l) l)

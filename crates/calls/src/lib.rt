@@ -1,27 +1,41 @@
-// A call on a run, by the lists that a caller lends: the checks, the accesses of each worker, then what is asked.
-mod checks;
+// A call on a run, by the lists that a caller lends: the checks, then what is asked.
 mod force_list;
 mod picks;
 mod ready_set;
 
+use base::MATRIX;
 use base::STATE;
-use checks::check_job;
+use base::UNSOUND;
+use base::Verdict;
 use force_list::force_list;
 use layout::counts::first_updates;
-use machine::state::Rule;
 use machine::state::State;
 use matrix::limits::MAX_ROWS;
-use picks::take_picks;
+use multiply::check_displacements;
+use picks::picks;
+use plan::fields::WIDTH;
 use plan::fields::record_at;
+use plan::is_plan;
 use ready_set::ready_set;
-use upper::order::positions;
+use symmetric::is_matrix;
 use upper::sizes::sizes_of;
 ghost use mathlib.Core.Path.{_≡_};
+ghost use mathlib.Core.Logic.{_≢_};
+ghost use mathlib.Core.List.{List};
+ghost use Prim.Native.Nat.{ℕ, _/_};
+ghost use lib.IntN.{ℤ};
 ghost use lib.ListN.{length, take};
+ghost use Rattle.base.specs.Replies.{accepted, refused, inTurn};
+ghost use Rattle.base.specs.Verdicts.{replyOf};
 ghost use Rattle.matrix.specs.Matrix.{matrixOf};
-ghost use Rattle.run.specs.Calls.{placeOf};
+ghost use Rattle.plan.specs.Groups.{width};
+ghost use Rattle.run.specs.Calls.{jobChecks};
+ghost use Rattle.run.specs.Job.{jobOf};
+ghost use Rattle.layout.specs.code.UpdateTable.{Given};
 ghost use Rattle.machine.specs.Record.{stateOf};
+ghost use Rattle.calls.specs.declared.Call.the-variants.{Picks};
 ghost use Rattle.calls.specs.Performed.{asCall, asAnswer, Performed};
+ghost use Rattle.calls.specs.code.Made.{Made};
 
 // What is asked of a run: that it take the picks of a lent schedule, who is ready, its forces for a lent list.
 pub enum Call {
@@ -45,11 +59,73 @@ pub struct Done {
     pub answer: Response,
 }
 
-// The place of an ending: the pick's index; 0 if none ended the picks.
-fn place_of(number: u32, past: usize) -> usize
-    ensures { λ r. ⌜ r ≡ placeOf number past ⌝ }
+// 5, 6, 8: whether the lists hold a matrix, its displacements and a plan that is sound for it.
+fn check_job(
+    n: u32,
+    starts: &[u32],
+    columns: &[u32],
+    values: &[i32],
+    displacements: &[i32],
+    order: &[u32],
+    groups: &[u32],
+    count: u32,
+) -> Verdict
+    ensures { λ r. ⌜ replyOf r ≡ inTurn refused (jobChecks (matrixOf n (now (starts .entry)) (now (columns .entry)) (now (values .entry))) (now (displacements .entry)) (now (order .entry)) (now (groups .entry)) count) (accepted 0) ⌝ }
 {
-    if number == 0 { 0 } else { past }
+    if !is_matrix(n, starts, columns, values) {
+        return Verdict::Refused(MATRIX, 0);
+    }
+    let checked = check_displacements(n, displacements);
+    if let Verdict::Refused(number, place) = checked {
+        return Verdict::Refused(number, place);
+    }
+    if !is_plan(n, starts, columns, order, groups, count) {
+        return Verdict::Refused(UNSOUND, 0);
+    }
+    Verdict::Accepted(0)
+}
+
+// What a call comes to.
+fn answered(state: State, answer: Response) -> Done
+    ensures { λ r. ⌜ (r .state ≡ state) × (r .answer ≡ answer) ⌝ }
+{
+    Done {
+        state: state,
+        answer: answer,
+    }
+}
+
+// What is asked of a run that stays as it is, if the counts are those of a state. There is a sum for each row.
+fn report(
+    starts: &[u32],
+    columns: &[u32],
+    order: &[u32],
+    groups: &[u32],
+    state: State,
+    sums: &[i64],
+    forces: &mut [i64],
+    call: Call,
+) -> Response
+    requires { ⌜ ((values : List ℤ) × (x : List ℤ) × Given (length (now sums)) (now starts) (now columns) values x (now order) (now groups) (length (now groups) / width)) ⌝ }
+    ensures { λ r. ⌜ ((values x : List ℤ) (schedule : List ℕ) → Given (length (now (sums .entry))) (now (starts .entry)) (now (columns .entry)) values x (now (order .entry)) (now (groups .entry)) (length (now (groups .entry)) / width)
+        → call ≢ Picks → Made (jobOf (matrixOf (length (now (sums .entry))) (now (starts .entry)) (now (columns .entry)) values) x (now (order .entry)) (now (groups .entry)) (length (now (groups .entry)) / width))
+        (stateOf state (now (sums .entry))) (asCall call schedule (length (now (forces .entry)))) (now (forces .entry))
+        (asAnswer r (take (length (now (sums .entry))) (now (forces .exit)))) (stateOf state (now (sums .entry))) (now (forces .exit))) ⌝ }
+{
+    let n = sums.len();
+    let count = groups.len() / WIDTH;
+    let mut sizes = [0u32; MAX_ROWS];
+    sizes_of(n, starts, columns, order, &mut sizes);
+    let first = first_updates(groups, count, &sizes);
+    if !state.is_fine(first) {
+        return Response::Refused(STATE, 0);
+    }
+    let Call::ForceList = call else {
+        return ready_set(state, groups, count, &sizes, first);
+    };
+    let whole = record_at(groups, 0);
+    let is_over = state.is_finished(first, whole.workers);
+    force_list(n as u32, is_over, order, sums, forces)
 }
 
 // One call. A call that takes no picks is lent an empty schedule, and one that asks for no forces an empty list.
@@ -82,72 +158,27 @@ pub fn perform(
         groups,
         count,
     );
-    if let base::Verdict::Refused(number, place) = checked {
-        return Done {
-            state: state,
-            answer: Response::Refused(number, place),
-        };
+    if let Verdict::Refused(number, place) = checked {
+        return answered(state, Response::Refused(number, place));
     }
     if sums.len() != n as usize {
-        return Done {
-            state: state,
-            answer: Response::Refused(STATE, 0),
-        };
+        return answered(state, Response::Refused(STATE, 0));
     }
-    let rows = n as usize;
-    let mut position = [0u32; MAX_ROWS];
-    let mut sizes = [0u32; MAX_ROWS];
-    positions(order, rows, &mut position);
-    sizes_of(rows, starts, columns, order, &position, &mut sizes);
-    let first = first_updates(groups, count as usize, &sizes);
-    if !state.is_fine(first) {
-        return Done {
-            state: state,
-            answer: Response::Refused(STATE, 0),
-        };
+    let size = WIDTH * count as usize;
+    let records = &groups[..size];
+    if let Call::Picks = call {
+        return picks(
+            starts,
+            columns,
+            values,
+            displacements,
+            order,
+            records,
+            state,
+            sums,
+            schedule,
+        );
     }
-    match call {
-        Call::Picks => {
-            let walked = take_picks(
-                starts,
-                columns,
-                values,
-                displacements,
-                order,
-                groups,
-                count as usize,
-                &position,
-                &sizes,
-                first,
-                state,
-                sums,
-                schedule,
-                Rule::Stop,
-            );
-            let after = walked.state;
-            let taken = walked.taken;
-            let number = walked.number;
-            let past = walked.past;
-            Done {
-                state: after,
-                answer: Response::Picked(taken, number, place_of(number, past)),
-            }
-        }
-        Call::ReadySet => {
-            let answer = ready_set(state, groups, count as usize, &sizes, first);
-            Done {
-                state: state,
-                answer: answer,
-            }
-        }
-        Call::ForceList => {
-            let whole = record_at(groups, 0);
-            let is_over = state.is_finished(first, whole.workers);
-            let answer = force_list(n, is_over, order, sums, forces);
-            Done {
-                state: state,
-                answer: answer,
-            }
-        }
-    }
+    let answer = report(starts, columns, order, records, state, sums, forces, call);
+    answered(state, answer)
 }

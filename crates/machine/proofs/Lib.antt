@@ -4,3 +4,4 @@ pub mod AllBelow
 pub mod TableWaits
 pub mod BlockedLeaves
 pub mod RunTurns
+pub mod PlannedTables

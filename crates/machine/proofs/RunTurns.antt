@@ -9,7 +9,7 @@ use native.Mathlib.Numerals.{add-one}
 use native.Mathlib.Omega.{arith}
 use lib.Dec.{leb}
 use lib.IntN.{ℤ}
-use lib.ListN.{length, getD, set, length-set}
+use lib.ListN.{length, getD, length-set}
 use lib.Seq.{getD-set-same, getD-set-other}
 use borrow.Author.Tests.{le-leb, lt-leb}
 use Rattle.base.proofs.Booleans.{same-or}
@@ -18,14 +18,12 @@ use Rattle.plan.specs.Groups.{records}
 use Rattle.plan.specs.code.Checks.{recordAt}
 use Rattle.run.specs.Job.{Job, Accepted, workers}
 use Rattle.run.specs.Updates.{Update, count, accesses, next}
-use Rattle.run.specs.Machine.{refusal, onward, stepIf, step}
+use Rattle.run.specs.Machine.{refusal, halted, onward, stepIf, step}
 use Rattle.run.specs.State.{State}
 use Rattle.tables.specs.code.Laid.{Laid, Waits}
 use Rattle.waits.specs.code.Waits.{Recorded, Blocks, Ahead}
-use Rattle.steps.specs.declared.Pick.{Pick}
-use Rattle.steps.specs.declared.Pick.the-variants.{Taken, Refused}
 use Rattle.steps.specs.code.Updates.{updateIn, Triangle}
-use Rattle.steps.specs.code.Steps.{stateWith, rowNext, numberNext, reasonAt, stepTaken, outcomeOf, StepMade}
+use Rattle.steps.specs.code.Steps.{rowNext, numberNext, reasonAt, outcomeOf, PickMade}
 use Rattle.machine.specs.code.Stepped.{passesOver, walk}
 use Rattle.machine.specs.declared.state.Rule.{Rule}
 use Rattle.run.proofs.Able.{able}
@@ -37,10 +35,10 @@ use Rattle.machine.proofs.ScheduleLoop.{Left, left-start, left-step, le
 -- ---- a step is the machine's
 
 module _ (j : Job) {first row begins leaves ends : List ℕ} (laid : Laid j first row begins leaves ends)
-    {displaced : List ℤ} {at : List ℕ} {beside : List ℤ} (t : Triangle j begins displaced at beside) where
+    {parts : List ℕ} {displaced : List ℤ} {at : List ℕ} {beside : List ℤ} (t : Triangle j parts displaced at beside) where
   -- the update of worker w's next access
   abbrev nextUpdate : (made : List ℕ) → ℕ → Update
-  nextUpdate made w = updateIn begins displaced at beside (rowNext first row made w) (numberNext first row begins made w)
+  nextUpdate made w = updateIn parts displaced at beside (rowNext first row made w) (numberNext first row begins made w)
 
   table-step : (crew : ℕ) → crew ≡ workers j → crew ≤ maxWorkers → (s : State) (blocks : List ℕ) → Waits j (s .made) blocks → (w : ℕ)
       → stepIf (reasonAt crew first row leaves blocks (s .made) w) s w (nextUpdate (s .made) w) ≡ step j s w
@@ -53,11 +51,16 @@ module _ (j : Job) {first row begins leaves ends : List ℕ} (laid : Laid j firs
           let a = able j (s .made) w y in
           ap (λ (v : Update). stepIf 0 s w v) (table-update j laid w (omega (arith, a .inPlan)) (count (s .made) w / 2) (omega (arith, a .left)) t)
 
-  module _ {crew : ℕ} (e : crew ≡ workers j) (few : crew ≤ maxWorkers) {s : State} {blocks : List ℕ} (waiting : Waits j (s .made) blocks) {w : ℕ} {answer : Pick} {sums : List ℤ}
-      (h : StepMade (reasonAt crew first row leaves blocks (s .made) w) s w (nextUpdate (s .made) w) answer sums) where
-    -- what the code answers is the machine's outcome
-    step-answer : {given : Pick} → answer ≡ given → step j s w ≡ outcomeOf given s w sums
-    step-answer q = sym (table-step crew e few s blocks waiting w) ∙ sym (h .is) ∙ ap (λ (y : Pick). outcomeOf y s w sums) q
+  -- what the code answers and leaves is the machine's outcome
+  step-answer : {crew : ℕ} → crew ≡ workers j → crew ≤ maxWorkers → {s : State} {blocks : List ℕ} → Waits j (s .made) blocks → {w number : ℕ} {t : State}
+      → PickMade (reasonAt crew first row leaves blocks (s .made) w) s w (nextUpdate (s .made) w) number t → step j s w ≡ outcomeOf number t
+  step-answer {crew} e few {s} {blocks} waiting {w} h = sym (table-step crew e few s blocks waiting w) ∙ sym (h .is)
+
+-- a pick that is refused
+outcome-halted : (number : ℕ) (t : State) → number ≢ 0 → outcomeOf number t ≡ halted number
+unfolding outcomeOf
+outcome-halted zero t d = absurd (d refl)
+outcome-halted (suc k) t d = refl
 
 -- ---- who is blocked stays so
 
@@ -119,6 +122,7 @@ pub record Tables : Type 0 where
   pub first : List ℕ
   pub row : List ℕ
   pub begins : List ℕ
+  pub parts : List ℕ
   pub leaves : List ℕ
   pub displaced : List ℤ
   pub at : List ℕ
@@ -129,11 +133,11 @@ module _ (T : Tables) where
   abbrev EachJob : (Job → Type 0) → Type 0
   EachJob P =
       (j : Job) → Accepted j → j .plan .groups ≡ records (T .count) (T .groups)
-      → Laid j (T .first) (T .row) (T .begins) (T .leaves) (T .ends) → Triangle j (T .begins) (T .displaced) (T .at) (T .beside) → P j
+      → Laid j (T .first) (T .row) (T .begins) (T .leaves) (T .ends) → Triangle j (T .parts) (T .displaced) (T .at) (T .beside) → P j
 
   -- the update of worker w's next access
   abbrev updateOf : (made : List ℕ) → ℕ → Update
-  updateOf made w = updateIn (T .begins) (T .displaced) (T .at) (T .beside) (rowNext (T .first) (T .row) made w) (numberNext (T .first) (T .row) (T .begins) made w)
+  updateOf made w = updateIn (T .parts) (T .displaced) (T .at) (T .beside) (rowNext (T .first) (T .row) made w) (numberNext (T .first) (T .row) (T .begins) made w)
 
   -- k picks of the schedule, n of them taken, led from s₀ to s; these groups are blocked now, and until a count reaches
   -- its stop
@@ -154,33 +158,28 @@ module _ {T : Tables} {rule : Rule} {s₀ : State} {schedule : List ℕ} where
     pub running-none : k ≡ length schedule → EachJob T (λ j. record { state = s; taken = n; past = k; number = 0 } ≡ walk rule j s₀ schedule)
     running-none l j ok is laid t = left-none rule j s₀ schedule n k s (r .left j ok is laid t) l
 
-    -- the next step
-    module _ (few : T .crew ≤ maxWorkers) (R : Recorded (T .count) (T .groups)) (l : k < length schedule) {answer : Pick} {sums : List ℤ}
-        (h : StepMade (reasonAt (T .crew) (T .first) (T .row) (T .leaves) blocks (s .made) (getD schedule k 0)) s (getD schedule k 0) (updateOf T (s .made) (getD schedule k 0)) answer sums) where
+    -- the next pick
+    module _ (few : T .crew ≤ maxWorkers) (R : Recorded (T .count) (T .groups)) (l : k < length schedule) {number : ℕ} {new : State}
+        (h : PickMade (reasonAt (T .crew) (T .first) (T .row) (T .leaves) blocks (s .made) (getD schedule k 0)) s (getD schedule k 0) (updateOf T (s .made) (getD schedule k 0)) number new) where
       abbrev w : ℕ
       w = getD schedule k 0
 
-      is-step : {given : Pick} → answer ≡ given → EachJob T (λ j. step j s w ≡ outcomeOf given s w sums)
-      is-step q j ok is laid t = step-answer j laid t (r .crew ∙ whole-crew j (T .count) (T .groups) (R .some) is) few (waits-of j ok (T .count) (T .groups) is laid (s .made) blocks (r .blocked) R) h q
+      is-step : EachJob T (λ j. step j s w ≡ outcomeOf number new)
+      is-step j ok is laid t = step-answer j laid t (r .crew ∙ whole-crew j (T .count) (T .groups) (R .some) is) few (waits-of j ok (T .count) (T .groups) is laid (s .made) blocks (r .blocked) R) h
 
-      module _ {number : ℕ} (q : answer ≡ Refused number) where
-        abbrev old : State
-        old = stateWith (s .made) (s .held) sums
-
-        same-state : s ≡ old
-        same-state = ap (λ (y : List ℤ). stateWith (s .made) (s .held) y) (sym (h .kept number q))
+      module _ (q : number ≢ 0) where
+        halts : EachJob T (λ j. step j s w ≡ halted number)
+        halts j ok is laid t = is-step j ok is laid t ∙ outcome-halted number new q
 
         -- it is refused, and ends the schedule
-        pub running-halt : passesOver rule number ≡ false → EachJob T (λ j. record { state = old; taken = n; past = k; number = number } ≡ walk rule j s₀ schedule)
-        unfolding outcomeOf
+        pub running-halt : passesOver rule number ≡ false → EachJob T (λ j. record { state = new; taken = n; past = k; number = number } ≡ walk rule j s₀ schedule)
         running-halt p j ok is laid t =
-            ap (λ (y : State). record { state = y; taken = n; past = k; number = number }) (sym same-state)
-            ∙ left-halt rule j s₀ schedule n k s (r .left j ok is laid t) l number (is-step q j ok is laid t) p
+            ap (λ (y : State). record { state = y; taken = n; past = k; number = number }) (h .kept q)
+            ∙ left-halt rule j s₀ schedule n k s (r .left j ok is laid t) l number (halts j ok is laid t) p
 
         -- .. or is passed over
-        pub running-past : passesOver rule number ≡ true → Running T rule s₀ schedule n (k + 1) old blocks stops
-        unfolding outcomeOf
-        running-past p = subst (λ (y : State). Running T rule s₀ schedule n (k + 1) y blocks stops) same-state (record {
+        pub running-past : passesOver rule number ≡ true → Running T rule s₀ schedule n (k + 1) new blocks stops
+        running-past p = subst (λ (y : State). Running T rule s₀ schedule n (k + 1) y blocks stops) (sym (h .kept q)) (record {
           crew = r .crew;
           long = r .long;
           blocked = r .blocked;
@@ -188,24 +187,23 @@ module _ {T : Tables} {rule : Rule} {s₀ : State} {schedule : List ℕ} where
           left = λ j ok is laid t.
               (let more : n + 0 ≡ n = omega arith in
               subst (λ (y : ℕ). Left rule j s₀ schedule n y s) (sym (add-one k))
-              (subst (λ (y : ℕ). Left rule j s₀ schedule y (suc k) s) more (left-past rule j s₀ schedule n k s (r .left j ok is laid t) l number (is-step q j ok is laid t) p)));
+              (subst (λ (y : ℕ). Left rule j s₀ schedule y (suc k) s) more (left-past rule j s₀ schedule n k s (r .left j ok is laid t) l number (halts j ok is laid t) p)));
         })
 
-      module _ {z : ℤ} (q : answer ≡ Taken z) where
-        abbrev new : State
-        new = stepTaken s w z sums
-
+      module _ (q : number ≡ 0) where
         -- its worker has made one access more
         one-more : new .made ≡ onward (s .made) w
-        unfolding onward
-        one-more = ap (set (s .made) w) (add-one (getD (s .made) w 0))
+        one-more = h .counted q
 
         next-long : length (new .made) ≡ maxWorkers
-        next-long = length-set (s .made) w (getD (s .made) w 0 + 1) ∙ r .long
+        unfolding onward
+        next-long = ap length one-more ∙ length-set (s .made) w (suc (getD (s .made) w 0)) ∙ r .long
 
         next-left : EachJob T (λ j. Left rule j s₀ schedule (n + 1) (k + 1) new)
         unfolding outcomeOf
-        next-left j ok is laid t = subst (λ (y : ℕ). Left rule j s₀ schedule (n + 1) y new) (sym (add-one k)) (left-step rule j s₀ schedule n k s (r .left j ok is laid t) l new (is-step q j ok is laid t))
+        next-left j ok is laid t =
+            subst (λ (y : ℕ). Left rule j s₀ schedule (n + 1) y new) (sym (add-one k))
+            (left-step rule j s₀ schedule n k s (r .left j ok is laid t) l new (is-step j ok is laid t ∙ ap (λ (y : ℕ). outcomeOf y new) q))
 
         -- the blocked groups are found anew
         pub running-renewed : {blocks′ stops′ : List ℕ} → Blocks (T .count) (T .groups) (T .ends) (new .made) blocks′ → Ahead (T .count) (T .groups) (T .ends) (new .made) stops′ → Running T rule s₀ schedule (n + 1) (k + 1) new blocks′ stops′

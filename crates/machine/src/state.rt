@@ -1,23 +1,24 @@
 // A run's state: one record, handed in and handed back.
 use base::DONE;
 use base::WAITING;
+use layout::lay;
 use matrix::limits::MAX_ROWS;
 use plan::MAX_GROUPS;
 use plan::MAX_WORKERS;
+use plan::fields::WIDTH;
 use plan::fields::record_at;
-use steps::Pick;
 use steps::accesses;
-use steps::step;
+use steps::pick;
 use tables::FIRSTS;
 use tables::MAX_UPDATES;
 use waits::blocked_groups;
 use waits::next_ends;
 ghost use mathlib.Core.Path.{_≡_};
-ghost use Prim.Native.Nat.{ℕ, _≤_, _<_};
+ghost use Prim.Native.Nat.{ℕ, _/_, _≤_, _<_};
 ghost use lib.IntN.{pos};
 ghost use lib.ListN.{length, replicate};
 ghost use Rattle.plan.specs.Sound.{maxWorkers};
-ghost use Rattle.plan.specs.Groups.{records};
+ghost use Rattle.plan.specs.Groups.{width, records};
 ghost use Rattle.plan.specs.code.Checks.{recordAt};
 ghost use Rattle.run.specs.Job.{Job, Accepted};
 ghost use Rattle.run.specs.Updates.{count};
@@ -26,7 +27,8 @@ ghost use Rattle.run.specs.Job as job;
 ghost use Rattle.run.specs.State as run;
 ghost use Rattle.machine.specs.Record.{stateOf};
 ghost use Rattle.machine.specs.code.Tests.{allBelow, fine, done};
-ghost use Rattle.tables.specs.code.Laid.{Rising, Laid};
+ghost use Rattle.tables.specs.code.Laid.{Rising, Counted, Laid};
+ghost use Rattle.layout.specs.code.UpdateTable.{Planned};
 ghost use Rattle.waits.specs.code.Waits.{Recorded};
 ghost use Rattle.steps.specs.code.Updates.{Triangle};
 ghost use Rattle.steps.specs.code.Steps.{StepTables};
@@ -64,6 +66,27 @@ pub struct Walked {
     pub number: u32,
 }
 
+// A schedule that led to these counts and held numbers.
+fn ended(
+    made: [u32; MAX_WORKERS],
+    held: [i64; MAX_WORKERS],
+    taken: usize,
+    past: usize,
+    number: u32,
+) -> Walked
+    ensures { λ r. ⌜ r ≡ endedWith (record { made = made; held = held }) taken past number ⌝ }
+{
+    Walked {
+        state: State {
+            made: made,
+            held: held,
+        },
+        taken: taken,
+        past: past,
+        number: number,
+    }
+}
+
 impl State {
     // The state that a run begins with.
     pub fn fresh() -> State
@@ -75,87 +98,124 @@ impl State {
         }
     }
 
-    // The state that picks led to, with how many were taken, how many came before the one that ended them, and its
-    // number.
-    fn ended(self, taken: usize, past: usize, number: u32) -> Walked
-        ensures { λ r. ⌜ r ≡ endedWith self taken past number ⌝ }
-    {
-        Walked {
-            state: self,
-            taken: taken,
-            past: past,
-            number: number,
-        }
-    }
-
-    // Takes the picks of a schedule one by one, up to the first that is refused and that the rule does not pass over.
-    // Each is a step in place: to hand the record over for every pick copies its 192 bytes twice.
-    pub fn take(
-        mut self,
+    // Takes the picks of a schedule one by one by the tables, up to the first that is refused and that the rule does
+    // not pass over.
+    fn walk(
+        self,
         sums: &mut [i64],
         schedule: &[u8],
         rule: Rule,
         groups: &[u32],
-        count: usize,
         ends: &[u32; MAX_GROUPS],
         first: &[u32; FIRSTS],
         row: &[u16; MAX_UPDATES],
         begins: &[u32; MAX_ROWS],
+        parts: &[u32; MAX_ROWS],
         leaves: &[u16; MAX_ROWS],
         displaced: &[i32; MAX_ROWS],
         at: &[u16; MAX_UPDATES],
         beside: &[i32; MAX_UPDATES],
     ) -> Walked
-        requires { ⌜ (recordAt (now groups) 0 .workers ≤ maxWorkers) × Recorded count (now groups)
-            × StepTables (length (now sums)) (now first) (now row) (now begins) (now leaves) (now at) ⌝ }
-        ensures { λ r. ⌜ ((j : Job) → Accepted j → j .plan .groups ≡ records count (now (groups .entry))
+        requires { ⌜ (recordAt (now groups) 0 .workers ≤ maxWorkers) × Recorded (length (now groups) / width) (now groups)
+            × StepTables (length (now sums)) (now first) (now row) (now begins) (now parts) (now leaves) (now at) ⌝ }
+        ensures { λ r. ⌜ ((j : Job) → Accepted j → j .plan .groups ≡ records (length (now (groups .entry)) / width) (now (groups .entry))
             → Laid j (now (first .entry)) (now (row .entry)) (now (begins .entry)) (now (leaves .entry)) (now (ends .entry))
-            → Triangle j (now (begins .entry)) (now (displaced .entry)) (now (at .entry)) (now (beside .entry))
+            → Triangle j (now (parts .entry)) (now (displaced .entry)) (now (at .entry)) (now (beside .entry))
             → walkedOf r (now (sums .exit)) ≡ walk rule j (stateOf self (now (sums .entry))) (now (schedule .entry))) ⌝ }
     {
+        let mut made = self.made;
+        let mut held = self.held;
+        let count = groups.len() / WIDTH;
         let whole = record_at(groups, 0);
         let workers = whole.workers;
-        let mut blocks = blocked_groups(groups, count, ends, &self.made);
-        let mut stops = next_ends(groups, count, ends, &self.made);
+        let mut blocks = blocked_groups(groups, count, ends, &made);
+        let mut stops = next_ends(groups, count, ends, &made);
         let mut taken = 0;
         let mut k = 0;
         while k < schedule.len() {
             let w = schedule[k] as usize;
-            let answer = step(
-                &self.made,
-                &self.held,
+            let number = pick(
+                &mut made,
+                &mut held,
                 sums,
                 w,
                 workers,
                 first,
                 row,
                 begins,
+                parts,
                 leaves,
                 &blocks,
                 displaced,
                 at,
                 beside,
             );
-            let held = match answer {
-                Pick::Refused(number) => {
-                    if !passes(rule, number) {
-                        return self.ended(taken, k, number);
-                    }
-                    k += 1;
-                    continue;
+            if number != 0 {
+                if !passes(rule, number) {
+                    return ended(made, held, taken, k, number);
                 }
-                Pick::Taken(held) => held,
-            };
-            self.made[w] += 1;
-            self.held[w] = held;
+                k += 1;
+                continue;
+            }
             taken += 1;
-            if stops[w] <= self.made[w] {
-                blocks = blocked_groups(groups, count, ends, &self.made);
-                stops = next_ends(groups, count, ends, &self.made);
+            if stops[w] <= made[w] {
+                blocks = blocked_groups(groups, count, ends, &made);
+                stops = next_ends(groups, count, ends, &made);
             }
             k += 1;
         }
-        self.ended(taken, k, 0)
+        ended(made, held, taken, k, 0)
+    }
+
+    // .. by the upper triangle and its sizes: lays the rows of the updates. There is a sum for each row.
+    pub fn take(
+        self,
+        sums: &mut [i64],
+        schedule: &[u8],
+        rule: Rule,
+        groups: &[u32],
+        sizes: &[u32; MAX_ROWS],
+        first: [u32; FIRSTS],
+        parts: &[u32; MAX_ROWS],
+        displaced: &[i32; MAX_ROWS],
+        at: &[u16; MAX_UPDATES],
+        beside: &[i32; MAX_UPDATES],
+    ) -> Walked
+        requires { ⌜ ((j : Job) × Planned j (now groups) (length (now groups) / width) (now sizes) × Counted j first
+            × Triangle j (now parts) (now displaced) (now at) (now beside) × (length (now sums) ≡ j .matrix .n)) ⌝ }
+        ensures { λ r. ⌜ ((j : Job) → Planned j (now (groups .entry)) (length (now (groups .entry)) / width) (now (sizes .entry)) → Counted j first
+            → Triangle j (now (parts .entry)) (now (displaced .entry)) (now (at .entry)) (now (beside .entry))
+            → walkedOf r (now (sums .exit)) ≡ walk rule j (stateOf self (now (sums .entry))) (now (schedule .entry))) ⌝ }
+    {
+        let mut row = [0u16; MAX_UPDATES];
+        let mut begins = [0u32; MAX_ROWS];
+        let mut leaves = [0u16; MAX_ROWS];
+        let mut ends = [0u32; MAX_GROUPS];
+        lay(
+            groups,
+            groups.len() / WIDTH,
+            sizes,
+            first,
+            &mut row,
+            &mut begins,
+            &mut leaves,
+            &mut ends,
+        );
+        self.walk(
+            sums,
+            schedule,
+            rule,
+            groups,
+            &ends,
+            &first,
+            &row,
+            &begins,
+            parts,
+            &leaves,
+            displaced,
+            at,
+            beside,
+        )
     }
 
     // How many accesses worker w has made.

@@ -4,38 +4,40 @@ use mathlib.Core.List.{List, _∷_}
 use Prim.Native.Nat.{ℕ}
 use native.Mathlib.Omega.{arith}
 use lib.IntN.{ℤ}
-use lib.ListN.{take}
+use lib.ListN.{length, take}
 use lib.Seq.{getD-take}
 use Rattle.matrix.specs.Matrix.{displacement, matrixOf}
 use Rattle.plan.specs.Groups.{planOf}
 use Rattle.run.specs.Job.{Job, jobOf, rowAt}
 use Rattle.run.specs.Updates.{displacementAt, later}
 use Rattle.tables.specs.code.Laid.{Laid, Bounded}
-use Rattle.upper.specs.code.Upper.{upperTo, Displaced, Upper}
+use Rattle.upper.specs.code.Upper.{upperTo, Displaced, Parts, Upper}
 use Rattle.upper.proofs.UpperRows.{upper-whole}
 use Rattle.upper.proofs.PlacedRows.{placed-same}
 use Rattle.steps.specs.code.Updates.{Triangle}
 use Rattle.steps.specs.code.Steps.{StepTables}
-use Rattle.steps.proofs.TableUpdates.{updates-are, begun-before}
+use Rattle.steps.proofs.TableUpdates.{updates-are, begun-before, entry-inside}
 
--- the whole upper triangle of the lists is the job's
-pub triangle-of : {n : ℕ} {starts columns : List ℕ} {values x : List ℤ} {order : List ℕ} (groups : List ℕ) (count : ℕ) {begins next at : List ℕ} {displaced beside : List ℤ}
-    → Displaced n x order displaced → Upper (matrixOf n starts columns values) (take n order) begins n next at beside
-    → Triangle (jobOf (matrixOf n starts columns values) x order groups count) begins displaced at beside
+-- the whole upper triangle of the lists, in parts that have room, is the job's
+pub triangle-of : {n : ℕ} {starts columns : List ℕ} {values x : List ℤ} {order : List ℕ} (groups : List ℕ) (count : ℕ) {parts next at : List ℕ} {displaced beside : List ℤ}
+    → Displaced n x order displaced → Parts (matrixOf n starts columns values) (take n order) parts → Upper (matrixOf n starts columns values) (take n order) parts n next at beside
+    → Triangle (jobOf (matrixOf n starts columns values) x order groups count) parts displaced at beside
 unfolding jobOf planOf rowAt displacementAt
-triangle-of {n} {starts} {columns} {values} {x} {order} groups count {begins} {next} d t =
+triangle-of {n} {starts} {columns} {values} {x} {order} groups count {parts} {next} d r t =
     let j : Job = jobOf (matrixOf n starts columns values) x order groups count in
     record {
       displacements = λ p l. d .is p l ∙ ap (displacement x) (sym (getD-take n order p 0 l));
       next = next;
-      placed = placed-same (j .matrix) (j .plan .order) begins (λ p. upperTo (j .matrix) (j .plan .order) p n) (λ p. p ∷ later j p) (upper-whole j) t;
+      placed = placed-same (j .matrix) (j .plan .order) parts (λ p. upperTo (j .matrix) (j .plan .order) p n) (λ p. p ∷ later j p) (upper-whole j) t;
+      room = λ p l. omega (arith, r .room p l, ap length (upper-whole j p l));
     }
 
--- the tables as the steps need them
-pub step-tables : (j : Job) {first row begins leaves ends at : List ℕ} {displaced beside : List ℤ} → Laid j first row begins leaves ends → Bounded (j .matrix .n) first row leaves
-    → Triangle j begins displaced at beside → StepTables (j .matrix .n) first row begins leaves at
+-- the tables as the picks need them
+pub step-tables : (j : Job) {first row begins parts leaves ends at : List ℕ} {displaced beside : List ℤ} → Laid j first row begins leaves ends → Bounded (j .matrix .n) first row leaves
+    → Triangle j parts displaced at beside → StepTables (j .matrix .n) first row begins parts leaves at
 step-tables j laid b t = record {
   bounded = b;
   at-low = t .placed .at-low;
   begun = λ w k l h. begun-before j laid w l k (omega (arith, updates-are j (laid .counted) w l));
+  inside = λ w k l h. entry-inside j laid w l k (omega (arith, updates-are j (laid .counted) w l)) t;
 }

@@ -14,8 +14,8 @@ use Rattle.base.specs.Lists.{sumBelow}
 use Rattle.plan.specs.Sound.{maxWorkers}
 use Rattle.run.specs.Job.{Job, rowAt}
 use Rattle.run.specs.Updates.{Update, entryAt, displacementAt, later, rowUpdates, updates, noUpdate}
-use Rattle.tables.specs.code.Laid.{updateAt, firstOf, nextOf, beginOf, updatesIn, Counted, Laid}
-use Rattle.steps.specs.code.Updates.{byTurns, updateIn, Triangle}
+use Rattle.tables.specs.code.Laid.{maxUpdates, updateAt, firstOf, nextOf, beginOf, updatesIn, Counted, Laid}
+use Rattle.steps.specs.code.Updates.{byTurns, entryPlace, updateIn, Triangle}
 use Rattle.run.proofs.RowUpdates.{row-length, row-at}
 use Rattle.run.proofs.Work.{cum, At, locate}
 use Rattle.run.proofs.Next.{at-row}
@@ -30,7 +30,7 @@ by-low k a b {n} l h = go (eqb (k % 2) 0) refl
     go true e = rw e l
     go false e = rw e h
 
-module _ (j : Job) {begins : List ℕ} {displaced : List ℤ} {at : List ℕ} {beside : List ℤ} (t : Triangle j begins displaced at beside) where
+module _ (j : Job) {parts : List ℕ} {displaced : List ℤ} {at : List ℕ} {beside : List ℤ} (t : Triangle j parts displaced at beside) where
   module _ (p : ℕ) (low : p < j .matrix .n) where
     -- the row's own position, then the later adjacent ones
     abbrev others : List ℕ
@@ -40,15 +40,15 @@ module _ (j : Job) {begins : List ℕ} {displaced : List ℤ} {at : List ℕ} {b
     abbrev with-other : (k c : ℕ) → Update
     with-other k c = record { row = p; target = byTurns k (getD others c 0) p; amount = entryAt j p (getD others c 0) *ℤ displacementAt j (byTurns k p (getD others c 0)) }
 
-    found : (k c : ℕ) → (k + 1) / 2 ≡ c → c < length others → updateIn begins displaced at beside p k ≡ with-other k c
+    found : (k c : ℕ) → (k + 1) / 2 ≡ c → c < length others → updateIn parts displaced at beside p k ≡ with-other k c
     unfolding entryAt rowAt
     found k c e l =
-        let q : getD at (getD begins p 0 + c) 0 ≡ getD others c 0 = t .placed .positions p c low l in
-        let v : getD beside (getD begins p 0 + c) (pos 0) ≡ entryAt j p (getD others c 0) = t .placed .entries p c low l in
-        rw (e, t .displacements _ (by-low k p _ low (t .placed .at-low (getD begins p 0 + c))), q, v)
+        let q : getD at (getD parts p 0 + c) 0 ≡ getD others c 0 = t .placed .positions p c low l in
+        let v : getD beside (getD parts p 0 + c) (pos 0) ≡ entryAt j p (getD others c 0) = t .placed .entries p c low l in
+        rw (e, t .displacements _ (by-low k p _ low (t .placed .at-low (getD parts p 0 + c))), q, v)
 
     -- by the numbers of the updates
-    pub row-update : (k : ℕ) → k < length (rowUpdates j p) → updateIn begins displaced at beside p k ≡ getD (rowUpdates j p) k noUpdate
+    pub row-update : (k : ℕ) → k < length (rowUpdates j p) → updateIn parts displaced at beside p k ≡ getD (rowUpdates j p) k noUpdate
     unfolding rowUpdates
     row-update zero l = found 0 0 refl (omega arith)
     row-update (suc k) l = go (eqb (k % 2) 0) refl
@@ -59,7 +59,7 @@ module _ (j : Job) {begins : List ℕ} {displaced : List ℤ} {at : List ℕ} {b
         low-i : i < length (later j p)
         low-i = omega (arith, row-length j p)
 
-        go : (b : Bool) → eqb (k % 2) 0 ≡ b → updateIn begins displaced at beside p (suc k) ≡ getD (rowUpdates j p) (suc k) noUpdate
+        go : (b : Bool) → eqb (k % 2) 0 ≡ b → updateIn parts displaced at beside p (suc k) ≡ getD (rowUpdates j p) (suc k) noUpdate
         go true e =
             let f : suc k ≡ suc (2 * i) = omega (arith, eqb-true (k % 2) 0 e) in
             let d : suc (2 * i) % 2 ≢ 0 = λ z. omega arith in
@@ -107,13 +107,19 @@ module _ (j : Job) {first row begins leaves ends : List ℕ} (laid : Laid j firs
     pub begun-before : getD begins (getD row (getD first w 0 + k) 0) 0 ≤ getD first w 0 + k
     begun-before = rw row-is (omega (arith, begins-is, placed-at .low))
 
-    -- the row's update by that number
-    pub table-update : {displaced : List ℤ} {at : List ℕ} {beside : List ℤ} → Triangle j begins displaced at beside
-        → updateIn begins displaced at beside (getD row (getD first w 0 + k) 0) (getD first w 0 + k - getD begins (getD row (getD first w 0 + k) 0) 0) ≡ updateAt j w k
-    unfolding updates
-    table-update t =
-        let e : getD first w 0 + k - getD begins (placed-at .row) 0 ≡ k - cum j w (placed-at .row) = omega (arith, begins-is) in
-        rw (row-is, e) (row-update j t (placed-at .row) (placed-at .below) (k - cum j w (placed-at .row)) (placed-at .inside) ∙ sym (placed-at .is))
+    module _ {parts : List ℕ} {displaced : List ℤ} {at : List ℕ} {beside : List ℤ} (t : Triangle j parts displaced at beside) where
+      -- its number is that of the place, from the row's first on
+      number-is : getD first w 0 + k - getD begins (placed-at .row) 0 ≡ k - cum j w (placed-at .row)
+      number-is = omega (arith, begins-is)
+
+      -- the row's update by that number
+      pub table-update : updateIn parts displaced at beside (getD row (getD first w 0 + k) 0) (getD first w 0 + k - getD begins (getD row (getD first w 0 + k) 0) 0) ≡ updateAt j w k
+      unfolding updates
+      table-update = rw (row-is, number-is) (row-update j t (placed-at .row) (placed-at .below) (k - cum j w (placed-at .row)) (placed-at .inside) ∙ sym (placed-at .is))
+
+      -- .. has its entry in the tables
+      pub entry-inside : entryPlace parts (getD row (getD first w 0 + k) 0) (getD first w 0 + k - getD begins (getD row (getD first w 0 + k) 0) 0) < maxUpdates
+      entry-inside = rw (row-is, number-is) (omega (arith, placed-at .inside, row-length j (placed-at .row), t .room (placed-at .row) (placed-at .below)))
 
     -- .. is one of the job's
     pub row-is-update : getD row (getD first w 0 + k) 0 ≡ updateAt j w k .row

@@ -20,9 +20,10 @@ ghost use mathlib.Core.Path.{_≡_};
 ghost use Prim.Native.Nat.{ℕ, _*_, _≤_, _<_};
 ghost use lib.ListN.{length};
 ghost use Rattle.plan.specs.Sound.{maxWorkers};
+ghost use Rattle.run.specs.Updates.{count};
 ghost use Rattle.tables.specs.code.Laid.{maxUpdates, updatesIn, Rising, Bounded};
 ghost use Rattle.steps.specs.code.Updates.{updateIn, Readable};
-ghost use Rattle.steps.specs.code.Steps.{stateWith, placeNext, rowNext, numberNext, reasonAt, StepTables, StepMade};
+ghost use Rattle.steps.specs.code.Steps.{stateWith, placeNext, rowNext, numberNext, reasonAt, StepTables, PickMade};
 
 // How many accesses worker w makes: two for each of its updates.
 pub fn accesses(first: &[u32; FIRSTS], w: usize) -> u32
@@ -64,72 +65,71 @@ pub fn refusal(
     if blocks[i] == 1 { WAITING } else { 0 }
 }
 
-// What comes of a pick: the number that its worker holds then, or why it is refused.
-pub enum Pick {
-    Taken(i64),
-    Refused(u32),
-}
-
-// Worker w loads or stores the sum of update number k of the row at position p.
-fn access<'a>(
-    made: &'a [u32; MAX_WORKERS],
-    held: &'a [i64; MAX_WORKERS],
+// Worker w loads or stores the sum of update number k of the row at position p. 0, or 14 if the sum to store would pass
+// 64 bits: then all is as it was.
+fn access(
+    made: &mut [u32; MAX_WORKERS],
+    held: &mut [i64; MAX_WORKERS],
     sums: &mut [i64],
     w: usize,
-    begins: &[u32; MAX_ROWS],
+    parts: &[u32; MAX_ROWS],
     displaced: &[i32; MAX_ROWS],
     at: &[u16; MAX_UPDATES],
     beside: &[i32; MAX_UPDATES],
     p: usize,
     k: usize,
-) -> Pick
-    requires { ⌜ (w < maxWorkers) × Readable (length (now sums)) (now begins) (now at) p k ⌝ }
-    ensures { λ r. ⌜ StepMade 0 (stateWith (now (made .entry)) (now (held .entry)) (now (sums .entry))) w
-        (updateIn (now (begins .entry)) (now (displaced .entry)) (now (at .entry)) (now (beside .entry)) p k) r (now (sums .exit)) ⌝ }
+) -> u32
+    requires { ⌜ (w < maxWorkers) × (count (now made) w < 2 * maxUpdates) × Readable (length (now sums)) (now parts) (now at) p k ⌝ }
+    ensures { λ r. ⌜ PickMade 0 (stateWith (now (made .entry)) (now (held .entry)) (now (sums .entry))) w
+        (updateIn (now (parts .entry)) (now (displaced .entry)) (now (at .entry)) (now (beside .entry)) p k) r
+        (stateWith (now (made .exit)) (now (held .exit)) (now (sums .exit))) ⌝ }
 {
-    let t = target_of(begins, at, p, k);
+    let t = target_of(parts, at, p, k);
     if made[w] % 2 == 0 {
-        let loaded = sums[t];
-        return Pick::Taken(loaded);
+        held[w] = sums[t];
+        made[w] += 1;
+        return 0;
     }
-    let loaded = held[w];
-    let amount = amount_of(begins, displaced, at, beside, p, k);
-    let Sum::Fits(sum) = add_checked(loaded, amount) else {
-        return Pick::Refused(OVERFLOW);
+    let amount = amount_of(parts, displaced, at, beside, p, k);
+    let Sum::Fits(sum) = add_checked(held[w], amount) else {
+        return OVERFLOW;
     };
     sums[t] = sum;
-    Pick::Taken(loaded)
+    made[w] += 1;
+    0
 }
 
-// One step of worker w, by the counts made and numbers held: the sum of its next update is loaded, or stored.
-pub fn step<'a>(
-    made: &'a [u32; MAX_WORKERS],
-    held: &'a [i64; MAX_WORKERS],
+// One pick, in place: worker w loads or stores the sum of its next update. 0, or why it is refused: then all is as it
+// was.
+pub fn pick(
+    made: &mut [u32; MAX_WORKERS],
+    held: &mut [i64; MAX_WORKERS],
     sums: &mut [i64],
     w: usize,
     workers: usize,
     first: &[u32; FIRSTS],
     row: &[u16; MAX_UPDATES],
     begins: &[u32; MAX_ROWS],
+    parts: &[u32; MAX_ROWS],
     leaves: &[u16; MAX_ROWS],
     blocks: &[u8; MAX_GROUPS],
     displaced: &[i32; MAX_ROWS],
     at: &[u16; MAX_UPDATES],
     beside: &[i32; MAX_UPDATES],
-) -> Pick
-    requires { ⌜ (workers ≤ maxWorkers) × StepTables (length (now sums)) (now first) (now row) (now begins) (now leaves) (now at) ⌝ }
-    ensures { λ r. ⌜ StepMade (reasonAt workers (now (first .entry)) (now (row .entry)) (now (leaves .entry)) (now (blocks .entry)) (now (made .entry)) w)
+) -> u32
+    requires { ⌜ (workers ≤ maxWorkers) × StepTables (length (now sums)) (now first) (now row) (now begins) (now parts) (now leaves) (now at) ⌝ }
+    ensures { λ r. ⌜ PickMade (reasonAt workers (now (first .entry)) (now (row .entry)) (now (leaves .entry)) (now (blocks .entry)) (now (made .entry)) w)
         (stateWith (now (made .entry)) (now (held .entry)) (now (sums .entry))) w
-        (updateIn (now (begins .entry)) (now (displaced .entry)) (now (at .entry)) (now (beside .entry))
+        (updateIn (now (parts .entry)) (now (displaced .entry)) (now (at .entry)) (now (beside .entry))
         (rowNext (now (first .entry)) (now (row .entry)) (now (made .entry)) w) (numberNext (now (first .entry)) (now (row .entry)) (now (begins .entry)) (now (made .entry)) w))
-        r (now (sums .exit)) ⌝ }
+        r (stateWith (now (made .exit)) (now (held .exit)) (now (sums .exit))) ⌝ }
 {
     let why = refusal(made, w, workers, first, row, leaves, blocks);
     if why != 0 {
-        return Pick::Refused(why);
+        return why;
     }
     let place = next_place(made, w, first);
     let p = wide(row[place]);
     let k = place - begins[p] as usize;
-    access(made, held, sums, w, begins, displaced, at, beside, p, k)
+    access(made, held, sums, w, parts, displaced, at, beside, p, k)
 }

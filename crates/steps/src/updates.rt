@@ -24,39 +24,39 @@ fn product(entry: i32, displacement: i32) -> i64
 }
 
 // Where update number k of the row at position p has its entry, beside the other row's position.
-fn entry_place(begins: &[u32; MAX_ROWS], p: usize, k: usize) -> usize
-    requires { ⌜ (p < maxRows) × (entryPlace (now begins) p k < maxUpdates) ⌝ }
-    ensures { λ r. ⌜ r ≡ entryPlace (now (begins .entry)) p k ⌝ }
+fn entry_place(parts: &[u32; MAX_ROWS], p: usize, k: usize) -> usize
+    requires { ⌜ (p < maxRows) × (entryPlace (now parts) p k < maxUpdates) ⌝ }
+    ensures { λ r. ⌜ r ≡ entryPlace (now (parts .entry)) p k ⌝ }
 {
-    begins[p] as usize + (k + 1) / 2
+    parts[p] as usize + (k + 1) / 2
 }
 
 // The position of its sum: the other row's, then the row's own.
 pub(crate) fn target_of(
-    begins: &[u32; MAX_ROWS],
+    parts: &[u32; MAX_ROWS],
     at: &[u16; MAX_UPDATES],
     p: usize,
     k: usize,
 ) -> usize
-    requires { ⌜ (p < maxRows) × (entryPlace (now begins) p k < maxUpdates) ⌝ }
-    ensures { λ r. ⌜ r ≡ targetIn (now (begins .entry)) (now (at .entry)) p k ⌝ }
+    requires { ⌜ (p < maxRows) × (entryPlace (now parts) p k < maxUpdates) ⌝ }
+    ensures { λ r. ⌜ r ≡ targetIn (now (parts .entry)) (now (at .entry)) p k ⌝ }
 {
-    by_turns(k, wide(at[entry_place(begins, p, k)]), p)
+    by_turns(k, wide(at[entry_place(parts, p, k)]), p)
 }
 
 // What it adds: the entry times the displacement of the row whose sum it is not.
 pub(crate) fn amount_of(
-    begins: &[u32; MAX_ROWS],
+    parts: &[u32; MAX_ROWS],
     displaced: &[i32; MAX_ROWS],
     at: &[u16; MAX_UPDATES],
     beside: &[i32; MAX_UPDATES],
     p: usize,
     k: usize,
 ) -> i64
-    requires { ⌜ ((n : ℕ) × Readable n (now begins) (now at) p k) ⌝ }
-    ensures { λ r. ⌜ r ≡ amountIn (now (begins .entry)) (now (displaced .entry)) (now (at .entry)) (now (beside .entry)) p k ⌝ }
+    requires { ⌜ ((n : ℕ) × Readable n (now parts) (now at) p k) ⌝ }
+    ensures { λ r. ⌜ r ≡ amountIn (now (parts .entry)) (now (displaced .entry)) (now (at .entry)) (now (beside .entry)) p k ⌝ }
 {
-    let place = entry_place(begins, p, k);
+    let place = entry_place(parts, p, k);
     let row = by_turns(k, p, wide(at[place]));
     product(beside[place], displaced[row])
 }

@@ -3,3 +3,4 @@ pub mod PositionTable
 pub mod PlacedRows
 pub mod JoinRows
 pub mod SizeRows
+pub mod PartRows

@@ -1,19 +1,19 @@
 -- A row's entries in the upper triangle are counted by its columns: the later of their rows, and the row itself.
 use mathlib.Core.Path.{_≡_, refl, sym, ap, _∙_}
-use mathlib.Core.Logic.{_⊎_, inl, inr, _≢_}
+use mathlib.Core.Logic.{_≢_}
 use mathlib.Core.Bool.{Bool, true, false, not, _&&_, _||_, and-true}
 use mathlib.Core.List.{List, [], _∷_}
 use Prim.Native.Nat.{ℕ, _+_, _≤_, _<_}
 use native.Mathlib.Omega.{arith}
 use lib.Dec.{eqb, ltb}
-use lib.ListN.{length, getD, take, set, length-append, length-take, length-set}
-use lib.Seq.{take-suc, getD-set-same, getD-set-other}
+use lib.ListN.{length, getD, take, set, length-append, length-take}
+use lib.Seq.{take-suc}
 use native.Mathlib.Numerals.{add-one}
 use mir.Val.{boolByte}
 use Rattle.base.proofs.Lists.{filter-append, length-filter-le}
 use borrow.Author.Tests.{eq-eqb, ne-eqb, lt-ltb, ltb-true}
 use Rattle.base.specs.Lists.{filter, keep, isIn, sumBelow, bit}
-use Rattle.base.proofs.Booleans.{same-or, and-false, or-true}
+use Rattle.base.proofs.Booleans.{and-false, or-true}
 use Rattle.matrix.specs.Limits.{maxRows}
 use Rattle.base.proofs.Sums.{sum-below-same, sum-below-bound, sum-below-more}
 use Rattle.matrix.specs.Matrix.{Matrix, columnsOf, ascending, adjacent}
@@ -24,6 +24,7 @@ use Rattle.run.proofs.OrderSums.{sum-below-order}
 use Rattle.upper.specs.code.Upper.{Positions, Ordered, upperOf, laterIn, Sizes}
 use Rattle.upper.proofs.UpperRows.{beyond, upper-sum}
 use Rattle.upper.proofs.PlacedRows.{row-low}
+use Rattle.upper.proofs.PositionTable.{table-next}
 
 -- a list of different numbers below n, number by number
 different-sum : (t : ℕ → Bool) (n : ℕ) (cs : List ℕ) → ascending cs ≡ true → ((v : ℕ) → isIn cs v ≡ true → v < n) → length (filter t cs) ≡ sumBelow (λ v. bit (isIn cs v && t v)) n
@@ -101,8 +102,6 @@ pub sizes-none : (m : Matrix) (order sizes : List ℕ) → length sizes ≡ maxR
 sizes-none m order sizes l = record { long = l; is = λ p h. absurd (omega arith) }
 
 pub sizes-next : (m : Matrix) (order : List ℕ) (k : ℕ) → k < maxRows → {v : ℕ} → v ≡ length (upperOf m order k) → {sizes : List ℕ} → Sizes m order k sizes → Sizes m order (k + 1) (set sizes k v)
-sizes-next m order k l {v} e {sizes} t = record { long = length-set sizes k v ∙ t .long; is = λ p h. go p h (same-or p k) }
-  where
-    go : (p : ℕ) → p < k + 1 → (p ≡ k) ⊎ (p ≢ k) → getD (set sizes k v) p 0 ≡ length (upperOf m order p)
-    go p h (inl q) = rw q (getD-set-same sizes k v 0 (omega (arith, t .long)) ∙ e)
-    go p h (inr d) = getD-set-other sizes k p v 0 d ∙ t .is p (omega (arith, d))
+sizes-next m order k l {v} e {sizes} t =
+    let r = table-next 0 (λ p. length (upperOf m order p)) k l sizes (t .long) (t .is) v e in
+    record { long = r .0; is = r .1 }

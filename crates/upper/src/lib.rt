@@ -1,17 +1,19 @@
 // Where rows stand in the order, what lists are in that order, and the upper triangle of the matrix in it.
 pub mod order;
+pub mod parts;
 pub mod sizes;
 
 use base::slices::wide_at;
 use matrix::limits::MAX_ROWS;
 use matrix::row::columns_of;
 use matrix::row::values_of;
+use order::positions;
 use tables::MAX_UPDATES;
 ghost use mathlib.Core.List.{List};
 ghost use Prim.Native.Nat.{ℕ, _+_, _<_};
 ghost use lib.ListN.{take};
 ghost use Rattle.matrix.specs.Matrix.{matrixOf};
-ghost use Rattle.upper.specs.code.Upper.{Positions, Lent, Parts, Upper};
+ghost use Rattle.upper.specs.code.Upper.{Positions, Lent, Parts, Begun, Upper};
 
 // Position q begins its own part, and joins the part of each row before it that is adjacent to its row. The next place
 // of a column's row is written: it counts once the place after it is the next, which that of q's own is in the end.
@@ -66,17 +68,18 @@ pub fn upper(
     columns: &[u32],
     values: &[i32],
     order: &[u32],
-    position: &[u32; MAX_ROWS],
     next: &mut [u32; MAX_ROWS],
     at: &mut [u16; MAX_UPDATES],
     beside: &mut [i32; MAX_UPDATES],
 )
-    requires { ⌜ Lent n (now starts) (now columns) (now values) (now order) × Positions n (take n (now order)) (now position)
-        × Parts (matrixOf n (now starts) (now columns) (now values)) (take n (now order)) (now next)
+    requires { ⌜ Lent n (now starts) (now columns) (now values) (now order) × Begun n (now starts) (take n (now order)) (now next)
         × Upper (matrixOf n (now starts) (now columns) (now values)) (take n (now order)) (now next) 0 (now next) (now at) (now beside) ⌝ }
-    ensures { λ _. ⌜ Upper (matrixOf n (now (starts .entry)) (now (columns .entry)) (now (values .entry))) (take n (now (order .entry))) (now (next .entry)) n
+    ensures { λ _. ⌜ Parts (matrixOf n (now (starts .entry)) (now (columns .entry)) (now (values .entry))) (take n (now (order .entry))) (now (next .entry))
+        × Upper (matrixOf n (now (starts .entry)) (now (columns .entry)) (now (values .entry))) (take n (now (order .entry))) (now (next .entry)) n
         (now (next .exit)) (now (at .exit)) (now (beside .exit)) ⌝ }
 {
+    let mut position = [0u32; MAX_ROWS];
+    positions(order, n, &mut position);
     let mut q = 0;
     while q < n {
         join(
@@ -85,7 +88,7 @@ pub fn upper(
             columns,
             values,
             order,
-            position,
+            &position,
             q,
             next,
             at,

@@ -1,6 +1,6 @@
 -- `access` meets its contract.
-use mathlib.Core.Path.{_≡_, refl, sym, _∙_}
-use Prim.Native.Nat.{_<_}
+use mathlib.Core.Path.{_≡_, sym, _∙_}
+use Prim.Native.Nat.{ℕ, _<_}
 use native.Mathlib.Omega.{arith}
 use lib.IntN.{pos}
 use lib.ListN.{length, getD}
@@ -11,18 +11,24 @@ use borrow.Author.Needs.{needs, sfits-of}
 use Rattle.steps.specs.code.Sum.{sumOf}
 use Rattle.steps.specs.code.Updates.{amountIn}
 use Rattle.steps.proofs.TableUpdates.{by-low}
-use Rattle.steps.proofs.TableSteps.{step-loads, step-stores, step-passes}
+use Rattle.steps.proofs.TableSteps.{pick-loads, pick-stores, pick-passes}
 use Rattle.steps.proofs.access.Statement.{statement}
 use Rattle.steps.proofs.access.Tie as tie
 
 target-of-requires : tie.Need-target-of-requires
-target-of-requires c κs = let r = c .pre .1 in (omega (arith, r .row-low, r .few), r .inside)
+target-of-requires c κs = let r = c .pre .2 in (omega (arith, r .row-low, r .few), r .inside)
 
--- the target is one of the sums
-low : (c : tie.After-target-of) → c .target-of .result < length (c .before .args .sums .now)
-low c =
+-- the target is one of the sums, the worker one of sixteen, and its count is inside
+record Fits (t sums w made : ℕ) : Type 0 where
+  low : t < sums
+  worker : w < 16
+  few : made < 139264
+
+fits : (c : tie.After-target-of) → let a = c .before .args in Fits (c .target-of .result) (length (a .sums .now)) (a .w) (getD (a .made .now) (a .w) 0)
+fits c =
     let s = c .before in
-    rw (c .target-of .ensures) (by-low (s .args .k) _ (s .args .p) (s .pre .1 .at-low _) (s .pre .1 .row-low))
+    let r = s .pre .2 in
+    record { low = rw (c .target-of .ensures) (by-low (s .args .k) _ (s .args .p) (r .at-low _) (r .row-low)); worker = s .pre .0; few = s .pre .1 }
 
 mul-if1 : tie.Need-mul-if1
 mul-if1 c = search needs
@@ -30,27 +36,49 @@ mul-if1 c = search needs
 element-copy-out-if1 : tie.Need-element-copy-out-if1
 element-copy-out-if1 c = search needs
 
-mul-loaded : tie.Need-mul-loaded
-mul-loaded c = let h = low (c .before .before) in search needs
+-- ---- a load
 
-slice-copy-out-loaded : tie.Need-slice-copy-out-loaded
-slice-copy-out-loaded c = let h = low (c .before .before) in search needs
+mul-held : tie.Need-mul-held
+mul-held c = let f = fits (c .before .before) in search needs
+
+slice-copy-out-held : tie.Need-slice-copy-out-held
+slice-copy-out-held c = let f = fits (c .before .before) in search needs
+
+mul-t23 : tie.Need-mul-t23
+mul-t23 c = search needs
+
+element-set-from-held : tie.Need-element-set-from-held
+element-set-from-held c = search needs
+
+mul-made : tie.Need-mul-made
+mul-made c = search needs
+
+element-copy-out-made : tie.Need-element-copy-out-made
+element-copy-out-made c = search needs
+
+add-made : tie.Need-add-made
+add-made c = let f = fits (c .before .before .before .before) in search needs
+
+element-write-made : tie.Need-element-write-made
+element-write-made c = search needs
 
 returns : tie.Need-returns
 returns c =
-    let t = c .before .before .before in
+    let t = c .before .before .before .before in
     let a = t .before .args in
-    rw (toZ-ofZ {w = w64} {z = getD (a .sums .now) (t .target-of .result) (pos 0)} (sfits-of (c .loaded .given)), t .target-of .ensures)
-    (step-loads 0 refl (a .made .now) (a .held .now) (a .sums .now) (a .w) _ (c .before .if1 .taken))
+    rw (toZ-ofZ {w = w64} {z = getD (a .sums .now) (t .target-of .result) (pos 0)} (sfits-of (c .before .held .given)), t .target-of .ensures)
+    (pick-loads (a .made .now) (a .held .now) (a .sums .now) (a .w) _ (c .before .before .if1 .taken))
 
-mul-loaded-2 : tie.Need-mul-loaded-2
-mul-loaded-2 c = search needs
-
-element-copy-out-loaded : tie.Need-element-copy-out-loaded
-element-copy-out-loaded c = search needs
+-- ---- a store
 
 amount-of-requires : tie.Need-amount-of-requires
-amount-of-requires c κs = (_, c .before .before .before .before .pre .1)
+amount-of-requires c κs = (_, c .before .before .before .pre .2)
+
+mul-add-checked : tie.Need-mul-add-checked
+mul-add-checked c = search needs
+
+element-copy-out-add-checked : tie.Need-element-copy-out-add-checked
+element-copy-out-add-checked c = search needs
 
 add-checked-requires : tie.Need-add-checked-requires
 add-checked-requires c κs = search needs
@@ -60,13 +88,13 @@ amount-in c = search needs
 
 -- the sum that is made of the held number and the amount
 sum-is : (c : tie.After-add-checked) → let a = c .before .before .before .before .before .before .args in
-    c .add-checked .result ≡ sumOf (getD (a .held .now) (a .w) (pos 0)) (amountIn (a .begins .now) (a .displaced .now) (a .at .now) (a .beside .now) (a .p) (a .k))
+    c .add-checked .result ≡ sumOf (getD (a .held .now) (a .w) (pos 0)) (amountIn (a .parts .now) (a .displaced .now) (a .at .now) (a .beside .now) (a .p) (a .k))
 sum-is c =
     let a = c .before .before .before .before .before .before .args in
     rw (
-      toZ-ofZ {w = w64} {z = getD (a .held .now) (a .w) (pos 0)} (sfits-of (c .before .before .loaded2 .given)),
-      toZ-ofZ (amount-in (c .before)),
-      c .before .amount-of .ensures,
+      toZ-ofZ {w = w64} {z = getD (a .held .now) (a .w) (pos 0)} (sfits-of (c .before .add-checked-arg .given)),
+      toZ-ofZ (amount-in (c .before .before)),
+      c .before .before .amount-of .ensures,
     )
     at (c .add-checked .ensures)
 
@@ -81,13 +109,29 @@ returns-2 c =
     let x = c .before .before in
     let e = x .before .before .before in
     let a = e .before .before .before .args in
-    step-passes 0 refl (a .made .now) (a .held .now) (a .sums .now) (a .w) _ (e .if1 .left) (sym (sum-is x) ∙ c .enum-told .given .1)
+    pick-passes (a .made .now) (a .held .now) (a .sums .now) (a .w) _ (e .if1 .left) (sym (sum-is x) ∙ c .enum-told .given .1)
+
+-- from the sum back to the target
+abbrev target : tie.After-known-told → tie.After-target-of
+target c = c .before .before .before .before .before .before .before .before
 
 mul-sum : tie.Need-mul-sum
-mul-sum c = let h = low (c .before .before .before .before .before .before .before .before) in search needs
+mul-sum c = let f = fits (target c) in search needs
 
 slice-set-from-sum : tie.Need-slice-set-from-sum
-slice-set-from-sum c = let h = low (c .before .before .before .before .before .before .before .before) in search needs
+slice-set-from-sum c = let f = fits (target c) in search needs
+
+mul-made-2 : tie.Need-mul-made-2
+mul-made-2 c = search needs
+
+element-copy-out-made-2 : tie.Need-element-copy-out-made-2
+element-copy-out-made-2 c = search needs
+
+add-made-2 : tie.Need-add-made-2
+add-made-2 c = let f = fits (target (c .before)) in search needs
+
+element-write-made-2 : tie.Need-element-write-made-2
+element-write-made-2 c = search needs
 
 same-length : tie.Need-same-length
 same-length c = search needs
@@ -97,12 +141,12 @@ in-range c = search needs
 
 returns-3 : tie.Need-returns-3
 returns-3 c =
-    let x = c .before .before .before in
-    let e = x .before .before .before in
-    let t = e .before .before in
+    let k = c .before in
+    let x = k .before .before .before in
+    let t = target k in
     let a = t .before .args in
-    rw (toZ-ofZ (in-range c), toZ-ofZ {w = w64} {z = getD (a .held .now) (a .w) (pos 0)} (sfits-of (x .before .before .loaded2 .given)), t .target-of .ensures)
-    (step-stores 0 refl (a .made .now) (a .held .now) (a .sums .now) (a .w) _ (e .if1 .left) (c .before .sum .given .0 .0) (sym (sum-is x) ∙ c .before .sum .given .1))
+    rw (toZ-ofZ (in-range k), t .target-of .ensures)
+    (pick-stores (a .made .now) (a .held .now) (a .sums .now) (a .w) _ (x .before .before .before .if1 .left) (k .before .sum .given .0 .0) (sym (sum-is x) ∙ k .before .sum .given .1))
 
 pub access-spec : {M : Type 1} → statement M
 access-spec =
@@ -111,17 +155,27 @@ access-spec =
     target-of-requires
     mul-if1
     element-copy-out-if1
-    mul-loaded
-    slice-copy-out-loaded
+    mul-held
+    slice-copy-out-held
+    mul-t23
+    element-set-from-held
+    mul-made
+    element-copy-out-made
+    add-made
+    element-write-made
     returns
-    mul-loaded-2
-    element-copy-out-loaded
     amount-of-requires
+    mul-add-checked
+    element-copy-out-add-checked
     add-checked-requires
     enum-known-sum
     enum-told
     returns-2
     mul-sum
     slice-set-from-sum
+    mul-made-2
+    element-copy-out-made-2
+    add-made-2
+    element-write-made-2
     same-length
     returns-3)

@@ -1,17 +1,17 @@
 -- A step by the tables that a call makes, and what the code makes of it.
 use mathlib.Core.Path.{_≡_}
+use mathlib.Core.Logic.{_≢_}
 use mathlib.Core.List.{List}
-use Prim.Native.Nat.{ℕ, _+_, _*_, _-_, _/_, _≤_, _<_}
+use Prim.Native.Nat.{ℕ, zero, suc, _+_, _*_, _-_, _/_, _≤_, _<_}
 use lib.Dec.{eqb, leb, ltb}
 use lib.IntN.{ℤ}
-use lib.ListN.{getD, set}
+use lib.ListN.{getD}
 use Rattle.run.specs.Updates.{Update, count}
-use Rattle.run.specs.Machine.{reason, Outcome, moved, halted, stepIf}
+use Rattle.run.specs.Machine.{reason, Outcome, moved, halted, onward, stepIf}
 use Rattle.run.specs.State.{State}
 use Rattle.plan.specs.Sound.{maxWorkers}
-use Rattle.tables.specs.code.Laid.{updatesIn, Bounded}
-use Rattle.steps.specs.declared.Pick.{Pick}
-use Rattle.steps.specs.declared.Pick.the-variants.{Taken, Refused}
+use Rattle.tables.specs.code.Laid.{maxUpdates, updatesIn, Bounded}
+use Rattle.steps.specs.code.Updates.{entryPlace}
 
 abbrev pub stateWith : (made : List ℕ) (held sums : List ℤ) → State
 stateWith made held sums = record { made = made; held = held; sums = sums }
@@ -37,25 +37,25 @@ reasonAt workers first row leaves blocks made w =
 
 -- ---- what the code needs for a step
 
--- every worker's updates stand inside the table, those of a row from where they begin on, and are of two of n rows
-pub record StepTables (n : ℕ) (first row begins leaves at : List ℕ) : Type 0 where
+-- every worker's updates stand inside the table, those of a row from where they begin on, their entries inside the
+-- tables of these, and are of two of n rows
+pub record StepTables (n : ℕ) (first row begins parts leaves at : List ℕ) : Type 0 where
   pub bounded : Bounded n first row leaves
   pub at-low : (k : ℕ) → getD at k 0 < n
   pub begun : (w k : ℕ) → w < maxWorkers → k < updatesIn first w → getD begins (getD row (getD first w 0 + k) 0) 0 ≤ getD first w 0 + k
+  pub inside : (w k : ℕ) → w < maxWorkers → k < updatesIn first w
+      → entryPlace parts (getD row (getD first w 0 + k) 0) (getD first w 0 + k - getD begins (getD row (getD first w 0 + k) 0) 0) < maxUpdates
 
 -- ---- what it makes of one
 
--- the state after worker w's step: one more made, the number that the worker holds then, and these sums
-abbrev pub stepTaken : State → (w : ℕ) → ℤ → (sums : List ℤ) → State
-stepTaken s w z sums = record { made = set (s .made) w (count (s .made) w + 1); held = set (s .held) w z; sums = sums }
+-- a pick's answer, 0 or why it is refused, and the state after it, as the machine's
+unfoldable pub outcomeOf : (number : ℕ) → State → Outcome
+outcomeOf zero t = moved t
+outcomeOf (suc k) t = halted (suc k)
 
--- the step's answer as the machine's
-unfoldable pub outcomeOf : Pick → State → (w : ℕ) (sums : List ℤ) → Outcome
-outcomeOf (Taken z) s w sums = moved (stepTaken s w z sums)
-outcomeOf (Refused k) s w sums = halted k
-
--- A step of worker w with update u, refused for this reason or none: its answer, and the sums after it, the old ones
--- where it is refused
-pub record StepMade (why : ℕ) (s : State) (w : ℕ) (u : Update) (answer : Pick) (sums : List ℤ) : Type 0 where
-  pub is : outcomeOf answer s w sums ≡ stepIf why s w u
-  pub kept : (k : ℕ) → answer ≡ Refused k → sums ≡ s .sums
+-- A pick of worker w with update u, refused for this reason or none: its answer, and the state after it, the old one
+-- where it is refused, else with one access more
+pub record PickMade (why : ℕ) (s : State) (w : ℕ) (u : Update) (number : ℕ) (t : State) : Type 0 where
+  pub is : outcomeOf number t ≡ stepIf why s w u
+  pub kept : number ≢ 0 → t ≡ s
+  pub counted : number ≡ 0 → t .made ≡ onward (s .made) w

@@ -56,6 +56,15 @@ pub record Parts (m : Matrix) (order begins : List ℕ) : Type 0 where
   pub room : (p : ℕ) → p < m .n → getD begins p 0 + length (upperOf m order p) ≤ maxUpdates
   pub apart : (p r c d : ℕ) → p < m .n → r < m .n → p ≢ r → c < length (upperOf m order p) → d < length (upperOf m order r) → getD begins p 0 + c ≢ getD begins r 0 + d
 
+-- where the part of row i can begin: there is room for all its entries, and for its diagonal one if that is not stored
+abbrev pub partAt : (starts : List ℕ) → ℕ → ℕ
+partAt starts i = getD starts i 0 + i
+
+-- the parts of the rows at the first k positions begin there
+pub record Begun (k : ℕ) (starts order parts : List ℕ) : Type 0 where
+  pub long : length parts ≡ maxRows
+  pub is : (p : ℕ) → p < k → getD parts p 0 ≡ partAt starts (getD order p 0)
+
 -- For each position p a list of positions L p. They stand in `at` from p's part on, beside their entries, and next[p]
 -- is the place after them
 pub record Placed (m : Matrix) (order begins : List ℕ) (L : ℕ → List ℕ) (next at : List ℕ) (beside : List ℤ) : Type 0 where

@@ -2,7 +2,7 @@
 use borrow.Author.Needs.{needs}
 use Rattle.machine.proofs.BlockedLeaves.{waits-of}
 use Rattle.calls.proofs.ReadyBits.{ready-bits}
-use Rattle.calls.proofs.Prepared.{planned-blank, planned-recorded, planned-record, read-crew, read-few}
+use Rattle.machine.proofs.PlannedTables.{planned-blank, planned-recorded, planned-record, read-crew, read-few}
 use Rattle.calls.proofs.ready_set.ready_set.Statement.{statement}
 use Rattle.calls.proofs.ready_set.ready_set.Tie as tie
 

@@ -1,5 +1,5 @@
 -- `sizes::sizes_of` meets its contract: the positions before p have their sizes.
-use mathlib.Core.Path.{_≡_, sym, ap, _∙_, subst}
+use mathlib.Core.Path.{_≡_, refl, sym, ap, _∙_, subst}
 use mathlib.Core.List.{List}
 use Prim.Native.Nat.{ℕ, _+_, _-_, _≤_, _<_}
 use native.Mathlib.Omega.{arith}
@@ -20,15 +20,15 @@ use Rattle.upper.proofs.sizes.sizes_of.Statement.{statement}
 use Rattle.upper.proofs.sizes.sizes_of.Tie as tie
 
 abbrev Inv-loop : tie.InvT-loop
-Inv-loop n starts columns order position sizes₀ p₀ sizes p =
+Inv-loop n starts columns order sizes₀ position p₀ sizes p =
     (p ≤ n) × ((values : List ℤ) → Lent n starts columns values order → Sizes (matrixOf n starts columns values) (take n order) p sizes)
 
 abbrev μ-loop : tie.MeasureT-loop
-μ-loop n starts columns order position sizes₀ p₀ sizes p = n - p
+μ-loop n starts columns order sizes₀ position p₀ sizes p = n - p
 
 -- the function's entry, and the matrix with these values
 abbrev start : tie.At-loop Inv-loop μ-loop → tie.Start Inv-loop μ-loop
-start l = l .before .before .before .before
+start l = l .before .before .before .before .before .before
 
 abbrev matrix : tie.Start Inv-loop μ-loop → List ℤ → Matrix
 matrix s values = matrixOf (s .args .n) (s .args .starts .now) (s .args .columns .now) values
@@ -57,16 +57,22 @@ columns c values =
     c .columns-of .ensures ∙ sym (columns-part m (w .wide-at .result) (below w)) ∙ ap (columnsOf m) (row w)
 
 -- how many entries it has
-size : (c : tie.After-later-columns Inv-loop μ-loop) → let l = c .before .before .before .before in let s = start l in (values : List ℤ) → Lent (s .args .n) (s .args .starts .now) (s .args .columns .now) values (s .args .order .now)
+size : (c : tie.After-later-columns Inv-loop μ-loop) → let l = c .before .before .before .before .before in let s = start l in (values : List ℤ) → Lent (s .args .n) (s .args .starts .now) (s .args .columns .now) values (s .args .order .now)
     → 1 + c .later-columns .result ≡ length (upperOf (matrix s values) (order s) (l .loop .p))
 size c values g =
-    let l = c .before .before .before .before in
+    let l = c .before .before .before .before .before in
     let s = start l in
-    rw (c .later-columns .ensures, columns (c .before) values)
-    (size-is (matrix s values) (order s) (s .args .position .now) (g .ordered) (s .pre .1) (l .loop .p) (c .before .before .before .loop-test .taken))
+    rw (c .later-columns .ensures, columns (c .before .before) values)
+    (size-is (matrix s values) (order s) _ (g .ordered) (l .before .positions .ensures) (l .loop .p) (c .before .before .before .before .loop-test .taken))
+
+positions-requires : tie.Need-positions-requires Inv-loop μ-loop
+positions-requires c κs =
+    let s = c .before .before .before .before in
+    let g = s .pre .0 .1 in
+    (g .long, matrix-facts (matrix s (s .pre .0 .0)) (g .ordered .matrix) .few, g .ordered .once, refl)
 
 loop-holds : tie.Need-loop-holds Inv-loop μ-loop
-loop-holds c = (search needs, λ values g. sizes-none _ _ _ (c .before .before .before .pre .2))
+loop-holds c = (search needs, λ values g. sizes-none _ _ _ (c .before .before .before .before .before .pre .1))
 
 wide-at-requires : tie.Need-wide-at-requires Inv-loop μ-loop
 wide-at-requires c κs = let h = start (c .before) .pre .0 .1 .long in search needs
@@ -81,14 +87,14 @@ few : (l : tie.At-loop Inv-loop μ-loop) → start l .args .n ≤ 4096
 few l = let s = start l in matrix-facts (matrix s (s .pre .0 .0)) (s .pre .0 .1 .ordered .matrix) .few
 
 cast-later-columns : tie.Need-cast-later-columns Inv-loop μ-loop
-cast-later-columns c = let h = few (c .before .before .before) in search needs
+cast-later-columns c = let h = few (c .before .before .before .before) in search needs
 
 later-columns-requires : tie.Need-later-columns-requires Inv-loop μ-loop
 later-columns-requires c κs k l =
-    let i = c .before .before .before in
+    let i = c .before .before .before .before in
     let s = start i in
     let m = matrix s (s .pre .0 .0) in
-    let e = columns c (s .pre .0 .0) in
+    let e = columns (c .before) (s .pre .0 .0) in
     let cs : List ℕ = columnsOf m (getD (order s) (i .loop .p) 0) in
     let inside : k < length cs = rw e at l in
     let low : getD cs k 0 < s .args .n = column-low m (s .pre .0 .1 .ordered .matrix) (getD (order s) (i .loop .p) 0) (getD cs k 0) (isIn-get cs k inside) in
@@ -97,7 +103,7 @@ later-columns-requires c κs k l =
 -- it is one of few
 size-few : (c : tie.After-later-columns Inv-loop μ-loop) → 1 + c .later-columns .result ≤ 4096
 size-few c =
-    let l = c .before .before .before .before in
+    let l = c .before .before .before .before .before in
     let s = start l in
     omega (arith, few l, size c (s .pre .0 .0) (s .pre .0 .1), upper-few (matrix s (s .pre .0 .0)) (order s) (l .loop .p) (s .args .n))
 
@@ -111,7 +117,7 @@ mul-sizes : tie.Need-mul-sizes Inv-loop μ-loop
 mul-sizes c = search needs
 
 element-write-sizes : tie.Need-element-write-sizes Inv-loop μ-loop
-element-write-sizes c = let h = few (c .before .before .before .before) in search needs
+element-write-sizes c = let h = few (c .before .before .before .before .before) in search needs
 
 add-p : tie.Need-add-p Inv-loop μ-loop
 add-p c = search needs
@@ -121,10 +127,10 @@ loop-less c = search needs
 
 loop-again : tie.Need-loop-again Inv-loop μ-loop
 loop-again c =
-    let l = c .before .before .before .before in
+    let l = c .before .before .before .before .before in
     let s = start l in (
       search needs,
-      λ values g. sizes-next (matrix s values) (order s) (l .loop .p) (omega (arith, few l, c .before .before .before .loop-test .taken)) (size c values g) (l .loop .inv .1 values g),
+      λ values g. sizes-next (matrix s values) (order s) (l .loop .p) (omega (arith, few l, c .before .before .before .before .loop-test .taken)) (size c values g) (l .loop .inv .1 values g),
     )
 
 returns : tie.Need-returns Inv-loop μ-loop
@@ -140,6 +146,7 @@ sizes-of-spec =
     (tie.spec
     Inv-loop
     μ-loop
+    positions-requires
     loop-holds
     wide-at-requires
     columns-of-requires

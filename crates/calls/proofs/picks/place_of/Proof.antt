@@ -1,7 +1,7 @@
--- `place_of`: none, or the pick's index.
+-- `picks::place_of`: none, or the pick's index.
 use Rattle.calls.proofs.Performing.{place-none, place-some}
-use Rattle.calls.proofs.place_of.Statement.{statement}
-use Rattle.calls.proofs.place_of.Tie as tie
+use Rattle.calls.proofs.picks.place_of.Statement.{statement}
+use Rattle.calls.proofs.picks.place_of.Tie as tie
 
 returns : tie.Need-returns
 returns c = place-none _ _ (c .if1 .taken)

@@ -6,8 +6,8 @@ use Rattle.base.specs.Verdicts.{replyOf}
 use Rattle.base.proofs.Booleans.{fails, holds}
 use Rattle.matrix.specs.Matrix.{Matrix, isMatrix, matrixOf}
 use Rattle.calls.proofs.JobChecked.{job-unmade, job-unmoved, job-unsound, job-taken}
-use Rattle.calls.proofs.checks.check_job.Statement.{statement}
-use Rattle.calls.proofs.checks.check_job.Tie as tie
+use Rattle.calls.proofs.check_job.Statement.{statement}
+use Rattle.calls.proofs.check_job.Tie as tie
 
 abbrev given : tie.Start → Matrix
 given c = let a = c .args in matrixOf (a .n) (a .starts .now) (a .columns .now) (a .values .now)
