@@ -65,3 +65,21 @@ fn longest_texts() {
         }
     });
 }
+
+/// Every byte at every place of a text: before what stands there, instead of it, and as the last one.
+#[test]
+fn every_byte() {
+    let text = [LINE_1, b"% -1\n12 12 2\n3 1 40\n12  2 -7\n"].concat();
+    let seen = cases::numbered(105, 0..256, |byte, _, seen| {
+        for at in 0..=text.len() {
+            let (before, after) = text.split_at(at);
+            let last = [before, &[byte as u8]].concat();
+            let put_in = [&last, after].concat();
+            let instead = [&last, after.get(1..).unwrap_or_default()].concat();
+            for text in [last, put_in, instead] {
+                seen.note(read(&text, [13, 4, 4]));
+            }
+        }
+    });
+    seen.require([0, 1, 2, 3, 4], 1);
+}

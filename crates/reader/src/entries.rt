@@ -12,7 +12,6 @@ ghost use mathlib.Core.List.{[]};
 ghost use Prim.Native.Nat.{ℕ};
 ghost use lib.ListN.{drop};
 ghost use Rattle.market.specs.Parse.{entries};
-ghost use Rattle.scan.specs.code.Classes.{Classes};
 ghost use Rattle.compress.specs.code.Arrays.{Arrays};
 ghost use Rattle.reader.specs.code.Scanned.{parsed, Within};
 ghost use Rattle.reader.specs.code.Entries.{Held, remaining, Ended};
@@ -35,7 +34,6 @@ pub(crate) struct Reached {
 // The entry lines from a position on whose places rise, by column, then by row: no place is given twice. The first line
 // that is no entry, or does not rise, ends them.
 fn read_sorted(
-    classes: &[u8; 256],
     s: &[u8],
     at: usize,
     n: usize,
@@ -44,14 +42,14 @@ fn read_sorted(
     columns: &mut [u32; MAX_ENTRIES],
     values: &mut [i32; MAX_ENTRIES],
 ) -> Reached
-    requires { ⌜ Classes (now classes) × Held n m (now rows) (now columns) (now values) 0 ⌝ }
+    requires { ⌜ Held n m (now rows) (now columns) (now values) 0 ⌝ }
     ensures { λ r. ⌜ Held n m (now (rows .exit)) (now (columns .exit)) (now (values .exit)) (r .count) × ((k : ℕ) → remaining (now (s .entry)) n m k (now (rows .exit)) (now (columns .exit)) (now (values .exit)) (r .pos) (r .count) ≡ entries n m k [] (drop at (now (s .entry)))) ⌝ }
 {
     let mut low: u32 = 0;
     let mut p = at;
     let mut i: usize = 0;
     while i < m {
-        let found = read_entry(classes, s, p, n);
+        let found = read_entry(s, p, n);
         let Entry::At {
             row,
             column,
@@ -88,7 +86,6 @@ fn ended(s: &[u8], pos: usize, n: usize, m: usize, line: u32) -> Scanned
 
 // The lines from the one that was reached on, in any order: each place is marked.
 fn read_marked(
-    classes: &[u8; 256],
     s: &[u8],
     from: Reached,
     n: usize,
@@ -98,7 +95,7 @@ fn read_marked(
     columns: &mut [u32; MAX_ENTRIES],
     values: &mut [i32; MAX_ENTRIES],
 ) -> Scanned
-    requires { ⌜ Classes (now classes) × Within n m line × Held n m (now rows) (now columns) (now values) (from .count) ⌝ }
+    requires { ⌜ Within n m line × Held n m (now rows) (now columns) (now values) (from .count) ⌝ }
     ensures { λ r. ⌜ (remaining (now (s .entry)) n m line (now (rows .entry)) (now (columns .entry)) (now (values .entry)) (from .pos) (from .count) ≡ parsed r (now (rows .exit)) (now (columns .exit)) (now (values .exit))) × Arrays (now (rows .exit)) (now (columns .exit)) (now (values .exit)) ⌝ }
 {
     let mut marks = [0u64; 131104];
@@ -107,7 +104,7 @@ fn read_marked(
     mark_all(rows, columns, i, &mut marks);
     while i < m {
         let here = line + (i as u32);
-        let found = read_entry(classes, s, p, n);
+        let found = read_entry(s, p, n);
         match found {
             Entry::Refused(q) => return Scanned::Rejected(q, here),
             Entry::At {
@@ -132,7 +129,6 @@ fn read_marked(
 
 // The m entry lines from a position on, the first of which has the given number; nothing may follow them.
 pub(crate) fn read_entries(
-    classes: &[u8; 256],
     s: &[u8],
     at: usize,
     n: usize,
@@ -142,12 +138,12 @@ pub(crate) fn read_entries(
     columns: &mut [u32; MAX_ENTRIES],
     values: &mut [i32; MAX_ENTRIES],
 ) -> Scanned
-    requires { ⌜ Classes (now classes) × Within n m line × Arrays (now rows) (now columns) (now values) ⌝ }
+    requires { ⌜ Within n m line × Arrays (now rows) (now columns) (now values) ⌝ }
     ensures { λ r. ⌜ (entries n m line [] (drop at (now (s .entry))) ≡ parsed r (now (rows .exit)) (now (columns .exit)) (now (values .exit))) × Arrays (now (rows .exit)) (now (columns .exit)) (now (values .exit)) ⌝ }
 {
-    let reached = read_sorted(classes, s, at, n, m, rows, columns, values);
+    let reached = read_sorted(s, at, n, m, rows, columns, values);
     if reached.count < m {
-        return read_marked(classes, s, reached, n, m, line, rows, columns, values);
+        return read_marked(s, reached, n, m, line, rows, columns, values);
     }
     ended(s, reached.pos, n, m, line)
 }

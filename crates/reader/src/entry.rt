@@ -8,7 +8,6 @@ ghost use Prim.Native.Nat.{_≤_};
 ghost use Rattle.base.specs.Integers.{within};
 ghost use Rattle.matrix.specs.Limits.{maxRows, maxValue};
 ghost use Rattle.market.specs.Parse.{isEntry};
-ghost use Rattle.scan.specs.code.Classes.{Classes};
 ghost use Rattle.reader.specs.code.Entries.{EntryAt};
 
 // The largest value and the least, as wide as the text's numbers.
@@ -58,11 +57,11 @@ pub(crate) enum Entry {
 }
 
 // The entry line at a position, for a matrix of n rows.
-pub(crate) fn read_entry(classes: &[u8; 256], s: &[u8], at: usize, n: usize) -> Entry
-    requires { ⌜ Classes (now classes) × (n ≤ maxRows) ⌝ }
+pub(crate) fn read_entry(s: &[u8], at: usize, n: usize) -> Entry
+    requires { ⌜ n ≤ maxRows ⌝ }
     ensures { λ r. ⌜ EntryAt (now (s .entry)) at n r ⌝ }
 {
-    let found = read_line(classes, s, at);
+    let found = read_line(s, at);
     let Fields::Line {
         row,
         column,

@@ -7,7 +7,6 @@ use crate::opening::skip_comments;
 use matrix::limits::MAX_ENTRIES;
 use matrix::limits::MAX_ROWS;
 use matrix::limits::MAX_TEXT;
-use scan::classes::table;
 use scan::lines::Fields;
 use scan::lines::read_line;
 ghost use mathlib.Core.Path.{_≡_};
@@ -17,7 +16,6 @@ ghost use lib.Dec.{eqb, leb};
 ghost use lib.ListN.{drop};
 ghost use Rattle.matrix.specs.Limits.{maxRows, maxEntries};
 ghost use Rattle.market.specs.Parse.{sizeLine, parse};
-ghost use Rattle.scan.specs.code.Classes.{Classes};
 ghost use Rattle.compress.specs.code.Arrays.{Arrays};
 ghost use Rattle.reader.specs.code.Scanned.{parsed};
 
@@ -44,7 +42,6 @@ fn is_size(rows: u64, columns: u64, count: u64) -> bool
 
 // The size line, at a position and with its number, and all after it.
 fn parse_size(
-    classes: &[u8; 256],
     s: &[u8],
     pos: usize,
     line: u32,
@@ -52,10 +49,10 @@ fn parse_size(
     columns: &mut [u32; MAX_ENTRIES],
     values: &mut [i32; MAX_ENTRIES],
 ) -> Scanned
-    requires { ⌜ Classes (now classes) × (line ≤ 1048577) × Arrays (now rows) (now columns) (now values) ⌝ }
+    requires { ⌜ (line ≤ 1048577) × Arrays (now rows) (now columns) (now values) ⌝ }
     ensures { λ r. ⌜ (sizeLine line (drop pos (now (s .entry))) ≡ parsed r (now (rows .exit)) (now (columns .exit)) (now (values .exit))) × Arrays (now (rows .exit)) (now (columns .exit)) (now (values .exit)) ⌝ }
 {
-    let found = read_line(classes, s, pos);
+    let found = read_line(s, pos);
     let Fields::Line {
         row,
         column,
@@ -73,7 +70,6 @@ fn parse_size(
         return Scanned::Rejected(base::SIZE, line);
     }
     read_entries(
-        classes,
         s,
         next,
         row as usize,
@@ -101,9 +97,8 @@ pub(crate) fn parse_text(
     if !has_header(s) {
         return Scanned::Rejected(base::HEADER, 1);
     }
-    let classes = table();
-    let start = skip_comments(&classes, s, 51, 2);
+    let start = skip_comments(s, 51, 2);
     let line = start.line;
     let pos = start.pos;
-    parse_size(&classes, s, pos, line, rows, columns, values)
+    parse_size(s, pos, line, rows, columns, values)
 }

@@ -5,12 +5,11 @@ use crate::classes::SIGN;
 use crate::classes::class_of;
 use crate::numbers::Number;
 use crate::numbers::read_field;
-use crate::numbers::scan_number;
+use crate::numbers::read_number;
 use crate::numbers::skip_spaces;
 ghost use mathlib.Core.Path.{_≡_};
 ghost use lib.ListN.{drop};
 ghost use Rattle.market.specs.Fields.{value, valueField, fields};
-ghost use Rattle.scan.specs.code.Classes.{Classes};
 ghost use Rattle.scan.specs.code.Positions.{valueAt, fieldsAt};
 
 // A value and the position after it, or none.
@@ -20,16 +19,15 @@ pub(crate) enum Value {
 }
 
 // The value at a position: a number that may carry a sign, and no `-0`.
-fn read_value(classes: &[u8; 256], s: &[u8], at: usize) -> Value
-    requires { ⌜ Classes (now classes) ⌝ }
+fn read_value(s: &[u8], at: usize) -> Value
     ensures { λ r. ⌜ r ≡ valueAt at (value (drop at (now (s .entry)))) ⌝ }
 {
     if s.len() <= at {
         return Value::No;
     }
     let b = s[at];
-    if class_of(classes, b) == SIGN {
-        let found = scan_number(classes, s, at + 1);
+    if class_of(b) == SIGN {
+        let found = read_number(s, at + 1);
         let Number::At(v, p) = found else {
             return Value::No;
         };
@@ -39,7 +37,7 @@ fn read_value(classes: &[u8; 256], s: &[u8], at: usize) -> Value
         let m = v as i64;
         return Value::At(0 - m, p);
     }
-    let plain = scan_number(classes, s, at);
+    let plain = read_number(s, at);
     let Number::At(w, q) = plain else {
         return Value::No;
     };
@@ -47,15 +45,14 @@ fn read_value(classes: &[u8; 256], s: &[u8], at: usize) -> Value
 }
 
 // One or more spaces and a value at a position.
-fn read_value_field(classes: &[u8; 256], s: &[u8], at: usize) -> Value
-    requires { ⌜ Classes (now classes) ⌝ }
+fn read_value_field(s: &[u8], at: usize) -> Value
     ensures { λ r. ⌜ r ≡ valueAt at (valueField (drop at (now (s .entry)))) ⌝ }
 {
-    let p = skip_spaces(classes, s, at);
+    let p = skip_spaces(s, at);
     if p <= at {
         return Value::No;
     }
-    read_value(classes, s, p)
+    read_value(s, p)
 }
 
 // A line's three fields and the position of the next line; or a line that breaks the form.
@@ -70,19 +67,18 @@ pub enum Fields {
 }
 
 // The line at a position.
-pub fn read_line(classes: &[u8; 256], s: &[u8], at: usize) -> Fields
-    requires { ⌜ Classes (now classes) ⌝ }
+pub fn read_line(s: &[u8], at: usize) -> Fields
     ensures { λ r. ⌜ r ≡ fieldsAt at (fields (drop at (now (s .entry)))) ⌝ }
 {
-    let first = scan_number(classes, s, at);
+    let first = read_number(s, at);
     let Number::At(row, p) = first else {
         return Fields::Broken;
     };
-    let second = read_field(classes, s, p);
+    let second = read_field(s, p);
     let Number::At(column, q) = second else {
         return Fields::Broken;
     };
-    let third = read_value_field(classes, s, q);
+    let third = read_value_field(s, q);
     let Value::At(value, e) = third else {
         return Fields::Broken;
     };
@@ -90,7 +86,7 @@ pub fn read_line(classes: &[u8; 256], s: &[u8], at: usize) -> Fields
         return Fields::Broken;
     }
     let z = s[e];
-    if class_of(classes, z) != LINE_END {
+    if class_of(z) != LINE_END {
         return Fields::Broken;
     }
     Fields::Line {

@@ -3,13 +3,11 @@
 use crate::classes::DIGIT;
 use crate::classes::SPACE;
 use crate::classes::class_of;
-use crate::classes::table;
 use base::bytes::wide64;
 ghost use mathlib.Core.Path.{_≡_};
 ghost use Prim.Native.Nat.{_+_, _<_};
 ghost use lib.ListN.{drop};
 ghost use Rattle.market.specs.Fields.{numeral, spaces, field};
-ghost use Rattle.scan.specs.code.Classes.{Classes};
 ghost use Rattle.scan.specs.code.Positions.{numberAt, isNumeral, pick};
 
 // A number and the position after it, or none.
@@ -38,8 +36,7 @@ fn numeral(first: u8, v: u64, k: usize, next: usize) -> Number
 }
 
 // The number at a position: 1 to 10 digits and no needless leading zero.
-pub(crate) fn scan_number(classes: &[u8; 256], s: &[u8], at: usize) -> Number
-    requires { ⌜ Classes (now classes) ⌝ }
+pub fn read_number(s: &[u8], at: usize) -> Number
     ensures { λ r. ⌜ r ≡ numberAt at (numeral (drop at (now (s .entry)))) ⌝ }
 {
     if s.len() <= at {
@@ -50,7 +47,7 @@ pub(crate) fn scan_number(classes: &[u8; 256], s: &[u8], at: usize) -> Number
     let mut i = at;
     while i < s.len() {
         let b = s[i];
-        if class_of(classes, b) != DIGIT {
+        if class_of(b) != DIGIT {
             return numeral(first, v, i - at, i);
         }
         if 10 <= i - at {
@@ -62,23 +59,14 @@ pub(crate) fn scan_number(classes: &[u8; 256], s: &[u8], at: usize) -> Number
     numeral(first, v, i - at, i)
 }
 
-// The same for a caller that has no table.
-pub fn read_number(s: &[u8], at: usize) -> Number
-    ensures { λ r. ⌜ r ≡ numberAt at (numeral (drop at (now (s .entry)))) ⌝ }
-{
-    let classes = table();
-    scan_number(&classes, s, at)
-}
-
 // The position after the spaces at a position.
-pub(crate) fn skip_spaces(classes: &[u8; 256], s: &[u8], at: usize) -> usize
-    requires { ⌜ Classes (now classes) ⌝ }
+pub(crate) fn skip_spaces(s: &[u8], at: usize) -> usize
     ensures { λ r. ⌜ r ≡ at + spaces (drop at (now (s .entry))) ⌝ }
 {
     let mut i = at;
     while i < s.len() {
         let b = s[i];
-        if class_of(classes, b) != SPACE {
+        if class_of(b) != SPACE {
             return i;
         }
         i += 1;
@@ -87,13 +75,12 @@ pub(crate) fn skip_spaces(classes: &[u8; 256], s: &[u8], at: usize) -> usize
 }
 
 // One or more spaces and a number at a position.
-pub(crate) fn read_field(classes: &[u8; 256], s: &[u8], at: usize) -> Number
-    requires { ⌜ Classes (now classes) ⌝ }
+pub(crate) fn read_field(s: &[u8], at: usize) -> Number
     ensures { λ r. ⌜ r ≡ numberAt at (field (drop at (now (s .entry)))) ⌝ }
 {
-    let p = skip_spaces(classes, s, at);
+    let p = skip_spaces(s, at);
     if p <= at {
         return Number::No;
     }
-    scan_number(classes, s, p)
+    read_number(s, p)
 }

@@ -86,7 +86,7 @@ pub fn each_file(seed: u64, case: impl Fn(&mut Prng, &[u8], &Matrix) + Sync) {
 }
 
 /// Runs numbered cases on all cores, on threads with room for the library's local arrays.
-fn numbered(
+pub fn numbered(
     seed: u64,
     numbers: Range<u64>,
     case: impl Fn(u64, &mut Prng, &mut Seen) + Sync,

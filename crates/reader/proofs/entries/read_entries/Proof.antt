@@ -27,7 +27,7 @@ returns-2 c =
     let k = c .before .before .before in
     let a = start-of k .args in
     let g = k .read-sorted .ensures in
-    let o = k .read-sorted .last .1 .1 .1 .1 .1 in
+    let o = k .read-sorted .last .1 .1 .1 .1 in
     (sym (g .1 (a .line)) ∙ all-read (g .0) (a .s .now) (k .read-sorted .result .pos) (c .before .if1 .left) (a .line) ∙ c .ended .ensures (o .0) (o .1 .0) (o .1 .1 .0), g .0 .arrays)
 
 pub read-entries-spec : {M : Type 1} → statement M

@@ -19,10 +19,10 @@ use Rattle.reader.proofs.entries.read_marked.Statement.{statement}
 use Rattle.reader.proofs.entries.read_marked.Tie as tie
 
 abbrev Inv-loop : tie.InvT-loop
-Inv-loop classes s n m line rows₀ columns₀ values₀ marks₀ p₀ i₀ rows columns values marks p i = Going (remaining s n m line rows₀ columns₀ values₀ p₀ i₀) s n m line rows columns values marks p i
+Inv-loop s n m line rows₀ columns₀ values₀ marks₀ p₀ i₀ rows columns values marks p i = Going (remaining s n m line rows₀ columns₀ values₀ p₀ i₀) s n m line rows columns values marks p i
 
 abbrev μ-loop : tie.MeasureT-loop
-μ-loop classes s n m line rows₀ columns₀ values₀ marks₀ p₀ i₀ rows columns values marks p i = m - i
+μ-loop s n m line rows₀ columns₀ values₀ marks₀ p₀ i₀ rows columns values marks p i = m - i
 
 abbrev start-of : tie.At-loop Inv-loop μ-loop → tie.Start Inv-loop μ-loop
 start-of l = l .before .before .before .before .before .before
@@ -58,11 +58,11 @@ was c =
 
 mark-all-requires : tie.Need-mark-all-requires Inv-loop μ-loop
 mark-all-requires c κs =
-    let g = c .before .before .before .before .pre .2 in
+    let g = c .before .before .before .before .pre .1 in
     (omega (arith, g .count, g .total), g .arrays .rows, g .arrays .columns, g .lower, marks-none 131104 refl)
 
 loop-holds : tie.Need-loop-holds Inv-loop μ-loop
-loop-holds c = let s = c .before .before .before .before .before in record { held = s .pre .2; marks = c .mark-all .ensures (s .args .values .now); same = refl }
+loop-holds c = let s = c .before .before .before .before .before in record { held = s .pre .1; marks = c .mark-all .ensures (s .args .values .now); same = refl }
 
 cast-here : tie.Need-cast-here Inv-loop μ-loop
 cast-here c = search needs

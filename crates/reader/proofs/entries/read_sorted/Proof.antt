@@ -14,10 +14,10 @@ use Rattle.reader.proofs.entries.read_sorted.Statement.{statement}
 use Rattle.reader.proofs.entries.read_sorted.Tie as tie
 
 abbrev Inv-loop : tie.InvT-loop
-Inv-loop classes s at n m rows₀ columns₀ values₀ low₀ p₀ i₀ rows columns values low p i = Sorted s at n m rows columns values low p i
+Inv-loop s at n m rows₀ columns₀ values₀ low₀ p₀ i₀ rows columns values low p i = Sorted s at n m rows columns values low p i
 
 abbrev μ-loop : tie.MeasureT-loop
-μ-loop classes s at n m rows₀ columns₀ values₀ low₀ p₀ i₀ rows columns values low p i = m - i
+μ-loop s at n m rows₀ columns₀ values₀ low₀ p₀ i₀ rows columns values low p i = m - i
 
 -- the line that was found
 abbrev row : tie.After-found Inv-loop μ-loop → ℕ
@@ -42,7 +42,7 @@ in-range : (c : tie.After-known-told Inv-loop μ-loop) → SFits w32 (value (c .
 in-range c = search needs
 
 loop-holds : tie.Need-loop-holds Inv-loop μ-loop
-loop-holds c = let a = c .before .args in sorted-start (a .s .now) (a .at) (a .n) (a .m) (a .rows .now) (a .columns .now) (a .values .now) (c .before .pre .1)
+loop-holds c = let a = c .before .args in sorted-start (a .s .now) (a .at) (a .n) (a .m) (a .rows .now) (a .columns .now) (a .values .now) (c .before .pre)
 
 read-entry-requires : tie.Need-read-entry-requires Inv-loop μ-loop
 read-entry-requires c κs = search needs

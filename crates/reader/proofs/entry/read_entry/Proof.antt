@@ -72,20 +72,20 @@ returns-2 c =
     let a = start-of f .args in
     bad-line (a .s .now) (a .at) (a .n) (found f) (sym (answer (c .before)) ∙ not-true (c .before .is-entry .result) (c .if1 .taken))
 
-sub-t12 : tie.Need-sub-t12
-sub-t12 c = let m = entry c in omega (arith, m .first, m .below)
+sub-t11 : tie.Need-sub-t11
+sub-t11 c = let m = entry c in omega (arith, m .first, m .below)
 
-cast-t13 : tie.Need-cast-t13
-cast-t13 c = let m = entry c in let g = start-of (c .before .before .before) .pre .1 in omega arith
+cast-t12 : tie.Need-cast-t12
+cast-t12 c = let m = entry c in let g = start-of (c .before .before .before) .pre in omega arith
 
-sub-t14 : tie.Need-sub-t14
-sub-t14 c = let m = entry c in omega (arith, m .first)
+sub-t13 : tie.Need-sub-t13
+sub-t13 c = let m = entry c in omega (arith, m .first)
+
+cast-t14 : tie.Need-cast-t14
+cast-t14 c = let m = entry c in let g = start-of (c .before .before .before) .pre in omega arith
 
 cast-t15 : tie.Need-cast-t15
-cast-t15 c = let m = entry c in let g = start-of (c .before .before .before) .pre .1 in omega arith
-
-cast-t16 : tie.Need-cast-t16
-cast-t16 c =
+cast-t15 c =
     let f = c .before .before .before in
     rw (toZ-ofZ (in-range (c .before .before))) (inside-fits _ (row f) (column f) (value f) (entry c))
 
@@ -105,9 +105,9 @@ read-entry-spec =
     returns
     is-entry-requires
     returns-2
-    sub-t12
-    cast-t13
-    sub-t14
+    sub-t11
+    cast-t12
+    sub-t13
+    cast-t14
     cast-t15
-    cast-t16
     returns-3)

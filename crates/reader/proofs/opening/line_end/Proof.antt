@@ -11,10 +11,10 @@ use Rattle.reader.proofs.opening.line_end.Statement.{statement}
 use Rattle.reader.proofs.opening.line_end.Tie as tie
 
 abbrev Inv-loop : tie.InvT-loop
-Inv-loop classes s at i₀ i = (at ≤ i) × ((k : ℕ) → comments true k (drop at s) ≡ comments true k (drop i s))
+Inv-loop s at i₀ i = (at ≤ i) × ((k : ℕ) → comments true k (drop at s) ≡ comments true k (drop i s))
 
 abbrev μ-loop : tie.MeasureT-loop
-μ-loop classes s at i₀ i = length s - i
+μ-loop s at i₀ i = length s - i
 
 loop-holds : tie.Need-loop-holds Inv-loop μ-loop
 loop-holds c = (omega arith, λ k. refl)
@@ -25,8 +25,8 @@ shared-slice-read-b c = search needs
 class-of-requires : tie.Need-class-of-requires Inv-loop μ-loop
 class-of-requires c κs = search needs
 
-add-t10 : tie.Need-add-t10 Inv-loop μ-loop
-add-t10 c = search needs
+add-t9 : tie.Need-add-t9 Inv-loop μ-loop
+add-t9 c = search needs
 
 returns : tie.Need-returns Inv-loop μ-loop
 returns c =
@@ -63,7 +63,7 @@ line-end-spec =
     loop-holds
     shared-slice-read-b
     class-of-requires
-    add-t10
+    add-t9
     returns
     add-i
     loop-less

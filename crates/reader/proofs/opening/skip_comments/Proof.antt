@@ -15,10 +15,10 @@ use Rattle.reader.proofs.opening.skip_comments.Statement.{statement}
 use Rattle.reader.proofs.opening.skip_comments.Tie as tie
 
 abbrev Inv-loop : tie.InvT-loop
-Inv-loop classes s at₁ first i₀ line₀ i line = (at₁ ≤ i) × (i ≤ length s) × (line + at₁ ≤ first + i) × (comments false first (drop at₁ s) ≡ comments false line (drop i s))
+Inv-loop s at₁ first i₀ line₀ i line = (at₁ ≤ i) × (i ≤ length s) × (line + at₁ ≤ first + i) × (comments false first (drop at₁ s) ≡ comments false line (drop i s))
 
 abbrev μ-loop : tie.MeasureT-loop
-μ-loop classes s at₁ first i₀ line₀ i line = length s - i
+μ-loop s at₁ first i₀ line₀ i line = length s - i
 
 -- a % line that ends before e
 ended : (c : tie.After-found Inv-loop μ-loop) → let l = c .before .before .before .before .before .before in let s = l .before .before .args .s .now in let e = c .found .given .0 .0 in (comments false (l .loop .line) (drop (l .loop .i) s) ≡ comments false (l .loop .line + 1) (drop e s)) × (l .loop .i < e) × (e ≤ length s)
@@ -31,7 +31,7 @@ ended c =
     (a-comment s (l .loop .i) (l .loop .line) h (x .if1 .left) ∙ r .rest (l .loop .line) ∙ ap (λ (k : ℕ). comments false k (drop (c .found .given .0 .0) s)) (sym (add-one (l .loop .line))), r .later .0, r .later .1)
 
 loop-holds : tie.Need-loop-holds Inv-loop μ-loop
-loop-holds c = (omega arith, c .before .pre .2, omega arith, refl)
+loop-holds c = (omega arith, c .before .pre .1, omega arith, refl)
 
 shared-slice-read-b : tie.Need-shared-slice-read-b Inv-loop μ-loop
 shared-slice-read-b c = search needs
@@ -64,7 +64,7 @@ returns-2 c =
 add-line : tie.Need-add-line Inv-loop μ-loop
 add-line c =
     let l = c .before .before .before .before .before .before .before in
-    omega (arith, l .before .before .good, l .before .before .pre .1, l .before .before .pre .2)
+    omega (arith, l .before .before .good, l .before .before .pre .0, l .before .before .pre .1)
 
 loop-less : tie.Need-loop-less Inv-loop μ-loop
 loop-less c = let e = ended (c .before) in omega arith

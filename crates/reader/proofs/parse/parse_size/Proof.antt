@@ -68,13 +68,13 @@ enum-told c = search needs
 returns : tie.Need-returns
 returns c =
     let s = c .before .before .before .before in
-    (size-broken (s .args .s .now) (s .args .pos) (s .args .line) (sym (c .enum-told .given .1) ∙ c .before .before .read-line .ensures), s .pre .2)
+    (size-broken (s .args .s .now) (s .args .pos) (s .args .line) (sym (c .enum-told .given .1) ∙ c .before .before .read-line .ensures), s .pre .1)
 
 returns-2 : tie.Need-returns-2
 returns-2 c =
     let f = c .before .before in
     let s = f .before .before .before .before in
-    (size-negative (s .args .s .now) (s .args .pos) (s .args .line) (found f) (simp (toZ-ofZ (in-range (c .before))) at (c .if1 .taken)), s .pre .2)
+    (size-negative (s .args .s .now) (s .args .pos) (s .args .line) (found f) (simp (toZ-ofZ (in-range (c .before))) at (c .if1 .taken)), s .pre .1)
 
 cast-m : tie.Need-cast-m
 cast-m c = rw (toZ-ofZ (in-range (c .before))) (not-negative (value (c .before .before)) (positive c), fits-natural (value (c .before .before)) (in-range (c .before)))
@@ -85,7 +85,7 @@ is-size-requires c κs = search needs
 returns-3 : tie.Need-returns-3
 returns-3 c =
     let k = c .before in
-    (rw (not-true (k .is-size .result) (c .if2 .taken)) at (tested k), k .before .before .before .before .before .before .before .pre .2)
+    (rw (not-true (k .is-size .result) (c .if2 .taken)) at (tested k), k .before .before .before .before .before .before .before .pre .1)
 
 add-read-entries : tie.Need-add-read-entries
 add-read-entries c = search needs
@@ -96,7 +96,7 @@ read-entries-requires c κs =
     let f = k .before .before .before in
     let s = f .before .before .before .before in
     let m = size-limits (row f) (column f) (count f) (sym (k .is-size .ensures) ∙ not-false (k .is-size .result) (c .before .before .before .if2 .left)) in
-    (s .pre .0, record { rows = m .0; count = m .1; lines = omega (arith, s .pre .1) }, s .pre .2)
+    (record { rows = m .0; count = m .1; lines = omega (arith, s .pre .0) }, s .pre .1)
 
 returns-4 : tie.Need-returns-4
 returns-4 c =

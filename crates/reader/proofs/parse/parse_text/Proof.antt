@@ -26,21 +26,17 @@ returns-2 c =
     let s = h .before .before .before in
     (no-header (s .args .s .now) (h .before .if1 .left) (sym (h .has-header .ensures) ∙ not-true (h .has-header .result) (c .if2 .taken)), s .pre)
 
-table-requires : tie.Need-table-requires
-table-requires c κs = search needs
-
 skip-comments-requires : tie.Need-skip-comments-requires
 skip-comments-requires c κs =
-    let x = c .before .before in
-    (c .before .table .ensures, omega arith, header-there (x .before .before .before .before .args .s .now) (there x), x .before .before .if1 .left)
+    (omega arith, header-there (c .before .before .before .before .args .s .now) (there c), c .before .before .if1 .left)
 
 parse-size-requires : tie.Need-parse-size-requires
 parse-size-requires c κs = search needs
 
 returns-3 : tie.Need-returns-3
 returns-3 c =
-    let k = c .before .before .before .before .before in
-    let x = k .before .before .before in
+    let k = c .before .before .before .before in
+    let x = k .before in
     (then-size (x .before .before .before .before .args .s .now) (x .before .before .if1 .left) (there x) (k .skip-comments .result .line) (k .skip-comments .result .pos) (k .skip-comments .ensures .rest) ∙ c .parse-size .ensures .0, c .parse-size .ensures .1)
 
 pub parse-text-spec : {M : Type 1} → statement M
@@ -50,7 +46,6 @@ parse-text-spec =
     returns
     has-header-requires
     returns-2
-    table-requires
     skip-comments-requires
     parse-size-requires
     returns-3)

@@ -15,7 +15,7 @@ use Rattle.scan.proofs.lines.read_line.Tie as tie
 
 -- what the three calls gave
 one : (c : tie.After-first) → num.At (c .first .given .0 .0) (c .first .given .0 .1 .0) ≡ numberAt (c .before .before .before .before .args .at) (numeral (drop (c .before .before .before .before .args .at) (c .before .before .before .before .args .s .now)))
-one c = sym (c .first .given .1) ∙ c .before .before .scan-number .ensures
+one c = sym (c .first .given .1) ∙ c .before .before .read-number .ensures
 
 two : (c : tie.After-second) → let f = c .before .before .before .before in let s = f .before .before .before .before .args .s .now in num.At (c .second .given .0 .0) (c .second .given .0 .1 .0) ≡ numberAt (f .first .given .0 .1 .0) (field (drop (f .first .given .0 .1 .0) s))
 two c = sym (c .second .given .1) ∙ c .before .before .read-field .ensures
@@ -26,8 +26,8 @@ three c = sym (c .third .given .1) ∙ c .before .before .read-value-field .ensu
 in-range : (c : tie.After-known-told3) → SFits w64 (c .before .third .given .0 .0)
 in-range c = search needs
 
-scan-number-requires : tie.Need-scan-number-requires
-scan-number-requires c κs = search needs
+read-number-requires : tie.Need-read-number-requires
+read-number-requires c κs = search needs
 
 enum-known-first : tie.Need-enum-known-first
 enum-known-first c = search needs
@@ -38,7 +38,7 @@ enum-told c = search needs
 returns : tie.Need-returns
 returns c =
     let a = c .before .before .before .before .args in
-    line-one (a .s .now) (a .at) (sym (c .enum-told .given .1) ∙ c .before .before .scan-number .ensures)
+    line-one (a .s .now) (a .at) (sym (c .enum-told .given .1) ∙ c .before .before .read-number .ensures)
 
 read-field-requires : tie.Need-read-field-requires
 read-field-requires c κs = search needs
@@ -93,8 +93,8 @@ returns-5 c =
     let a = f .before .before .before .before .args in
     line-bad (a .s .now) (a .at) (f .first .given .0 .0) (f .first .given .0 .1 .0) (one f) (g .second .given .0 .0) (g .second .given .0 .1 .0) (two g) (h .third .given .0 .0) (h .third .given .0 .1 .0) (three h) (c .before .before .before .if1 .left) (λ e. c .if2 .taken (c .before .class-of .ensures ∙ e))
 
-add-t14 : tie.Need-add-t14
-add-t14 c = search needs
+add-t13 : tie.Need-add-t13
+add-t13 c = search needs
 
 returns-6 : tie.Need-returns-6
 returns-6 c =
@@ -109,7 +109,7 @@ pub read-line-spec : {M : Type 1} → statement M
 read-line-spec =
     tie.close
     (tie.spec
-    scan-number-requires
+    read-number-requires
     enum-known-first
     enum-told
     returns
@@ -125,5 +125,5 @@ read-line-spec =
     shared-slice-read-z
     class-of-requires
     returns-5
-    add-t14
+    add-t13
     returns-6)

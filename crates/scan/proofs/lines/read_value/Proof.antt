@@ -16,12 +16,12 @@ bound : (c : tie.Else3) → c .before .before .found .given .0 .0 < 10000000000
 bound c =
     let f = c .before .before in
     let a = f .before .before .before .before .before .before .before .before .args in
-    small _ _ (f .found .given .0 .0) (f .found .given .0 .1 .0) (sym (f .found .given .1) ∙ f .before .before .scan-number .ensures)
+    small _ _ (f .found .given .0 .0) (f .found .given .0 .1 .0) (sym (f .found .given .1) ∙ f .before .before .read-number .ensures)
 
 bound2 : (c : tie.After-known-told2) → c .before .plain .given .0 .0 < 10000000000
 bound2 c =
     let f = c .before in
-    small _ _ (f .plain .given .0 .0) (f .plain .given .0 .1 .0) (sym (f .plain .given .1) ∙ f .before .before .scan-number2 .ensures)
+    small _ _ (f .plain .given .0 .0) (f .plain .given .0 .1 .0) (sym (f .plain .given .1) ∙ f .before .before .read-number2 .ensures)
 
 returns : tie.Need-returns
 returns c = value-end (c .before .before .args .s .now) (c .before .before .args .at) (c .if1 .taken)
@@ -32,11 +32,11 @@ shared-slice-read-b c = search needs
 class-of-requires : tie.Need-class-of-requires
 class-of-requires c κs = search needs
 
-add-scan-number : tie.Need-add-scan-number
-add-scan-number c = search needs
+add-read-number : tie.Need-add-read-number
+add-read-number c = search needs
 
-scan-number-requires : tie.Need-scan-number-requires
-scan-number-requires c κs = search needs
+read-number-requires : tie.Need-read-number-requires
+read-number-requires c κs = search needs
 
 enum-known-found : tie.Need-enum-known-found
 enum-known-found c = search needs
@@ -48,20 +48,20 @@ returns-2 : tie.Need-returns-2
 returns-2 c =
     let k = c .before .before .before in
     let a = k .before .before .before .before .before .args in
-    signed-no (a .s .now) (a .at) (k .before .before .before .if1 .left) (sym (k .before .class-of .ensures) ∙ k .if2 .taken) (sym (c .enum-told .given .1) ∙ c .before .before .scan-number .ensures)
+    signed-no (a .s .now) (a .at) (k .before .before .before .if1 .left) (sym (k .before .class-of .ensures) ∙ k .if2 .taken) (sym (c .enum-told .given .1) ∙ c .before .before .read-number .ensures)
 
 returns-3 : tie.Need-returns-3
 returns-3 c =
     let f = c .before .before in
     let k = f .before .before .before in
     let a = k .before .before .before .before .before .args in
-    signed-zero (a .s .now) (a .at) (k .before .before .before .if1 .left) (f .found .given .0 .0) (f .found .given .0 .1 .0) (c .if3 .taken) (sym (k .before .class-of .ensures) ∙ k .if2 .taken) (sym (f .found .given .1) ∙ f .before .before .scan-number .ensures)
+    signed-zero (a .s .now) (a .at) (k .before .before .before .if1 .left) (f .found .given .0 .0) (f .found .given .0 .1 .0) (c .if3 .taken) (sym (k .before .class-of .ensures) ∙ k .if2 .taken) (sym (f .found .given .1) ∙ f .before .before .read-number .ensures)
 
 cast-m : tie.Need-cast-m
 cast-m c = record { sfits = omega (arith, bound c) }
 
-sub-t18 : tie.Need-sub-t18
-sub-t18 c = rw (toZ-pos w64 (c .before .before .found .given .0 .0) (omega (arith, bound c))) (minus-fits _ (bound c))
+sub-t17 : tie.Need-sub-t17
+sub-t17 c = rw (toZ-pos w64 (c .before .before .found .given .0 .0) (omega (arith, bound c))) (minus-fits _ (bound c))
 
 returns-4 : tie.Need-returns-4
 returns-4 c =
@@ -71,10 +71,10 @@ returns-4 c =
     let v = f .found .given .0 .0 in
     let e : toZ w64 v ≡ pos v = toZ-pos w64 v (omega (arith, bound c)) in
     rw (e, toZ-ofZ (minus-fits v (bound c)))
-    (signed-some (a .s .now) (a .at) (k .before .before .before .if1 .left) v (f .found .given .0 .1 .0) (c .if3 .left) (sym (k .before .class-of .ensures) ∙ k .if2 .taken) (sym (f .found .given .1) ∙ f .before .before .scan-number .ensures))
+    (signed-some (a .s .now) (a .at) (k .before .before .before .if1 .left) v (f .found .given .0 .1 .0) (c .if3 .left) (sym (k .before .class-of .ensures) ∙ k .if2 .taken) (sym (f .found .given .1) ∙ f .before .before .read-number .ensures))
 
-scan-number-requires-2 : tie.Need-scan-number-requires-2
-scan-number-requires-2 c κs = search needs
+read-number-requires-2 : tie.Need-read-number-requires-2
+read-number-requires-2 c κs = search needs
 
 enum-known-plain : tie.Need-enum-known-plain
 enum-known-plain c = search needs
@@ -86,10 +86,10 @@ returns-5 : tie.Need-returns-5
 returns-5 c =
     let k = c .before .before .before in
     let a = k .before .before .before .before .before .args in
-    plain-no (a .s .now) (a .at) (k .before .before .before .if1 .left) (λ e. k .if2 .left (k .before .class-of .ensures ∙ e)) (sym (c .enum-told2 .given .1) ∙ c .before .before .scan-number2 .ensures)
+    plain-no (a .s .now) (a .at) (k .before .before .before .if1 .left) (λ e. k .if2 .left (k .before .class-of .ensures ∙ e)) (sym (c .enum-told2 .given .1) ∙ c .before .before .read-number2 .ensures)
 
-cast-t19 : tie.Need-cast-t19
-cast-t19 c = record { sfits = omega (arith, bound2 c) }
+cast-t18 : tie.Need-cast-t18
+cast-t18 c = record { sfits = omega (arith, bound2 c) }
 
 returns-6 : tie.Need-returns-6
 returns-6 c =
@@ -99,7 +99,7 @@ returns-6 c =
     let v = f .plain .given .0 .0 in
     let e : toZ w64 v ≡ pos v = toZ-pos w64 v (omega (arith, bound2 c)) in
     rw e
-    (plain-some (a .s .now) (a .at) (k .before .before .before .if1 .left) v (f .plain .given .0 .1 .0) (λ e. k .if2 .left (k .before .class-of .ensures ∙ e)) (sym (f .plain .given .1) ∙ f .before .before .scan-number2 .ensures))
+    (plain-some (a .s .now) (a .at) (k .before .before .before .if1 .left) v (f .plain .given .0 .1 .0) (λ e. k .if2 .left (k .before .class-of .ensures ∙ e)) (sym (f .plain .given .1) ∙ f .before .before .read-number2 .ensures))
 
 pub read-value-spec : {M : Type 1} → statement M
 read-value-spec =
@@ -108,18 +108,18 @@ read-value-spec =
     returns
     shared-slice-read-b
     class-of-requires
-    add-scan-number
-    scan-number-requires
+    add-read-number
+    read-number-requires
     enum-known-found
     enum-told
     returns-2
     returns-3
     cast-m
-    sub-t18
+    sub-t17
     returns-4
-    scan-number-requires-2
+    read-number-requires-2
     enum-known-plain
     enum-told-2
     returns-5
-    cast-t19
+    cast-t18
     returns-6)

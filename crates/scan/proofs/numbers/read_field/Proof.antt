@@ -13,14 +13,14 @@ returns c =
     let a = c .before .before .before .args in
     field-none (a .s .now) (a .at) (c .before .skip-spaces .result) (c .before .skip-spaces .ensures) (c .if1 .taken)
 
-scan-number-requires : tie.Need-scan-number-requires
-scan-number-requires c κs = search needs
+read-number-requires : tie.Need-read-number-requires
+read-number-requires c κs = search needs
 
 returns-2 : tie.Need-returns-2
 returns-2 c =
     let k = c .before .before in
     let a = k .before .before .args in
-    c .scan-number .ensures ∙ field-some (a .s .now) (a .at) (k .skip-spaces .result) (k .skip-spaces .ensures) (c .before .if1 .left)
+    c .read-number .ensures ∙ field-some (a .s .now) (a .at) (k .skip-spaces .result) (k .skip-spaces .ensures) (c .before .if1 .left)
 
 pub read-field-spec : {M : Type 1} → statement M
-read-field-spec = tie.close (tie.spec skip-spaces-requires returns scan-number-requires returns-2)
+read-field-spec = tie.close (tie.spec skip-spaces-requires returns read-number-requires returns-2)

@@ -10,10 +10,10 @@ use Rattle.scan.proofs.numbers.skip_spaces.Statement.{statement}
 use Rattle.scan.proofs.numbers.skip_spaces.Tie as tie
 
 abbrev Inv-loop : tie.InvT-loop
-Inv-loop classes s at i₀ i = (at ≤ i) × (i + spaces (drop i s) ≡ at + spaces (drop at s))
+Inv-loop s at i₀ i = (at ≤ i) × (i + spaces (drop i s) ≡ at + spaces (drop at s))
 
 abbrev μ-loop : tie.MeasureT-loop
-μ-loop classes s at i₀ i = length s - i
+μ-loop s at i₀ i = length s - i
 
 loop-holds : tie.Need-loop-holds Inv-loop μ-loop
 loop-holds c = search needs

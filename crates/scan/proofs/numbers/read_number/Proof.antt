@@ -1,4 +1,4 @@
--- `scan_number` meets its contract.
+-- `read_number` meets its contract.
 use borrow.Author.Needs.{needs}
 use mathlib.Core.Path.{_≡_, refl, sym, _∙_}
 use Prim.Native.Nat.{_-_, _<_}
@@ -7,14 +7,14 @@ use lib.ListN.{length, getD}
 use Rattle.market.specs.Bytes.{classOf}
 use Rattle.scan.proofs.numbers.Scanning.{digits-stop, digits-end, digit-range}
 use Rattle.scan.proofs.numbers.Digits.{Digits, digits-start, digits-step, digits-done, digits-many, digits-small, number-end}
-use Rattle.scan.proofs.numbers.scan_number.Statement.{statement}
-use Rattle.scan.proofs.numbers.scan_number.Tie as tie
+use Rattle.scan.proofs.numbers.read_number.Statement.{statement}
+use Rattle.scan.proofs.numbers.read_number.Tie as tie
 
 abbrev Inv-loop : tie.InvT-loop
-Inv-loop classes s at first v₀ i₀ v i = (first ≡ getD s at 0) × (at < length s) × Digits s at v i
+Inv-loop s at first v₀ i₀ v i = (first ≡ getD s at 0) × (at < length s) × Digits s at v i
 
 abbrev μ-loop : tie.MeasureT-loop
-μ-loop classes s at first v₀ i₀ v i = length s - i
+μ-loop s at first v₀ i₀ v i = length s - i
 
 -- the byte at i is a digit
 digit : (c : tie.Else2 Inv-loop μ-loop) → classOf (getD (c .before .before .before .before .before .before .before .before .args .s .now) (c .before .before .before .before .loop .i) 0) ≡ 1
@@ -102,8 +102,8 @@ returns-4 c =
     ∙ rw (l .loop .inv .0) (digits-done (a .s .now) (a .at) (l .loop .v) (l .loop .i) (l .loop .inv .2) (l .loop .inv .1)
     (digits-end (a .s .now) (l .loop .i) (c .before .loop-test .left)))
 
-pub scan-number-spec : {M : Type 1} → statement M
-scan-number-spec =
+pub read-number-spec : {M : Type 1} → statement M
+read-number-spec =
     tie.close
     (tie.spec
     Inv-loop
