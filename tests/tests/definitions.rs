@@ -13,6 +13,21 @@ fn joined(matrix: &Matrix, one: u32, two: u32) -> bool {
     one != two && matrix.rows().columns(one as usize).contains(&two)
 }
 
+/// The number of freedoms joined to a freedom in the whole matrix.
+fn joins(matrix: &Matrix, freedom: u32) -> usize {
+    (0..matrix.n)
+        .filter(|&other| joined(matrix, freedom, other))
+        .count()
+}
+
+/// "The unreached freedom of the group with the fewest joined freedoms in the whole matrix, the lowest number on a tie."
+fn root(matrix: &Matrix, own: &BTreeSet<u32>, reached: &BTreeMap<u32, u32>) -> Option<u32> {
+    let unreached = own.iter().filter(|freedom| !reached.contains_key(*freedom));
+    unreached
+        .copied()
+        .min_by_key(|&freedom| (joins(matrix, freedom), freedom))
+}
+
 /// The levels of a region by freedom, level sets grown from each root.
 fn levels(matrix: &Matrix, own: &BTreeSet<u32>) -> BTreeMap<u32, u32> {
     let near = |&freedom: &u32| own.iter().any(|&other| joined(matrix, freedom, other));
@@ -20,7 +35,7 @@ fn levels(matrix: &Matrix, own: &BTreeSet<u32>) -> BTreeMap<u32, u32> {
         .filter(|f| own.contains(f) || near(f))
         .collect();
     let mut levels = BTreeMap::new();
-    while let Some(&root) = own.iter().find(|freedom| !levels.contains_key(*freedom)) {
+    while let Some(root) = root(matrix, own, &levels) {
         let mut level = levels.values().max().map_or(0, |highest| highest + 2);
         let mut wave = BTreeSet::from([root]);
         while !wave.is_empty() {
@@ -75,9 +90,7 @@ fn plan_group(matrix: &Matrix, p: u32, plan: &mut Plan, record: Fields) {
 
 /// "A freedom's load becomes 1 plus the number of freedoms joined to it in the whole matrix."
 fn weight(matrix: &Matrix, row: u32) -> u32 {
-    1 + (0..matrix.n)
-        .filter(|&other| joined(matrix, row, other))
-        .count() as u32
+    1 + joins(matrix, row) as u32
 }
 
 /// The records of a split group's children.

@@ -211,6 +211,18 @@ fn levels_with_outsiders() {
     assert_eq!((levels, highest), (vec![0, 2, 2], 3));
 }
 
+/// A chain numbered from its middle, 3 1 0 2 4, starts at an end; a freedom's joins outside its group count.
+#[test]
+fn roots_at_the_edge() {
+    let triples = [(1, 0, 1), (2, 0, 1), (3, 1, 1), (4, 2, 1)];
+    let matrix = nets::of_triples(5, triples.into_iter());
+    let (levels, highest) = planner::levels(matrix.rows(), &[0, 1, 2, 3, 4]);
+    assert_eq!((levels, highest), (vec![2, 1, 3, 0, 4], 5));
+    let matrix = nets::of_triples(4, [(1, 0, 1), (2, 1, 1), (3, 1, 1)].into_iter());
+    let (levels, highest) = planner::levels(matrix.rows(), &[1, 3]);
+    assert_eq!((levels, highest), (vec![1, 0], 2));
+}
+
 #[test]
 fn unended_lines() {
     assert_eq!(refusal_after_line_1("%x"), (2, 2));
@@ -308,11 +320,11 @@ fn six_freedoms_one_pair() {
     let triples = [(4, 3, 1), (5, 3, 1)];
     let matrix = nets::of_triples(6, triples.into_iter());
     let (levels, highest) = planner::levels(matrix.rows(), &[0, 1, 2, 3, 4, 5]);
-    assert_eq!((levels, highest), (vec![0, 2, 4, 6, 7, 7], 8));
+    assert_eq!((levels, highest), (vec![0, 2, 4, 7, 6, 8], 9));
     let plan = planner::plan(matrix.rows(), 2, 50);
     let pair = plan.groups.iter().skip(1).filter(|group| group[5] == 0);
     let pair: Vec<_> = pair.copied().collect();
-    assert_eq!(pair, [[0, 3, 0, 2, 1, 0, 1], [3, 3, 0, 2, 2, 0, 1]]);
+    assert_eq!(pair, [[0, 4, 0, 2, 1, 0, 1], [4, 2, 0, 2, 2, 0, 1]]);
 }
 
 /// The refusal of lent rows.

@@ -6,6 +6,7 @@ pub mod Sums
 pub mod Graph
 pub mod Each
 pub mod Begins
+pub mod Best
 pub mod Left
 pub mod Found
 pub mod Replies

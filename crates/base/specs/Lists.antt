@@ -2,7 +2,7 @@
 use mathlib.Core.Bool.{Bool, true, false, _||_, _&&_, cond}
 use mathlib.Core.List.{List, [], _∷_, _++_}
 use Prim.Native.Nat.{ℕ, zero, suc, _+_, _-_}
-use lib.Dec.{eqb}
+use lib.Dec.{eqb, ltb}
 
 module _ {ℓ} {A : Type ℓ} where
   abbrev pub keep : Bool → A → List A → List A
@@ -47,6 +47,16 @@ module _ {ℓ} {A : Type ℓ} where
   abbrev pub isEmpty : List A → Bool
   isEmpty [] = true
   isEmpty (x ∷ xs) = false
+
+  -- of x and the elements xs the one of least score, the first on a tie
+  unfoldable pub best : (score : A → ℕ) → A → List A → A
+  best score x [] = x
+  best score x (y ∷ ys) = best score (cond (ltb (score y) (score x)) y x) ys
+
+  -- that element alone; of no elements none
+  abbrev pub bestOf : (score : A → ℕ) → List A → List A
+  bestOf score [] = []
+  bestOf score (x ∷ xs) = best score x xs ∷ []
 
 -- v is in the list
 abbrev pub isIn : List ℕ → ℕ → Bool

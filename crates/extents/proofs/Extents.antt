@@ -11,8 +11,9 @@ use borrow.Author.Tests.{ltb-false, leb-false}
 use Rattle.base.specs.Lists.{fromFirst, sum, distance}
 use Rattle.base.proofs.Booleans.{or-left-false, or-right-false}
 use Rattle.base.proofs.Each.{Each, each-map}
+use Rattle.base.proofs.Best.{best-is}
 use Rattle.levels.specs.Levels.{reach}
-use Rattle.extents.specs.Extents.{Policy, End, Extent, endsFrom, best, nearest, off, serves, extentOf, extentFrom, extent, cutAt, cut}
+use Rattle.extents.specs.Extents.{Policy, End, Extent, endsFrom, nearest, off, serves, extentOf, extentFrom, extent, cutAt, cut}
 
 -- ---- ends
 
@@ -24,16 +25,6 @@ each-fromFirst P t (e ∷ es) h = go (t e) (each-fromFirst P t es (h .1))
     go : (b : Bool) → Each P (fromFirst t es) → Each P (cond b (e ∷ es) (fromFirst t es))
     go true ih = h
     go false ih = ih
-
--- the best of some ends is one of them
-best-is : (P : End → Type 0) (score : End → ℕ) (e : End) (es : List End) → P e → Each P es → P (best score e es)
-unfolding best
-best-is P score e [] x h = x
-best-is P score e (f ∷ fs) x h = best-is P score _ fs (go (ltb (score f) (score e))) (h .1)
-  where
-    go : (b : Bool) → P (cond b f e)
-    go true = h .0
-    go false = x
 
 -- from a to b levels
 abbrev Between : ℕ → ℕ → End → Type 0

@@ -8,8 +8,8 @@ use native.Mathlib.Omega.{arith}
 use lib.Dec.{ltb}
 use lib.ListN.{length, take, drop, getD, drop-of-length-le}
 use borrow.Author.Tests.{lt-ltb, le-ltb}
-use Rattle.base.specs.Lists.{sum, distance}
-use Rattle.extents.specs.Extents.{End, endsFrom, best}
+use Rattle.base.specs.Lists.{best, sum, distance}
+use Rattle.extents.specs.Extents.{End, endsFrom}
 use Rattle.extents.specs.code.Scans.{endsOn, nearestEnd}
 use Rattle.extents.proofs.Ends.{endAt, sum-next, ends-next, ends-on}
 

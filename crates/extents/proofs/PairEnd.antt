@@ -8,9 +8,9 @@ use lib.Dec.{ltb, leb}
 use lib.ListN.{length, take, drop, drop-of-length-le}
 use lib.Seq.{length-take-le}
 use borrow.Author.Tests.{lt-ltb, le-ltb, le-leb, lt-leb}
-use Rattle.base.specs.Lists.{sum, distance, fromFirst}
+use Rattle.base.specs.Lists.{best, sum, distance, fromFirst}
 use Rattle.levels.specs.Levels.{reach}
-use Rattle.extents.specs.Extents.{Policy, End, endsFrom, best, nearest, off, serves, extent, extentFrom, extentOf, cut, cutAt}
+use Rattle.extents.specs.Extents.{Policy, End, endsFrom, nearest, off, serves, extent, extentFrom, extentOf, cut, cutAt}
 use Rattle.extents.specs.code.Scans.{endsOn, nearestEnd}
 use Rattle.extents.proofs.Ends.{endAt, sum-split, ends-after, ends-on}
 

@@ -4,7 +4,7 @@ use mathlib.Core.List.{List, [], _∷_}
 use Prim.Native.Nat.{ℕ, _+_, _*_, _-_, _/_, max}
 use lib.Dec.{ltb, leb}
 use lib.ListN.{length, take, drop}
-use Rattle.base.specs.Lists.{fromFirst, sum, distance}
+use Rattle.base.specs.Lists.{fromFirst, best, sum, distance}
 use Rattle.levels.specs.Levels.{reach}
 
 -- what the rules take besides a group's levels, loads and workers: "p is 50 to 99"
@@ -20,11 +20,6 @@ pub record End : Type 0 where
 unfoldable pub endsFrom : ℕ → ℕ → List ℕ → List End
 endsFrom k s [] = []
 endsFrom k s (q ∷ qs) = record { levels = k + 1; load = s + q } ∷ endsFrom (k + 1) (s + q) qs
-
--- the end of least score, "the shorter wins a tie", "earliest on a tie"
-unfoldable pub best : (score : End → ℕ) → End → List End → End
-best score e [] = e
-best score e (f ∷ fs) = best score (cond (ltb (score f) (score e)) f e) fs
 
 -- "levels of load q weigh a = q × w / R, and b is the nearest whole number, half going up, but at least 1"
 unfoldable pub nearest : (q w R : ℕ) → ℕ
@@ -52,7 +47,7 @@ extentOf b all free e =
     (record { levels = e .levels; workers = b })
 
 -- from the first end that serves, "this fixes b. Of this end and the later ends, take the one whose a is nearest to
--- that b"; "If no end serves .. all levels and workers left"
+-- that b; the shorter wins a tie"; "If no end serves .. all levels and workers left"
 unfoldable pub extentFrom : (w R all free : ℕ) → List End → Extent
 extentFrom w R all free [] = record { levels = all; workers = free }
 extentFrom w R all free (e ∷ es) =

@@ -1,5 +1,5 @@
 -- A group's levels depend on who is in it, not on its order. A group's rows in ascending order are as many.
-use mathlib.Core.Path.{_≡_, refl, sym, ap, _∙_, fun-ext}
+use mathlib.Core.Path.{_≡_, refl, ap, _∙_, fun-ext}
 use mathlib.Core.Bool.{Bool, true, false, not, _||_}
 use mathlib.Core.List.{List, [], _∷_, map}
 use Prim.Native.Nat.{ℕ, zero, suc, _*_, _≤_}
@@ -58,10 +58,7 @@ module _ {n : ℕ} {T : List ℕ} (pr : Proper n T) where
   pub proper-short : length T ≤ n
   proper-short = omega (arith, own-length, length-filter-le (isIn T) (range 0 n), length-range 0 n)
 
--- who is in T is in T's rows in ascending order, and these are their own
+-- who is in T is in T's rows in ascending order
 module _ {n : ℕ} {T own : List ℕ} (pr : Proper n T) (e : own ≡ filter (isIn T) (range 0 n)) where
   pub own-same : isIn own ≡ isIn T
   own-same = ap isIn e ∙ own-in pr
-
-  pub own-again : own ≡ filter (isIn own) (range 0 n)
-  own-again = e ∙ ap (λ (p : ℕ → Bool). filter p (range 0 n)) (sym own-same)

@@ -2,8 +2,8 @@
 use mathlib.Core.Bool.{Bool, not, _||_}
 use mathlib.Core.List.{List, [], _∷_, map}
 use Prim.Native.Nat.{ℕ, zero, suc, _-_, _*_}
-use lib.ListN.{length, take}
-use Rattle.base.specs.Lists.{filter, any, isIn, range, trim}
+use lib.ListN.{length}
+use Rattle.base.specs.Lists.{filter, any, isIn, range, trim, bestOf}
 
 -- the distance that a colouring keeps: rows of two like-coloured children of one parent are more than two joins apart
 abbrev pub reach : ℕ
@@ -22,10 +22,10 @@ degree adj v = length (adj v)
 unfoldable pub region : (adj : ℕ → List ℕ) → ℕ → List ℕ → List ℕ
 region adj n T = filter (near adj (reach - 1) T) (range 0 n)
 
--- "The root is the lowest-numbered freedom of T not yet reached": of the rows not yet reached, ascending, it alone;
--- none if T has none there
+-- "The root becomes the unreached freedom of the group with the fewest joined freedoms in the whole matrix, the lowest
+-- number on a tie": of the rows not yet reached, rest, which ascend, it alone; none if T has none there
 unfoldable pub root : (adj : ℕ → List ℕ) (T rest : List ℕ) → List ℕ
-root adj T rest = take 1 (filter (isIn T) rest)
+root adj T rest = bestOf (degree adj) (filter (isIn T) rest)
 
 -- Which of the rows not yet reached, rest, are on the next level: those adjacent to the last level. At first, and after
 -- an empty level, the root of the next component (document 01's island) alone: so "each later one two above the highest

@@ -6,7 +6,7 @@ use Prim.Native.Nat.{ℕ, suc, _-_}
 use Prim.Native.String.{String}
 use lib.IntN.{ℤ, pos, negsuc}
 use lib.ListN.{length, take, drop, replicate}
-use Rattle.base.specs.Lists.{concat, range, sum, sumBelow, bit}
+use Rattle.base.specs.Lists.{best, concat, range, sum, sumBelow, bit}
 use Rattle.base.specs.Ascii.{ascii}
 use Rattle.base.specs.Integers.{sumℤ, within, same, fits64}
 use Rattle.base.specs.Replies.{Reply, accepted, refused, inTurn}
@@ -20,7 +20,7 @@ use Rattle.market.specs.Text.{decimal, textOf, columnOf, lower, written}
 use Rattle.plan.specs.Groups.{Plan, width, fieldsOf, flat}
 use Rattle.plan.specs.Sound.{eachOnce, depthFirst, children, tiled, apart, stretchOf, likeApart, childrenSound, allSound, sound, isSound}
 use Rattle.levels.specs.Levels.{near, region, root, isNext, levelsFrom, levels, ownLevels}
-use Rattle.extents.specs.Extents.{Extent, endsFrom, best, nearest, off, serves, extentOf, extentFrom, extent, cutAt, cut}
+use Rattle.extents.specs.Extents.{Extent, endsFrom, nearest, off, serves, extentOf, extentFrom, extent, cutAt, cut}
 use Rattle.race.specs.Loads.{weight, loadOf}
 use Rattle.race.specs.Planner.{nothing, _then_, leaf, pairs, planPairs, splits, split, planGroup, planRows, plan, areParameters, planReply}
 use Rattle.run.specs.Job.{Job, rowAt, workersOf, workers}
@@ -123,6 +123,10 @@ zeroJoin = matrixIn "2 2 1\n2 1 0\n"
 abbrev star : Matrix
 star = matrixIn "4 4 3\n2 1 1\n3 2 1\n4 2 1\n"
 
+-- a chain numbered from its middle: 3 1 0 2 4
+abbrev folded : Matrix
+folded = matrixIn "5 5 4\n2 1 1\n3 1 1\n4 2 1\n5 3 1\n"
+
 -- "level loads 1, 2, .. 16, 15, .. 1"
 abbrev hill : List ℕ
 hill = range 1 16 ++ map (λ k. 16 - k) (range 1 15)
@@ -194,6 +198,10 @@ samples =
     ∷ (ofParsed (parse []) is numbers (1 ∷ 1 ∷ []))
     -- "freedoms 0, 2 and 3 of T, joined only to outsider 1, have levels 0, 2 and 2"
     ∷ (ofLevels (ownLevels (neighbours star) 4 (0 ∷ 2 ∷ 3 ∷ [])) is numbers (1 ∷ 0 ∷ 0 ∷ 2 ∷ 2 ∷ 3 ∷ []))
+    -- "the unreached freedom of the group with the fewest joined freedoms in the whole matrix, the lowest number on a
+    -- tie": an end of the chain 3 1 0 2 4; of rows 1 and 3 of the star, row 3
+    ∷ (ofLevels (ownLevels (neighbours folded) 5 (range 0 5)) is numbers (1 ∷ 3 ∷ 1 ∷ 1 ∷ 1 ∷ 0 ∷ 1 ∷ 2 ∷ 1 ∷ 4 ∷ []))
+    ∷ (ofLevels (ownLevels (neighbours star) 4 (1 ∷ 3 ∷ [])) is numbers (1 ∷ 3 ∷ 1 ∷ 1 ∷ []))
     -- a whole run of the chain: the machine's answers and the model's; 2 picks for each row and 4 for each adjacent
     -- pair
     ∷ (ofAnswers (runAnswers chainJob chainCalls) is ofAnswers chainAnswers)

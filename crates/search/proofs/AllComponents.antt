@@ -10,27 +10,44 @@ use lib.ListN.{length, getD, take}
 use borrow.Author.Count.{below-more}
 use borrow.Author.Tests.{eqb-true, eqb-false, eq-eqb, ne-eqb}
 use Rattle.base.specs.Lists.{filter, isIn, range}
+use Rattle.base.specs.code.Scores.{byScore}
 use Rattle.base.proofs.Booleans.{or-cases}
-use Rattle.base.proofs.Lists.{filter-range-get, get-in, filter-first, filter-none, length-filter-le, length-range}
+use Rattle.base.proofs.Lists.{in-get, get-in, range-in, filter-in, filter-first, filter-none, length-filter-le, length-range}
+use Rattle.base.proofs.Best.{by-score-in}
 use Rattle.matrix.specs.Limits.{maxRows}
-use Rattle.levels.specs.Levels.{region, root}
+use Rattle.levels.specs.Levels.{degree, region, root}
 use Rattle.search.specs.code.Marks.{atMark, unreached}
 use Rattle.search.specs.code.Search.{wave, visited, visitedAll, After, Frontier, SoFar, Kept, Spread, Roots, Between, Levelled}
-use Rattle.levels.proofs.Root.{root-some, root-first}
+use Rattle.levels.proofs.Root.{root-some, root-first, root-same}
 use Rattle.levels.proofs.Region.{region-own}
 use Rattle.search.proofs.Turns.{isIn-atMark, atMark-none, so-far-step, next-root, so-far-start, so-far-end}
 use Rattle.search.proofs.Frontiers.{kept-trans, kept-reached, kept-turn, turn-is, turn-finds, frontier-step}
 
 -- ---- the rows to start from
 
--- T's rows in ascending order, as "the root is the lowest-numbered freedom of T not yet reached"
-pub own-roots : (adj : ℕ → List ℕ) (n : ℕ) (T own : List ℕ) → own ≡ filter (isIn T) (range 0 n) → Roots adj n T own
-own-roots adj n T own e = record {
-  below = λ i l. filter-range-get (isIn T) n own e i l .0;
-  first = λ marks.
-      let p : ℕ → Bool = λ v. eqb (getD marks v 0) 1 in
-      root-first adj n T p ∙ ap (λ (xs : List ℕ). take 1 (filter p xs)) (sym e);
-}
+-- T's rows by degree, then by number, as "the fewest joined freedoms in the whole matrix, the lowest number on a tie"
+pub degree-roots : (adj : ℕ → List ℕ) (n : ℕ) (T own roots : List ℕ) → ((v : ℕ) → isIn T v ≡ true → degree adj v < n) → own ≡ filter (isIn T) (range 0 n) → isIn own ≡ isIn T
+    → roots ≡ byScore (degree adj) 0 n own → (isIn roots ≡ isIn T) × Roots adj n roots roots
+degree-roots adj n T own roots few e members r = (
+  same,
+  record {
+    below = λ i l. below (getD roots i 0) (in-get roots i l);
+    first = λ marks.
+        let p : ℕ → Bool = λ v. eqb (getD marks v 0) 1 in
+        root-same adj roots T same (filter p (range 0 n))
+        ∙ root-first adj n T n few p
+        ∙ ap (λ (xs : List ℕ). take 1 (filter p (byScore (degree adj) 0 n xs))) (sym e)
+        ∙ ap (λ (xs : List ℕ). take 1 (filter p xs)) (sym r);
+  },
+)
+  where
+    same : isIn roots ≡ isIn T
+    same = ap isIn r ∙ by-score-in (degree adj) n own (λ v h. few v (sym (ap (λ (p : ℕ → Bool). p v) members) ∙ h)) ∙ members
+
+    below : (v : ℕ) → isIn roots v ≡ true → v < n
+    below v h =
+        let here : isIn (filter (isIn T) (range 0 n)) v ≡ true = ap (λ (xs : List ℕ). isIn xs v) (sym e) ∙ ap (λ (p : ℕ → Bool). p v) members ∙ sym (ap (λ (p : ℕ → Bool). p v) same) ∙ h in
+        omega (arith, range-in v 0 n (filter-in (isIn T) (range 0 n) v here) .1)
 
 pub roots-below : {adj : ℕ → List ℕ} {n : ℕ} {T roots : List ℕ} → Roots adj n T roots → (v : ℕ) → isIn roots v ≡ true → v < n
 roots-below {roots = roots} given v h = let (i, l, e) = get-in roots v h in omega (arith, given .below i l)

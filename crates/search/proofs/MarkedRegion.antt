@@ -1,4 +1,4 @@
--- The rows of T marked, and then their columns: the marked rows are T's region.
+-- A group's rows are marked, and then their columns: the marked rows are its region.
 use mathlib.Core.Path.{_≡_, refl, sym, ap, _∙_, subst}
 use mathlib.Core.Bool.{Bool, true, false, not, _&&_, _||_, cond, or-comm}
 use mathlib.Core.List.{List, [], _∷_, map}
@@ -6,7 +6,7 @@ use Prim.Native.Nat.{ℕ, _≤_}
 use native.Mathlib.Omega.{arith}
 use lib.Dec.{eqb}
 use lib.ListN.{getD}
-use Rattle.base.specs.Lists.{any, isIn, concat, range}
+use Rattle.base.specs.Lists.{any, isIn, concat, range, bit}
 use Rattle.base.proofs.Lists.{any-ext, filter-ext, isIn-concat-map}
 use Rattle.matrix.specs.Matrix.{columnsOf, neighbours}
 use Rattle.matrix.specs.code.Pattern.{pattern}
@@ -42,26 +42,26 @@ module _ {n : ℕ} {starts columns : List ℕ} (r : Rows n starts columns) (own 
       ∙ adjacent-to (rows-graph r) own v)
       ∙ or-comm (any (isIn own) (neighbours p v)) (isIn own v)
 
-  module _ {T marks marks₁ marks₂ : List ℕ} (same : (v : ℕ) → isIn own v ≡ isIn T v) (blank : (v : ℕ) → getD marks v 0 ≡ 0)
-      (first : Marked T marks marks₁) (second : Marked (concat (map (columnsOf (pattern n starts columns)) own)) marks₁ marks₂) where
-    mark-is : (v : ℕ) → getD marks₂ v 0 ≡ cond (isIn (concat (map (columnsOf (pattern n starts columns)) own)) v) 1 (cond (isIn own v) 1 0)
-    mark-is v = second .is v ∙ rw (first .is v, blank v, ← same v)
+  module _ {marks marks′ : List ℕ} (first : (v : ℕ) → getD marks v 0 ≡ bit (isIn own v))
+      (second : Marked (concat (map (columnsOf (pattern n starts columns)) own)) marks marks′) where
+    mark-is : (v : ℕ) → getD marks′ v 0 ≡ cond (isIn (concat (map (columnsOf (pattern n starts columns)) own)) v) 1 (bit (isIn own v))
+    mark-is v = second .is v ∙ rw (first v)
 
-    pub region-is : atMark n marks₂ 1 ≡ region (adjOf n starts columns) n own
+    pub region-is : atMark n marks′ 1 ≡ region (adjOf n starts columns) n own
     unfolding region
     region-is =
-        filter-ext (λ v. eqb (getD marks₂ v 0) 1) (near (adjOf n starts columns) 1 own) (range 0 n)
+        filter-ext (λ v. eqb (getD marks′ v 0) 1) (near (adjOf n starts columns) 1 own) (range 0 n)
         (λ v h. ap (λ (x : ℕ). eqb x 1) (mark-is v) ∙ test (isIn (concat (map (columnsOf (pattern n starts columns)) own)) v) (isIn own v) ∙ in-region v)
       where
-        test : (a b : Bool) → eqb (cond a 1 (cond b 1 0)) 1 ≡ a || b
+        test : (a b : Bool) → eqb (cond a 1 (bit b)) 1 ≡ a || b
         test true b = refl
         test false true = refl
         test false false = refl
 
-    pub region-small : (v : ℕ) → getD marks₂ v 0 ≤ 1
+    pub region-small : (v : ℕ) → getD marks′ v 0 ≤ 1
     region-small v = subst (λ (x : ℕ). x ≤ 1) (sym (mark-is v)) (small (isIn (concat (map (columnsOf (pattern n starts columns)) own)) v) (isIn own v))
       where
-        small : (a b : Bool) → cond a 1 (cond b 1 0) ≤ 1
+        small : (a b : Bool) → cond a 1 (bit b) ≤ 1
         small true b = omega arith
         small false true = omega arith
         small false false = omega arith

@@ -14,7 +14,7 @@ use mazhoketh_tests::lists::{MatrixLists, PlanLists, RunLists};
 use mazhoketh_tests::oracle::leaves::leaves_of;
 use mazhoketh_tests::oracle::matrix::Matrix;
 use mazhoketh_tests::oracle::nets::{self, Roof};
-use mazhoketh_tests::oracle::planner::{self, Load};
+use mazhoketh_tests::oracle::planner::{self, Rules, RULES};
 use mazhoketh_tests::oracle::prng::Prng;
 use mazhoketh_tests::oracle::{calls, WORKERS};
 use mazhoketh_tests::{files, library};
@@ -158,12 +158,18 @@ type Net = (&'static str, &'static str, fn() -> (Matrix, Option<Matrix>));
 
 /// All nets that calls are timed on.
 #[rustfmt::skip]
-const NETS: [Net; 4] = [
+const NETS: [Net; 5] = [
     ("roof", "roof of 3,900 rows", || (roof(52), Some(roof(26)))),
-    ("bcsstk14", "bcsstk14", || (files::read(&files::folder().join("bcsstk14.mtx")).1, None)),
+    ("bcsstk14", "bcsstk14", || (in_file("bcsstk14.mtx"), None)),
+    ("gr_30_30", "gr_30_30", || (in_file("gr_30_30.mtx"), None)),
     ("chain", "chain of 4,096", || (nets::chain(4_096), Some(nets::chain(2_048)))),
     ("unjoined", "4,096 unjoined rows", || (nets::unjoined(4_096), Some(nets::unjoined(2_048)))),
 ];
+
+/// The matrix of a file.
+fn in_file(name: &str) -> Matrix {
+    files::read(&files::folder().join(name)).1
+}
 
 /// A roof of so many spokes, 75 freedoms each.
 fn roof(spokes: usize) -> Matrix {
@@ -266,30 +272,45 @@ fn print_table(asked: &Asked) {
 /// The table that is no call's.
 const EFFICIENCY: &str = "efficiency";
 
-/// The share of 16 workers' time that a plan uses, in per cent, with its groups and the updates of its longest chain.
-fn worth(load: Load, net: &Matrix) -> String {
-    let plan = planner::plan_by(load, net.rows(), WORKERS as u32, 60);
+/// Document 01's rules, and those after each request that changed them.
+const EACH: [Rules; 3] = [
+    Rules {
+        load: planner::alike,
+        root: planner::alike,
+    },
+    Rules {
+        root: planner::alike,
+        ..RULES
+    },
+    RULES,
+];
+
+/// The share of 16 workers' time that a plan uses, in per cent, with its levels, its groups and the updates of its
+/// longest chain.
+fn worth(rules: Rules, net: &Matrix) -> String {
+    let whole: Vec<u32> = (0..net.n).collect();
+    let levels = planner::levels_by(rules, net.rows(), &whole).1;
+    let plan = planner::plan_by(rules, net.rows(), WORKERS as u32, 60);
     let leaves = leaves_of(net, &plan);
     let share = 100.0 * leaves.efficiency();
-    format!(
-        "{share:.0} % ({}, {})",
-        plan.groups.len(),
-        leaves.longest_chain() / 2
-    )
+    let (groups, chain) = (plan.groups.len(), leaves.longest_chain() / 2);
+    format!("{share:.0} % ({levels}, {groups}, {chain})")
 }
 
 /// Prints what the plan of each net is worth: all its updates, by those of the longest chain for each of 16 workers.
 fn print_efficiency(asked: &Asked) {
     println!(
-        "| net | rows | updates | loads by rows: used (groups, longest chain) | loads by entries |"
+        "| net | rows | updates | document 01: used (levels, groups, longest chain) | loads by entries | roots at the edge |"
     );
-    println!("|---|---:|---:|---:|---:|");
+    println!("|---|---:|---:|---:|---:|---:|");
     for (_, title, make) in asked.nets() {
         let net = make().0;
         let updates = net.n as usize + 2 * net.rows().joined_pairs();
-        let [rows, entries] =
-            [planner::by_rows, planner::by_entries as Load].map(|load| worth(load, &net));
-        println!("| {title} | {} | {updates} | {rows} | {entries} |", net.n);
+        let [first, loads, roots] = EACH.map(|rules| worth(rules, &net));
+        println!(
+            "| {title} | {} | {updates} | {first} | {loads} | {roots} |",
+            net.n
+        );
     }
 }
 

@@ -3,9 +3,9 @@
 use mathlib.Core.List.{List, [], _∷_}
 use Prim.Native.Nat.{ℕ, _*_, _-_, _≤_, _<_, _^_}
 use lib.ListN.{drop}
-use Rattle.base.specs.Lists.{distance}
+use Rattle.base.specs.Lists.{best, distance}
 use Rattle.plan.specs.Sound.{maxWorkers}
-use Rattle.extents.specs.Extents.{Policy, End, endsFrom, best}
+use Rattle.extents.specs.Extents.{Policy, End, endsFrom}
 use Rattle.extents.specs.declared.Policy as code
 
 -- the policy that a struct stands for

@@ -8,7 +8,7 @@ use Prim.Native.Nat.{ℕ, _+_, _*_, _-_, _≤_, _<_}
 use lib.Dec.{eqb}
 use lib.ListN.{length, getD, set, take}
 use lib.Seq.{slice}
-use Rattle.base.specs.Lists.{filter, isIn, range}
+use Rattle.base.specs.Lists.{filter, isIn, range, bit}
 use Rattle.matrix.specs.Limits.{maxRows}
 use Rattle.levels.specs.Levels.{root, levelsFrom, levels}
 use Rattle.search.specs.code.Marks.{atMark, unreached}
@@ -98,6 +98,12 @@ pub record Levelled (adj : ℕ → List ℕ) (n : ℕ) (T : List ℕ) (k : ℕ) 
   pub few : k ≤ 2 * n
   pub fresh : (v : ℕ) → v < n → getD marks v 0 ≤ k + 2
   pub reached : (v : ℕ) → isIn T v ≡ true → 3 ≤ getD marks v 0
+
+-- own are the rows of T, ascending, and they have mark 1, the others 0
+pub record Gathered (n : ℕ) (T own marks : List ℕ) : Type 0 where
+  pub own-is : own ≡ filter (isIn T) (range 0 n)
+  pub long : length marks ≡ maxRows
+  pub marked : (v : ℕ) → getD marks v 0 ≡ bit (isIn T v)
 
 -- own are the rows of T, ascending, and the marks its levels
 pub record Searched (adj : ℕ → List ℕ) (n : ℕ) (T own : List ℕ) (k : ℕ) (marks : List ℕ) : Type 0 where
