@@ -1,9 +1,9 @@
 /* Mazhoketh: force lists on shared cores. The functions of libmazhoketh.a, for C and C++.
  *
  * A list is a pair: a pointer to bytes and their number. Numbers in a list are little-endian, low byte first: row
- * starts, columns, order and group fields are 32 bits without sign; values and movements 32 bits in two's complement;
- * sums and forces 64 bits in two's complement. A list's length in numbers is its bytes divided by the number's width,
- * rounded down; a trailing part is neither read nor written.
+ * starts, columns, order and group fields are 32 bits without sign; values, movements and shifts 32 bits in two's
+ * complement; sums, forces and amounts 64 bits in two's complement. A list's length in numbers is its bytes divided by
+ * the number's width, rounded down; a trailing part is neither read nor written.
  * Text, plan files and picks are read whole, and movements, sums and state have exactly the length needed: lend lengths
  * there, not capacities. Other lists may be longer than what is read or written; but a call decodes what it is lent, up
  * to the largest sizes below, so exact lengths are the fastest.
@@ -70,7 +70,8 @@ enum {
     MZK_WAITS = 13,       /* the pick's worker waits: pick it again when another worker has moved (index) */
     MZK_OVERFLOW = 14,    /* the sum to store passes 64 bits (index); never met in a run that began with zeros */
     MZK_UNFINISHED = 15,  /* a worker has moves left */
-    MZK_NO_FILE = 16      /* no plan file; or a plan of other than 1 to 4,096 rows or 1 to 512 groups */
+    MZK_NO_FILE = 16,     /* no plan file; or a plan of other than 1 to 4,096 rows or 1 to 512 groups */
+    MZK_SURVEY = 17       /* a survey error above 1,000,000, or no such row */
 };
 
 /* The matrix of a text, in full rows, into row_starts, columns and values; returns its number of rows. It has one row
@@ -103,6 +104,23 @@ uint64_t mzk_product(uint32_t n,
                      const uint8_t *values, size_t values_bytes,
                      const uint8_t *movements, size_t movements_bytes,
                      uint8_t *forces, size_t forces_bytes);
+
+/* How far a survey error reaches. Each movement is good to within t micrometres, 0 to 1,000,000: a shift is allowed if
+ * it changes each movement by at most t and leaves it within its limit. Into amounts go n numbers of 64 bits, for each
+ * row an amount beyond which no allowed shift moves its force: t times the sum of the row's values without sign. If
+ * every movement, without sign, plus t is at most 1,000,000, an allowed shift that moves the named row's force by just
+ * its amount goes into shift, n numbers: t with the sign of the row's value, 0 where that is 0 or absent. The call then
+ * returns 1. Otherwise it returns 0, and shift, of any length, is unchanged.
+ * Refused: 5; 6; 17; 9 (amounts; shift, if it is to be written). */
+uint64_t mzk_survey(uint32_t n,
+                    const uint8_t *row_starts, size_t row_starts_bytes,
+                    const uint8_t *columns, size_t columns_bytes,
+                    const uint8_t *values, size_t values_bytes,
+                    const uint8_t *movements, size_t movements_bytes,
+                    uint32_t t,
+                    uint32_t row,
+                    uint8_t *amounts, size_t amounts_bytes,
+                    uint8_t *shift, size_t shift_bytes);
 
 /* The plan of a matrix: its n rows into order, and for each group a record into groups (start, length, first worker,
  * workers, colour, parent, depth); returns the number of groups. Start and length are positions in the order, the

@@ -1,6 +1,7 @@
 /* mazhoketh.h from C and from C++: its macros against real words, its sizes against what calls take and need.
  *
- * Document 01's chain of eight rows is planned, filed and run; then the longest text that is written is read. */
+ * Document 01's chain of eight rows is planned, filed, surveyed and run; then the longest text that is written is
+ * read. */
 
 #include <stdio.h>
 #include <stdlib.h>
@@ -103,6 +104,27 @@ static void check_files(void)
     CHECK(MZK_PLAN_ROWS(word) == MZK_ROWS && MZK_PLAN_GROUPS(word) == MZK_GROUPS_LIMIT);
 }
 
+/* A survey of the chain: amounts, and the shift that reaches the first. */
+static void check_survey(void)
+{
+#define SURVEY(t, row, amounts_bytes, shift_bytes) \
+    mzk_survey(MATRIX(8), movements, 32, t, row, forces, amounts_bytes, shift, shift_bytes)
+    static uint8_t shift[32];
+    const uint8_t amounts[16] = { 9, 0, 0, 0, 0, 0, 0, 0, 12 };
+    const uint8_t up_and_down[12] = { 3, 0, 0, 0, 0xfd, 0xff, 0xff, 0xff };
+    CHECK(is(SURVEY(3, 0, 64, 32), MZK_ACCEPTED, 1));
+    CHECK(memcmp(forces, amounts, sizeof amounts) == 0 && memcmp(shift, up_and_down, sizeof up_and_down) == 0);
+    CHECK(is(SURVEY(1000000, 7, 64, 32), MZK_ACCEPTED, 1));
+    CHECK(is(SURVEY(1000001, 7, 64, 32), MZK_SURVEY, 0));
+    CHECK(is(SURVEY(3, 8, 64, 32), MZK_SURVEY, 0));
+    CHECK(is(SURVEY(3, 7, 63, 32), MZK_TOO_SHORT, 8));
+    CHECK(is(SURVEY(3, 7, 64, 31), MZK_TOO_SHORT, 8));
+    movements[0] = 1;
+    CHECK(is(SURVEY(1000000, 7, 64, 0), MZK_ACCEPTED, 0));
+    movements[0] = 0;
+#undef SURVEY
+}
+
 /* A run ends after 2 picks a row and 4 a pair of joined rows: 44 of the chain. */
 static void check_run(void)
 {
@@ -156,6 +178,7 @@ int main(void)
     check_texts();
     check_chain();
     check_files();
+    check_survey();
     check_run();
     check_longest();
     check_text_bytes();

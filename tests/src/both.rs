@@ -157,6 +157,41 @@ pub fn product(matrix: &MatrixTwins, movements: &Twin, forces: &mut Twin) -> u64
     )
 }
 
+/// Surveys a matrix into amounts and a shift.
+pub fn survey(
+    matrix: &MatrixTwins,
+    movements: &Twin,
+    t: u32,
+    freedom: u32,
+    lists: &mut [Twin; 2],
+) -> u64 {
+    let [amounts, shift] = lists;
+    let (matrix_ours, matrix_theirs) = (matrix.ours(), matrix.theirs());
+    let ours = library::survey(
+        matrix_ours,
+        movements.ours(),
+        t,
+        freedom,
+        amounts.ours_mut(),
+        shift.ours_mut(),
+    );
+    let theirs = calls::survey(
+        matrix_theirs,
+        &movements.theirs,
+        t,
+        freedom,
+        &mut amounts.theirs,
+        &mut shift.theirs,
+    );
+    alike(
+        "survey",
+        ours,
+        theirs,
+        matrix.lists(),
+        &[movements, amounts, shift],
+    )
+}
+
 /// Plans a matrix.
 pub fn plan(matrix: &MatrixTwins, workers: u32, p: u32, lists: &mut [Twin; 2]) -> u64 {
     let [order, groups] = lists;

@@ -25,6 +25,12 @@ extern "C" {
         row_starts: In, row_starts_bytes: usize, columns: In, columns_bytes: usize, values: In, values_bytes: usize,
         movements: In, movements_bytes: usize, forces: Out, forces_bytes: usize,
     ) -> u64;
+    fn mzk_survey(
+        n: u32,
+        row_starts: In, row_starts_bytes: usize, columns: In, columns_bytes: usize, values: In, values_bytes: usize,
+        movements: In, movements_bytes: usize, t: u32, row: u32,
+        amounts: Out, amounts_bytes: usize, shift: Out, shift_bytes: usize,
+    ) -> u64;
     fn mzk_plan(
         n: u32,
         row_starts: In, row_starts_bytes: usize, columns: In, columns_bytes: usize, values: In, values_bytes: usize,
@@ -97,6 +103,19 @@ pub fn product(matrix: MatrixLists, movements: &[u8], forces: &mut [u8]) -> u64 
         mzk_product(
             n, row_starts.as_ptr(), row_starts.len(), columns.as_ptr(), columns.len(), values.as_ptr(), values.len(),
             movements.as_ptr(), movements.len(), forces.as_mut_ptr(), forces.len(),
+        )
+    }
+}
+
+/// How far an error of t reaches, and a shift that reaches one row's amount; counts the shifts written.
+#[rustfmt::skip]
+pub fn survey(matrix: MatrixLists, movements: &[u8], t: u32, row: u32, amounts: &mut [u8], shift: &mut [u8]) -> u64 {
+    let MatrixLists { n, row_starts, columns, values } = matrix;
+    unsafe {
+        mzk_survey(
+            n, row_starts.as_ptr(), row_starts.len(), columns.as_ptr(), columns.len(), values.as_ptr(), values.len(),
+            movements.as_ptr(), movements.len(), t, row,
+            amounts.as_mut_ptr(), amounts.len(), shift.as_mut_ptr(), shift.len(),
         )
     }
 }

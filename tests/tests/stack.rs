@@ -8,7 +8,7 @@ const SENTENCE: &str =
     "mzk_read uses up to 2 MiB, mzk_picks, mzk_ready and mzk_forces up to 1.3 MiB, mzk_plan up to \
                         1 MiB, mzk_write_plan and mzk_read_plan up to 8 KiB, the others up to 0.6 MiB.";
 const SMALL: [&str; 2] = ["write_plan", "read_plan"];
-const TENTHS: [(&str, usize); 8] = [
+const TENTHS: [(&str, usize); 9] = [
     ("read", 20),
     ("picks", 13),
     ("ready", 13),
@@ -16,6 +16,7 @@ const TENTHS: [(&str, usize); 8] = [
     ("plan", 10),
     ("write", 6),
     ("product", 6),
+    ("survey", 6),
     ("check", 6),
 ];
 

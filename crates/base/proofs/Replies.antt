@@ -70,6 +70,22 @@ accepted-all (c ∷ cs) r k e = go (c .holds) refl (accepted-all cs r k) e
     go true f h e = (f, h e)
     go false f h e = (let z : _≡_ {A = ℕ} 0 1 = cc in absurd (omega arith))
 
+-- an accepted reply has the count of the call
+pub accepted-count : (cs : List Check) (n k : ℕ) → inTurn refused cs (accepted n) ≡ accepted k → n ≡ k
+unfolding inTurn
+accepted-count [] n k e = cc
+accepted-count (c ∷ cs) n k e = go (c .holds) e (accepted-count cs n k)
+  where
+    go : (b : Bool) → cond b (inTurn refused cs (accepted n)) (refused (c .number) (c .place)) ≡ accepted k → (inTurn refused cs (accepted n) ≡ accepted k → n ≡ k) → n ≡ k
+    go true e ih = ih e
+    go false e ih = cc
+
+-- an empty answer changes nothing
+pub lent-none {ℓ} : {A : Type ℓ} (r : Reply) (old : List A) → lent r [] old ≡ old
+unfolding lent
+lent-none (accepted k) old = refl
+lent-none (refused q p) old = refl
+
 -- the answer matters only where the call is accepted
 pub lent-same {ℓ} : {A : Type ℓ} (r : Reply) (a b old : List A) → ((k : ℕ) → r ≡ accepted k → a ≡ b) → lent r a old ≡ lent r b old
 unfolding lent

@@ -2,12 +2,13 @@
 use mathlib.Core.Path.{_≡_, refl, sym, ap, _∙_, subst}
 use mathlib.Core.Logic.{_⊎_, inl, inr, _≢_}
 use Prim.Native.Nat.{ℕ, zero, suc, _+_, _*_, _-_, _≤_, _<_}
+use native.Mathlib.Nat.{mul-zero, mul-add}
 use native.Mathlib.Omega.{arith}
 use lib.IntN.{ℤ, pos, natAbs, _+ℤ_, +ℤ-assoc, +ℤ-comm}
 use Rattle.base.specs.Lists.{sumBelow}
 use Rattle.base.specs.Integers.{sumℤ}
 use Rattle.base.proofs.Booleans.{same-or}
-use Rattle.base.proofs.Integers.{abs-add}
+use Rattle.base.proofs.Integers.{abs-add, add-cross}
 
 -- ---- integers
 
@@ -40,7 +41,22 @@ unfolding sumℤ
 sum-first f zero = +ℤ-comm (pos 0) (f 0)
 sum-first f (suc n) = ap (λ (z : ℤ). z +ℤ f (suc n)) (sum-first f n) ∙ +ℤ-assoc (f 0) (sumℤ (λ i. f (suc i)) n) (f (suc n))
 
+pub sum-add : (f g : ℕ → ℤ) (n : ℕ) → sumℤ (λ i. f i +ℤ g i) n ≡ sumℤ f n +ℤ sumℤ g n
+unfolding sumℤ
+sum-add f g zero = refl
+sum-add f g (suc n) = rw (sum-add f g n) (add-cross (sumℤ f n) (sumℤ g n) (f n) (g n))
+
 -- ---- natural numbers
+
+pub sum-below-zero : (n : ℕ) → sumBelow (λ (i : ℕ). 0) n ≡ 0
+unfolding sumBelow
+sum-below-zero zero = refl
+sum-below-zero (suc n) = omega (arith, sum-below-zero n)
+
+pub sum-below-first : (f : ℕ → ℕ) (n : ℕ) → sumBelow f (suc n) ≡ f 0 + sumBelow (λ i. f (suc i)) n
+unfolding sumBelow
+sum-below-first f zero = omega arith
+sum-below-first f (suc n) = omega (arith, sum-below-first f n)
 
 pub sum-below-same : (f g : ℕ → ℕ) (n : ℕ) → ((i : ℕ) → i < n → f i ≡ g i) → sumBelow f n ≡ sumBelow g n
 unfolding sumBelow
@@ -78,6 +94,11 @@ pub sum-below-twice : (f : ℕ → ℕ) (n : ℕ) → sumBelow (λ i. 2 * f i) n
 unfolding sumBelow
 sum-below-twice f zero = refl
 sum-below-twice f (suc n) = omega (arith, sum-below-twice f n)
+
+pub sum-below-times : (t : ℕ) (f : ℕ → ℕ) (n : ℕ) → sumBelow (λ i. t * f i) n ≡ t * sumBelow f n
+unfolding sumBelow
+sum-below-times t f zero = sym (mul-zero t)
+sum-below-times t f (suc n) = rw (sum-below-times t f n) (sym (mul-add t (sumBelow f n) (f n)))
 
 pub sum-below-ones : (f : ℕ → ℕ) (n : ℕ) → sumBelow (λ i. 1 + 2 * f i) n ≡ n + 2 * sumBelow f n
 unfolding sumBelow

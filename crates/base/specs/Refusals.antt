@@ -65,3 +65,7 @@ tooEarly = 15
 -- Q-2: "file breaks this layout or these counts, or a plan to be written does"
 abbrev pub badLayout : ℕ
 badLayout = 16
+
+-- Q-6: "t outside its limits or no such freedom"
+abbrev pub badSurvey : ℕ
+badSurvey = 17

@@ -43,3 +43,5 @@ pub const OVERFLOW: u32 = 14;
 pub const EARLY: u32 = 15;
 
 pub const LAYOUT: u32 = 16;
+
+pub const SURVEY: u32 = 17;

@@ -1,13 +1,14 @@
 -- The matrix of an accepted text is a matrix, also in the lists that the reader's call leaves.
 use mathlib.Core.Path.{_≡_, refl, sym, _∙_}
-use mathlib.Core.Bool.{Bool, true, false, cond}
-use mathlib.Core.List.{List, [], _∷_, append-nil}
+use mathlib.Core.Bool.{Bool, true, false}
+use mathlib.Core.List.{List, [], append-nil}
 use Prim.Native.Nat.{ℕ}
 use lib.Dec.{ltb}
 use lib.IntN.{ℤ}
 use lib.ListN.{length, drop}
 use borrow.Author.Tests.{ltb-true}
-use Rattle.base.specs.Replies.{accepted, refused, Check, inTurn, lent}
+use Rattle.base.specs.Replies.{accepted, lent}
+use Rattle.base.proofs.Replies.{accepted-count}
 use Rattle.matrix.specs.Matrix.{partOf, columnsOf, valuesOf}
 use Rattle.market.specs.Parse.{Triplet, matrixText}
 use Rattle.market.specs.FullRows.{rowStarts, columns, values, ofTriplets, readMatrix, readReply}
@@ -34,16 +35,6 @@ module _ {n : ℕ} {es : List Triplet} (a : Accepted n es) where
       values-same : (i : ℕ) (b : Bool) → ltb i n ≡ b → valuesOf (extended n es xs ys zs) i ≡ valuesOf (extended n es [] [] []) i
       values-same i true l = row-values a xs ys zs i (ltb-true i n l) ∙ sym (row-values a [] [] [] i (ltb-true i n l))
       values-same i false l = rw l
-
--- an accepted reply has the count of the call
-accepted-count : (cs : List Check) (n k : ℕ) → inTurn refused cs (accepted n) ≡ accepted k → n ≡ k
-unfolding inTurn
-accepted-count [] n k e = cc
-accepted-count (c ∷ cs) n k e = go (c .holds) e (accepted-count cs n k)
-  where
-    go : (b : Bool) → cond b (inTurn refused cs (accepted n)) (refused (c .number) (c .place)) ≡ accepted k → (inTurn refused cs (accepted n) ≡ accepted k → n ≡ k) → n ≡ k
-    go true e ih = ih e
-    go false e ih = cc
 
 module _ (n k : ℕ) (es : List Triplet) (ss cs : List ℕ) (vs : List ℤ) (r : readReply (matrixText n es) (length ss) (length cs) (length vs) ≡ accepted k) where
   left-extended : leftIn k (matrixText n es) ss cs vs ≡ extended n es (drop (length (rowStarts n es)) ss) (drop (length (columns n es)) cs) (drop (length (values n es)) vs)

@@ -104,9 +104,3 @@ length-filter-range p n =
     one : (i : ℕ) (b : Bool) → length (cond b (i ∷ []) []) ≡ bit b
     one i true = refl
     one i false = refl
-
--- a sum of zeros
-pub sum-below-zero : (n : ℕ) → sumBelow (λ (i : ℕ). 0) n ≡ 0
-unfolding sumBelow
-sum-below-zero zero = refl
-sum-below-zero (suc n) = omega (arith, sum-below-zero n)

@@ -2,4 +2,5 @@
 pub mod nets;
 pub mod read_plan;
 pub mod runs;
+pub mod survey;
 pub mod write_plan;

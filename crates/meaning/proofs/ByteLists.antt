@@ -1,19 +1,20 @@
 -- What the calls leave in bytes stands for what they made.
 use mathlib.Core.Path.{_≡_, refl, ap, _∙_}
-use mathlib.Core.Bool.{Bool, true, false}
+use mathlib.Core.Bool.{Bool, true, false, cond}
 use mathlib.Core.List.{List, [], _∷_, _++_}
-use Prim.Native.Nat.{ℕ, suc, _+_, _/_, _≤_}
+use Prim.Native.Nat.{ℕ, suc, _+_, _/_, _≤_, _<_}
 use native.Mathlib.Numerals.{add-one}
 use native.Mathlib.Omega.{arith}
 use lib.Dec.{ltb}
-use lib.IntN.{ℤ}
+use lib.IntN.{ℤ, pos}
 use lib.ListN.{length, getD, take, drop, length-append, length-map}
-use lib.Seq.{take-take, getD-take, drop-append-seam}
+use lib.Seq.{take-at, take-take, getD-take, drop-append-seam}
 use borrow.Author.Tests.{ltb-true, le-leb}
+use Rattle.base.specs.Lists.{bit}
 use Rattle.base.specs.Replies.{Reply, accepted, Check, roomFor, inTurn, lent}
 use Rattle.base.proofs.Each.{Each}
 use Rattle.base.proofs.Replies.{accepted-all, lent-accepted}
-use Rattle.matrix.specs.Matrix.{Matrix, partOf, columnsOf, valuesOf, isMatrix, matrixOf}
+use Rattle.matrix.specs.Matrix.{Matrix, partOf, columnsOf, valuesOf, entry, isMatrix, matrixOf}
 use Rattle.matrix.proofs.Matrix.{matrix-facts}
 use Rattle.matrix.proofs.Checks.{matrix-tidy}
 use Rattle.matrix.proofs.Rows.{row-in}
@@ -37,10 +38,16 @@ use Rattle.race.proofs.Rooms.{Planned, planned}
 use Rattle.words.specs.LittleEndian.{unsigned, signed, unsignedBytes, signedBytes}
 use Rattle.words.proofs.Codes.{Holds, HoldsSigned, unsigned-append, signed-append}
 use Rattle.lent.specs.Word.{word, Answered}
+use Rattle.survey.specs.Survey.{hasRoom, amount, amountsOf, withSign, farthest, writtenShift}
+use Rattle.survey.proofs.Shifts.{sign-small, farthest-long}
+use Rattle.survey.proofs.SurveyError.{survey-error}
 use Rattle.texts.specs.Lent.{readIn}
 use Rattle.office.specs.Lent.{planIn, PlanAnswered}
+use Rattle.desk.specs.Lent.{surveyIn, SurveyAnswered}
+use Rattle.desk.proofs.Surveys.{Surveyed, survey-made, amounts-long}
 use Rattle.meaning.specs.ByteLists.{Reading, leftBy, RoomFor, ByteLists}
-use Rattle.meaning.proofs.SmallMatrix.{starts-small, columns-small, values-small}
+use Rattle.meaning.proofs.EachIn.{each-made}
+use Rattle.meaning.proofs.SmallMatrix.{small-value, starts-small, columns-small, values-small}
 use Rattle.meaning.proofs.SmallPlan.{Small, sound-small}
 
 -- a list that is lent to itself
@@ -53,8 +60,9 @@ module _ {r : Reply} {k : ℕ} (ok : r ≡ accepted k) where
   unsigned-left : (vs : List ℕ) → Each (Holds 4) vs → (old : List ℕ) {new : List ℕ} → new ≡ lent r (unsignedBytes 4 vs) old → unsigned 4 new ≡ vs ++ unsigned 4 (drop (length (unsignedBytes 4 vs)) old)
   unsigned-left vs h old e = ap (unsigned 4) (e ∙ lent-accepted (unsignedBytes 4 vs) old r k ok) ∙ unsigned-append 4 (omega arith) vs h (drop (length (unsignedBytes 4 vs)) old)
 
-  signed-left : (zs : List ℤ) → Each (HoldsSigned 4) zs → (old : List ℕ) {new : List ℕ} → new ≡ lent r (signedBytes 4 zs) old → signed 4 new ≡ zs ++ signed 4 (drop (length (signedBytes 4 zs)) old)
-  signed-left zs h old e = ap (signed 4) (e ∙ lent-accepted (signedBytes 4 zs) old r k ok) ∙ signed-append 4 (omega arith) zs h (drop (length (signedBytes 4 zs)) old)
+  signed-left : (width : ℕ) → 0 < width → (zs : List ℤ) → Each (HoldsSigned width) zs → (old : List ℕ) {new : List ℕ} → new ≡ lent r (signedBytes width zs) old → signed width new ≡ zs ++ signed width (drop (length (signedBytes width zs)) old)
+  signed-left width some zs h old e =
+      ap (signed width) (e ∙ lent-accepted (signedBytes width zs) old r k ok) ∙ signed-append width some zs h (drop (length (signedBytes width zs)) old)
 
 -- ---- reading
 
@@ -102,7 +110,7 @@ module _ (text : List ℕ) (r : Reading text) (k : ℕ) (ok : readIn text (r .st
       let reply = readIn text (r .starts) (r .columns) (r .values) in
       let starts = unsigned-left ok (rowStarts n es) (starts-small a) (r .starts) (r .answered .starts-left ∙ ap (λ (m : Matrix). lent reply (unsignedBytes 4 (m .starts)) (r .starts)) is ∙ unfold ofTriplets in refl) in
       let columns = unsigned-left ok (columns n es) (columns-small a) (r .columns) (r .answered .columns-left ∙ ap (λ (m : Matrix). lent reply (unsignedBytes 4 (m .columns)) (r .columns)) is ∙ unfold ofTriplets in refl) in
-      let values = signed-left ok (values n es) (values-small a) (r .values) (r .answered .values-left ∙ ap (λ (m : Matrix). lent reply (signedBytes 4 (m .values)) (r .values)) is ∙ unfold ofTriplets in refl) in
+      let values = signed-left ok 4 (omega arith) (values n es) (values-small a) (r .values) (r .answered .values-left ∙ ap (λ (m : Matrix). lent reply (signedBytes 4 (m .values)) (r .values)) is ∙ unfold ofTriplets in refl) in
       rw (← e, starts, columns, values) (same-rows text n es t _ _ _)
 
   matrix-count : (n : ℕ) (es : List Triplet) (a b c : ℕ) → readReply (matrixText n es) a b c ≡ accepted k → n ≡ k
@@ -192,6 +200,35 @@ module _ (m : Matrix) (w p : ℕ) (order groups : List ℕ) (returned : ℕ) (ne
       let passes = rw (left .accepts, lent-again (length (plan m w p .groups)) (plan m w p .order) rows, lent-again (length (plan m w p .groups)) (flat (plan m w p .groups)) numbers) at (left .passes) in
       rw (unsigned-left ok (plan m w p .order) (small .rows) order (a .order-left), unsigned-left ok (flat (plan m w p .groups)) (small .numbers) groups (a .groups-left), count) passes
 
+-- ---- surveying
+
+module _ (m : Matrix) (x : List ℤ) (t i : ℕ) (sums moves : List ℕ) (returned : ℕ) (newSums newMoves : List ℕ) (a : SurveyAnswered m x t i sums moves returned newSums newMoves) (k : ℕ)
+    (ok : surveyIn m x t i sums moves ≡ accepted k) where
+  surveyed-call : Surveyed m x t i (length sums / 8) (length moves / 4) k
+  surveyed-call = survey-made m x t i (length sums / 8) (length moves / 4) k ok
+
+  amounts-small : Each (HoldsSigned 8) (amountsOf m t)
+  unfolding amountsOf
+  amounts-small = each-made (HoldsSigned 8) (λ i. pos (amount m t i)) (λ i. omega (arith, survey-error .fits m t (surveyed-call .matrix) (surveyed-call .error) i)) 0 (m .n)
+
+  shift-small : Each (HoldsSigned 4) (farthest m t i)
+  unfolding farthest
+  shift-small = each-made (HoldsSigned 4) (λ j. withSign t (entry m i j)) (λ j. small-value (withSign t (entry m i j)) (omega (arith, sign-small t (entry m i j), surveyed-call .error))) 0 (m .n)
+
+  shift-left : k ≡ 1 → newMoves ≡ lent (surveyIn m x t i sums moves) (signedBytes 4 (farthest m t i)) moves
+  unfolding writtenShift
+  shift-left e = go (hasRoom t x) (surveyed-call .count) (a .shift-left)
+    where
+      go : (b : Bool) → bit b ≡ k → newMoves ≡ lent (surveyIn m x t i sums moves) (signedBytes 4 (cond b (farthest m t i) [])) moves → newMoves ≡ lent (surveyIn m x t i sums moves) (signedBytes 4 (farthest m t i)) moves
+      go true c f = f
+      go false c f = absurd (omega arith)
+
+  surveyed-left : (take (m .n) (signed 8 newSums) ≡ amountsOf m t) × (k ≡ 1 → take (m .n) (signed 4 newMoves) ≡ farthest m t i)
+  surveyed-left = (
+    rw (signed-left ok 8 (omega arith) (amountsOf m t) amounts-small sums (a .amounts-left)) (take-at (amountsOf m t) _ (m .n) (amounts-long m x t i)),
+    λ e. rw (signed-left ok 4 (omega arith) (farthest m t i) shift-small moves (shift-left e)) (take-at (farthest m t i) _ (m .n) (farthest-long m t i)),
+  )
+
 -- the theorem
 pub byte-lists : ByteLists
-byte-lists = record { read = reads; written-read = written-read; planned = planned-left }
+byte-lists = record { read = reads; written-read = written-read; planned = planned-left; surveyed = surveyed-left }

@@ -56,7 +56,7 @@ rows-low n es f =
     let all : Each (Low n) (concat (map both es)) = each-concat (Low n) (Fits n) both (both-low n) es f in
     each-range (Low n) (rowOf n es) (λ i. each-range (Low n) (cell es i) (λ j. each-filter (Low n) (isAt i j) (concat (map both es)) all) 0 n) 0 n
 
-small-value : (z : ℤ) → natAbs z ≤ maxValue → HoldsSigned 4 z
+pub small-value : (z : ℤ) → natAbs z ≤ maxValue → HoldsSigned 4 z
 small-value (pos v) l = omega arith
 small-value (negsuc v) l = omega arith
 

@@ -10,7 +10,7 @@ use lib.IntN.{ℤ, pos, negsuc}
 use lib.ListN.{length, take, drop, length-drop}
 use lib.Seq.{length-take-le}
 use borrow.Author.Tests.{eqb-true, ltb-false, leb-true}
-use Rattle.base.specs.Lists.{isEmpty, begins}
+use Rattle.base.specs.Lists.{isEmpty, begins, bit}
 use Rattle.base.specs.Integers.{within}
 use Rattle.base.specs.Refusals as why
 use Rattle.base.specs.Replies.{Reply, accepted, refused, Check, inTurn}
@@ -26,6 +26,8 @@ use Rattle.market.specs.FullRows.{full, readReply}
 use Rattle.market.specs.Text.{written, writeReply}
 use Rattle.market.proofs.Accepted.{parse-accepted}
 use Rattle.market.proofs.WriteThenRead.{write-then-read}
+use Rattle.survey.specs.Survey.{hasRoom, writtenShift, surveyReply}
+use Rattle.desk.proofs.Surveys.{written-few}
 use Rattle.plan.specs.Sound.{maxWorkers, planCheck, checkReply}
 use Rattle.planfile.specs.File.{fileSize, freedomsIn, groupsIn}
 use Rattle.planfile.specs.Calls.{writePlanReply, readPlanReply}
@@ -205,6 +207,20 @@ module _ (m : Matrix) where
       turn Told refused (displacementCheck (m .n) x) _ _ (told-refused why.badDisplacement _ (omega arith) (omega (arith, place-low x few))) (λ e.
       turn Told refused _ [] _ (told-refused why.tooShort (m .n) (omega arith) (omega (arith, few))) (λ e. last Told refused _ (told-accepted 0 (omega arith)))))
 
+  survey-told : (x : List ℤ) (t i a b : ℕ) → Told (surveyReply m x t i a b)
+  unfolding surveyReply matrixCheck displacementCheck
+  survey-told x t i a b =
+      turn Told refused (matrixCheck m) _ _ (told-refused why.notMatrix 0 (omega arith) (omega arith)) (λ ok.
+      let few = matrix-facts m ok .few in
+      turn Told refused (displacementCheck (m .n) x) _ _ (told-refused why.badDisplacement _ (omega arith) (omega (arith, place-low x few))) (λ e.
+      turn Told refused _ _ _ (told-refused why.badSurvey 0 (omega arith) (omega arith)) (λ e.
+      turn Told refused _ _ _ (told-refused why.tooShort (m .n) (omega arith) (omega (arith, few))) (λ e.
+      turn Told refused _ [] _ (told-refused why.tooShort (length (writtenShift m x t i)) (omega arith) (omega (arith, few, written-few m x t i))) (λ e. last Told refused _ (told-accepted (bit (hasRoom t x)) (one-bit (hasRoom t x))))))))
+    where
+      one-bit : (b : Bool) → bit b < 2 ^ 32
+      one-bit true = omega arith
+      one-bit false = omega arith
+
   plan-told : (w p a b : ℕ) → Told (planReply m w p a b)
   unfolding planReply matrixCheck
   plan-told w p a b =
@@ -306,4 +322,4 @@ read-plan-told planFile order groups =
 
 -- the theorem
 pub words : Words
-words = record { read = λ text starts columns values. read-told text _ _ _; write = write-told; product = product-told; plan = λ m w p order groups. plan-told m w p _ _; check = check-told; write-plan = write-plan-told; read-plan = read-plan-told; run = run-tells; one = one }
+words = record { read = λ text starts columns values. read-told text _ _ _; write = write-told; product = product-told; survey = survey-told; plan = λ m w p order groups. plan-told m w p _ _; check = check-told; write-plan = write-plan-told; read-plan = read-plan-told; run = run-tells; one = one }

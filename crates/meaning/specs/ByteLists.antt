@@ -3,6 +3,7 @@ use mathlib.Core.Path.{_≡_}
 use mathlib.Core.Bool.{true}
 use mathlib.Core.List.{List}
 use Prim.Native.Nat.{ℕ, suc, _/_, _≤_}
+use lib.IntN.{ℤ}
 use lib.ListN.{length, take}
 use Rattle.base.specs.Replies.{accepted}
 use Rattle.matrix.specs.Matrix.{Matrix, isMatrix}
@@ -12,11 +13,13 @@ use Rattle.market.specs.AcceptedText.{SameRows}
 use Rattle.market.specs.Text.{written, writeReply}
 use Rattle.market.specs.WriteThenRead.{size}
 use Rattle.plan.specs.Sound.{checkReply}
-use Rattle.words.specs.LittleEndian.{unsigned}
+use Rattle.words.specs.LittleEndian.{unsigned, signed}
+use Rattle.survey.specs.Survey.{amountsOf, farthest}
 use Rattle.lent.specs.Word.{Answered}
 use Rattle.lent.specs.Bytes.{matrixIn}
 use Rattle.texts.specs.Lent.{readIn, ReadAnswered}
 use Rattle.office.specs.Lent.{planIn, PlanAnswered}
+use Rattle.desk.specs.Lent.{surveyIn, SurveyAnswered}
 
 -- a call that reads a text: what it is given, returns and leaves
 pub record Reading (text : List ℕ) : Type 0 where
@@ -51,3 +54,7 @@ pub record ByteLists : Type 0 where
   -- left, whatever stands past it: no later call refuses them with 8
   pub planned : (m : Matrix) (workers p : ℕ) (order groups : List ℕ) (returned : ℕ) (newOrder newGroups : List ℕ) → PlanAnswered m workers p order groups returned newOrder newGroups
       → (count : ℕ) → planIn m workers p order groups ≡ accepted count → checkReply m (unsigned 4 newOrder) (unsigned 4 newGroups) count ≡ accepted 0
+  -- a survey, as mzk_survey promises, leaves in bytes the amounts, and the shift if it returns 1, whatever stands past
+  -- them: no number is lost
+  pub surveyed : (m : Matrix) (x : List ℤ) (t i : ℕ) (sums moves : List ℕ) (returned : ℕ) (newSums newMoves : List ℕ) → SurveyAnswered m x t i sums moves returned newSums newMoves
+      → (count : ℕ) → surveyIn m x t i sums moves ≡ accepted count → (take (m .n) (signed 8 newSums) ≡ amountsOf m t) × (count ≡ 1 → take (m .n) (signed 4 newMoves) ≡ farthest m t i)

@@ -33,6 +33,7 @@ struct Lent {
     groups: Vec<u8>,
     file: Vec<u8>,
     forces: Vec<u8>,
+    shift: Vec<u8>,
     at: At,
 }
 
@@ -48,6 +49,7 @@ impl Lent {
             groups: given.groups.clone(),
             file: given.file.clone(),
             forces: vec![0; 8 * given.n as usize],
+            shift: vec![0; 4 * given.n as usize],
             at: At::fresh(given.n),
         }
     }
@@ -68,6 +70,7 @@ struct Implementation {
     read: fn(&[u8], Out, Out, Out) -> u64,
     write: fn(MatrixLists, Out) -> u64,
     product: fn(MatrixLists, &[u8], Out) -> u64,
+    survey: fn(MatrixLists, &[u8], u32, u32, Out, Out) -> u64,
     plan: fn(MatrixLists, u32, u32, Out, Out) -> u64,
     check: fn(MatrixLists, PlanLists) -> u64,
     write_plan: fn(u32, PlanLists, Out) -> u64,
@@ -81,6 +84,7 @@ const LIBRARY: Implementation = Implementation {
     read: library::read,
     write: library::write,
     product: library::product,
+    survey: library::survey,
     plan: library::plan,
     check: library::check,
     write_plan: library::write_plan,
@@ -94,6 +98,7 @@ const RUST: Implementation = Implementation {
     read: calls::read,
     write: calls::write,
     product: calls::product,
+    survey: calls::survey,
     plan: calls::plan,
     check: calls::check,
     write_plan: calls::write_plan,
@@ -108,10 +113,13 @@ type Work = fn(&Implementation, &Given, &mut Lent) -> u64;
 
 /// All that is timed, by name.
 #[rustfmt::skip]
-const WORKS: [(&str, Work); 11] = [
+const WORKS: [(&str, Work); 12] = [
     ("read", |by, given, lent| (by.read)(&given.text, &mut lent.row_starts, &mut lent.columns, &mut lent.values)),
     ("write", |by, given, lent| (by.write)(given.matrix(), &mut lent.text)),
     ("product", |by, given, lent| (by.product)(given.matrix(), &given.movements, &mut lent.forces)),
+    ("survey", |by, given, lent| {
+        (by.survey)(given.matrix(), &given.movements, 1, given.n / 2, &mut lent.forces, &mut lent.shift)
+    }),
     ("plan", |by, given, lent| (by.plan)(given.matrix(), 16, given.p, &mut lent.order, &mut lent.groups)),
     ("check", |by, given, _| (by.check)(given.matrix(), given.plan())),
     ("write_plan", |by, given, lent| (by.write_plan)(given.n, given.plan(), &mut lent.file)),

@@ -52,12 +52,15 @@ fn make(call: &str, stack: usize, given: &Given) -> Option<u64> {
     let (mut order, mut groups, mut text) = (blank(&given.order), blank(&given.groups), blank(&given.text));
     let (mut starts, mut columns, mut values) = (blank(&given.row_starts), blank(&given.columns), blank(&given.values));
     let At { mut state, mut sums } = At::fresh(given.n);
-    let (mut forces, mut file) = (blank(&sums), blank(&given.file));
+    let (mut forces, mut shift, mut file) = (blank(&sums), blank(&given.movements), blank(&given.file));
     let end = &given.finished;
     Some(match call {
         "read" => on_stack(stack, || library::read(&given.text, &mut starts, &mut columns, &mut values)),
         "write" => on_stack(stack, || library::write(given.matrix(), &mut text)),
         "product" => on_stack(stack, || library::product(given.matrix(), &given.movements, &mut forces)),
+        "survey" => on_stack(stack, || {
+            library::survey(given.matrix(), &given.movements, 1, given.n / 2, &mut forces, &mut shift)
+        }),
         "plan" => on_stack(stack, || library::plan(given.matrix(), 16, given.p, &mut order, &mut groups)),
         "check" => on_stack(stack, || library::check(given.matrix(), given.plan())),
         "write_plan" => on_stack(stack, || library::write_plan(given.n, given.plan(), &mut file)),
@@ -87,7 +90,8 @@ fn run(call: &str, stack: usize) {
 /// Says how the program is called.
 fn usage() -> ! {
     eprintln!(
-        "usage: stack CALL BYTES (read, write, product, plan, check, write_plan, read_plan, picks, ready or forces)"
+        "usage: stack CALL BYTES (read, write, product, survey, plan, check, write_plan, read_plan, picks, ready or \
+         forces)"
     );
     exit(2);
 }

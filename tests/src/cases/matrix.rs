@@ -43,7 +43,7 @@ pub fn product(rng: &mut Prng, seen: &mut Seen) {
 }
 
 /// A small net of any kind.
-fn random_net(rng: &mut Prng) -> Matrix {
+pub fn random_net(rng: &mut Prng) -> Matrix {
     let most = rng.one_of(&[2, 8, 8, 20, 60]);
     nets::random_net(rng, most)
 }

@@ -4,6 +4,7 @@ pub mod matrix;
 pub mod plan;
 pub mod plan_file;
 pub mod run;
+pub mod survey;
 
 use std::fmt::{self, Display, Formatter};
 use std::ops::Range;
@@ -20,7 +21,7 @@ use crate::progress::Progress;
 
 /// How often each refusal's number was met; at 0, how many calls were accepted.
 #[derive(Default)]
-pub struct Seen([usize; 17]);
+pub struct Seen([usize; 18]);
 
 impl Seen {
     /// Counts an answer word.
@@ -181,7 +182,7 @@ pub fn matrix_twins(rng: &mut Prng, matrix: &Matrix) -> MatrixTwins {
 
 /// A case of any call.
 pub fn any(rng: &mut Prng, seen: &mut Seen) {
-    match rng.below(34) {
+    match rng.below(37) {
         0..8 => matrix::read(rng, seen),
         8..11 => matrix::write(rng, seen),
         11..14 => matrix::product(rng, seen),
@@ -192,6 +193,7 @@ pub fn any(rng: &mut Prng, seen: &mut Seen) {
         28..31 => run::forces(rng, seen),
         31 => plan_file::write(rng, seen),
         32 => plan_file::read(rng, seen),
+        33..36 => survey::survey(rng, seen),
         _ => run::whole(rng, seen),
     }
 }

@@ -4,7 +4,7 @@
 
 use super::machine::{self, Lent, State};
 use super::matrix::Rows;
-use super::{plan_file, planner, soundness, text, Refusal, FIELDS, WORKERS};
+use super::{plan_file, planner, soundness, survey, text, Refusal, FIELDS, WORKERS};
 use crate::lists::{MatrixLists, PlanLists, RunLists};
 
 /// The bytes of a state: sixteen counts of moves, then sixteen held numbers.
@@ -45,6 +45,33 @@ pub fn product(matrix: MatrixLists, movements: &[u8], forces: &mut [u8]) -> u64 
         Ok(0)
     };
     word(product())
+}
+
+/// How far an error of t reaches, and a shift that reaches one freedom's amount; counts the shifts written.
+pub fn survey(
+    matrix: MatrixLists,
+    movements: &[u8],
+    t: u32,
+    freedom: u32,
+    amounts: &mut [u8],
+    shift: &mut [u8],
+) -> u64 {
+    let lists = Lists::of(matrix);
+    let movements = get(movements, usize::MAX, i32::from_le_bytes);
+    let mut tell = || {
+        let rows = lists.rows()?;
+        super::matrix::judge_movements(rows.n, &movements)?;
+        survey::judge(rows.n, t, freedom)?;
+        super::room(amounts.len() / 8, rows.n)?;
+        let has_room = survey::has_room(&movements, t);
+        if has_room {
+            super::room(shift.len() / 4, rows.n)?;
+            put(shift, &survey::shift(rows, t, freedom), i32::to_le_bytes);
+        }
+        put(amounts, &survey::amounts(rows, t), i64::to_le_bytes);
+        Ok(u32::from(has_room))
+    };
+    word(tell())
 }
 
 /// The plan of a matrix; counts its groups.

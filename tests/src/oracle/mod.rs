@@ -14,6 +14,7 @@ pub mod plans;
 pub mod prng;
 pub mod soundness;
 pub mod states;
+pub mod survey;
 pub mod text;
 
 /// The most workers of a plan, and the workers that a state has room for.

@@ -1,0 +1,4 @@
+pub mod Shifts
+pub mod SurveyError
+pub mod Rows
+pub mod Reply
