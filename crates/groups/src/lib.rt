@@ -79,9 +79,9 @@ fn check_flat(
     ensures { λ r. ⌜ replyOf r ≡ checkReply (matrixOf n (now (starts .entry)) (now (columns .entry)) (now (values .entry))) (now (order .entry)) numbers count ⌝ }
 {
     if MAX_GROUPS < count {
-        return plan::check(n, starts, columns, values, order, &numbers, TOO_MANY);
+        return sound::check(n, starts, columns, values, order, &numbers, TOO_MANY);
     }
-    plan::check(n, starts, columns, values, order, &numbers, count as u32)
+    sound::check(n, starts, columns, values, order, &numbers, count as u32)
 }
 
 // The check of a plan: 5 if the lists are no matrix, 8 if the plan is not sound for it.

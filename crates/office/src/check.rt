@@ -28,7 +28,7 @@ pub fn check_in(
     let mut value_list = [0i32; MAX_CELLS];
     let mut order_list = [0u32; MAX_ROWS];
     let mut group_list = [0u32; MAX_FIELDS];
-    let answer = plan::check(
+    let answer = sound::check(
         n,
         load_unsigned(row_starts, &mut starts),
         load_unsigned(columns, &mut column_list),

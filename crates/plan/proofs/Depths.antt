@@ -5,13 +5,13 @@ use mathlib.Core.List.{List, [], _∷_}
 use Prim.Native.Nat.{ℕ, suc, _≤_, _<_}
 use native.Mathlib.Omega.{arith}
 use lib.Dec.{eqb}
-use lib.ListN.{length, getD, drop, length-drop}
+use lib.ListN.{length, drop, length-drop}
 use lib.Seq.{drop-cons}
 use borrow.Author.Tests.{eqb-true, eqb-false}
 use Rattle.base.specs.Lists.{fromFirst}
 use Rattle.base.proofs.Integers.{never}
-use Rattle.matrix.specs.Matrix.{Matrix, neighbours}
-use Rattle.plan.specs.Groups.{Group, Plan, ofFields}
+use Rattle.matrix.specs.Matrix.{neighbours}
+use Rattle.plan.specs.Groups.{Group, ofFields}
 use Rattle.plan.specs.Sound.{depthFirst, sound, isSound}
 use Rattle.plan.specs.Depths.{groupAt, Depths}
 use Rattle.plan.proofs.Records.{ancestors, Step, step-of}

@@ -1,4 +1,3 @@
 -- What the contracts of inner functions speak of: no promise rests on it.
 pub mod Checks
-pub mod Marks
 pub mod Room

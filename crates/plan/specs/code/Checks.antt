@@ -1,21 +1,14 @@
--- What the check of a plan goes through, pass by pass. `isPlan` is the conjunction of the passes
--- (proofs/PlanTests.antt).
+-- Records where they stand in a flat list, and `tiled` one child at a time.
 use mathlib.Core.Path.{_≡_}
-use mathlib.Core.Bool.{Bool, true, _&&_, cond}
+use mathlib.Core.Bool.{Bool, _&&_, cond}
 use mathlib.Core.List.{List, [], _∷_}
-use Prim.Native.Nat.{ℕ, zero, suc, _+_, _*_, _^_, _≤_, _<_}
+use Rattle.base.specs.Lists.{filter}
+use Prim.Native.Nat.{ℕ, _+_, _*_, _^_, _<_}
 use lib.Dec.{eqb, leb}
-use lib.ListN.{length, getD, take, drop}
-use Rattle.base.specs.Lists.{isIn, bit}
-use Rattle.matrix.specs.Limits.{maxRows}
+use lib.ListN.{length, drop}
 use Rattle.plan.specs.Groups.{Group, whole, red, blue, width, ofFields, records}
-use Rattle.plan.specs.Sound.{maxWorkers, maxGroups, eachOnce, depthFirst, children, tiled}
+use Rattle.plan.specs.Sound.{depthFirst, tiled}
 use Rattle.plan.specs.declared.fields.Record.{Record}
-
--- the marks of n rows say which of them are in the list
-pub record Seen (n : ℕ) (xs marks : List ℕ) : Type 0 where
-  pub long : length marks ≡ maxRows
-  pub is : (v : ℕ) → v < n → getD marks v 0 ≡ bit (isIn xs v)
 
 -- the record at an index of a flat list
 unfoldable pub recordAt : List ℕ → ℕ → Group
@@ -37,24 +30,12 @@ pub record Reads (r : Record) (g : Group) : Type 0 where
   pub is : ofRecord r ≡ g
   pub small : Small r
 
--- the first t numbers of an array, the last first: a record's index and its ancestors', up to the whole
-unfoldable pub pathOf : List ℕ → (t : ℕ) → List ℕ
-pathOf path zero = []
-pathOf path (suc t) = getD path t 0 ∷ pathOf path t
-
 -- the records of a flat list after the whole
 abbrev pub belowWhole : (count : ℕ) → List ℕ → List Group
 belowWhole count ns = drop 1 (records count ns)
 
 abbrev pub standsDepthFirst : (count : ℕ) → List ℕ → Bool
 standsDepthFirst count ns = depthFirst (0 ∷ []) 1 (belowWhole count ns)
-
--- r is the index of the next of k's children among the records from i on; count if there is none
-pub record NextChild (count : ℕ) (ns : List ℕ) (k i r : ℕ) : Type 0 where
-  pub from-on : i ≤ r
-  pub within : r ≤ count
-  pub same : children k (drop i (records count ns)) ≡ children k (drop r (records count ns))
-  pub child : r < count → recordAt ns r .parent ≡ k
 
 -- h is the next child at position s from worker f on; w is the workers of a red whose blue is next, 0 where a red is
 -- next
@@ -74,21 +55,6 @@ unfoldable pub laid : Group → (s f w : ℕ) → List Group → Bool
 laid g s f w [] = complete s f w g
 laid g s f w (h ∷ hs) = fitting s f w h && laid g (s + h .length) (f + w) (pending w h) hs
 
--- a group's children tile it, if it has any
-unfoldable pub tiles : Group → List Group → Bool
-tiles g [] = true
-tiles g (k ∷ ks) = tiled g (g .start) (g .first) (k ∷ ks)
-
--- the first n of the order are each row once, and the records, which are not too many, stand depth first
-pub record PlanLists (n : ℕ) (order groups : List ℕ) (count : ℕ) : Type 0 where
-  pub order-long : n ≤ length order
-  pub once : eachOnce n (take n order) ≡ true
-  pub groups-long : width * count ≤ length groups
-  pub few : count ≤ maxGroups
-  pub nested : standsDepthFirst count groups ≡ true
-
--- "the whole covers all freedoms and 1 to 16 workers from 0"
-unfoldable pub isWhole : (n : ℕ) → Group → Bool
-isWhole n g =
-    eqb (g .start) 0 && eqb (g .length) n && eqb (g .first) 0 && eqb (g .colour) whole && eqb (g .parent) 0 && eqb (g .depth) 0
-    && leb 1 (g .workers) && leb (g .workers) maxWorkers
+-- the groups of a colour
+abbrev pub ofColour : ℕ → List Group → List Group
+ofColour colour gs = filter (λ g. eqb (g .colour) colour) gs

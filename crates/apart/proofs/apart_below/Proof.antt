@@ -1,0 +1,130 @@
+-- `apart_below`: the children before index i are compared.
+use mathlib.Core.Path.{_≡_, refl, sym, subst}
+use mathlib.Core.Bool.{Bool, true, false, true≢false}
+use Prim.Native.Nat.{_+_, _-_, _^_, _<_}
+use native.Mathlib.Omega.{arith}
+use lib.ListN.{take}
+use Rattle.base.proofs.Booleans.{fails, holds}
+use Rattle.plan.specs.code.Checks.{ofRecord}
+use Rattle.apart.specs.code.Marks.{touchedLike, Touched}
+use Rattle.apart.proofs.Stretch.{order-low}
+use Rattle.apart.proofs.Compare.{Comparing, comparing-first, comparing-stops, comparing-next, comparing-last, comparing-marks}
+use Rattle.apart.proofs.apart_below.Statement.{statement}
+use Rattle.apart.proofs.apart_below.Tie as tie
+
+abbrev Inv-loop : tie.InvT-loop
+Inv-loop n starts columns order groups count marks₀ k colour low i₀ marks i = Comparing n starts columns order groups count k colour low marks i
+
+abbrev μ-loop : tie.MeasureT-loop
+μ-loop n starts columns order groups count marks₀ k colour low i₀ marks i = count - i
+
+add-next-child : tie.Need-add-next-child Inv-loop μ-loop
+add-next-child c = let s = c .before .before .before .before in omega (arith, s .pre .1 .few, s .pre .2)
+
+next-child-requires : tie.Need-next-child-requires Inv-loop μ-loop
+next-child-requires c κs = let s = c .before .before .before .before in (s .pre .1 .groups-long, s .pre .1 .nested, omega arith, omega (arith, s .pre .2))
+
+loop-holds : tie.Need-loop-holds Inv-loop μ-loop
+loop-holds c =
+    let s = c .before .before .before .before .before in
+    let a = s .args in
+    comparing-first (a .n) (a .starts .now) (a .columns .now) (a .order .now) (a .groups .now) (a .count) (a .k) (a .colour) (a .low) (s .pre .0) (s .pre .1) (a .marks .now) (c .next-child .result) (s .pre .3) (s .pre .4) (c .next-child .ensures)
+
+record-at-requires : tie.Need-record-at-requires Inv-loop μ-loop
+record-at-requires c κs = omega (arith, c .before .before .before .before .before .before .before .pre .1 .groups-long)
+
+-- the start of the function
+abbrev start : tie.At-loop Inv-loop μ-loop → tie.Start Inv-loop μ-loop
+start l = l .before .before .before .before .before .before
+
+-- the child's index is small
+small : (c : tie.In-loop Inv-loop μ-loop) → let s = start (c .before) in (c .before .loop .i < 512) × (s .args .low + c .before .loop .i < 2 ^ 32)
+small c = let s = start (c .before) in omega (arith, s .pre .1 .few, s .pre .5, c .loop-test .taken)
+
+cast-touch-like : tie.Need-cast-touch-like Inv-loop μ-loop
+cast-touch-like c = omega (arith, small (c .before .before))
+
+add-touch-like : tie.Need-add-touch-like Inv-loop μ-loop
+add-touch-like c = omega (arith, small (c .before .before))
+
+touch-like-requires : tie.Need-touch-like-requires Inv-loop μ-loop
+touch-like-requires c κs =
+    let l = c .before .before .before in
+    let s = start l in
+    (s .pre .0, l .loop .inv .long, c .before .record-at .ensures .small, s .pre .1 .order-long, order-low (s .args .n) (s .args .order .now) (s .pre .1 .once))
+
+-- what the call says of the child, whatever it answers
+touched : (c : tie.After-touch-like Inv-loop μ-loop) (r : Bool) → c .touch-like .result ≡ r → let l = c .before .before .before .before in let a = start l .args in
+    Touched (a .low) (a .low + l .loop .i) (touchedLike (a .n) (a .starts .now) (a .columns .now) (take (a .n) (a .order .now)) (a .colour) (ofRecord (c .before .before .record-at .result)))
+    (l .loop .marks) (c .touch-like .last .1 .1 .1 .1 .0) r
+touched c r e =
+    let l = c .before .before .before .before in
+    let a = start l .args in
+    subst (λ (b : Bool). Touched (a .low) (a .low + l .loop .i) (touchedLike (a .n) (a .starts .now) (a .columns .now) (take (a .n) (a .order .now)) (a .colour) (ofRecord (c .before .before .record-at .result)))
+    (l .loop .marks) (c .touch-like .last .1 .1 .1 .1 .0) b) e (c .touch-like .ensures)
+
+returns : tie.Need-returns Inv-loop μ-loop
+returns c =
+    let t = c .before in
+    let h = t .before .before in
+    let l = h .before .before in
+    let s = start l in
+    let a = s .args in
+    record {
+      is = sym (comparing-stops (a .n) (a .starts .now) (a .columns .now) (a .order .now) (a .groups .now) (a .count) (a .k) (a .colour) (a .low) (s .pre .0) (s .pre .1)
+          (l .loop .marks) (t .touch-like .last .1 .1 .1 .1 .0) (l .loop .i) (a .low + l .loop .i) (h .record-at .result) (l .loop .inv) (h .before .loop-test .taken) (h .record-at .ensures) refl (touched t false (fails refl (c .if1 .taken))));
+      marked = λ e. absurd (true≢false (sym e));
+    }
+
+add-next-child-2 : tie.Need-add-next-child-2 Inv-loop μ-loop
+add-next-child-2 c = omega (arith, small (c .before .before .before .before))
+
+next-child-requires-2 : tie.Need-next-child-requires-2 Inv-loop μ-loop
+next-child-requires-2 c κs =
+    let l = c .before .before .before .before .before in
+    let s = start l in
+    (s .pre .1 .groups-long, s .pre .1 .nested, omega (arith, l .loop .inv .past), omega (arith, c .before .before .before .before .loop-test .taken))
+
+loop-less : tie.Need-loop-less Inv-loop μ-loop
+loop-less c = omega (arith, c .next-child2 .ensures .from-on, c .before .before .before .before .before .loop-test .taken)
+
+loop-again : tie.Need-loop-again Inv-loop μ-loop
+loop-again c =
+    let t = c .before .before in
+    let h = t .before .before in
+    let l = h .before .before in
+    let s = start l in
+    let a = s .args in
+    comparing-next (a .n) (a .starts .now) (a .columns .now) (a .order .now) (a .groups .now) (a .count) (a .k) (a .colour) (a .low) (s .pre .0) (s .pre .1)
+    (l .loop .marks) (t .touch-like .last .1 .1 .1 .1 .0) (l .loop .i) (a .low + l .loop .i) (h .record-at .result) (l .loop .inv) (h .before .loop-test .taken) (h .record-at .ensures) refl
+    (c .next-child2 .result) (touched t true (holds refl (c .before .if1 .left))) (c .next-child2 .ensures)
+
+returns-2 : tie.Need-returns-2 Inv-loop μ-loop
+returns-2 c =
+    let l = c .before in
+    let s = start l in
+    let a = s .args in
+    record {
+      is = sym (comparing-last (a .n) (a .starts .now) (a .columns .now) (a .order .now) (a .groups .now) (a .count) (a .k) (a .colour) (a .low) (s .pre .0) (s .pre .1) (l .loop .marks) (l .loop .i) (l .loop .inv) (c .loop-test .left));
+      marked = λ _. comparing-marks (a .n) (a .starts .now) (a .columns .now) (a .order .now) (a .groups .now) (a .count) (a .k) (a .colour) (a .low) (s .pre .0) (s .pre .1) (l .loop .marks) (l .loop .i) (l .loop .inv);
+    }
+
+pub apart-below-spec : {M : Type 1} → statement M
+apart-below-spec =
+    tie.close
+    (tie.spec
+    Inv-loop
+    μ-loop
+    add-next-child
+    next-child-requires
+    loop-holds
+    record-at-requires
+    cast-touch-like
+    add-touch-like
+    touch-like-requires
+    returns
+    add-next-child-2
+    next-child-requires-2
+    loop-less
+    loop-again
+    returns-2)
