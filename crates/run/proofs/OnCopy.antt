@@ -40,13 +40,18 @@ left-turn a (c ∷ cs) = go (c .holds) (left-turn a cs)
     go false e = refl
 
 -- on a job
-on-job : (j : Job) (s : State) (ws : List ℕ) → answer j s (preview ws) ≡ shown (answer j s (picks ws)) (answer j (after j s (picks ws)) readySet)
+pub on-job : (j : Job) (s : State) (ws : List ℕ) → answer j s (preview ws) ≡ shown (answer j s (picks ws)) (answer j (after j s (picks ws)) readySet)
 unfolding answer after stateCheck inTurn answerOf afterOf shown
 on-job j s ws = go (isState j s) refl
   where
     go : (b : Bool) → isState j s ≡ b → answer j s (preview ws) ≡ shown (answer j s (picks ws)) (answer j (after j s (picks ws)) readySet)
     go true e = rw (e, steps-stay j s ws e) refl
     go false e = rw e refl
+
+-- .. the state is left alone
+pub job-left : (j : Job) (s : State) (ws : List ℕ) → after j s (preview ws) ≡ s
+unfolding after afterOf
+job-left j s ws = left-turn s (stateCheck j s)
 
 module _ (m : Matrix) (x : List ℤ) (order groups : List ℕ) (count : ℕ) (s : State) (ws : List ℕ) where
   abbrev j : Job
@@ -61,8 +66,8 @@ module _ (m : Matrix) (x : List ℤ) (order groups : List ℕ) (count : ℕ) (s 
       ∙ ap (shown (answer j s (picks ws))) (sym (run .answered (afterLent m x order groups count s (picks ws)) readySet)))
 
   left-alone : afterLent m x order groups count s (preview ws) ≡ s
-  unfolding afterLent after afterOf
-  left-alone = rw (left-turn s (stateCheck j s)) (left-turn s (jobChecks m x order groups count))
+  unfolding afterLent
+  left-alone = rw (job-left j s ws) (left-turn s (jobChecks m x order groups count))
 
 -- the theorem
 pub on-copy : OnCopy
