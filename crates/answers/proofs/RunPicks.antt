@@ -1,9 +1,9 @@
 -- A call on a run whose state and sums are decoded; and picks, which are stored.
 use mathlib.Core.Path.{_≡_, refl, sym, ap, _∙_}
-use mathlib.Core.Logic.{_≢_, ⊎-elim}
+use mathlib.Core.Logic.{_⊎_, inl, inr, _≢_, ⊎-elim}
 use mathlib.Core.Bool.{Bool, true, false, cond}
 use mathlib.Core.List.{List, [], _∷_, _++_}
-use Prim.Native.Nat.{ℕ, zero, suc, _/_, _^_, _≤_, _<_}
+use Prim.Native.Nat.{ℕ, zero, suc, _+_, _/_, _^_, _≤_, _<_}
 use native.Mathlib.Omega.{arith}
 use lib.Dec.{eqb, leb}
 use lib.IntN.{ℤ}
@@ -25,7 +25,7 @@ use Rattle.run.specs.Job.{Job, jobOf, Accepted}
 use Rattle.run.specs.Machine.{steps, ready, bits, over, original, isState, countsFine}
 use Rattle.run.specs.State.{State}
 use Rattle.run.specs.Calls.{placeOf, pickedOf, readyOf, forcesOf, answerOf, stateCheck, answer, jobChecks, answerLent, afterLent}
-use Rattle.run.specs.Answers.{Call, picks, readySet, forceList, preview, Answer, picked, denied, previewed, shown, countTold}
+use Rattle.run.specs.Answers.{Call, picks, readySet, forceList, preview, Answer, picked, denied, previewed, shown, bitsTold, countTold}
 use Rattle.machine.specs.Record.{stateOf}
 use Rattle.machine.specs.declared.state.State as code
 use Rattle.calls.specs.Performed.{asAnswer, Performed}
@@ -36,10 +36,10 @@ use Rattle.calls.proofs.JobChecked.{job-given}
 use Rattle.words.specs.LittleEndian.{number, signedNumber, signed, signedBytes, stored}
 use Rattle.words.proofs.Blocks.{length-decoded}
 use Rattle.lent.specs.Word.{word}
-use Rattle.answers.specs.Runs.{stateBytes, countBytes, stateIn, answerIn, replyTo, forceBytes, bytesIn, leftBy, PicksAnswered, previewWord}
-use Rattle.answers.specs.code.Ran.{StateIs, Taken, Parts, Ran, LowPlace, PicksFit}
+use Rattle.answers.specs.Runs.{stateBytes, countBytes, stateIn, answerIn, replyTo, forceBytes, bytesIn, leftBy, PicksAnswered, setIn, previewWord}
+use Rattle.answers.specs.code.Ran.{StateIs, Taken, Parts, Ran, Looks, LowPlace, PicksFit}
 use Rattle.answers.proofs.RunCalls.{decoded, always-refused}
-use Rattle.answers.proofs.TakenFew.{number-low, few-ready, taken-few}
+use Rattle.answers.proofs.TakenFew.{number-low, few-ready, ready-low, taken-few}
 
 -- ---- a call that took picks, or none, and was not refused
 
@@ -120,16 +120,16 @@ module _ (m : Matrix) (x : List ℤ) (order groups : List ℕ) (count : ℕ) (s 
 
   module _ {t q p b k : ℕ} (e : previewed t q p b k ≡ answerLent m x order groups count s c) where
     -- the parts of its word fit it
-    pub preview-parts : length (s .made) ≡ maxWorkers → Parts t q p k
-    unfolding answerOf pickedOf readyOf forcesOf shown countTold
+    pub preview-parts : length (s .made) ≡ maxWorkers → Parts t q p b k
+    unfolding answerOf pickedOf readyOf forcesOf shown bitsTold countTold
     preview-parts long = go c (stated (previewed-told t q p b k) e .1)
       where
-        other : (a c : Bool) (n : ℕ) (zs : List ℤ) → previewed t q p b k ≡ forcesOf a c n zs → Parts t q p k
+        other : (a c : Bool) (n : ℕ) (zs : List ℤ) → previewed t q p b k ≡ forcesOf a c n zs → Parts t q p b k
         other false c n zs told = absurd (let z : _≡_ {A = ℕ} 0 1 = cc in omega arith)
         other true false n zs told = absurd (let z : _≡_ {A = ℕ} 0 1 = cc in omega arith)
         other true true n zs told = absurd (let z : _≡_ {A = ℕ} 0 1 = cc in omega arith)
 
-        go : (d : Call) → previewed t q p b k ≡ answerOf job s d → Parts t q p k
+        go : (d : Call) → previewed t q p b k ≡ answerOf job s d → Parts t q p b k
         go (picks ws) told = absurd (let z : _≡_ {A = ℕ} 0 1 = cc in omega arith)
         go readySet told = absurd (let z : _≡_ {A = ℕ} 0 1 = cc in omega arith)
         go (forceList room) told = other (over job (s .made)) (leb (job .matrix .n) room) (job .matrix .n) (original job (s .sums)) told
@@ -140,12 +140,14 @@ module _ (m : Matrix) (x : List ℤ) (order groups : List ℕ) (count : ℕ) (s 
             let taken : t ≡ r .taken = cc in
             let number : q ≡ r .number = cc in
             let place : p ≡ placeOf (r .number) (r .taken) = cc in
+            let set : b ≡ bits (ready job (r .state .made)) = cc in
             let count : k ≡ length (ready job (r .state .made)) = cc in
             record {
               taken-low = omega (arith, taken-few job ok s ws long);
               number-low = omega (arith, number-low job s ws);
               place-low = omega (arith, place-low (r .number) (r .taken), taken-few job ok s ws long);
               count-low = omega (arith, few-ready job ok (r .state .made));
+              bits-low = omega (arith, ready-low job ok (r .state .made));
             }
 
 -- ---- what the call leaves
@@ -199,7 +201,7 @@ module _ (m : Matrix) (x : List ℤ) (order groups : List ℕ) (count : ℕ) (c 
       }
 
   -- the parts of the word of a preview
-  looked : {t q p b k : ℕ} → answerIn m x order groups count state sums c ≡ previewed t q p b k → Parts t q p k
+  looked : {t q p b k : ℕ} → answerIn m x order groups count state sums c ≡ previewed t q p b k → Parts t q p b k
   looked {t} {q} {p} {b} {k} e =
       let d = previewed-told t q p b k in
       preview-parts m x order groups count (stateOf r zs) c (told m x order groups count c state sums r is lent d e) (sixteen m x order groups count c state sums r is lent d e)
@@ -250,6 +252,25 @@ pub same-reply : (k q p b n : ℕ) → replyTo (picked k q p) ≡ replyTo (previ
 unfolding replyTo
 same-reply k zero p b n = refl
 same-reply k (suc q) p b n = refl
+
+-- other answers have no set
+pub set-none : (r : Response) → OneOf (0 ∷ 1 ∷ 2 ∷ 3 ∷ []) (tagOf the-type r) → (zs : List ℤ) → 0 ≡ setIn (asAnswer r zs)
+unfolding setIn
+set-none (Picked k q p) h zs = refl
+set-none (Ready b k) h zs = refl
+set-none Forces h zs = refl
+set-none (Refused q p) h zs = refl
+set-none (Previewed t q p b k) h zs = absurd (⊎-elim (λ e. omega arith) (⊎-elim (λ e. omega arith) (⊎-elim (λ e. omega arith) (λ e. omega arith))) h)
+
+-- a preview's set lies above its picks
+pub preview-fits : (r : Response) → Looks r → {w v : ℕ} → w ≡ word (replyTo (asAnswer r [])) → v ≡ setIn (asAnswer r []) → (v ≡ 0) ⊎ (w + v < 2 ^ 64)
+unfolding setIn replyTo word
+preview-fits (Picked k q p) h e f = inl f
+preview-fits (Ready b k) h e f = inl f
+preview-fits Forces h e f = inl f
+preview-fits (Refused q p) h e f = inl f
+preview-fits (Previewed t zero p b k) h e f = let g = h t 0 p b k refl in inr (omega (arith, g .taken-low, g .count-low, g .bits-low))
+preview-fits (Previewed t (suc q) p b k) h e f = let g = h t (suc q) p b k refl in inr (omega (arith, g .number-low, g .place-low, g .count-low, g .bits-low))
 
 -- other answers leave both lists
 pub picks-kept : (r : Response) → OneOf (1 ∷ 2 ∷ 3 ∷ 4 ∷ []) (tagOf the-type r) → (zs : List ℤ) (new old : List ℕ) → old ≡ leftBy (asAnswer r zs) new old

@@ -4,6 +4,7 @@ use mathlib.Core.Path.{_≡_, refl, ap, _∙_}
 use mathlib.Core.Bool.{Bool, true, false, cond}
 use mathlib.Core.List.{List, [], _∷_}
 use Prim.Native.Nat.{ℕ, zero, suc, _+_, _*_, _-_, _%_, _^_, _≤_, _<_}
+use native.Mathlib.Nat.{pow-le-pow-right}
 use native.Mathlib.Omega.{arith}
 use lib.Dec.{eqb, ltb, leb}
 use lib.ListN.{length, set, length-set}
@@ -15,13 +16,14 @@ use Rattle.base.proofs.Sums.{sum-below-more, sum-below-bound}
 use Rattle.plan.specs.Sound.{maxWorkers}
 use Rattle.run.specs.Job.{Job, Accepted, workers}
 use Rattle.run.specs.Updates.{Update, count, updates, accesses, next, waits}
-use Rattle.run.specs.Machine.{reason, refusal, Outcome, moved, halted, onward, total, access, move, stepIf, step, oneMore, steps, readyBelow, ready}
+use Rattle.run.specs.Machine.{reason, refusal, Outcome, moved, halted, onward, total, access, move, stepIf, step, oneMore, steps, readyBelow, ready, bits}
 use Rattle.run.specs.State.{State}
 use Rattle.tables.specs.code.Laid.{maxUpdates}
 use Rattle.run.proofs.Able.{able}
 use Rattle.run.proofs.Accepted.{facts}
 use Rattle.run.proofs.Schedule.{step-end, steps-on, steps-end, step-made}
 use Rattle.layout.proofs.UpdateRoom.{room}
+use Rattle.machine.proofs.ReadyBits.{bits-below}
 
 -- ---- the number that ends a schedule
 
@@ -72,6 +74,11 @@ ready-few j made (suc w) = go (eqb (refusal j made w) 0) (ready-few j made w)
 pub few-ready : (j : Job) → Accepted j → (made : List ℕ) → length (ready j made) ≤ maxWorkers
 unfolding ready
 few-ready j ok made = omega (arith, ready-few j made (workers j), facts j ok .few)
+
+-- .. and their bits are the low sixteen
+pub ready-low : (j : Job) → Accepted j → (made : List ℕ) → bits (ready j made) < 2 ^ 16
+unfolding ready
+ready-low j ok made = let most : 2 ^ workers j ≤ 2 ^ 16 = pow-le-pow-right (omega arith) (facts j ok .few) in omega (arith, bits-below j made (workers j))
 
 -- ---- how many steps are taken
 

@@ -103,7 +103,13 @@ pub(crate) fn picks(
     );
     let walked = reached.walked;
     let after = walked.state;
-    let answer = told(call, walked.taken, walked.number, walked.past, reached.ready);
+    let answer = told(
+        call,
+        walked.taken,
+        walked.number,
+        walked.past,
+        reached.ready,
+    );
     answered(after, answer)
 }
 

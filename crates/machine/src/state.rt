@@ -1,7 +1,7 @@
 // A run's state: one record, handed in and handed back.
+use crate::ready::ready_workers;
 use base::DONE;
 use base::WAITING;
-use crate::ready::ready_workers;
 use layout::lay;
 use matrix::limits::MAX_ROWS;
 use plan::MAX_GROUPS;

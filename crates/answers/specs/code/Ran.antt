@@ -30,11 +30,12 @@ pub record Taken (n : ℕ) (s : State) (place : ℕ) (state sums : List ℕ) (af
   pub low : place < 2 ^ 32
 
 -- the parts of a preview's word, each below what is above it
-pub record Parts (taken number place count : ℕ) : Type 0 where
+pub record Parts (taken number place bits count : ℕ) : Type 0 where
   pub taken-low : taken < 2 ^ 32
   pub number-low : number < 2 ^ 8
   pub place-low : place < 2 ^ 32
   pub count-low : count < 2 ^ 8
+  pub bits-low : bits < 2 ^ 16
 
 -- a call with the answer a, that leaves state s if that is of picks: the code's answer,
 -- with the forces that it may have, and what stands in the lists
@@ -43,11 +44,11 @@ pub record Ran (n : ℕ) (a : Answer) (s : State) (state sums old : List ℕ) (a
   pub answers : asAnswer answer made ≡ a
   pub lists : left ≡ lent (replyTo a) (forceBytes a) old
   pub taken : (k q p : ℕ) → a ≡ picked k q p → Taken n s p state sums after new
-  pub looked : (t q p b k : ℕ) → a ≡ previewed t q p b k → Parts t q p k
+  pub looked : (t q p b k : ℕ) → a ≡ previewed t q p b k → Parts t q p b k
 
 -- the parts of a preview's word fit it
 abbrev pub Looks : Response → Type 0
-Looks answer = (t q p b k : ℕ) → answer ≡ Previewed t q p b k → Parts t q p k
+Looks answer = (t q p b k : ℕ) → answer ≡ Previewed t q p b k → Parts t q p b k
 
 -- the place of picks' ending fits a word's low half
 abbrev pub LowPlace : Response → Type 0
