@@ -15,9 +15,9 @@
  * list of another; lists that are only read may be shared. In a call, a list that is written overlaps no other list.
  * No pointer is null, also of an empty list.
  *
- * Stack: mzk_read uses up to 2 MiB, mzk_picks, mzk_preview, mzk_ready and mzk_forces up to 1.3 MiB, mzk_plan up to
- * 1 MiB, mzk_write_plan and mzk_read_plan up to 8 KiB, the others up to 0.6 MiB. A thread with MZK_STACK_BYTES and its
- * own needs can make any call. */
+ * Stack: mzk_read uses up to 2 MiB, mzk_picks and mzk_preview up to 1.4 MiB, mzk_ready and mzk_forces up to 1.3 MiB,
+ * mzk_plan up to 1 MiB, mzk_write_plan and mzk_read_plan up to 8 KiB, the others up to 0.6 MiB. A thread with
+ * MZK_STACK_BYTES and its own needs can make any call. */
 #ifndef MAZHOKETH_H
 #define MAZHOKETH_H
 

@@ -29,7 +29,7 @@ use Rattle.run.specs.Updates.{entryAt, displacementAt, later, withEach, rowUpda
 use Rattle.run.specs.Machine.{reason, refusal, onward, load as loadSum, total, store, access, move, stepIf, step, oneMore, steps, readyBelow, ready, bits, allMade, over, positionOf, original, countsFine, isState}
 use Rattle.run.specs.State.{fresh}
 use Rattle.run.specs.Calls.{placeOf, pickedOf, readyOf, forcesOf, answerOf, afterOf, stateCheck, answer, after}
-use Rattle.run.specs.Answers.{Call, picks, readySet, forceList, preview, Answer, picked, isReady, forces, denied, previewed}
+use Rattle.run.specs.Answers.{Call, picks, readySet, forceList, preview, Answer, picked, isReady, forces, denied, previewed, bitsTold, countTold, shown}
 use Rattle.run.specs.Sequence.{answersFrom}
 use Rattle.run.specs.Model.{noCounts, added, ending, oneNoted, note, able, isFinished, modelAnswer, modelAfter, modelAnswers, modelCounts}
 use Rattle.run.specs.EveryRun.{takenOf, takenIn, runAnswers, wholeRun}
@@ -249,7 +249,7 @@ unfolding fresh workersOf workers reason refusal onward loadSum total store acce
 machines = tt
 
 calls : Unit {0}
-unfolding placeOf pickedOf readyOf forcesOf answerOf afterOf stateCheck answer after noCounts oneNoted note modelAnswer modelAfter modelAnswers modelCounts takenOf takenIn wholeRun answersFrom added ending able isFinished runAnswers
+unfolding bitsTold countTold shown placeOf pickedOf readyOf forcesOf answerOf afterOf stateCheck answer after noCounts oneNoted note modelAnswer modelAfter modelAnswers modelCounts takenOf takenIn wholeRun answersFrom added ending able isFinished runAnswers
 calls = tt
 
 listings : Unit {0}
