@@ -194,9 +194,9 @@ uint64_t mzk_picks(uint32_t n,
                    uint8_t *sums, size_t sums_bytes,
                    const uint8_t *picks, size_t picks_bytes);
 
-/* What picks would do in a run, which stays as it is: just what mzk_picks would return for a copy of state and sums, and
- * above that the ready set that mzk_ready would tell of the copy then: a bit for each worker, and the count of those
- * set; none where mzk_picks would be refused with 5, 6, 8 or 11.
+/* What picks would do in a run, which stays as it is: just what mzk_picks would return for a copy of state and sums,
+ * and above that the ready set that mzk_ready would tell of the copy then: a bit for each worker, and the count of
+ * those set; none where mzk_picks would be refused with 5, 6, 8 or 11.
  * Refused: 5; 6; 8; 11; then pick by pick 10, 12, 13, 14, as mzk_picks. */
 #define MZK_PREVIEW_COUNT(word) ((uint32_t)((uint64_t)(word) >> 40 & 0xff))
 #define MZK_PREVIEW_SET(word) ((uint32_t)((uint64_t)(word) >> 48))
