@@ -15,9 +15,9 @@
  * list of another; lists that are only read may be shared. In a call, a list that is written overlaps no other list.
  * No pointer is null, also of an empty list.
  *
- * Stack: mzk_read uses up to 2 MiB, mzk_picks, mzk_ready and mzk_forces up to 1.3 MiB, mzk_plan up to 1 MiB,
- * mzk_write_plan and mzk_read_plan up to 8 KiB, the others up to 0.6 MiB. A thread with MZK_STACK_BYTES and its own
- * needs can make any call. */
+ * Stack: mzk_read uses up to 2 MiB, mzk_picks and mzk_preview up to 1.4 MiB, mzk_ready and mzk_forces up to 1.3 MiB,
+ * mzk_plan up to 1 MiB, mzk_write_plan and mzk_read_plan up to 8 KiB, the others up to 0.6 MiB. A thread with
+ * MZK_STACK_BYTES and its own needs can make any call. */
 #ifndef MAZHOKETH_H
 #define MAZHOKETH_H
 
@@ -46,7 +46,7 @@ enum {
 };
 
 /* Every call returns one word: the refusal's number, 0 if it was accepted, and the refusal's place or the accepted
- * call's count, 0 where none is named. The number is bits 32 to 39 alone; later calls carry more above it. */
+ * call's count, 0 where none is named. The number is bits 32 to 39 alone; mzk_preview carries more above it. */
 #define MZK_NUMBER(word) ((uint32_t)((uint64_t)(word) >> 32 & 0xff))
 #define MZK_PLACE(word) ((uint32_t)((uint64_t)(word) & 0xffffffff))
 #define MZK_COUNT(word) ((uint32_t)((uint64_t)(word) & 0xffffffff))
@@ -193,6 +193,24 @@ uint64_t mzk_picks(uint32_t n,
                    uint8_t *state, size_t state_bytes,
                    uint8_t *sums, size_t sums_bytes,
                    const uint8_t *picks, size_t picks_bytes);
+
+/* What picks would do in a run, which stays as it is: just what mzk_picks would return for a copy of state and sums,
+ * and above that the ready set that mzk_ready would tell of the copy then: a bit for each worker, and the count of
+ * those set; none where mzk_picks would be refused with 5, 6, 8 or 11.
+ * Refused: 5; 6; 8; 11; then pick by pick 10, 12, 13, 14, as mzk_picks. */
+#define MZK_PREVIEW_COUNT(word) ((uint32_t)((uint64_t)(word) >> 40 & 0xff))
+#define MZK_PREVIEW_SET(word) ((uint32_t)((uint64_t)(word) >> 48))
+uint64_t mzk_preview(uint32_t n,
+                     const uint8_t *row_starts, size_t row_starts_bytes,
+                     const uint8_t *columns, size_t columns_bytes,
+                     const uint8_t *values, size_t values_bytes,
+                     const uint8_t *movements, size_t movements_bytes,
+                     const uint8_t *order, size_t order_bytes,
+                     const uint8_t *groups, size_t groups_bytes,
+                     uint32_t group_count,
+                     const uint8_t *state, size_t state_bytes,
+                     const uint8_t *sums, size_t sums_bytes,
+                     const uint8_t *picks, size_t picks_bytes);
 
 /* The ready set of a run: the workers whose next pick would be taken. Returns sixteen bits, bit 0 for worker 0, and
  * 65,536 times the count of those set.

@@ -76,6 +76,12 @@ static void check_chain(void)
     CHECK(is(mzk_product(MATRIX(9), movements, 36, forces, sizeof forces), MZK_NO_MATRIX, 0));
     uint64_t ready = mzk_ready(JOB, state, sizeof state, sums, 64);
     CHECK(MZK_NUMBER(ready) == MZK_ACCEPTED && MZK_READY_SET(ready) == 3 && MZK_READY_COUNT(ready) == 2);
+    uint64_t preview = mzk_preview(JOB, state, sizeof state, sums, 64, picks, 13);
+    CHECK(is(preview, MZK_WAITS, 12) && MZK_PREVIEW_SET(preview) == 2 && MZK_PREVIEW_COUNT(preview) == 1);
+    preview = mzk_preview(JOB, state, sizeof state, sums, 64, picks, 0);
+    CHECK(is(preview, MZK_ACCEPTED, 0) && MZK_PREVIEW_SET(preview) == 3 && MZK_PREVIEW_COUNT(preview) == 2);
+    preview = mzk_preview(JOB, state, sizeof state - 1, sums, 64, picks, 13);
+    CHECK(is(preview, MZK_NO_STATE, 0) && MZK_PREVIEW_SET(preview) == 0 && MZK_PREVIEW_COUNT(preview) == 0);
     CHECK(is(mzk_picks(JOB, state, sizeof state, sums, 64, picks, 13), MZK_WAITS, 12));
     ready = mzk_ready(JOB, state, sizeof state, sums, 64);
     CHECK(MZK_READY_SET(ready) == 2 && MZK_READY_COUNT(ready) == 1);

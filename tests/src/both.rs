@@ -252,6 +252,14 @@ pub fn ready(run: &RunTwins, at: &StateTwins) -> u64 {
     alike("ready", ours, theirs, run.lists(), &[state, sums])
 }
 
+/// Asks what picks would do.
+pub fn preview(run: &RunTwins, at: &StateTwins, picks: &Twin) -> u64 {
+    let StateTwins { state, sums } = at;
+    let ours = library::preview(run.ours(), state.ours(), sums.ours(), picks.ours());
+    let theirs = calls::preview(run.theirs(), &state.theirs, &sums.theirs, &picks.theirs);
+    alike("preview", ours, theirs, run.lists(), &[state, sums, picks])
+}
+
 /// Asks for the force list.
 pub fn forces(run: &RunTwins, at: &StateTwins, forces: &mut Twin) -> u64 {
     let StateTwins { state, sums } = at;

@@ -62,6 +62,13 @@ extern "C" {
         order: In, order_bytes: usize, groups: In, groups_bytes: usize, group_count: u32,
         state: In, state_bytes: usize, sums: In, sums_bytes: usize,
     ) -> u64;
+    fn mzk_preview(
+        n: u32,
+        row_starts: In, row_starts_bytes: usize, columns: In, columns_bytes: usize, values: In, values_bytes: usize,
+        movements: In, movements_bytes: usize,
+        order: In, order_bytes: usize, groups: In, groups_bytes: usize, group_count: u32,
+        state: In, state_bytes: usize, sums: In, sums_bytes: usize, picks: In, picks_bytes: usize,
+    ) -> u64;
     fn mzk_forces(
         n: u32,
         row_starts: In, row_starts_bytes: usize, columns: In, columns_bytes: usize, values: In, values_bytes: usize,
@@ -193,6 +200,21 @@ pub fn ready(run: RunLists, state: &[u8], sums: &[u8]) -> u64 {
             movements.as_ptr(), movements.len(),
             order.as_ptr(), order.len(), groups.as_ptr(), groups.len(), group_count,
             state.as_ptr(), state.len(), sums.as_ptr(), sums.len(),
+        )
+    }
+}
+
+/// What picks would do: their answer word, plus the count of those ready afterwards × 2^40, plus their set × 2^48.
+#[rustfmt::skip]
+pub fn preview(run: RunLists, state: &[u8], sums: &[u8], picks: &[u8]) -> u64 {
+    let RunLists { matrix: MatrixLists { n, row_starts, columns, values }, movements, plan } = run;
+    let PlanLists { order, groups, group_count } = plan;
+    unsafe {
+        mzk_preview(
+            n, row_starts.as_ptr(), row_starts.len(), columns.as_ptr(), columns.len(), values.as_ptr(), values.len(),
+            movements.as_ptr(), movements.len(),
+            order.as_ptr(), order.len(), groups.as_ptr(), groups.len(), group_count,
+            state.as_ptr(), state.len(), sums.as_ptr(), sums.len(), picks.as_ptr(), picks.len(),
         )
     }
 }

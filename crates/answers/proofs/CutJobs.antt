@@ -12,7 +12,7 @@ use Rattle.run.specs.Updates.{entryAt, displacementAt, later, withEach, rowUpda
 use Rattle.run.specs.Machine.{refusal, Outcome, moved, halted, step, Stepped, oneMore, steps, readyBelow, ready, allMade, over, original, countsFine, isState}
 use Rattle.run.specs.State.{State}
 use Rattle.run.specs.Calls.{readyOf, answerOf, afterOf, stateCheck, answer, after}
-use Rattle.run.specs.Answers.{Call, picks, readySet, forceList}
+use Rattle.run.specs.Answers.{Call, picks, readySet, forceList, preview}
 use Rattle.run.proofs.Schedule.{steps-on, steps-end}
 
 module _ (m : Matrix) (ok : isMatrix m ≡ true) (x : List ℤ) (p : Plan) where
@@ -102,12 +102,14 @@ module _ (m : Matrix) (ok : isMatrix m ≡ true) (x : List ℤ) (p : Plan) where
   call-same s (picks ws) = rw (steps-same s ws)
   call-same s readySet = rw (ready-same (s .made))
   call-same s (forceList room) = rw (over-same (s .made))
+  call-same s (preview ws) = rw (steps-same s ws, ready-same (steps whole s ws .state .made))
 
   left-same : (s : State) (c : Call) → afterOf part s c ≡ afterOf whole s c
   unfolding afterOf
   left-same s (picks ws) = ap (λ (r : Stepped). r .state) (steps-same s ws)
   left-same s readySet = refl
   left-same s (forceList room) = refl
+  left-same s (preview ws) = refl
 
   pub answer-same : (s : State) (c : Call) → answer part s c ≡ answer whole s c
   unfolding answer stateCheck

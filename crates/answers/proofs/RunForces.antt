@@ -21,13 +21,13 @@ use Rattle.run.specs.Job.{jobOf}
 use Rattle.run.specs.Machine.{positionOf, over, original}
 use Rattle.run.specs.State.{State}
 use Rattle.run.specs.Calls.{pickedOf, readyOf, forcesOf, answerOf, stateCheck, answer, jobChecks, answerLent}
-use Rattle.run.specs.Answers.{Answer, forces, denied}
+use Rattle.run.specs.Answers.{Answer, forces, denied, shown}
 use Rattle.calls.specs.Performed.{asCall, asAnswer, Performed}
 use Rattle.calls.specs.declared.Call as asked
-use Rattle.calls.specs.declared.Call.the-variants.{Picks, ReadySet, ForceList}
+use Rattle.calls.specs.declared.Call.the-variants.{Picks, ReadySet, ForceList, Preview}
 use Rattle.calls.proofs.Response.{the-type}
 use Rattle.calls.specs.declared.Response.{Response}
-use Rattle.calls.specs.declared.Response.the-variants.{Picked, Ready, Forces, Refused}
+use Rattle.calls.specs.declared.Response.the-variants.{Picked, Ready, Forces, Refused, Previewed}
 use Rattle.words.specs.LittleEndian.{signedBytes, stored}
 use Rattle.answers.specs.Runs.{replyTo, forceBytes}
 use Rattle.answers.specs.code.Ran.{ForcesFit}
@@ -47,7 +47,7 @@ given-turn n room (c ∷ cs) a g = go (c .holds) (given-turn n room cs a g)
     go false h = λ zs e. absurd (let z : _≡_ {A = ℕ} 0 1 = cc in omega arith)
 
 given : (m : Matrix) (x : List ℤ) (order groups : List ℕ) (count : ℕ) (s : State) (call : asked.Call) (ws : List ℕ) (room : ℕ) → Given (m .n) room (answerLent m x order groups count s (asCall call ws room))
-unfolding answerLent answer answerOf pickedOf readyOf jobOf forcesOf original
+unfolding answerLent answer answerOf pickedOf readyOf jobOf forcesOf original shown
 given m x order groups count s call ws room =
     let j = jobOf m x order groups count in
     given-turn (m .n) room (jobChecks m x order groups count) _ (given-turn (m .n) room (stateCheck j s) _ (of call))
@@ -63,6 +63,7 @@ given m x order groups count s call ws room =
     of : (c : asked.Call) → Given (m .n) room (answerOf (jobOf m x order groups count) s (asCall c ws room))
     of Picks zs f = absurd (let z : _≡_ {A = ℕ} 0 1 = cc in omega arith)
     of ReadySet zs f = absurd (let z : _≡_ {A = ℕ} 0 1 = cc in omega arith)
+    of Preview zs f = absurd (let z : _≡_ {A = ℕ} 0 1 = cc in omega arith)
     of ForceList zs f = go (over (jobOf m x order groups count) (s .made)) (leb (m .n) room) refl zs f
 
 -- a call that has the first part of an array for its forces
@@ -86,6 +87,7 @@ module _ {m : Matrix} {x : List ℤ} {order groups : List ℕ} {count : ℕ} {s 
       go (Picked k q p) f = refl
       go (Ready b k) f = refl
       go (Refused q p) f = refl
+      go (Previewed t q p b k) f = refl
 
 -- ---- the array
 
@@ -107,13 +109,15 @@ module _ (k room : ℕ) (e : k ≡ min room maxRows) where
 -- ---- the store
 
 -- other answers leave the list
-pub forces-kept : (r : Response) → OneOf (0 ∷ 1 ∷ 3 ∷ []) (tagOf the-type r) → (zs : List ℤ) (bytes : List ℕ) → bytes ≡ lent (replyTo (asAnswer r zs)) (forceBytes (asAnswer r zs)) bytes
+pub forces-kept : (r : Response) → OneOf (0 ∷ 1 ∷ 3 ∷ 4 ∷ []) (tagOf the-type r) → (zs : List ℤ) (bytes : List ℕ) → bytes ≡ lent (replyTo (asAnswer r zs)) (forceBytes (asAnswer r zs)) bytes
 unfolding replyTo forceBytes lent
 forces-kept (Picked k zero p) h zs bytes = refl
 forces-kept (Picked k (suc q) p) h zs bytes = refl
 forces-kept (Ready b k) h zs bytes = refl
-forces-kept Forces h zs bytes = absurd (⊎-elim (λ e. omega arith) (⊎-elim (λ e. omega arith) (λ e. omega arith)) h)
+forces-kept Forces h zs bytes = absurd (⊎-elim (λ e. omega arith) (⊎-elim (λ e. omega arith) (⊎-elim (λ e. omega arith) (λ e. omega arith))) h)
 forces-kept (Refused q p) h zs bytes = refl
+forces-kept (Previewed k zero p b n) h zs bytes = refl
+forces-kept (Previewed k (suc q) p b n) h zs bytes = refl
 
 -- forces for which there is room
 pub forces-stored : (zs : List ℤ) (bytes : List ℕ) {new : List ℕ} → length zs ≤ length bytes / 8 → new ≡ stored (signedBytes 8 (take (length bytes / 8) zs)) bytes

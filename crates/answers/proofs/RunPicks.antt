@@ -1,9 +1,9 @@
 -- A call on a run whose state and sums are decoded; and picks, which are stored.
 use mathlib.Core.Path.{_≡_, refl, sym, ap, _∙_}
-use mathlib.Core.Logic.{_≢_, ⊎-elim}
+use mathlib.Core.Logic.{_⊎_, inl, inr, _≢_, ⊎-elim}
 use mathlib.Core.Bool.{Bool, true, false, cond}
 use mathlib.Core.List.{List, [], _∷_, _++_}
-use Prim.Native.Nat.{ℕ, zero, suc, _/_, _^_, _≤_, _<_}
+use Prim.Native.Nat.{ℕ, zero, suc, _+_, _/_, _^_, _≤_, _<_}
 use native.Mathlib.Omega.{arith}
 use lib.Dec.{eqb, leb}
 use lib.IntN.{ℤ}
@@ -22,38 +22,48 @@ use Rattle.matrix.specs.code.Room.{maxStarts}
 use Rattle.matrix.proofs.Matrix.{matrix-facts}
 use Rattle.plan.specs.Sound.{maxWorkers}
 use Rattle.run.specs.Job.{Job, jobOf, Accepted}
-use Rattle.run.specs.Machine.{steps, over, original, isState, countsFine}
+use Rattle.run.specs.Machine.{steps, ready, bits, over, original, isState, countsFine}
 use Rattle.run.specs.State.{State}
 use Rattle.run.specs.Calls.{placeOf, pickedOf, readyOf, forcesOf, answerOf, stateCheck, answer, jobChecks, answerLent, afterLent}
-use Rattle.run.specs.Answers.{Call, picks, readySet, forceList, Answer, picked, denied}
+use Rattle.run.specs.Answers.{Call, picks, readySet, forceList, preview, Answer, picked, denied, previewed, shown, bitsTold, countTold}
 use Rattle.machine.specs.Record.{stateOf}
 use Rattle.machine.specs.declared.state.State as code
 use Rattle.calls.specs.Performed.{asAnswer, Performed}
 use Rattle.calls.proofs.Response.{the-type}
 use Rattle.calls.specs.declared.Response.{Response}
-use Rattle.calls.specs.declared.Response.the-variants.{Picked, Ready, Forces, Refused}
+use Rattle.calls.specs.declared.Response.the-variants.{Picked, Ready, Forces, Refused, Previewed}
 use Rattle.calls.proofs.JobChecked.{job-given}
 use Rattle.words.specs.LittleEndian.{number, signedNumber, signed, signedBytes, stored}
 use Rattle.words.proofs.Blocks.{length-decoded}
 use Rattle.lent.specs.Word.{word}
-use Rattle.answers.specs.Runs.{stateBytes, countBytes, stateIn, answerIn, replyTo, forceBytes, bytesIn, leftBy, PicksAnswered}
-use Rattle.answers.specs.code.Ran.{StateIs, Taken, Ran, LowPlace, PicksFit}
+use Rattle.answers.specs.Runs.{stateBytes, countBytes, stateIn, answerIn, replyTo, forceBytes, bytesIn, leftBy, PicksAnswered, setIn, previewWord}
+use Rattle.answers.specs.code.Ran.{StateIs, Taken, Parts, Ran, Looks, LowPlace, PicksFit}
 use Rattle.answers.proofs.RunCalls.{decoded, always-refused}
-use Rattle.answers.proofs.TakenFew.{taken-few}
+use Rattle.answers.proofs.TakenFew.{number-low, few-ready, ready-low, taken-few}
 
 -- ---- a call that took picks, or none, and was not refused
 
+-- an answer that is no refusal
+abbrev Told : Answer → Type 0
+Told b = (number place : ℕ) → b ≢ denied number place
+
 -- its checks pass
-turn-picked : (cs : List Check) (a : Answer) {t q p : ℕ} → picked t q p ≡ inTurn denied cs a → (inTurn replies.refused cs (replies.accepted 0) ≡ replies.accepted 0) × (picked t q p ≡ a)
+turn-told : (cs : List Check) (a : Answer) {b : Answer} → Told b → b ≡ inTurn denied cs a → (inTurn replies.refused cs (replies.accepted 0) ≡ replies.accepted 0) × (b ≡ a)
 unfolding inTurn
-turn-picked [] a e = (refl, e)
-turn-picked (c ∷ cs) a {t} {q} {p} e = go (c .holds) (turn-picked cs a) e
+turn-told [] a d e = (refl, e)
+turn-told (c ∷ cs) a {b} d e = go (c .holds) (turn-told cs a d) e
   where
-    go : (b : Bool) → (picked t q p ≡ inTurn denied cs a → (inTurn replies.refused cs (replies.accepted 0) ≡ replies.accepted 0) × (picked t q p ≡ a))
-        → picked t q p ≡ cond b (inTurn denied cs a) (denied (c .number) (c .place))
-        → (cond b (inTurn replies.refused cs (replies.accepted 0)) (replies.refused (c .number) (c .place)) ≡ replies.accepted 0) × (picked t q p ≡ a)
+    go : (t : Bool) → (b ≡ inTurn denied cs a → (inTurn replies.refused cs (replies.accepted 0) ≡ replies.accepted 0) × (b ≡ a))
+        → b ≡ cond t (inTurn denied cs a) (denied (c .number) (c .place))
+        → (cond t (inTurn replies.refused cs (replies.accepted 0)) (replies.refused (c .number) (c .place)) ≡ replies.accepted 0) × (b ≡ a)
     go true h e = h e
-    go false h e = absurd (let z : _≡_ {A = ℕ} 0 1 = cc in omega arith)
+    go false h e = absurd (d (c .number) (c .place) e)
+
+picked-told : (t q p : ℕ) → Told (picked t q p)
+picked-told t q p number place e = let z : _≡_ {A = ℕ} 0 1 = cc in omega arith
+
+previewed-told : (t q p b k : ℕ) → Told (previewed t q p b k)
+previewed-told t q p b k number place e = let z : _≡_ {A = ℕ} 0 1 = cc in omega arith
 
 -- the place of an ending is no more than the picks taken
 place-low : (number taken : ℕ) → placeOf number taken ≤ taken
@@ -61,57 +71,92 @@ unfolding placeOf
 place-low zero taken = omega arith
 place-low (suc k) taken = omega arith
 
-module _ (m : Matrix) (x : List ℤ) (order groups : List ℕ) (count : ℕ) (s : State) (c : Call) {t q p : ℕ} (e : picked t q p ≡ answerLent m x order groups count s c) where
+module _ (m : Matrix) (x : List ℤ) (order groups : List ℕ) (count : ℕ) (s : State) (c : Call) where
   abbrev job : Job
   job = jobOf m x order groups count
 
-  checked : (inTurn replies.refused (jobChecks m x order groups count) (replies.accepted 0) ≡ replies.accepted 0) × (picked t q p ≡ answer job s c)
-  unfolding answerLent
-  checked = turn-picked (jobChecks m x order groups count) (answer job s c) e
+  module _ {b : Answer} (d : Told b) (e : b ≡ answerLent m x order groups count s c) where
+    checked : (inTurn replies.refused (jobChecks m x order groups count) (replies.accepted 0) ≡ replies.accepted 0) × (b ≡ answer job s c)
+    unfolding answerLent
+    checked = turn-told (jobChecks m x order groups count) (answer job s c) d e
 
-  stated : (inTurn replies.refused (stateCheck job s) (replies.accepted 0) ≡ replies.accepted 0) × (picked t q p ≡ answerOf job s c)
-  unfolding answer
-  stated = turn-picked (stateCheck job s) (answerOf job s c) (checked .1)
+    stated : (inTurn replies.refused (stateCheck job s) (replies.accepted 0) ≡ replies.accepted 0) × (b ≡ answerOf job s c)
+    unfolding answer
+    stated = turn-told (stateCheck job s) (answerOf job s c) d (checked .1)
 
-  accepted : Accepted job
-  accepted = job-given m x order groups count 0 (checked .0) .accepted
+    accepted : Accepted job
+    accepted = job-given m x order groups count 0 (checked .0) .accepted
 
-  -- there are n sums
-  pub enough : length (s .sums) ≡ m .n
-  unfolding stateCheck isState jobOf
-  enough = eqb-true (length (s .sums)) (m .n) (and-left (eqb (length (s .sums)) (m .n)) (countsFine job (s .made) maxWorkers) (accepted-all (stateCheck job s) (replies.accepted 0) 0 (stated .0) .0))
+    -- there are n sums
+    pub enough : length (s .sums) ≡ m .n
+    unfolding stateCheck isState jobOf
+    enough = eqb-true (length (s .sums)) (m .n) (and-left (eqb (length (s .sums)) (m .n)) (countsFine job (s .made) maxWorkers) (accepted-all (stateCheck job s) (replies.accepted 0) 0 (stated .0) .0))
 
-  -- the place fits a word's low half
-  pub picked-low : length (s .made) ≡ maxWorkers → p < 2 ^ 32
-  unfolding answerOf pickedOf readyOf forcesOf jobOf
-  picked-low long = go c (stated .1)
-    where
-      other : (a b : Bool) (zs : List ℤ) → picked t q p ≡ forcesOf a b (m .n) zs → p < 2 ^ 32
-      other false b zs told = absurd (let z : _≡_ {A = ℕ} 0 1 = cc in omega arith)
-      other true false zs told = absurd (let z : _≡_ {A = ℕ} 0 1 = cc in omega arith)
-      other true true zs told = absurd (let z : _≡_ {A = ℕ} 0 1 = cc in omega arith)
+    -- the sums were not cut
+    pub sums-whole : {sums : List ℤ} → s .sums ≡ take maxStarts sums → take maxStarts sums ≡ sums
+    unfolding jobOf
+    sums-whole {sums} f = take-all maxStarts sums (omega (arith, ap length f, enough, length-take maxStarts sums, matrix-facts m (accepted .matrix) .few))
 
-      go : (d : Call) → picked t q p ≡ answerOf job s d → p < 2 ^ 32
-      go (picks ws) told =
-          let r = steps job s ws in
-          let same : picked t q p ≡ picked (r .taken) (r .number) (placeOf (r .number) (r .taken)) = told in
-          let place : p ≡ placeOf (r .number) (r .taken) = cc in
-          omega (arith, place-low (r .number) (r .taken), taken-few job accepted s ws long)
-      go readySet told = absurd (let z : _≡_ {A = ℕ} 0 1 = cc in omega arith)
-      go (forceList room) told = other (over job (s .made)) (leb (m .n) room) (original job (s .sums)) told
+  module _ {t q p : ℕ} (e : picked t q p ≡ answerLent m x order groups count s c) where
+    -- the place fits a word's low half
+    pub picked-low : length (s .made) ≡ maxWorkers → p < 2 ^ 32
+    unfolding answerOf pickedOf readyOf forcesOf shown
+    picked-low long = go c (stated (picked-told t q p) e .1)
+      where
+        other : (a b : Bool) (n : ℕ) (zs : List ℤ) → picked t q p ≡ forcesOf a b n zs → p < 2 ^ 32
+        other false b n zs told = absurd (let z : _≡_ {A = ℕ} 0 1 = cc in omega arith)
+        other true false n zs told = absurd (let z : _≡_ {A = ℕ} 0 1 = cc in omega arith)
+        other true true n zs told = absurd (let z : _≡_ {A = ℕ} 0 1 = cc in omega arith)
 
-  -- the sums were not cut
-  pub picked-sums : {sums : List ℤ} → s .sums ≡ take maxStarts sums → take maxStarts sums ≡ sums
-  unfolding jobOf
-  picked-sums {sums} f = take-all maxStarts sums (omega (arith, ap length f, enough, length-take maxStarts sums, matrix-facts m (accepted .matrix) .few))
+        go : (d : Call) → picked t q p ≡ answerOf job s d → p < 2 ^ 32
+        go (picks ws) told =
+            let r = steps job s ws in
+            let same : picked t q p ≡ picked (r .taken) (r .number) (placeOf (r .number) (r .taken)) = told in
+            let place : p ≡ placeOf (r .number) (r .taken) = cc in
+            omega (arith, place-low (r .number) (r .taken), taken-few job (accepted (picked-told t q p) e) s ws long)
+        go readySet told = absurd (let z : _≡_ {A = ℕ} 0 1 = cc in omega arith)
+        go (forceList room) told = other (over job (s .made)) (leb (job .matrix .n) room) (job .matrix .n) (original job (s .sums)) told
+        go (preview ws) told = absurd (let z : _≡_ {A = ℕ} 0 1 = cc in omega arith)
+
+  module _ {t q p b k : ℕ} (e : previewed t q p b k ≡ answerLent m x order groups count s c) where
+    -- the parts of its word fit it
+    pub preview-parts : length (s .made) ≡ maxWorkers → Parts t q p b k
+    unfolding answerOf pickedOf readyOf forcesOf shown bitsTold countTold
+    preview-parts long = go c (stated (previewed-told t q p b k) e .1)
+      where
+        other : (a c : Bool) (n : ℕ) (zs : List ℤ) → previewed t q p b k ≡ forcesOf a c n zs → Parts t q p b k
+        other false c n zs told = absurd (let z : _≡_ {A = ℕ} 0 1 = cc in omega arith)
+        other true false n zs told = absurd (let z : _≡_ {A = ℕ} 0 1 = cc in omega arith)
+        other true true n zs told = absurd (let z : _≡_ {A = ℕ} 0 1 = cc in omega arith)
+
+        go : (d : Call) → previewed t q p b k ≡ answerOf job s d → Parts t q p b k
+        go (picks ws) told = absurd (let z : _≡_ {A = ℕ} 0 1 = cc in omega arith)
+        go readySet told = absurd (let z : _≡_ {A = ℕ} 0 1 = cc in omega arith)
+        go (forceList room) told = other (over job (s .made)) (leb (job .matrix .n) room) (job .matrix .n) (original job (s .sums)) told
+        go (preview ws) told =
+            let r = steps job s ws in
+            let ok = accepted (previewed-told t q p b k) e in
+            let same : previewed t q p b k ≡ previewed (r .taken) (r .number) (placeOf (r .number) (r .taken)) (bits (ready job (r .state .made))) (length (ready job (r .state .made))) = told in
+            let taken : t ≡ r .taken = cc in
+            let number : q ≡ r .number = cc in
+            let place : p ≡ placeOf (r .number) (r .taken) = cc in
+            let set : b ≡ bits (ready job (r .state .made)) = cc in
+            let count : k ≡ length (ready job (r .state .made)) = cc in
+            record {
+              taken-low = omega (arith, taken-few job ok s ws long);
+              number-low = omega (arith, number-low job s ws);
+              place-low = omega (arith, place-low (r .number) (r .taken), taken-few job ok s ws long);
+              count-low = omega (arith, few-ready job ok (r .state .made));
+              bits-low = omega (arith, ready-low job ok (r .state .made));
+            }
 
 -- ---- what the call leaves
 
--- picks that a call in bytes took
+-- a call in bytes that is not refused
 module _ (m : Matrix) (x : List ℤ) (order groups : List ℕ) (count : ℕ) (c : Call) (state sums : List ℕ) (r : code.State) {zs : List ℤ}
     (is : length state ≡ stateBytes → StateIs r state) (lent : zs ≡ cond (eqb (length state) stateBytes) (take maxStarts (signed 8 sums)) [])
-    {k q p : ℕ} (e : answerIn m x order groups count state sums c ≡ picked k q p) where
-  told : picked k q p ≡ answerLent m x order groups count (stateOf r zs) c
+    {b : Answer} (d : Told b) (e : answerIn m x order groups count state sums c ≡ b) where
+  told : b ≡ answerLent m x order groups count (stateOf r zs) c
   told = sym (decoded m x order groups count c state sums r is lent ∙ e)
 
   -- its bytes are a state: no other is taken
@@ -119,34 +164,47 @@ module _ (m : Matrix) (x : List ℤ) (order groups : List ℕ) (count : ℕ) (c 
   unfolding answerIn
   whole = go (eqb (length state) stateBytes) refl e
     where
-      go : (b : Bool) → eqb (length state) stateBytes ≡ b
-          → cond b (answerLent m x order groups count (stateIn state sums) c) (inTurn denied (jobChecks m x order groups count) (denied why.notState 0)) ≡ picked k q p → length state ≡ stateBytes
+      go : (t : Bool) → eqb (length state) stateBytes ≡ t
+          → cond t (answerLent m x order groups count (stateIn state sums) c) (inTurn denied (jobChecks m x order groups count) (denied why.notState 0)) ≡ b → length state ≡ stateBytes
       go true t f = eqb-true (length state) stateBytes t
-      go false t f = let a = always-refused (jobChecks m x order groups count) why.notState 0 in absurd (let g = a .2 in let z : _≡_ {A = ℕ} 0 1 = cc in omega arith)
+      go false t f = let a = always-refused (jobChecks m x order groups count) why.notState 0 in absurd (d (a .0) (a .1) (sym f ∙ a .2))
 
   -- all its sums are lent on
   all-lent : zs ≡ signed 8 sums
   all-lent =
       let cut : zs ≡ take maxStarts (signed 8 sums) = lent ∙ rw (eq-eqb (length state) stateBytes whole) in
-      cut ∙ picked-sums m x order groups count (stateOf r zs) c told cut
+      cut ∙ sums-whole m x order groups count (stateOf r zs) c d told cut
 
   same-state : stateOf r zs ≡ stateIn state sums
   same-state = let d = is whole in rw (d .made, d .held, all-lent)
 
-  -- what is stored of it
-  picks-taken : {after : code.State} {part : List ℤ} (rest : List ℤ) → length part ≡ length zs → stateOf after part ≡ afterLent m x order groups count (stateOf r zs) c
-      → Taken (m .n) (afterLent m x order groups count (stateIn state sums) c) p state sums after (part ++ rest)
-  picks-taken {after} {part} rest long f =
-      let rows : length zs ≡ m .n = enough m x order groups count (stateOf r zs) c told in
-      let room : length zs ≡ length sums / 8 = ap (λ (ys : List ℤ). length ys) all-lent ∙ length-decoded (signedNumber 8) 8 sums in
-      let counts : length (r .made) ≡ maxWorkers = rw (is whole .made, length-decoded number 4 (take countBytes state), length-take-le countBytes state (omega (arith, whole))) in
+  sixteen : length (r .made) ≡ maxWorkers
+  sixteen = rw (is whole .made, length-decoded number 4 (take countBytes state), length-take-le countBytes state (omega (arith, whole)))
+
+module _ (m : Matrix) (x : List ℤ) (order groups : List ℕ) (count : ℕ) (c : Call) (state sums : List ℕ) (r : code.State) {zs : List ℤ}
+    (is : length state ≡ stateBytes → StateIs r state) (lent : zs ≡ cond (eqb (length state) stateBytes) (take maxStarts (signed 8 sums)) []) where
+  -- what is stored of picks that it took
+  picks-taken : {k q p : ℕ} → answerIn m x order groups count state sums c ≡ picked k q p → {after : code.State} {part : List ℤ} (rest : List ℤ) → length part ≡ length zs
+      → stateOf after part ≡ afterLent m x order groups count (stateOf r zs) c → Taken (m .n) (afterLent m x order groups count (stateIn state sums) c) p state sums after (part ++ rest)
+  picks-taken {k} {q} {p} e {after} {part} rest long f =
+      let d = picked-told k q p in
+      let be = told m x order groups count c state sums r is lent d e in
+      let rows : length zs ≡ m .n = enough m x order groups count (stateOf r zs) c d be in
+      let lists : zs ≡ signed 8 sums = all-lent m x order groups count c state sums r is lent d e in
+      let room : length zs ≡ length sums / 8 = ap (λ (ys : List ℤ). length ys) lists ∙ length-decoded (signedNumber 8) 8 sums in
       record {
-        left = ap (stateOf after) (take-at part rest (m .n) (long ∙ rows)) ∙ f ∙ ap (λ (s : State). afterLent m x order groups count s c) same-state;
-        whole = whole;
+        left = ap (stateOf after) (take-at part rest (m .n) (long ∙ rows)) ∙ f ∙ ap (λ (s : State). afterLent m x order groups count s c) (same-state m x order groups count c state sums r is lent d e);
+        whole = whole m x order groups count c state sums r is lent d e;
         inside = omega (arith, long, rows, length-append part rest);
         room = omega (arith, rows, room);
-        low = picked-low m x order groups count (stateOf r zs) c told counts;
+        low = picked-low m x order groups count (stateOf r zs) c be (sixteen m x order groups count c state sums r is lent d e);
       }
+
+  -- the parts of the word of a preview
+  looked : {t q p b k : ℕ} → answerIn m x order groups count state sums c ≡ previewed t q p b k → Parts t q p b k
+  looked {t} {q} {p} {b} {k} e =
+      let d = previewed-told t q p b k in
+      preview-parts m x order groups count (stateOf r zs) c (told m x order groups count c state sums r is lent d e) (sixteen m x order groups count c state sums r is lent d e)
 
 -- a call in bytes, whose forces are stored
 pub ran : (m : Matrix) (x : List ℤ) (order groups : List ℕ) (count : ℕ) (c : Call) (state sums : List ℕ) (r : code.State) {zs : List ℤ}
@@ -162,6 +220,7 @@ ran m x order groups count c state sums r is lent made rest long h {bytes} f =
       answers = told;
       lists = f ∙ ap (λ (a : Answer). replies.lent (replyTo a) (forceBytes a) bytes) told;
       taken = λ k q p e. picks-taken m x order groups count c state sums r is lent e rest long (h .leaves);
+      looked = λ t q p b k e. looked m x order groups count c state sums r is lent e;
     }
 
 -- the sums that are lent on: all that were loaded, or none
@@ -188,13 +247,39 @@ unfolding replyTo
 ended k zero p h = absurd (h refl)
 ended k (suc q) p h = refl
 
+-- .. and of their preview
+pub same-reply : (k q p b n : ℕ) → replyTo (picked k q p) ≡ replyTo (previewed k q p b n)
+unfolding replyTo
+same-reply k zero p b n = refl
+same-reply k (suc q) p b n = refl
+
+-- other answers have no set
+pub set-none : (r : Response) → OneOf (0 ∷ 1 ∷ 2 ∷ 3 ∷ []) (tagOf the-type r) → (zs : List ℤ) → 0 ≡ setIn (asAnswer r zs)
+unfolding setIn
+set-none (Picked k q p) h zs = refl
+set-none (Ready b k) h zs = refl
+set-none Forces h zs = refl
+set-none (Refused q p) h zs = refl
+set-none (Previewed t q p b k) h zs = absurd (⊎-elim (λ e. omega arith) (⊎-elim (λ e. omega arith) (⊎-elim (λ e. omega arith) (λ e. omega arith))) h)
+
+-- a preview's set lies above its picks
+pub preview-fits : (r : Response) → Looks r → {w v : ℕ} → w ≡ word (replyTo (asAnswer r [])) → v ≡ setIn (asAnswer r []) → (v ≡ 0) ⊎ (w + v < 2 ^ 64)
+unfolding setIn replyTo word
+preview-fits (Picked k q p) h e f = inl f
+preview-fits (Ready b k) h e f = inl f
+preview-fits Forces h e f = inl f
+preview-fits (Refused q p) h e f = inl f
+preview-fits (Previewed t zero p b k) h e f = let g = h t 0 p b k refl in inr (omega (arith, g .taken-low, g .count-low, g .bits-low))
+preview-fits (Previewed t (suc q) p b k) h e f = let g = h t (suc q) p b k refl in inr (omega (arith, g .number-low, g .place-low, g .count-low, g .bits-low))
+
 -- other answers leave both lists
-pub picks-kept : (r : Response) → OneOf (1 ∷ 2 ∷ 3 ∷ []) (tagOf the-type r) → (zs : List ℤ) (new old : List ℕ) → old ≡ leftBy (asAnswer r zs) new old
+pub picks-kept : (r : Response) → OneOf (1 ∷ 2 ∷ 3 ∷ 4 ∷ []) (tagOf the-type r) → (zs : List ℤ) (new old : List ℕ) → old ≡ leftBy (asAnswer r zs) new old
 unfolding leftBy
-picks-kept (Picked k q p) h zs new old = absurd (⊎-elim (λ e. omega arith) (⊎-elim (λ e. omega arith) (λ e. omega arith)) h)
+picks-kept (Picked k q p) h zs new old = absurd (⊎-elim (λ e. omega arith) (⊎-elim (λ e. omega arith) (⊎-elim (λ e. omega arith) (λ e. omega arith))) h)
 picks-kept (Ready b k) h zs new old = refl
 picks-kept Forces h zs new old = refl
 picks-kept (Refused q p) h zs new old = refl
+picks-kept (Previewed t q p b k) h zs new old = refl
 
 -- sums for which there is room
 pub sums-stored : (zs : List ℤ) (bytes : List ℕ) {new : List ℕ} → length zs ≤ length bytes / 8 → new ≡ stored (signedBytes 8 (take (length bytes / 8) zs)) bytes → new ≡ stored (signedBytes 8 zs) bytes
@@ -206,7 +291,7 @@ module _ {n : ℕ} {a : Answer} {s : State} {state sums old : List ℕ} {answer 
 
   -- what is asked before
   pub ran-low : LowPlace answer
-  ran-low k q p e = picked-is k q p e .low
+  ran-low = (λ k q p e. picked-is k q p e .low, λ t q p b k e. h .looked t q p b k (sym (h .answers) ∙ ap (λ (r : Response). asAnswer r (h .made)) e))
 
   pub ran-fits : PicksFit n answer new state sums
   ran-fits k q p e = let t = picked-is k q p e in (t .whole, t .inside, t .room)
@@ -214,6 +299,9 @@ module _ {n : ℕ} {a : Answer} {s : State} {state sums old : List ℕ} {answer 
   -- what any call returns
   pub ran-word : {w : ℕ} → ((zs : List ℤ) → w ≡ word (replyTo (asAnswer answer zs))) → w ≡ word (replyTo a)
   ran-word f = f (h .made) ∙ ap (λ (b : Answer). word (replyTo b)) (h .answers)
+
+  pub ran-preview : {w : ℕ} → ((zs : List ℤ) → w ≡ previewWord (asAnswer answer zs)) → w ≡ previewWord a
+  ran-preview f = f (h .made) ∙ ap (λ (b : Answer). previewWord b) (h .answers)
 
   -- whatever stands for forces that picks do not have
   left-is : (zs : List ℤ) (f : State → List ℕ) (bytes : List ℕ) → leftBy (asAnswer answer zs) (f (stateOf after (take n new))) bytes ≡ leftBy a (f s) bytes
@@ -225,6 +313,7 @@ module _ {n : ℕ} {a : Answer} {s : State} {state sums old : List ℕ} {answer 
       go (Ready b k) e = refl
       go Forces e = refl
       go (Refused q p) e = refl
+      go (Previewed t q p b k) e = refl
 
   -- a call of picks
   pub picks-answered : {w : ℕ} → ((zs : List ℤ) → w ≡ word (replyTo (asAnswer answer zs))) → (zs : List ℤ) {newState newSums : List ℕ}

@@ -1,23 +1,86 @@
--- A schedule takes no more steps than the accesses that are left: their number fits
--- a word's low half, whatever the schedule and the state.
+-- What fits the parts of a word, whatever the schedule and the state: the number that ends a schedule, how many are
+-- ready, and the steps taken, which are no more than the accesses that are left.
 use mathlib.Core.Path.{_≡_, refl, ap, _∙_}
+use mathlib.Core.Bool.{Bool, true, false, cond}
 use mathlib.Core.List.{List, [], _∷_}
-use Prim.Native.Nat.{ℕ, zero, suc, _+_, _*_, _-_, _^_, _≤_, _<_}
+use Prim.Native.Nat.{ℕ, zero, suc, _+_, _*_, _-_, _%_, _^_, _≤_, _<_}
+use native.Mathlib.Nat.{pow-le-pow-right}
 use native.Mathlib.Omega.{arith}
+use lib.Dec.{eqb, ltb, leb}
 use lib.ListN.{length, set, length-set}
 use lib.Seq.{getD-set-same, getD-set-other}
+use Rattle.base.specs.Integers.{fits64}
 use Rattle.base.specs.Lists.{sumBelow}
+use Rattle.base.specs.Refusals as why
 use Rattle.base.proofs.Sums.{sum-below-more, sum-below-bound}
 use Rattle.plan.specs.Sound.{maxWorkers}
 use Rattle.run.specs.Job.{Job, Accepted, workers}
-use Rattle.run.specs.Updates.{count, updates, accesses}
-use Rattle.run.specs.Machine.{refusal, Outcome, moved, halted, onward, step, oneMore, steps}
+use Rattle.run.specs.Updates.{Update, count, updates, accesses, next, waits}
+use Rattle.run.specs.Machine.{reason, refusal, Outcome, moved, halted, onward, total, access, move, stepIf, step, oneMore, steps, readyBelow, ready, bits}
 use Rattle.run.specs.State.{State}
 use Rattle.tables.specs.code.Laid.{maxUpdates}
 use Rattle.run.proofs.Able.{able}
 use Rattle.run.proofs.Accepted.{facts}
 use Rattle.run.proofs.Schedule.{step-end, steps-on, steps-end, step-made}
 use Rattle.layout.proofs.UpdateRoom.{room}
+use Rattle.machine.proofs.ReadyBits.{bits-below}
+
+-- ---- the number that ends a schedule
+
+reason-low : (a b c : Bool) → reason a b c < 2 ^ 8
+unfolding reason
+reason-low false b c = omega arith
+reason-low true true c = omega arith
+reason-low true false true = omega arith
+reason-low true false false = omega arith
+
+module _ (j : Job) where
+  halted-low : (s : State) (w k : ℕ) → step j s w ≡ halted k → k < 2 ^ 8
+  unfolding step stepIf move access refusal
+  halted-low s w k e = go (refusal j (s .made) w) (reason-low (ltb w (workers j)) (leb (accesses j w) (count (s .made) w)) (waits j (s .made) w)) e
+    where
+      u : Update
+      u = next j (s .made) w
+
+      by : (even fitting : Bool) → access even fitting s w u ≡ halted k → k < 2 ^ 8
+      by true f x = absurd (let z : _≡_ {A = ℕ} 0 1 = cc in omega arith)
+      by false true x = absurd (let z : _≡_ {A = ℕ} 0 1 = cc in omega arith)
+      by false false x = let z : why.overflow ≡ k = cc in omega arith
+
+      go : (n : ℕ) → n < 2 ^ 8 → stepIf n s w u ≡ halted k → k < 2 ^ 8
+      go zero l x = by (eqb (count (s .made) w % 2) 0) (fits64 (total s w u)) x
+      go (suc n) l x = let z : suc n ≡ k = cc in omega arith
+
+  pub number-low : (s : State) (ws : List ℕ) → steps j s ws .number < 2 ^ 8
+  unfolding steps oneMore
+  number-low s [] = omega arith
+  number-low s (w ∷ ws) = go (step j s w) refl (λ t. number-low t ws)
+    where
+      go : (o : Outcome) → step j s w ≡ o → ((t : State) → steps j t ws .number < 2 ^ 8) → steps j s (w ∷ ws) .number < 2 ^ 8
+      go (moved t) e ih = rw (steps-on j s w ws t e) (ih t)
+      go (halted k) e ih = rw (steps-end j s w ws k e) (halted-low s w k e)
+
+-- ---- how many are ready
+
+ready-few : (j : Job) (made : List ℕ) (k : ℕ) → length (readyBelow j made k) ≤ k
+unfolding readyBelow
+ready-few j made zero = omega arith
+ready-few j made (suc w) = go (eqb (refusal j made w) 0) (ready-few j made w)
+  where
+    go : (b : Bool) → length (readyBelow j made w) ≤ w → length (cond b (w ∷ readyBelow j made w) (readyBelow j made w)) ≤ suc w
+    go true l = omega arith
+    go false l = omega arith
+
+pub few-ready : (j : Job) → Accepted j → (made : List ℕ) → length (ready j made) ≤ maxWorkers
+unfolding ready
+few-ready j ok made = omega (arith, ready-few j made (workers j), facts j ok .few)
+
+-- .. and their bits are the low sixteen
+pub ready-low : (j : Job) → Accepted j → (made : List ℕ) → bits (ready j made) < 2 ^ 16
+unfolding ready
+ready-low j ok made = let most : 2 ^ workers j ≤ 2 ^ 16 = pow-le-pow-right (omega arith) (facts j ok .few) in omega (arith, bits-below j made (workers j))
+
+-- ---- how many steps are taken
 
 module _ (j : Job) (ok : Accepted j) where
   -- how many accesses of the plan's workers are left

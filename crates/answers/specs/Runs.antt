@@ -2,7 +2,7 @@
 use mathlib.Core.Path.{_≡_}
 use mathlib.Core.Bool.{cond}
 use mathlib.Core.List.{List, [], _++_}
-use Prim.Native.Nat.{ℕ, zero, suc, _+_, _*_}
+use Prim.Native.Nat.{ℕ, zero, suc, _+_, _*_, _^_}
 use lib.Dec.{eqb}
 use lib.IntN.{ℤ}
 use lib.ListN.{length, take, drop}
@@ -13,7 +13,7 @@ use Rattle.matrix.specs.Matrix.{Matrix}
 use Rattle.plan.specs.Sound.{maxWorkers}
 use Rattle.run.specs.State.{State}
 use Rattle.run.specs.Calls.{jobChecks, answerLent}
-use Rattle.run.specs.Answers.{Call, Answer, picked, isReady, forces, denied}
+use Rattle.run.specs.Answers.{Call, Answer, picked, isReady, forces, denied, previewed}
 use Rattle.words.specs.LittleEndian.{unsigned, signed, unsignedBytes, signedBytes, stored}
 use Rattle.lent.specs.Word.{word, Answered}
 
@@ -33,7 +33,7 @@ unfoldable pub answerIn : Matrix → List ℤ → (order groups : List ℕ) (cou
 answerIn m x order groups count state sums c =
     cond (eqb (length state) stateBytes) (answerLent m x order groups count (stateIn state sums) c) (inTurn denied (jobChecks m x order groups count) (denied why.notState 0))
 
--- the reply that a call's word says: picks taken, or the number and place that ended them;
+-- the reply that a call's word says: picks taken, or the number and place that ended them, also of a preview;
 -- sixteen bits, and above them the count of those set; 0 for forces
 unfoldable pub replyTo : Answer → Reply
 replyTo (picked taken zero place) = replies.accepted taken
@@ -41,6 +41,20 @@ replyTo (picked taken (suc k) place) = replies.refused (suc k) place
 replyTo (isReady bits count) = replies.accepted (bits + count * 65536)
 replyTo (forces zs) = replies.accepted 0
 replyTo (denied number place) = replies.refused number place
+replyTo (previewed taken zero place bits count) = replies.accepted taken
+replyTo (previewed taken (suc k) place bits count) = replies.refused (suc k) place
+
+-- Q-7: above it in a preview's word the ready set afterwards: the count in bits 40 to 47, a bit for each worker in bits
+-- 48 to 63; none where the call is refused
+unfoldable pub setIn : Answer → ℕ
+setIn (previewed taken number place bits count) = count * 2 ^ 40 + bits * 2 ^ 48
+setIn (picked taken number place) = 0
+setIn (isReady bits count) = 0
+setIn (forces zs) = 0
+setIn (denied number place) = 0
+
+abbrev pub previewWord : Answer → ℕ
+previewWord a = word (replyTo a) + setIn a
 
 -- ---- what is left in the lists that a call fills
 
@@ -50,6 +64,7 @@ forceBytes (forces zs) = signedBytes 8 zs
 forceBytes (picked taken number place) = []
 forceBytes (isReady bits count) = []
 forceBytes (denied number place) = []
+forceBytes (previewed taken number place bits count) = []
 
 -- a force-list call with this answer: the returned word, and the lent list after it
 abbrev pub ForcesAnswered : Answer → (old : List ℕ) (returned : ℕ) (new : List ℕ) → Type 0
@@ -66,6 +81,7 @@ leftBy (picked taken number place) new old = stored new old
 leftBy (isReady bits count) new old = old
 leftBy (forces zs) new old = old
 leftBy (denied number place) new old = old
+leftBy (previewed taken number place bits count) new old = old
 
 -- a call of picks with this answer that leaves this state: the returned word, and the lent lists after it
 pub record PicksAnswered (a : Answer) (s : State) (state sums : List ℕ) (returned : ℕ) (newState newSums : List ℕ) : Type 0 where

@@ -7,9 +7,14 @@ ghost use Prim.Native.Nat.{_^_, _<_};
 ghost use lib.IntN.{ℤ};
 ghost use Rattle.run.specs.Answers.{picked};
 ghost use Rattle.calls.specs.Performed.{asAnswer};
-ghost use Rattle.answers.specs.Runs.{replyTo};
-ghost use Rattle.answers.specs.code.Ran.{LowPlace};
+ghost use Rattle.answers.specs.Runs.{replyTo, setIn, previewWord};
+ghost use Rattle.answers.specs.code.Ran.{LowPlace, Looks};
 ghost use Rattle.lent.specs.Word.{word};
+
+// 2 ^ 40 and 2 ^ 48: where the count and the bits of a preview's ready set stand in its word.
+const SET_COUNT: u64 = 1099511627776;
+
+const SET_BITS: u64 = 281474976710656;
 
 // The picks taken, or the number and place of the one that ended them.
 fn word_of_end(taken: usize, number: u32, place: usize) -> u64
@@ -22,7 +27,8 @@ fn word_of_end(taken: usize, number: u32, place: usize) -> u64
     lent::word::word_of(Verdict::Refused(number, place as u32))
 }
 
-// .. or the bits in the low sixteen, and above them the count of those set; 0 for forces; a refusal's number and place.
+// .. also of a preview; or the bits in the low sixteen, and above them the count of those set; 0 for forces; a refusal's
+// number and place.
 pub fn word_of(answer: Response) -> u64
     requires { ⌜ LowPlace answer ⌝ }
     ensures { λ r. ⌜ ((forces : List ℤ) → r ≡ word (replyTo (asAnswer answer forces))) ⌝ }
@@ -32,5 +38,25 @@ pub fn word_of(answer: Response) -> u64
         Response::Ready(bits, count) => bits as u64 + count as u64 * 65536,
         Response::Forces => 0,
         Response::Refused(number, place) => lent::word::word_of(Verdict::Refused(number, place)),
+        Response::Previewed(taken, number, place, _, _) => word_of_end(taken, number, place),
     }
+}
+
+// The ready set of a preview: the count from bit 40 on, a bit for each worker from bit 48 on.
+fn set_of(answer: Response) -> u64
+    requires { ⌜ Looks answer ⌝ }
+    ensures { λ r. ⌜ ((forces : List ℤ) → r ≡ setIn (asAnswer answer forces)) ⌝ }
+{
+    let Response::Previewed(_, _, _, bits, count) = answer else {
+        return 0;
+    };
+    count as u64 * SET_COUNT + bits as u64 * SET_BITS
+}
+
+// The word of a preview: its picks, and above them the ready set afterwards.
+pub fn word_of_preview(answer: Response) -> u64
+    requires { ⌜ LowPlace answer ⌝ }
+    ensures { λ r. ⌜ ((forces : List ℤ) → r ≡ previewWord (asAnswer answer forces)) ⌝ }
+{
+    word_of(answer) + set_of(answer)
 }

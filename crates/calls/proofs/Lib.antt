@@ -2,6 +2,5 @@ pub mod InTurn
 pub mod JobChecked
 pub mod Scattering
 pub mod ForceList
-pub mod ReadyBits
 pub mod Prepared
 pub mod Performing

@@ -1,11 +1,12 @@
 -- What a call on an accepted job comes to, and one on lent lists: a check refuses it, or it is the call on their job.
 use mathlib.Core.Path.{_≡_, refl, sym, ap, _∙_}
 use mathlib.Core.Logic.{_≢_, ⊎-elim}
-use mathlib.Core.Bool.{Bool, true, false}
+use mathlib.Core.Bool.{Bool, true, false, cond}
 use mathlib.Core.List.{List, [], _∷_}
 use Prim.Native.Nat.{ℕ, zero, suc}
 use native.Mathlib.Omega.{arith}
 use lib.IntN.{ℤ}
+use lib.Count.{ones}
 use lib.Dec.{leb}
 use lib.ListN.{length}
 use types.Run.{OneOf}
@@ -15,20 +16,23 @@ use Rattle.base.specs.Refusals as why
 use Rattle.base.specs.Replies.{Reply, accepted, refused, inTurn}
 use Rattle.matrix.specs.Matrix.{Matrix}
 use Rattle.run.specs.Job.{Job, jobOf}
-use Rattle.run.specs.Machine.{steps, over, original, isState}
+use Rattle.run.specs.Machine.{steps, ready, bits, over, original, isState}
 use Rattle.run.specs.State.{State}
 use Rattle.run.specs.Calls as calls
 use Rattle.run.specs.Answers as answers
 use Rattle.run.specs.Calls.{placeOf, pickedOf, readyOf, forcesOf, answerOf, afterOf, stateCheck, jobChecks, answerLent, afterLent, forcesLent}
-use Rattle.run.specs.Answers.{Call, picks, readySet, forceList}
+use Rattle.run.proofs.OnCopy.{on-job, job-left}
+use Rattle.run.proofs.Stays.{steps-stay}
+use Rattle.run.specs.Answers.{Call, picks, readySet, forceList, preview, shown}
 use Rattle.machine.specs.code.Stepped.{Walked, walk}
 use Rattle.machine.specs.declared.state.Rule.the-variants.{Stop}
-use Rattle.machine.proofs.StopSteps.{stop-steps}
+use Rattle.machine.proofs.ReadyBits.{ready-bits}
+use Rattle.machine.proofs.StopSteps.{stopped, stop-steps}
 use Rattle.calls.specs.declared.Call as code
 use Rattle.calls.specs.declared.Call.the-variants as asked
 use Rattle.calls.specs.Performed.{Performed}
 use Rattle.calls.specs.code.Listed.{Listed}
-use Rattle.calls.specs.code.Made.{Made}
+use Rattle.calls.specs.code.Made.{Made, toldBy, Taken}
 use Rattle.calls.proofs.Call.{the-type}
 use Rattle.calls.proofs.InTurn.{turn-refused, turn-accepted}
 
@@ -50,16 +54,27 @@ place-some (suc k) past d = refl
 -- ---- what is asked
 
 -- it is no pick
-pub not-picks : (c : code.Call) → OneOf (1 ∷ 2 ∷ []) (tagOf the-type c) → c ≢ asked.Picks
-not-picks asked.Picks h e = ⊎-elim (λ y. omega arith) (λ y. omega arith) h
-not-picks asked.ReadySet h e = absurd (let q : _≡_ {A = ℕ} 0 1 = cc in omega arith)
-not-picks asked.ForceList h e = absurd (let q : _≡_ {A = ℕ} 0 1 = cc in omega arith)
+pub not-picks : (c : code.Call) → OneOf (1 ∷ 2 ∷ 3 ∷ []) (tagOf the-type c) → c ≢ asked.Picks
+not-picks c h e = let g : OneOf (1 ∷ 2 ∷ 3 ∷ []) 0 = rw e at h in ⊎-elim (λ y. omega arith) (⊎-elim (λ y. omega arith) (λ y. omega arith)) g
 
--- .. nor a force list
-pub asks-ready : (c : code.Call) → OneOf (0 ∷ 1 ∷ []) (tagOf the-type c) → c ≢ asked.Picks → c ≡ asked.ReadySet
-asks-ready asked.Picks h d = absurd (d refl)
-asks-ready asked.ReadySet h d = refl
-asks-ready asked.ForceList h d = absurd (⊎-elim (λ y. omega arith) (λ y. omega arith) h)
+-- .. no preview
+pub not-preview : (c : code.Call) → OneOf (0 ∷ 1 ∷ 2 ∷ []) (tagOf the-type c) → c ≢ asked.Preview
+not-preview c h e = let g : OneOf (0 ∷ 1 ∷ 2 ∷ []) 3 = rw e at h in ⊎-elim (λ y. omega arith) (⊎-elim (λ y. omega arith) (λ y. omega arith)) g
+
+-- .. and no force list
+pub asks-ready : (c : code.Call) → OneOf (0 ∷ 1 ∷ 3 ∷ []) (tagOf the-type c) → c ≢ asked.Picks → c ≢ asked.Preview → c ≡ asked.ReadySet
+asks-ready asked.Picks h d f = absurd (d refl)
+asks-ready asked.ReadySet h d f = refl
+asks-ready asked.ForceList h d f = absurd (⊎-elim (λ y. omega arith) (⊎-elim (λ y. omega arith) (λ y. omega arith)) h)
+asks-ready asked.Preview h d f = absurd (f refl)
+
+-- other calls than a preview tell of picks what ended them
+pub told-picks : (c : code.Call) → OneOf (0 ∷ 1 ∷ 2 ∷ []) (tagOf the-type c) → (ended there : answers.Answer) → ended ≡ toldBy c ended there
+unfolding toldBy
+told-picks asked.Picks h ended there = refl
+told-picks asked.ReadySet h ended there = refl
+told-picks asked.ForceList h ended there = refl
+told-picks asked.Preview h ended there = absurd (⊎-elim (λ y. omega arith) (⊎-elim (λ y. omega arith) (λ y. omega arith)) h)
 
 -- ---- on an accepted job
 
@@ -74,15 +89,6 @@ module _ (j : Job) (s : State) (old : List ℤ) where
     unfolding calls.answer calls.after stateCheck inTurn
     made c ea et en = record { answers = rw is ea; leaves = rw is et; forces = en }
 
-    -- the steps that are taken, and why they end
-    pub made-picks : (ws : List ℕ) (r : Walked) → r ≡ walk Stop j s ws → (place : ℕ) → place ≡ placeOf (r .number) (r .past) → Made j s (picks ws) old (answers.picked (r .taken) (r .number) place) (r .state) old
-    unfolding answerOf afterOf pickedOf forcesLent
-    made-picks ws r f place p =
-        let g = f ∙ stop-steps j s ws in
-        made (picks ws)
-        (ap (answers.picked (r .taken) (r .number)) p ∙ ap (λ (y : Walked). answers.picked (y .taken) (y .number) (placeOf (y .number) (y .past))) g)
-        (ap (λ (y : Walked). y .state) g) refl
-
     -- the workers that are ready
     pub made-ready : (a : answers.Answer) → a ≡ readyOf j (s .made) → Made j s readySet old a s old
     unfolding answerOf afterOf readyOf forcesLent
@@ -94,6 +100,57 @@ module _ (j : Job) (s : State) (old : List ℤ) where
     made-forces isOver o a new h =
         made (forceList (length old))
         (h .answers ∙ ap (λ (b : Bool). forcesOf b (leb (j .matrix .n) (length old)) (j .matrix .n) (original j (s .sums))) o) refl (h .forces)
+
+-- ---- picks
+
+module _ (j : Job) (s : State) where
+  -- there is no state: they are refused, and so is their preview
+  pub taken-refused : (call : code.Call) (ws : List ℕ) → isState j s ≡ false → Taken j s call ws (answers.denied why.notState 0) s
+  unfolding calls.answer calls.after stateCheck inTurn toldBy shown
+  taken-refused call ws f = record { answers = go call; leaves = rw f }
+    where
+      go : (c : code.Call) → answers.denied why.notState 0 ≡ toldBy c (calls.answer j s (picks ws)) (calls.answer j (calls.after j s (picks ws)) readySet)
+      go asked.Picks = rw f
+      go asked.ReadySet = rw f
+      go asked.ForceList = rw f
+      go asked.Preview = rw f
+
+  -- there is one: the steps that are taken, why they end, and who is ready then
+  pub taken-picks : (call : code.Call) (ws : List ℕ) → isState j s ≡ true → (r : Walked) → r ≡ walk Stop j s ws → (set : ℕ) → set ≡ bits (ready j (r .state .made))
+      → {a : answers.Answer} → a ≡ toldBy call (answers.picked (r .taken) (r .number) (placeOf (r .number) (r .past))) (answers.isReady set (ones set)) → Taken j s call ws a (r .state)
+  unfolding calls.answer calls.after stateCheck inTurn answerOf afterOf pickedOf
+  taken-picks call ws is r f set b e =
+      let g : r ≡ stopped (steps j s ws) = f ∙ stop-steps j s ws in
+      let state : r .state ≡ steps j s ws .state = ap (λ (y : Walked). y .state) g in
+      let left : r .state ≡ calls.after j s (picks ws) = rw is state in
+      let ended : answers.picked (r .taken) (r .number) (placeOf (r .number) (r .past)) ≡ calls.answer j s (picks ws) = rw is (ap (λ (y : Walked). answers.picked (y .taken) (y .number) (placeOf (y .number) (y .past))) g) in
+      let still : isState j (r .state) ≡ true = rw state (steps-stay j s ws is) in
+      let now : answers.isReady set (ones set) ≡ calls.answer j (r .state) readySet = rw still (ready-bits j (r .state .made) set b) in
+      let there : answers.isReady set (ones set) ≡ calls.answer j (calls.after j s (picks ws)) readySet = now ∙ ap (λ (t : State). calls.answer j t readySet) left in
+      record { answers = e ∙ ap (λ (y : answers.Answer). toldBy call y (answers.isReady set (ones set))) ended ∙ ap (toldBy call (calls.answer j s (picks ws))) there; leaves = left }
+
+  module _ (old : List ℤ) where
+    -- a call that tells of no forces leaves their list
+    kept : (c : Call) → forcesLent (answerOf j s c) old ≡ old → forcesLent (calls.answer j s c) old ≡ old
+    unfolding calls.answer stateCheck inTurn forcesLent
+    kept c h = go (isState j s)
+      where
+        go : (b : Bool) → forcesLent (cond b (answerOf j s c) (answers.denied why.notState 0)) old ≡ old
+        go true = h
+        go false = refl
+
+    pub made-picks : (ws : List ℕ) {call : code.Call} {a : answers.Answer} {t : State} → call ≡ asked.Picks → Taken j s call ws a t → Made j s (picks ws) old a t old
+    unfolding toldBy answerOf pickedOf forcesLent
+    made-picks ws {call} {a} {t} c h =
+        let e : a ≡ calls.answer j s (picks ws) = h .answers ∙ rw c in
+        record { answers = e; leaves = h .leaves; forces = sym (ap (λ (z : answers.Answer). forcesLent z old) e ∙ kept (picks ws) refl) }
+
+    -- what they would do
+    pub made-preview : (ws : List ℕ) {a : answers.Answer} {t : State} → Taken j s asked.Preview ws a t → Made j s (preview ws) old a s old
+    unfolding toldBy answerOf pickedOf shown forcesLent
+    made-preview ws {a} h =
+        let e : a ≡ calls.answer j s (preview ws) = h .answers ∙ sym (on-job j s ws) in
+        record { answers = e; leaves = sym (job-left j s ws); forces = sym (ap (λ (z : answers.Answer). forcesLent z old) e ∙ kept (preview ws) refl) }
 
 -- ---- on lent lists
 

@@ -18,6 +18,7 @@ abbrev pub asCall : Call → (schedule : List ℕ) (room : ℕ) → calls.Call
 asCall call.Picks schedule room = calls.picks schedule
 asCall call.ReadySet schedule room = calls.readySet
 asCall call.ForceList schedule room = calls.forceList room
+asCall call.Preview schedule room = calls.preview schedule
 
 -- what is answered; forces are those that the call leaves in the lent list
 abbrev pub asAnswer : Response → (forces : List ℤ) → calls.Answer
@@ -25,6 +26,7 @@ asAnswer (response.Picked taken number place) forces = calls.picked taken number
 asAnswer (response.Ready bits count) forces = calls.isReady bits count
 asAnswer response.Forces forces = calls.forces forces
 asAnswer (response.Refused number place) forces = calls.denied number place
+asAnswer (response.Previewed taken number place bits count) forces = calls.previewed taken number place bits count
 
 -- A call c in state s on lent lists, with old in the list of forces: its answer, the state after it, and the list after
 -- it

@@ -13,6 +13,7 @@ use machine::state::State;
 use matrix::limits::MAX_ROWS;
 use multiply::check_displacements;
 use picks::picks;
+use picks::preview;
 use plan::fields::WIDTH;
 use plan::fields::record_at;
 use ready_set::ready_set;
@@ -33,24 +34,27 @@ ghost use Rattle.run.specs.Calls.{jobChecks};
 ghost use Rattle.run.specs.Job.{jobOf};
 ghost use Rattle.layout.specs.code.UpdateTable.{Given};
 ghost use Rattle.machine.specs.Record.{stateOf};
-ghost use Rattle.calls.specs.declared.Call.the-variants.{Picks};
+ghost use Rattle.calls.specs.declared.Call.the-variants.{Picks, Preview};
 ghost use Rattle.calls.specs.Performed.{asCall, asAnswer, Performed};
 ghost use Rattle.calls.specs.code.Made.{Made};
 
-// What is asked of a run: that it take the picks of a lent schedule, who is ready, its forces for a lent list.
+// What is asked of a run: that it take the picks of a lent schedule, who is ready, its forces for a lent list, what
+// the picks of a lent schedule would do.
 pub enum Call {
     Picks,
     ReadySet,
     ForceList,
+    Preview,
 }
 
 // The answer: picks taken, and what ended them where; a bit for each worker, and their count; forces, which stand in the
-// lent list; or a refusal's number and place.
+// lent list; a refusal's number and place; or picks with what ended them, and the bits and count after them.
 pub enum Response {
     Picked(usize, u32, usize),
     Ready(u16, u32),
     Forces,
     Refused(u32, u32),
+    Previewed(usize, u32, usize, u16, u32),
 }
 
 // The state after a call, and its answer.
@@ -108,7 +112,7 @@ fn report(
 ) -> Response
     requires { ⌜ ((values : List ℤ) × (x : List ℤ) × Given (length (now sums)) (now starts) (now columns) values x (now order) (now groups) (length (now groups) / width)) ⌝ }
     ensures { λ r. ⌜ ((values x : List ℤ) (schedule : List ℕ) → Given (length (now (sums .entry))) (now (starts .entry)) (now (columns .entry)) values x (now (order .entry)) (now (groups .entry)) (length (now (groups .entry)) / width)
-        → call ≢ Picks → Made (jobOf (matrixOf (length (now (sums .entry))) (now (starts .entry)) (now (columns .entry)) values) x (now (order .entry)) (now (groups .entry)) (length (now (groups .entry)) / width))
+        → call ≢ Picks → call ≢ Preview → Made (jobOf (matrixOf (length (now (sums .entry))) (now (starts .entry)) (now (columns .entry)) values) x (now (order .entry)) (now (groups .entry)) (length (now (groups .entry)) / width))
         (stateOf state (now (sums .entry))) (asCall call schedule (length (now (forces .entry)))) (now (forces .entry))
         (asAnswer r (take (length (now (sums .entry))) (now (forces .exit)))) (stateOf state (now (sums .entry))) (now (forces .exit))) ⌝ }
 {
@@ -121,14 +125,14 @@ fn report(
         return Response::Refused(STATE, 0);
     }
     let Call::ForceList = call else {
-        return ready_set(state, groups, count, &sizes, first);
+        return ready_set(state, groups, &sizes, first);
     };
     let whole = record_at(groups, 0);
     let is_over = state.is_finished(first, whole.workers);
     force_list(n as u32, is_over, order, sums, forces)
 }
 
-// One call. A call that takes no picks is lent an empty schedule, and one that asks for no forces an empty list.
+// One call. A call that names no picks is lent an empty schedule, and one that asks for no forces an empty list.
 pub fn perform(
     n: u32,
     starts: &[u32],
@@ -177,7 +181,22 @@ pub fn perform(
             state,
             sums,
             schedule,
+            call,
         );
+    }
+    if let Call::Preview = call {
+        let answer = preview(
+            starts,
+            columns,
+            values,
+            displacements,
+            order,
+            records,
+            state,
+            sums,
+            schedule,
+        );
+        return answered(state, answer);
     }
     let answer = report(starts, columns, order, records, state, sums, forces, call);
     answered(state, answer)

@@ -5,3 +5,4 @@ pub mod TableWaits
 pub mod BlockedLeaves
 pub mod RunTurns
 pub mod PlannedTables
+pub mod ReadyBits

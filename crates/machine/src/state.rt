@@ -1,4 +1,5 @@
 // A run's state: one record, handed in and handed back.
+use crate::ready::ready_workers;
 use base::DONE;
 use base::WAITING;
 use layout::lay;
@@ -64,6 +65,12 @@ pub struct Walked {
     pub taken: usize,
     pub past: usize,
     pub number: u32,
+}
+
+// .. and the workers that are ready then, bit w for worker w.
+pub struct Reached {
+    pub walked: Walked,
+    pub ready: u16,
 }
 
 // A schedule that led to these counts and held numbers.
@@ -167,7 +174,8 @@ impl State {
         ended(made, held, taken, k, 0)
     }
 
-    // .. by the upper triangle and its sizes: lays the rows of the updates. There is a sum for each row.
+    // .. by the upper triangle and its sizes: lays the rows of the updates, and tells who is ready after the picks.
+    // There is a sum for each row.
     pub fn take(
         self,
         sums: &mut [i64],
@@ -180,12 +188,13 @@ impl State {
         displaced: &[i32; MAX_ROWS],
         at: &[u16; MAX_UPDATES],
         beside: &[i32; MAX_UPDATES],
-    ) -> Walked
+    ) -> Reached
         requires { ⌜ ((j : Job) × Planned j (now groups) (length (now groups) / width) (now sizes) × Counted j first
             × Triangle j (now parts) (now displaced) (now at) (now beside) × (length (now sums) ≡ j .matrix .n)) ⌝ }
         ensures { λ r. ⌜ ((j : Job) → Planned j (now (groups .entry)) (length (now (groups .entry)) / width) (now (sizes .entry)) → Counted j first
             → Triangle j (now (parts .entry)) (now (displaced .entry)) (now (at .entry)) (now (beside .entry))
-            → walkedOf r (now (sums .exit)) ≡ walk rule j (stateOf self (now (sums .entry))) (now (schedule .entry))) ⌝ }
+            → (walkedOf (r .walked) (now (sums .exit)) ≡ walk rule j (stateOf self (now (sums .entry))) (now (schedule .entry)))
+            × (r .ready ≡ machine.bits (machine.ready j (r .walked .state .made)))) ⌝ }
     {
         let mut row = [0u16; MAX_UPDATES];
         let mut begins = [0u32; MAX_ROWS];
@@ -201,7 +210,7 @@ impl State {
             &mut leaves,
             &mut ends,
         );
-        self.walk(
+        let walked = self.walk(
             sums,
             schedule,
             rule,
@@ -215,7 +224,14 @@ impl State {
             displaced,
             at,
             beside,
-        )
+        );
+        let after = walked.state;
+        let made = after.made;
+        let ready = ready_workers(&made, groups, &ends, &first, &row, &leaves);
+        Reached {
+            walked: walked,
+            ready: ready,
+        }
     }
 
     // How many accesses worker w has made.

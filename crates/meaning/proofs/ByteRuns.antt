@@ -14,7 +14,7 @@ use Rattle.run.specs.Job.{Job, jobOf}
 use Rattle.run.specs.Machine.{isState, steps}
 use Rattle.run.specs.State.{State, fresh}
 use Rattle.run.specs.Calls.{pickedOf, answerOf, afterOf, stateCheck, answer, after}
-use Rattle.run.specs.Answers.{Call, picks, readySet, forceList, Answer, forces}
+use Rattle.run.specs.Answers.{Call, picks, readySet, forceList, preview, Answer, forces}
 use Rattle.run.specs.EveryRun.{runState, runAnswers, finishedRun}
 use Rattle.run.specs.LentRuns.{passed, LentRun}
 use Rattle.run.proofs.Sequence.{all-answered, all-left, all-met}
@@ -94,6 +94,7 @@ module _ (m : Matrix) (x : List ℤ) (order groups : List ℕ) (count : ℕ) (pa
   one-after s k (picks ws) = picks-after s k ws
   one-after s k readySet = rw (is-state s k)
   one-after s k (forceList room) = rw (is-state s k)
+  one-after s k (preview ws) = rw (is-state s k)
 
   -- ---- a run, call by call
 

@@ -1,5 +1,6 @@
 pub mod StateBack
 pub mod ByteRuns
+pub mod BytePreviews
 pub mod EachIn
 pub mod SmallMatrix
 pub mod SmallPlan

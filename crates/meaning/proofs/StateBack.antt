@@ -1,10 +1,10 @@
 -- A state is read back from its bytes if its numbers fit them, and zero bytes are those of a fresh state.
 use mathlib.Core.Path.{_≡_, refl, sym, ap, _∙_}
-use mathlib.Core.List.{List, _++_}
-use Prim.Native.Nat.{ℕ, zero, suc, _+_, _*_, _^_, _<_}
+use mathlib.Core.List.{List, _++_, append-nil}
+use Prim.Native.Nat.{ℕ, zero, suc, _+_, _*_, _/_, _^_, _<_}
 use native.Mathlib.Omega.{arith}
 use lib.IntN.{ℤ, pos, negsuc}
-use lib.ListN.{length, replicate, length-append, replicate-append-replicate}
+use lib.ListN.{length, drop, replicate, length-append, length-drop, replicate-append-replicate}
 use lib.Seq.{take-at, drop-at}
 use borrow.Author.Tests.{ltb-true}
 use Rattle.base.specs.Integers.{fits64}
@@ -12,13 +12,13 @@ use Rattle.base.proofs.Each.{Each, each-map}
 use Rattle.plan.specs.Sound.{maxWorkers}
 use Rattle.run.specs.State.{State, fresh}
 use Rattle.run.proofs.Fits.{Fit, Fits}
-use Rattle.words.specs.LittleEndian.{bytesOf, ofSigned, signedBytesOf, unsignedBytes, signed, signedBytes}
+use Rattle.words.specs.LittleEndian.{bytesOf, ofSigned, signedBytesOf, blocks, unsignedBytes, signed, signedBytes, stored}
 use Rattle.words.proofs.Blocks.{length-encoded}
-use Rattle.words.proofs.Codes.{HoldsSigned, unsigned-back, signed-back}
+use Rattle.words.proofs.Codes.{HoldsSigned, unsigned-back, signed-back, signed-append}
 use Rattle.words.proofs.Digits.{length-signedBytesOf}
 use Rattle.answers.specs.Runs.{stateBytes, countBytes, stateIn, bytesIn}
 use Rattle.meaning.specs.ByteRuns.{inBytes, zeros}
-use Rattle.answers.proofs.StateBytes.{counts-length, numbers-length}
+use Rattle.answers.proofs.StateBytes.{counts-length, numbers-length, stored-over}
 
 -- ---- numbers of 64 bits
 
@@ -54,6 +54,22 @@ module _ (s : State) (z : Sized s) where
         numbers-back (s .held) (z .fits .held),
         numbers-back (s .sums) (z .fits .sums),
       )
+
+-- numbers stored over bytes that hold as many
+sums-stored : (zs : List ℤ) → Each Fit zs → (old : List ℕ) → length old / 8 ≡ length zs → signed 8 (stored (signedBytes 8 zs) old) ≡ zs
+unfolding blocks
+sums-stored zs fits old room =
+    let rest : List ℕ = drop (length (signedBytes 8 zs)) old in
+    let none : length rest / 8 ≡ 0 = omega (arith, length-drop (length (signedBytes 8 zs)) old, length-encoded (signedBytesOf 8) 8 (length-signedBytesOf 8) zs) in
+    signed-append 8 (omega arith) zs (each-map Fit (HoldsSigned 8) fit-holds zs fits) rest ∙ rw none (append-nil zs)
+
+-- a state stored over bytes of a state and of as many sums
+pub state-left : (s : State) → Sized s → (state sums : List ℕ) → length state ≡ stateBytes → length sums / 8 ≡ length (s .sums)
+    → (length (stored (bytesIn s) state) ≡ stateBytes) × (stateIn (stored (bytesIn s) state) (stored (signedBytes 8 (s .sums)) sums) ≡ s)
+state-left s z state sums size room =
+    let over : stored (bytesIn s) state ≡ bytesIn s = stored-over (bytesIn s) state (state-length s z ∙ sym size) in
+    let back : signed 8 (stored (signedBytes 8 (s .sums)) sums) ≡ signed 8 (signedBytes 8 (s .sums)) = sums-stored (s .sums) (z .fits .sums) sums room ∙ sym (numbers-back (s .sums) (z .fits .sums)) in
+    (rw over (state-length s z), rw (over, back) (state-back s z))
 
 -- the bytes of as many sums are as many
 pub sums-length : (xs ys : List ℤ) → length xs ≡ length ys → length (signedBytes 8 xs) ≡ length (signedBytes 8 ys)

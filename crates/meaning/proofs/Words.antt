@@ -36,21 +36,20 @@ use Rattle.planfile.proofs.Files.{file-sized}
 use Rattle.race.specs.Planner.{plan, planReply}
 use Rattle.race.proofs.PlannedSound.{planned-sound}
 use Rattle.run.specs.Job.{Job, jobOf, Accepted, workers}
-use Rattle.run.specs.Machine.{steps, refusal, readyBelow, ready, over}
+use Rattle.run.specs.Machine.{steps, ready, bits, over}
 use Rattle.run.specs.State.{State}
 use Rattle.run.specs.Calls.{placeOf, pickedOf, readyOf, forcesOf, answerOf, stateCheck, answer, jobChecks, answerLent}
-use Rattle.run.specs.Answers.{Call, picks, readySet, forceList, Answer}
+use Rattle.run.specs.Answers.{Call, picks, readySet, forceList, preview, Answer, shown}
 use Rattle.run.specs.Answers as calls
 use Rattle.run.specs.LentRuns.{passed}
 use Rattle.run.proofs.Accepted.{facts}
 use Rattle.run.proofs.LentRuns.{lent-runs}
-use Rattle.calls.proofs.ReadyBits.{bits-below}
 use Rattle.words.specs.LittleEndian.{number}
 use Rattle.words.proofs.Blocks.{length-decoded}
 use Rattle.lent.specs.Word.{word}
-use Rattle.answers.specs.Runs.{stateBytes, countBytes, stateIn, answerIn, replyTo}
-use Rattle.answers.proofs.TakenFew.{taken-few}
-use Rattle.meaning.specs.Words.{numberIn, placeIn, Told, Words}
+use Rattle.answers.specs.Runs.{stateBytes, countBytes, stateIn, answerIn, replyTo, setIn}
+use Rattle.answers.proofs.TakenFew.{number-low, few-ready, ready-low, taken-few}
+use Rattle.meaning.specs.Words.{numberIn, placeIn, Told, Foretold, Words}
 use Rattle.meaning.proofs.SmallMatrix.{full-few}
 
 -- ---- one reply
@@ -245,21 +244,16 @@ tells-refused : (q p : ℕ) → 1 ≤ q → p < 2 ^ 32 → Tells (calls.denied q
 unfolding replyTo
 tells-refused q p h l = told-refused q p h l
 
--- no more are ready than there are
-ready-few : (j : Job) (made : List ℕ) (k : ℕ) → length (readyBelow j made k) ≤ k
-unfolding readyBelow
-ready-few j made zero = omega arith
-ready-few j made (suc k) = go (eqb (refusal j made k) 0) (ready-few j made k)
-  where
-    go : (b : Bool) → length (readyBelow j made k) ≤ k → length (cond b (k ∷ readyBelow j made k) (readyBelow j made k)) ≤ suc k
-    go true h = omega arith
-    go false h = omega arith
-
 module _ (j : Job) (ok : Accepted j) (s : State) (long : length (s .made) ≡ maxWorkers) where
   picked-tells : (taken number : ℕ) → taken < 2 ^ 32 → Tells (pickedOf taken number)
   unfolding pickedOf placeOf replyTo
   picked-tells taken zero l = told-accepted taken l
   picked-tells taken (suc k) l = told-refused (suc k) taken (omega arith) l
+
+  preview-tells : (taken number : ℕ) (there : Answer) → taken < 2 ^ 32 → Tells (shown (pickedOf taken number) there)
+  unfolding pickedOf placeOf shown replyTo
+  preview-tells taken zero there l = told-accepted taken l
+  preview-tells taken (suc k) there l = told-refused (suc k) taken (omega arith) l
 
   forces-tell : (isOver wide : Bool) (zs : List ℤ) → j .matrix .n ≤ maxRows → Tells (forcesOf isOver wide (j .matrix .n) zs)
   unfolding forcesOf replyTo
@@ -268,37 +262,57 @@ module _ (j : Job) (ok : Accepted j) (s : State) (long : length (s .made) ≡ ma
   forces-tell true true zs few = told-accepted 0 (omega arith)
 
   ready-tells : Tells (readyOf j (s .made))
-  unfolding readyOf ready replyTo
-  ready-tells =
-      let most : 2 ^ workers j ≤ 2 ^ 16 = pow-le-pow-right (omega arith) (facts j ok .few) in
-      told-accepted _ (omega (arith, bits-below j (s .made) (workers j), ready-few j (s .made) (workers j), facts j ok .few))
+  unfolding readyOf replyTo
+  ready-tells = told-accepted _ (omega (arith, ready-low j ok (s .made), few-ready j ok (s .made)))
 
   answer-tells : (c : Call) → Tells (answer j s c)
   unfolding answer stateCheck answerOf
   answer-tells (picks ws) = turn Tells calls.denied _ [] _ (tells-refused why.notState 0 (omega arith) (omega arith)) (λ e. last Tells calls.denied _ (picked-tells (steps j s ws .taken) (steps j s ws .number) (taken-few j ok s ws long)))
   answer-tells readySet = turn Tells calls.denied _ [] _ (tells-refused why.notState 0 (omega arith) (omega arith)) (λ e. last Tells calls.denied _ ready-tells)
+  answer-tells (preview ws) = turn Tells calls.denied _ [] _ (tells-refused why.notState 0 (omega arith) (omega arith)) (λ e. last Tells calls.denied _ (preview-tells (steps j s ws .taken) (steps j s ws .number) _ (taken-few j ok s ws long)))
   answer-tells (forceList room) = turn Tells calls.denied _ [] _ (tells-refused why.notState 0 (omega arith) (omega arith)) (λ e. last Tells calls.denied _ (forces-tell (over j (s .made)) (leb (j .matrix .n) room) _ (matrix-facts (j .matrix) (ok .matrix) .few)))
 
-module _ (m : Matrix) (x : List ℤ) (order groups : List ℕ) (count : ℕ) where
-  -- 5, 6 and 8, and then an answer that tells
-  checks-tell : (a : Answer) → (passed m x order groups count ≡ true → Tells a) → Tells (inTurn calls.denied (jobChecks m x order groups count) a)
+-- what holds of refusals, and of the answers on accepted jobs, holds of all answers in bytes
+module _ (P : Answer → Type 0) (refuses : (q p : ℕ) → 1 ≤ q → q < 2 ^ 8 → p < 2 ^ 32 → P (calls.denied q p)) (m : Matrix) (x : List ℤ) (order groups : List ℕ) (count : ℕ) where
+  -- 5, 6 and 8, and then an answer
+  checks-hold : (a : Answer) → (passed m x order groups count ≡ true → P a) → P (inTurn calls.denied (jobChecks m x order groups count) a)
   unfolding jobChecks matrixCheck displacementCheck planCheck passed
-  checks-tell a h =
-      turn Tells calls.denied (matrixCheck m) _ _ (tells-refused why.notMatrix 0 (omega arith) (omega arith)) (λ e.
-      turn Tells calls.denied (displacementCheck (m .n) x) _ _ (tells-refused why.badDisplacement _ (omega arith) (omega (arith, place-low m x (matrix-facts m e .few)))) (λ f.
-      turn Tells calls.denied (planCheck m order groups count) [] _ (tells-refused why.unsound 0 (omega arith) (omega arith)) (λ g. last Tells calls.denied a (h (rw (e, f, g))))))
+  checks-hold a h =
+      turn P calls.denied (matrixCheck m) _ _ (refuses why.notMatrix 0 (omega arith) (omega arith) (omega arith)) (λ e.
+      turn P calls.denied (displacementCheck (m .n) x) _ _ (refuses why.badDisplacement _ (omega arith) (omega arith) (omega (arith, place-low m x (matrix-facts m e .few)))) (λ f.
+      turn P calls.denied (planCheck m order groups count) [] _ (refuses why.unsound 0 (omega arith) (omega arith) (omega arith)) (λ g. last P calls.denied a (h (rw (e, f, g))))))
 
-  run-tells : (state sums : List ℕ) (c : Call) → Tells (answerIn m x order groups count state sums c)
+  in-bytes : (c : Call) → ((j : Job) → Accepted j → (s : State) → length (s .made) ≡ maxWorkers → P (answer j s c)) → (state sums : List ℕ) → P (answerIn m x order groups count state sums c)
   unfolding answerIn answerLent
-  run-tells state sums c = go (eqb (length state) stateBytes) refl
+  in-bytes c h state sums = go (eqb (length state) stateBytes) refl
     where
       go : (b : Bool) → eqb (length state) stateBytes ≡ b
-          → Tells (cond b (answerLent m x order groups count (stateIn state sums) c) (inTurn calls.denied (jobChecks m x order groups count) (calls.denied why.notState 0)))
+          → P (cond b (answerLent m x order groups count (stateIn state sums) c) (inTurn calls.denied (jobChecks m x order groups count) (calls.denied why.notState 0)))
       go true e =
           let size = eqb-true (length state) stateBytes e in
-          checks-tell _ (λ h. answer-tells (jobOf m x order groups count) (lent-runs .every m x order groups count h .accepted) (stateIn state sums)
-          (rw (length-decoded number 4 (take countBytes state), length-take-le countBytes state (omega arith))) c)
-      go false e = checks-tell _ (λ h. tells-refused why.notState 0 (omega arith) (omega arith))
+          checks-hold _ (λ pass. h (jobOf m x order groups count) (lent-runs .every m x order groups count pass .accepted) (stateIn state sums)
+          (rw (length-decoded number 4 (take countBytes state), length-take-le countBytes state (omega arith))))
+      go false e = checks-hold _ (λ pass. refuses why.notState 0 (omega arith) (omega arith) (omega arith))
+
+run-tells : (m : Matrix) (x : List ℤ) (order groups : List ℕ) (count : ℕ) (state sums : List ℕ) (c : Call) → Tells (answerIn m x order groups count state sums c)
+run-tells m x order groups count state sums c = in-bytes Tells (λ q p h k l. tells-refused q p h l) m x order groups count c (λ j ok s long. answer-tells j ok s long c) state sums
+
+-- ---- a preview's word
+
+foretold-refused : (q p : ℕ) → 1 ≤ q → q < 2 ^ 8 → p < 2 ^ 32 → Foretold (calls.denied q p)
+unfolding replyTo setIn word numberIn placeIn calls.bitsTold calls.countTold
+foretold-refused q p h k l = record { low = omega arith; number = omega arith; count = omega arith; bits = omega arith }
+
+foretold : (taken number bits count : ℕ) → taken < 2 ^ 32 → number < 2 ^ 8 → count < 2 ^ 8 → bits < 2 ^ 16 → Foretold (calls.shown (pickedOf taken number) (calls.isReady bits count))
+unfolding pickedOf placeOf calls.shown replyTo setIn word numberIn placeIn calls.bitsTold calls.countTold
+foretold taken zero bits count l q k b = record { low = omega arith; number = omega arith; count = omega arith; bits = omega arith }
+foretold taken (suc n) bits count l q k b = record { low = omega arith; number = omega arith; count = omega arith; bits = omega arith }
+
+preview-foretold : (m : Matrix) (x : List ℤ) (order groups : List ℕ) (count : ℕ) (state sums ws : List ℕ) → Foretold (answerIn m x order groups count state sums (calls.preview ws))
+unfolding answer stateCheck answerOf readyOf
+preview-foretold m x order groups count state sums ws = in-bytes Foretold foretold-refused m x order groups count (calls.preview ws) (λ j ok s long.
+    turn Foretold calls.denied _ [] _ (foretold-refused why.notState 0 (omega arith) (omega arith) (omega arith)) (λ e. last Foretold calls.denied _
+    (let made = steps j s ws .state .made in foretold (steps j s ws .taken) (steps j s ws .number) (bits (ready j made)) (length (ready j made)) (taken-few j ok s ws long) (number-low j s ws) (omega (arith, few-ready j ok made)) (ready-low j ok made)))) state sums
 
 -- ---- plan files
 
@@ -322,4 +336,4 @@ read-plan-told planFile order groups =
 
 -- the theorem
 pub words : Words
-words = record { read = λ text starts columns values. read-told text _ _ _; write = write-told; product = product-told; survey = survey-told; plan = λ m w p order groups. plan-told m w p _ _; check = check-told; write-plan = write-plan-told; read-plan = read-plan-told; run = run-tells; one = one }
+words = record { read = λ text starts columns values. read-told text _ _ _; write = write-told; product = product-told; survey = survey-told; plan = λ m w p order groups. plan-told m w p _ _; check = check-told; write-plan = write-plan-told; read-plan = read-plan-told; run = run-tells; preview = preview-foretold; one = one }

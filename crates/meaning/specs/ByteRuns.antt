@@ -11,7 +11,7 @@ use Rattle.matrix.specs.Product.{product}
 use Rattle.run.specs.Job.{jobOf}
 use Rattle.run.specs.State.{State}
 use Rattle.run.specs.Calls.{afterLent}
-use Rattle.run.specs.Answers.{Call, picks, readySet, forceList, Answer}
+use Rattle.run.specs.Answers.{Call, picks, readySet, forceList, preview, Answer, shown}
 use Rattle.run.specs.Sequence.{answersFrom, stateAfter}
 use Rattle.run.specs.EveryRun.{runState, runAnswers, finishedRun}
 use Rattle.run.specs.LentRuns.{passed}
@@ -39,7 +39,7 @@ module _ (m : Matrix) (x : List ℤ) (order groups : List ℕ) (count : ℕ) whe
   unfoldable pub picksLeave : Bytes → (schedule : List ℕ) → State
   picksLeave b ws = afterLent m x order groups count (stateIn (b .state) (b .sums)) (picks ws)
 
-  -- the bytes after a call: of picks as PicksAnswered has them; the other two write neither
+  -- the bytes after a call: of picks as PicksAnswered has them; the others write neither
   unfoldable pub byteAfter : Bytes → Call → Bytes
   byteAfter b (picks ws) = record {
     state = leftBy (byteAnswer b (picks ws)) (bytesIn (picksLeave b ws)) (b .state);
@@ -47,6 +47,7 @@ module _ (m : Matrix) (x : List ℤ) (order groups : List ℕ) (count : ℕ) whe
   }
   byteAfter b readySet = b
   byteAfter b (forceList room) = b
+  byteAfter b (preview ws) = b
 
   -- "Each run begins fresh": the answers to a list of calls, and the bytes after it
   unfoldable pub byteAnswers : List Call → List Answer
@@ -71,3 +72,11 @@ pub record ByteRun (m : Matrix) (x : List ℤ) (order groups : List ℕ) (count 
 -- for all lent lists that pass their checks and every list of calls
 pub record ByteRuns : Type 0 where
   pub every : (m : Matrix) (x : List ℤ) (order groups : List ℕ) (count : ℕ) → passed m x order groups count ≡ true → (cs : List Call) → ByteRun m x order groups count cs
+
+-- Q-7, "It equals carrying out the same picks on a copy and looking there, refusals included", of calls in bytes: the
+-- answer is that of the picks on a copy of the bytes, with the ready set that a call tells of what they leave there.
+-- Whatever the lists and the bytes
+pub record BytePreviews : Type 0 where
+  pub on-copy : (m : Matrix) (x : List ℤ) (order groups : List ℕ) (count : ℕ) (b : Bytes) (ws : List ℕ)
+      → byteAnswer m x order groups count b (preview ws)
+      ≡ shown (byteAnswer m x order groups count b (picks ws)) (byteAnswer m x order groups count (byteAfter m x order groups count b (picks ws)) readySet)

@@ -9,12 +9,12 @@ use Rattle.matrix.specs.Product.{productReply}
 use Rattle.market.specs.Text.{writeReply}
 use Rattle.plan.specs.Sound.{checkReply}
 use Rattle.planfile.specs.Calls.{writePlanReply, readPlanReply}
-use Rattle.run.specs.Answers.{Call}
+use Rattle.run.specs.Answers.{Call, preview, Answer, bitsTold, countTold}
 use Rattle.lent.specs.Word.{word}
 use Rattle.texts.specs.Lent.{readIn}
 use Rattle.office.specs.Lent.{planIn}
 use Rattle.survey.specs.Survey.{surveyReply}
-use Rattle.answers.specs.Runs.{answerIn, replyTo}
+use Rattle.answers.specs.Runs.{answerIn, replyTo, previewWord}
 
 -- "an accepted call has number 0"
 unfoldable pub numberIn : Reply → ℕ
@@ -32,7 +32,15 @@ pub record Told (r : Reply) : Type 0 where
   pub low : word r % 2 ^ 32 ≡ placeIn r
   pub some : (number place : ℕ) → r ≡ refused number place → 1 ≤ number
 
--- of every reply of every call; picks, ready set and force list are calls of a run
+-- Q-7: a preview's word has "the number taken", or the place, in bits 0 to 31, "the reason for stopping" in bits 32 to
+-- 39, and of "the ready set afterwards" the count in bits 40 to 47 and the bits in 48 to 63; none if it is refused
+pub record Foretold (a : Answer) : Type 0 where
+  pub low : previewWord a % 2 ^ 32 ≡ placeIn (replyTo a)
+  pub number : previewWord a / 2 ^ 32 % 2 ^ 8 ≡ numberIn (replyTo a)
+  pub count : previewWord a / 2 ^ 40 % 2 ^ 8 ≡ countTold a
+  pub bits : previewWord a / 2 ^ 48 ≡ bitsTold a
+
+-- of every reply of every call; picks, ready set, force list and preview are calls of a run
 pub record Words : Type 0 where
   pub read : (text starts columns values : List ℕ) → Told (readIn text starts columns values)
   pub write : (m : Matrix) (room : ℕ) → Told (writeReply m room)
@@ -43,5 +51,6 @@ pub record Words : Type 0 where
   pub write-plan : (n : ℕ) (order groups : List ℕ) (count room : ℕ) → Told (writePlanReply n order groups count room)
   pub read-plan : (planFile order groups : List ℕ) → Told (readPlanReply planFile order groups)
   pub run : (m : Matrix) (x : List ℤ) (order groups : List ℕ) (count : ℕ) (state sums : List ℕ) (c : Call) → Told (replyTo (answerIn m x order groups count state sums c))
+  pub preview : (m : Matrix) (x : List ℤ) (order groups : List ℕ) (count : ℕ) (state sums ws : List ℕ) → Foretold (answerIn m x order groups count state sums (preview ws))
   -- so two replies with the same word are the same
   pub one : (r s : Reply) → Told r → Told s → word r ≡ word s → r ≡ s

@@ -1,5 +1,5 @@
 -- The answers of all calls are the model's: 11 is never met.
-use mathlib.Core.Path.{_≡_, refl, ap}
+use mathlib.Core.Path.{_≡_, refl, ap, _∙_}
 use mathlib.Core.Bool.{Bool, true, false, cond}
 use mathlib.Core.List.{List, [], _∷_, _++_}
 use Prim.Native.Nat.{ℕ, zero, suc, _≤_}
@@ -13,12 +13,12 @@ use Rattle.matrix.specs.Product.{product}
 use Rattle.plan.specs.Sound.{maxWorkers}
 use Rattle.run.specs.Job.{Job}
 use Rattle.run.specs.Updates.{count, accesses}
-use Rattle.run.specs.Machine.{over, original, countsFine, isState}
+use Rattle.run.specs.Machine.{steps, over, original, countsFine, isState}
 use Rattle.run.specs.State.{State}
 use Rattle.run.specs.Calls.{placeOf, pickedOf, readyOf, forcesOf, stateCheck, answerOf, afterOf, answer, after}
-use Rattle.run.specs.Answers.{Call, picks, readySet, forceList, Answer, picked, forces, denied}
+use Rattle.run.specs.Answers.{Call, picks, readySet, forceList, preview, Answer, picked, forces, denied, shown}
 use Rattle.run.specs.Sequence.{answersFrom, stateAfter}
-use Rattle.run.specs.Model.{note, modelAnswer, modelAfter, modelAnswers, modelCounts, takenNow, takenPicks}
+use Rattle.run.specs.Model.{note, notedAnswer, ableAnswer, modelAnswer, modelAfter, modelAnswers, modelCounts, takenNow, takenPicks}
 use Rattle.run.specs.OneAccess.{Walk, stay, andThen}
 use Rattle.run.proofs.Facts.{Facts}
 use Rattle.run.proofs.Invariant.{Inv}
@@ -55,6 +55,14 @@ module _ (j : Job) (F : Facts j) where
       go true e false = refl
       go false e c = refl
 
+  -- .. to a preview: from the counts that its picks lead to
+  preview-model : (s : State) → Inv j s → (ws : List ℕ) → answerOf j s (preview ws) ≡ modelAnswer j (s .made) (preview ws)
+  unfolding answerOf modelAnswer
+  preview-model s I ws =
+      let a = steps-model j F s I ws in
+      ap (λ (b : Answer). shown b (readyOf j (steps j s ws .state .made))) (rw (a .count, a .number) (picked-model (note j (s .made) ws .taken) (note j (s .made) ws .number)))
+      ∙ ap (shown (notedAnswer (note j (s .made) ws))) (ready-model (steps j s ws .state) (a .inv) ∙ ap (ableAnswer j) (a .made))
+
   -- one call
   pub record Kept (s : State) (c : Call) : Type 0 where
     pub inv : Inv j (after j s c)
@@ -79,6 +87,7 @@ module _ (j : Job) (F : Facts j) where
   call-model s I (picks ws) = let a = steps-model j F s I ws in record { inv = rw (fine s I) (a .inv); made = rw (fine s I) (a .made); same = rw (fine s I, a .count, a .number) (picked-model (note j (s .made) ws .taken) (note j (s .made) ws .number)); walked = rw (fine s I) (walks j F s I ws) }
   call-model s I readySet = record { inv = rw (fine s I) I; made = rw (fine s I) refl; same = rw (fine s I) (ready-model s I); walked = rw (fine s I) stay }
   call-model s I (forceList room) = record { inv = rw (fine s I) I; made = rw (fine s I) refl; same = rw (fine s I) (forces-model s I room); walked = rw (fine s I) stay }
+  call-model s I (preview ws) = record { inv = rw (fine s I) I; made = rw (fine s I) refl; same = rw (fine s I) (preview-model s I ws); walked = rw (fine s I) stay }
 
   -- a list of calls
   pub record AllKept (s : State) (cs : List Call) : Type 0 where

@@ -16,7 +16,7 @@ use Rattle.run.specs.Job.{Job, Accepted, workers}
 use Rattle.run.specs.Updates.{count, accesses, waits}
 use Rattle.run.specs.Machine.{reason, refusal, readyBelow, ready, bits, over}
 use Rattle.run.specs.Calls.{answer}
-use Rattle.run.specs.Answers.{Call, picks, readySet, forceList, isReady, forces, denied}
+use Rattle.run.specs.Answers.{Call, picks, readySet, forceList, preview, isReady, forces, denied, shown}
 use Rattle.run.specs.Model.{noCounts, added, ending, oneNoted, note, isFinished, modelAnswer, modelAfter, modelAnswers}
 use Rattle.run.specs.EveryRun.{runState, finishedRun}
 use Rattle.run.specs.Consequences.{numberOf, Consequence, Consequences}
@@ -56,15 +56,17 @@ known-forces false b n zs = refl
 known-forces true false n zs = refl
 known-forces true true n zs = refl
 
+pub known-call : (j : Job) (made : List ℕ) (c : Call) → known (numberOf (modelAnswer j made c)) ≡ true
+unfolding modelAnswer
+known-call j made (picks ws) = unfold numberOf in known-note j made ws
+known-call j made readySet = unfold numberOf in refl
+known-call j made (forceList room) = known-forces (isFinished j made) (leb (j .matrix .n) room) (j .matrix .n) (product (j .matrix) (j .displacements))
+known-call j made (preview ws) = unfold numberOf shown in known-note j made ws
+
 known-all : (j : Job) (made : List ℕ) (cs : List Call) → all known (map numberOf (modelAnswers j made cs)) ≡ true
 unfolding modelAnswers
 known-all j made [] = refl
-known-all j made (c ∷ cs) = rw (one c) (known-all j (modelAfter j made c) cs)
-  where
-    one : (c : Call) → known (numberOf (modelAnswer j made c)) ≡ true
-    one (picks ws) = unfold modelAnswer numberOf in known-note j made ws
-    one readySet = unfold modelAnswer numberOf in refl
-    one (forceList room) = unfold modelAnswer in known-forces (isFinished j made) (leb (j .matrix .n) room) (j .matrix .n) (product (j .matrix) (j .displacements))
+known-all j made (c ∷ cs) = rw (known-call j made c) (known-all j (modelAfter j made c) cs)
 
 -- ---- the ready set of a finished run
 

@@ -16,7 +16,7 @@ use Rattle.run.specs.Updates.{Update, count, next}
 use Rattle.run.specs.Machine.{refusal, Outcome, moved, halted, load, total, store, access, move, stepIf, step, oneMore, steps, isState}
 use Rattle.run.specs.State.{State, fresh}
 use Rattle.run.specs.Calls.{stateCheck, afterOf, after}
-use Rattle.run.specs.Answers.{Call, picks, readySet, forceList}
+use Rattle.run.specs.Answers.{Call, picks, readySet, forceList, preview}
 use Rattle.run.proofs.Invariant.{Inv}
 use Rattle.run.proofs.Schedule.{steps-on, steps-end}
 use Rattle.run.proofs.Accepted.{accesses-small}
@@ -96,6 +96,7 @@ module _ (j : Job) where
       made (picks ws) = steps-fit s ws f
       made readySet = f
       made (forceList room) = f
+      made (preview ws) = f
 
       go : (b : Bool) → Fits (cond b (afterOf j s c) s)
       go true = made c

@@ -5,6 +5,7 @@ pub mod Invariant
 pub mod Able
 pub mod Kept
 pub mod Schedule
+pub mod Stays
 pub mod OneAccess
 pub mod Taken
 pub mod Finished
@@ -41,3 +42,4 @@ pub mod OneMachine
 pub mod Consequences
 pub mod LentRuns
 pub mod Fits
+pub mod OnCopy

@@ -1,5 +1,6 @@
 -- What a schedule does, step by step: of any job and any state.
 use mathlib.Core.Path.{_≡_, refl, sym, ap}
+use mathlib.Core.Logic.{_⊎_, inl, inr, ⊎-elim}
 use mathlib.Core.Bool.{Bool, true, false}
 use mathlib.Core.List.{List, _∷_}
 use Prim.Native.Nat.{ℕ, zero, suc, _%_}
@@ -41,19 +42,28 @@ module _ (j : Job) (made : List ℕ) (w : ℕ) (ws : List ℕ) where
   unfolding note
   note-end k e = rw (e, note)
 
--- a step that is taken adds 1 to its worker's count, and to no other
-pub step-made : (j : Job) (s : State) (w : ℕ) (t : State) → step j s w ≡ moved t → t .made ≡ onward (s .made) w
-unfolding step stepIf move access load store
-step-made j s w t h = go (refusal j (s .made) w) h
+-- a step that is taken is a load or a store, and the counts do not refuse it
+pub record StepMoved (j : Job) (s : State) (w : ℕ) (t : State) : Type 0 where
+  pub free : refusal j (s .made) w ≡ 0
+  pub one : (load s w (next j (s .made) w) ≡ t) ⊎ (store s w (next j (s .made) w) ≡ t)
+
+pub step-moved : (j : Job) (s : State) (w : ℕ) (t : State) → step j s w ≡ moved t → StepMoved j s w t
+unfolding step stepIf move access
+step-moved j s w t h = go (refusal j (s .made) w) refl h
   where
     u : Update
     u = next j (s .made) w
 
-    by : (even fitting : Bool) → access even fitting s w u ≡ moved t → t .made ≡ onward (s .made) w
-    by true f x = let y : load s w u ≡ t = cc in ap (λ (z : State). z .made) (sym y)
-    by false true x = let y : store s w u ≡ t = cc in ap (λ (z : State). z .made) (sym y)
+    by : (even fitting : Bool) → access even fitting s w u ≡ moved t → (load s w u ≡ t) ⊎ (store s w u ≡ t)
+    by true f x = inl cc
+    by false true x = inr cc
     by false false x = absurd (let z : _≡_ {A = ℕ} 0 1 = cc in omega arith)
 
-    go : (k : ℕ) → stepIf k s w u ≡ moved t → t .made ≡ onward (s .made) w
-    go zero x = by (eqb (count (s .made) w % 2) 0) (fits64 (total s w u)) x
-    go (suc k) x = absurd (let z : _≡_ {A = ℕ} 0 1 = cc in omega arith)
+    go : (k : ℕ) → refusal j (s .made) w ≡ k → stepIf k s w u ≡ moved t → StepMoved j s w t
+    go zero e x = record { free = e; one = by (eqb (count (s .made) w % 2) 0) (fits64 (total s w u)) x }
+    go (suc k) e x = absurd (let z : _≡_ {A = ℕ} 0 1 = cc in omega arith)
+
+-- .. it adds 1 to its worker's count, and to no other
+pub step-made : (j : Job) (s : State) (w : ℕ) (t : State) → step j s w ≡ moved t → t .made ≡ onward (s .made) w
+unfolding load store
+step-made j s w t h = ⊎-elim (λ e. ap (λ (z : State). z .made) (sym e)) (λ e. ap (λ (z : State). z .made) (sym e)) (step-moved j s w t h .one)

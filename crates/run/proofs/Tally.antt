@@ -14,7 +14,7 @@ use Rattle.matrix.specs.Product.{product}
 use Rattle.plan.specs.Sound.{maxWorkers}
 use Rattle.run.specs.Job.{Job, workers}
 use Rattle.run.specs.Updates.{count}
-use Rattle.run.specs.Answers.{Call, picks, readySet, forceList, forces, denied}
+use Rattle.run.specs.Answers.{Call, picks, readySet, forceList, preview, forces, denied, shown}
 use Rattle.run.specs.Model.{noCounts, added, ending, oneNoted, note, isFinished, modelAnswer, modelAfter, modelAnswers, modelCounts}
 use Rattle.run.specs.EveryRun.{takenOf, takenIn}
 use Rattle.run.proofs.Invariant.{zero-count}
@@ -51,9 +51,10 @@ module _ (j : Job) (few : workers j ≤ maxWorkers) where
 
   -- a call
   called : (made : List ℕ) (c : Call) → length made ≡ maxWorkers → Tally made (modelAfter j made c) (takenOf (modelAnswer j made c))
-  unfolding modelAfter modelAnswer takenOf
+  unfolding modelAfter modelAnswer takenOf shown
   called made (picks ws) l = noted made ws l
   called made readySet l = record { more = omega arith; long = l }
+  called made (preview ws) l = record { more = omega arith; long = l }
   called made (forceList room) l =
       record { more = omega (arith, none (isFinished j made) (leb (j .matrix .n) room)); long = l }
     where

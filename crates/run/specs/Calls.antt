@@ -12,7 +12,7 @@ use Rattle.plan.specs.Sound.{planCheck}
 use Rattle.run.specs.Job.{Job, jobOf}
 use Rattle.run.specs.Machine.{steps, ready, bits, over, original, isState}
 use Rattle.run.specs.State.{State}
-use Rattle.run.specs.Answers.{Call, picks, readySet, forceList, Answer, picked, isReady, forces, denied}
+use Rattle.run.specs.Answers.{Call, picks, readySet, forceList, preview, Answer, picked, isReady, forces, denied, previewed, shown}
 
 unfoldable pub placeOf : (number taken : ℕ) → ℕ
 placeOf zero taken = 0
@@ -34,11 +34,14 @@ unfoldable pub answerOf : Job → State → Call → Answer
 answerOf j s (picks ws) = pickedOf (steps j s ws .taken) (steps j s ws .number)
 answerOf j s readySet = readyOf j (s .made)
 answerOf j s (forceList room) = forcesOf (over j (s .made)) (leb (j .matrix .n) room) (j .matrix .n) (original j (s .sums))
+answerOf j s (preview ws) = shown (pickedOf (steps j s ws .taken) (steps j s ws .number)) (readyOf j (steps j s ws .state .made))
 
 unfoldable pub afterOf : Job → State → Call → State
 afterOf j s (picks ws) = steps j s ws .state
 afterOf j s readySet = s
 afterOf j s (forceList room) = s
+-- Q-7: "with the state and sums left alone"
+afterOf j s (preview ws) = s
 
 unfoldable pub stateCheck : Job → State → List Check
 stateCheck j s = check why.notState (isState j s) ∷ []
@@ -67,3 +70,4 @@ forcesLent (forces zs) old = zs ++ drop (length zs) old
 forcesLent (picked taken number place) old = old
 forcesLent (isReady bits count) old = old
 forcesLent (denied number place) old = old
+forcesLent (previewed taken number place bits count) old = old

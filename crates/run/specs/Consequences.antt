@@ -7,7 +7,7 @@ use Rattle.base.specs.Lists.{all, isIn}
 use Rattle.base.specs.Refusals as why
 use Rattle.run.specs.Job.{Job, Accepted}
 use Rattle.run.specs.Calls.{answer}
-use Rattle.run.specs.Answers.{Call, readySet, Answer, picked, isReady, forces, denied}
+use Rattle.run.specs.Answers.{Call, readySet, Answer, picked, isReady, forces, denied, previewed}
 use Rattle.run.specs.EveryRun.{takenIn, runState, runAnswers, finishedRun, wholeRun}
 
 -- the number of an answer: 0, or why the call was refused or ended
@@ -16,6 +16,7 @@ numberOf (picked taken number place) = number
 numberOf (isReady bits count) = 0
 numberOf (forces zs) = 0
 numberOf (denied number place) = number
+numberOf (previewed taken number place bits count) = number
 
 pub record Consequence (j : Job) (cs : List Call) : Type 0 where
   -- the only numbers met: not 11, and not 14, "never met from a fresh state"

@@ -14,7 +14,7 @@ use Rattle.run.specs.Machine.{original}
 use Rattle.run.specs.State.{State, fresh}
 use Rattle.run.specs.OneAccess.{Walk}
 use Rattle.run.specs.Calls.{answer, after}
-use Rattle.run.specs.Answers.{Call, picks, readySet, forceList, Answer, picked, isReady, forces, denied}
+use Rattle.run.specs.Answers.{Call, picks, readySet, forceList, Answer, picked, isReady, forces, denied, previewed}
 use Rattle.run.specs.Sequence.{answersFrom, stateAfter}
 use Rattle.run.specs.Model.{noCounts, isFinished, takenPicks, modelAnswers, modelCounts}
 
@@ -24,6 +24,7 @@ takenOf (picked taken number place) = taken
 takenOf (isReady bits count) = 0
 takenOf (forces zs) = 0
 takenOf (denied number place) = 0
+takenOf (previewed taken number place bits count) = 0
 
 unfoldable pub takenIn : List Answer → ℕ
 takenIn [] = 0

@@ -13,3 +13,4 @@ pub mod EveryRun
 pub mod OneMachine
 pub mod Consequences
 pub mod LentRuns
+pub mod OnCopy

@@ -12,7 +12,7 @@ use Rattle.matrix.specs.Product.{product}
 use Rattle.plan.specs.Sound.{maxWorkers}
 use Rattle.run.specs.Job.{Job, workers}
 use Rattle.run.specs.Updates.{count, accesses, waits}
-use Rattle.run.specs.Answers.{Call, picks, readySet, forceList, Answer, picked, isReady, forces, denied}
+use Rattle.run.specs.Answers.{Call, picks, readySet, forceList, preview, Answer, picked, isReady, forces, denied, shown}
 
 -- "It keeps a count for each worker, at first 0"
 unfoldable pub noCounts : List ℕ
@@ -51,19 +51,29 @@ unfoldable pub isFinished : Job → (counts : List ℕ) → Bool
 isFinished j counts = all (λ w. eqb (count counts w) (accesses j w)) (range 0 (workers j))
 
 -- "The answer is the number that the call took and that ending, or 0 at 0 as its ending if it took all" (those before
--- the pick's index were taken); a bit for each worker "whose pick would be taken, and their count"; "15 until then,
--- afterwards 9 at n .., else 0 with the full product in original order"
+-- the pick's index were taken)
+abbrev pub notedAnswer : Noted → Answer
+notedAnswer r = picked (r .taken) (r .number) (cond (eqb (r .number) 0) 0 (r .taken))
+
+-- a bit for each worker "whose pick would be taken, and their count"
+abbrev pub ableAnswer : Job → (counts : List ℕ) → Answer
+ableAnswer j counts = isReady (sum (map (_^_ 2) (able j counts))) (length (able j counts))
+
+-- .. and "15 until then, afterwards 9 at n .., else 0 with the full product in original order"; a preview (Q-7) is
+-- answered from the counts that its picks would lead to
 unfoldable pub modelAnswer : Job → (counts : List ℕ) → Call → Answer
-modelAnswer j counts (picks ws) = picked (note j counts ws .taken) (note j counts ws .number) (cond (eqb (note j counts ws .number) 0) 0 (note j counts ws .taken))
-modelAnswer j counts readySet = isReady (sum (map (_^_ 2) (able j counts))) (length (able j counts))
+modelAnswer j counts (picks ws) = notedAnswer (note j counts ws)
+modelAnswer j counts readySet = ableAnswer j counts
 modelAnswer j counts (forceList room) =
     cond (isFinished j counts) (cond (leb (j .matrix .n) room) (forces (product (j .matrix) (j .displacements))) (denied why.tooShort (j .matrix .n))) (denied why.tooEarly 0)
+modelAnswer j counts (preview ws) = shown (notedAnswer (note j counts ws)) (ableAnswer j (note j counts ws .counts))
 
 -- "It and the ready set change no count"
 unfoldable pub modelAfter : Job → (counts : List ℕ) → Call → List ℕ
 modelAfter j counts (picks ws) = note j counts ws .counts
 modelAfter j counts readySet = counts
 modelAfter j counts (forceList room) = counts
+modelAfter j counts (preview ws) = counts
 
 unfoldable pub modelAnswers : Job → (counts : List ℕ) → List Call → List Answer
 modelAnswers j counts [] = []
@@ -78,6 +88,7 @@ unfoldable pub takenNow : Job → (counts : List ℕ) → Call → List ℕ
 takenNow j counts (picks ws) = take (note j counts ws .taken) ws
 takenNow j counts readySet = []
 takenNow j counts (forceList room) = []
+takenNow j counts (preview ws) = []
 
 unfoldable pub takenPicks : Job → (counts : List ℕ) → List Call → List ℕ
 takenPicks j counts [] = []

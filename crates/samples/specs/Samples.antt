@@ -29,7 +29,7 @@ use Rattle.run.specs.Updates.{entryAt, displacementAt, later, withEach, rowUpda
 use Rattle.run.specs.Machine.{reason, refusal, onward, load as loadSum, total, store, access, move, stepIf, step, oneMore, steps, readyBelow, ready, bits, allMade, over, positionOf, original, countsFine, isState}
 use Rattle.run.specs.State.{fresh}
 use Rattle.run.specs.Calls.{placeOf, pickedOf, readyOf, forcesOf, answerOf, afterOf, stateCheck, answer, after}
-use Rattle.run.specs.Answers.{Call, picks, readySet, forceList, Answer, picked, isReady, forces, denied}
+use Rattle.run.specs.Answers.{Call, picks, readySet, forceList, preview, Answer, picked, isReady, forces, denied, previewed, bitsTold, countTold, shown}
 use Rattle.run.specs.Sequence.{answersFrom}
 use Rattle.run.specs.Model.{noCounts, added, ending, oneNoted, note, able, isFinished, modelAnswer, modelAfter, modelAnswers, modelCounts}
 use Rattle.run.specs.EveryRun.{takenOf, takenIn, runAnswers, wholeRun}
@@ -69,6 +69,7 @@ ofAnswer (picked taken number place) = pos 1 ∷ pos taken ∷ pos number ∷ po
 ofAnswer (isReady bits count) = pos 2 ∷ pos bits ∷ pos count ∷ []
 ofAnswer (forces zs) = pos 3 ∷ zs
 ofAnswer (denied number place) = pos 4 ∷ pos number ∷ pos place ∷ []
+ofAnswer (previewed taken number place bits count) = pos 5 ∷ pos taken ∷ pos number ∷ pos place ∷ pos bits ∷ pos count ∷ []
 
 abbrev ofAnswers : List Answer → List ℤ
 ofAnswers as′ = concat (map ofAnswer as′)
@@ -145,12 +146,12 @@ chainListing = ascii "order 0 1 2 3 4 5 6 7\ngroup start length first workers co
 -- a whole run of the chain, with each refusal that it can meet
 abbrev chainCalls : List Call
 chainCalls =
-    readySet ∷ picks (replicate 13 0) ∷ readySet ∷ forceList 8 ∷ picks (2 ∷ []) ∷ picks (replicate 20 1)
+    readySet ∷ preview (replicate 13 0) ∷ picks (replicate 13 0) ∷ readySet ∷ forceList 8 ∷ picks (2 ∷ []) ∷ picks (replicate 20 1)
     ∷ picks (replicate 12 0) ∷ readySet ∷ picks (1 ∷ []) ∷ forceList 7 ∷ forceList 8 ∷ []
 
 abbrev chainAnswers : List Answer
 chainAnswers =
-    isReady 3 2 ∷ picked 12 13 12 ∷ isReady 2 1 ∷ denied 15 0 ∷ picked 0 10 0 ∷ picked 20 0 0
+    isReady 3 2 ∷ previewed 12 13 12 2 1 ∷ picked 12 13 12 ∷ isReady 2 1 ∷ denied 15 0 ∷ picked 0 10 0 ∷ picked 20 0 0
     ∷ picked 12 0 0 ∷ isReady 0 0 ∷ picked 0 12 0 ∷ denied 9 8
     ∷ forces (numbers (1 ∷ 0 ∷ 0 ∷ 0 ∷ 0 ∷ 0 ∷ 0 ∷ 1 ∷ [])) ∷ []
 
@@ -248,7 +249,7 @@ unfolding fresh workersOf workers reason refusal onward loadSum total store acce
 machines = tt
 
 calls : Unit {0}
-unfolding placeOf pickedOf readyOf forcesOf answerOf afterOf stateCheck answer after noCounts oneNoted note modelAnswer modelAfter modelAnswers modelCounts takenOf takenIn wholeRun answersFrom added ending able isFinished runAnswers
+unfolding bitsTold countTold shown placeOf pickedOf readyOf forcesOf answerOf afterOf stateCheck answer after noCounts oneNoted note modelAnswer modelAfter modelAnswers modelCounts takenOf takenIn wholeRun answersFrom added ending able isFinished runAnswers
 calls = tt
 
 listings : Unit {0}

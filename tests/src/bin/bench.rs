@@ -76,6 +76,7 @@ struct Implementation {
     write_plan: fn(u32, PlanLists, Out) -> u64,
     read_plan: fn(&[u8], Out, Out) -> u64,
     picks: fn(RunLists, Out, Out, &[u8]) -> u64,
+    preview: fn(RunLists, &[u8], &[u8], &[u8]) -> u64,
     ready: fn(RunLists, &[u8], &[u8]) -> u64,
     forces: fn(RunLists, &[u8], &[u8], Out) -> u64,
 }
@@ -90,6 +91,7 @@ const LIBRARY: Implementation = Implementation {
     write_plan: library::write_plan,
     read_plan: library::read_plan,
     picks: library::picks,
+    preview: library::preview,
     ready: library::ready,
     forces: library::forces,
 };
@@ -104,6 +106,7 @@ const RUST: Implementation = Implementation {
     write_plan: calls::write_plan,
     read_plan: calls::read_plan,
     picks: calls::picks,
+    preview: calls::preview,
     ready: calls::ready,
     forces: calls::forces,
 };
@@ -113,7 +116,7 @@ type Work = fn(&Implementation, &Given, &mut Lent) -> u64;
 
 /// All that is timed, by name.
 #[rustfmt::skip]
-const WORKS: [(&str, Work); 12] = [
+const WORKS: [(&str, Work); 13] = [
     ("read", |by, given, lent| (by.read)(&given.text, &mut lent.row_starts, &mut lent.columns, &mut lent.values)),
     ("write", |by, given, lent| (by.write)(given.matrix(), &mut lent.text)),
     ("product", |by, given, lent| (by.product)(given.matrix(), &given.movements, &mut lent.forces)),
@@ -131,6 +134,10 @@ const WORKS: [(&str, Work); 12] = [
     ("picks, a run in 1,000 lists", |by, given, lent| {
         let At { state, sums } = lent.fresh();
         given.lists().map(|picks| (by.picks)(given.run(), state, sums, picks)).sum()
+    }),
+    ("preview", |by, given, lent| {
+        let At { state, sums } = lent.fresh();
+        (by.preview)(given.run(), state, sums, &given.schedule)
     }),
     ("ready", |by, given, _| (by.ready)(given.run(), &given.halfway.state, &given.halfway.sums)),
     ("forces", |by, given, lent| {

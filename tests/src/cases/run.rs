@@ -1,4 +1,4 @@
-//! Cases of picks, the ready set and the force list: single calls from any state, and runs to their end.
+//! Cases of picks, previews, the ready set and the force list: single calls from any state, and runs to their end.
 
 use super::matrix::{movements, perhaps_damaged};
 use super::plan::plan_twins;
@@ -31,6 +31,14 @@ pub fn picks(rng: &mut Prng, seen: &mut Seen) {
     seen.note(both::picks(&run.lists, &mut run.at, &picks));
 }
 
+/// Asks in any state what random picks would do; then that is done on a copy.
+pub fn preview(rng: &mut Prng, seen: &mut Seen) {
+    let run = Run::any(rng, 10);
+    let most = rng.one_of(&[4, 12, 40]);
+    let picks = run.any_picks(rng, most);
+    seen.note(run.previewed(picks));
+}
+
 /// Asks for the ready set in any state.
 pub fn ready(rng: &mut Prng, seen: &mut Seen) {
     let run = Run::any(rng, 20);
@@ -51,6 +59,7 @@ pub fn whole(rng: &mut Prng, seen: &mut Seen) {
     whole.finish(rng, most, |rng, run, picked| {
         let mut forces = Twin::blank(room_about(rng, run.at.sums.theirs.len() / 8, 8));
         seen.note(picked);
+        seen.note(run.previewed(run.any_picks(rng, most)));
         seen.note(both::ready(&run.lists, &run.at));
         seen.note(both::forces(&run.lists, &run.at, &mut forces));
     });
@@ -102,7 +111,7 @@ impl Run {
     }
 
     /// At most so many picks: of workers that are ready, not at their end, of the plan, or perhaps not of it.
-    fn any_picks(&self, rng: &mut Prng, most: usize) -> Vec<u8> {
+    pub fn any_picks(&self, rng: &mut Prng, most: usize) -> Vec<u8> {
         let among = match rng.below(10) {
             0..4 => self.ready_workers(),
             4..8 => self.unfinished_workers(),
@@ -113,6 +122,19 @@ impl Run {
             return vec![0];
         }
         plans::random_picks(rng, &among, most)
+    }
+
+    /// What picks would do, which is what they do on a copy, and the ready set there.
+    pub fn previewed(&self, picks: Vec<u8>) -> u64 {
+        let lists = self.lists.theirs();
+        let mut state = self.at.state.theirs.clone();
+        let mut sums = self.at.sums.theirs.clone();
+        let word = calls::picks(lists, &mut state, &mut sums, &picks);
+        let ready = calls::ready(lists, &state, &sums);
+        let set = if refusal_number(ready) == 0 { ready } else { 0 };
+        let told = both::preview(&self.lists, &self.at, &Twin::new(picks));
+        assert_eq!(told, word | (set >> 16) << 40 | set << 48, "a preview");
+        told
     }
 
     /// The workers that have not made all their moves.

@@ -163,6 +163,23 @@ pub fn ready(run: RunLists, state: &[u8], sums: &[u8]) -> u64 {
     word(ready())
 }
 
+/// What picks would do: their answer word, plus the count of those ready afterwards × 2^40, plus their set × 2^48.
+pub fn preview(run: RunLists, state: &[u8], sums: &[u8], picks: &[u8]) -> u64 {
+    let lists = Lists::of_run(run);
+    let tell = || {
+        let numbers = lists.state(state)?;
+        let list = get(sums, usize::MAX, i64::from_le_bytes);
+        machine::preview(&lists.lent(), numbers, list, picks)
+    };
+    match tell() {
+        Ok((picked, ready)) => {
+            let ended = word(picked.stopped.map_or(Ok(picked.taken), Err));
+            ended | u64::from(ready.count) << 40 | u64::from(ready.set) << 48
+        }
+        Err(refusal) => word(Err(refusal)),
+    }
+}
+
 /// The force list of a finished run.
 pub fn forces(run: RunLists, state: &[u8], sums: &[u8], forces: &mut [u8]) -> u64 {
     let lists = Lists::of_run(run);

@@ -109,6 +109,30 @@ pub fn picks(lent: &Lent, state: &mut State, sums: &mut [i64], picks: &[u8]) -> 
         leaves: &leaves,
         movements: lent.movements,
     };
+    take_all(net, state, sums, picks)
+}
+
+/// "what a list of picks would do", Q-7: what they come to on a copy, and the ready set there.
+pub fn preview(
+    lent: &Lent,
+    mut state: State,
+    mut sums: Vec<i64>,
+    picks: &[u8],
+) -> Result<(Picked, Ready), Refusal> {
+    let (rows, plan) = lent.judge()?;
+    let leaves = judge_state(rows, &plan, &state, &sums)?;
+    let net = Net {
+        rows,
+        plan: &plan,
+        leaves: &leaves,
+        movements: lent.movements,
+    };
+    let picked = take_all(net, &mut state, &mut sums, picks);
+    Ok((picked, ready_by(&leaves, &state)))
+}
+
+/// Picks in turn, up to the first that is refused.
+fn take_all(net: Net, state: &mut State, sums: &mut [i64], picks: &[u8]) -> Picked {
     let mut crew = Crew::new(net, state, sums);
     for (index, &pick) in picks.iter().enumerate() {
         if let Err(number) = crew.take(usize::from(pick)) {
@@ -128,11 +152,16 @@ pub fn picks(lent: &Lent, state: &mut State, sums: &mut [i64], picks: &[u8]) -> 
 pub fn ready(lent: &Lent, state: &State, sums: &[i64]) -> Result<Ready, Refusal> {
     let (rows, plan) = lent.judge()?;
     let leaves = judge_state(rows, &plan, state, sums)?;
+    Ok(ready_by(&leaves, state))
+}
+
+/// The ready set by the moves made.
+fn ready_by(leaves: &Leaves, state: &State) -> Ready {
     let is_ready = |worker: usize| {
         let next = leaves.next_leaf(worker, state.made[worker], 0);
         next.is_some_and(|leaf| !leaves.leaves[leaf].waits(&state.made))
     };
-    Ok(Ready::of(leaves.workers, is_ready))
+    Ready::of(leaves.workers, is_ready)
 }
 
 /// Writes "the sums in original order" of a finished run.

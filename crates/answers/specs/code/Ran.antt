@@ -6,12 +6,12 @@ use lib.IntN.{ℤ}
 use lib.ListN.{length, take, drop}
 use Rattle.base.specs.Replies.{lent}
 use Rattle.run.specs.State.{State}
-use Rattle.run.specs.Answers.{Answer, picked}
+use Rattle.run.specs.Answers.{Answer, picked, previewed}
 use Rattle.machine.specs.Record.{stateOf}
 use Rattle.machine.specs.declared.state.State as code
 use Rattle.calls.specs.Performed.{asAnswer}
 use Rattle.calls.specs.declared.Response.{Response}
-use Rattle.calls.specs.declared.Response.the-variants.{Picked, Forces}
+use Rattle.calls.specs.declared.Response.the-variants.{Picked, Forces, Previewed}
 use Rattle.words.specs.LittleEndian.{unsigned, signed}
 use Rattle.answers.specs.Runs.{stateBytes, countBytes, replyTo, forceBytes}
 
@@ -29,6 +29,14 @@ pub record Taken (n : ℕ) (s : State) (place : ℕ) (state sums : List ℕ) (af
   pub room : n ≤ length sums / 8
   pub low : place < 2 ^ 32
 
+-- the parts of a preview's word, each below what is above it
+pub record Parts (taken number place bits count : ℕ) : Type 0 where
+  pub taken-low : taken < 2 ^ 32
+  pub number-low : number < 2 ^ 8
+  pub place-low : place < 2 ^ 32
+  pub count-low : count < 2 ^ 8
+  pub bits-low : bits < 2 ^ 16
+
 -- a call with the answer a, that leaves state s if that is of picks: the code's answer,
 -- with the forces that it may have, and what stands in the lists
 pub record Ran (n : ℕ) (a : Answer) (s : State) (state sums old : List ℕ) (answer : Response) (after : code.State) (new : List ℤ) (left : List ℕ) : Type 0 where
@@ -36,10 +44,15 @@ pub record Ran (n : ℕ) (a : Answer) (s : State) (state sums old : List ℕ) (a
   pub answers : asAnswer answer made ≡ a
   pub lists : left ≡ lent (replyTo a) (forceBytes a) old
   pub taken : (k q p : ℕ) → a ≡ picked k q p → Taken n s p state sums after new
+  pub looked : (t q p b k : ℕ) → a ≡ previewed t q p b k → Parts t q p b k
+
+-- the parts of a preview's word fit it
+abbrev pub Looks : Response → Type 0
+Looks answer = (t q p b k : ℕ) → answer ≡ Previewed t q p b k → Parts t q p b k
 
 -- the place of picks' ending fits a word's low half
 abbrev pub LowPlace : Response → Type 0
-LowPlace answer = (k q p : ℕ) → answer ≡ Picked k q p → p < 2 ^ 32
+LowPlace answer = ((k q p : ℕ) → answer ≡ Picked k q p → p < 2 ^ 32) × Looks answer
 
 -- picks have a whole state and n sums to be stored over
 abbrev pub PicksFit : (n : ℕ) → Response → (new : List ℤ) (state sums : List ℕ) → Type 0

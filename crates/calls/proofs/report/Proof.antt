@@ -51,7 +51,7 @@ is-fine-requires : tie.Need-is-fine-requires
 is-fine-requires c κs = let g = start c .pre .2 in rising-of _ (g .accepted) (counted c _ _ g)
 
 returns : tie.Need-returns
-returns c values x schedule g d =
+returns c values x schedule g d p =
     let f = c .before .before in
     made-refused _ _ _ _ (counted-state g (counted f values x g) _ refl ∙ fails (c .before .is-fine .ensures) (c .if1 .taken))
 
@@ -71,11 +71,11 @@ ready-set-requires c κs =
     (_, planned-of g (f .before .before .sizes-of .ensures _ (lent-of g)), counted f _ _ g)
 
 returns-2 : tie.Need-returns-2
-returns-2 c values x schedule g d =
+returns-2 c values x schedule g d p =
     let m = c .before .before in
     let e = m .before in
     let f = e .before .before in
-    rw (asks-ready _ (m .match .keys2) d)
+    rw (asks-ready _ (m .match .keys2) d p)
     (made-ready _ _ _ (fine e values x g) _ (c .ready-set .ensures _ _ (planned-of g (f .before .before .sizes-of .ensures _ (lent-of g))) (counted f values x g)))
 
 -- ---- the force list
@@ -102,7 +102,7 @@ same-length : tie.Need-same-length
 same-length c = search needs
 
 returns-3 : tie.Need-returns-3
-returns-3 c values x schedule g d =
+returns-3 c values x schedule g d p =
     let o = c .before .before .before in
     let r = o .before in
     let t = r .before in

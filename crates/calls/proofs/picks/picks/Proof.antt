@@ -19,7 +19,7 @@ use Rattle.layout.proofs.UpdateRoom.{rising-of}
 use Rattle.steps.proofs.GivenTables.{triangle-of}
 use Rattle.machine.specs.Record.{stateOf}
 use Rattle.calls.proofs.Prepared.{given-many, given-displaced, counted-state}
-use Rattle.calls.proofs.Performing.{made-refused, made-picks}
+use Rattle.calls.proofs.Performing.{taken-refused, taken-picks}
 use Rattle.calls.proofs.picks.picks.Statement.{statement}
 use Rattle.calls.proofs.picks.picks.Tie as tie
 
@@ -74,11 +74,11 @@ answered-requires : tie.Need-answered-requires
 answered-requires c κs = search needs
 
 returns : tie.Need-returns
-returns c old zs =
+returns c zs =
     let i = c .before .before in
     let f = i .before in
     rw (c .answered .ensures .0, c .answered .ensures .1)
-    (made-refused _ _ old _ (counted-state (start (begun (laid f)) .pre) (counted f) _ refl ∙ fails (i .is-fine .ensures) (c .before .if1 .taken)))
+    (taken-refused _ _ _ _ (counted-state (start (begun (laid f)) .pre) (counted f) _ refl ∙ fails (i .is-fine .ensures) (c .before .if1 .taken)))
 
 -- there is a state
 fine : (e : tie.Else1) → let s = start (begun (laid (e .before .before))) in isState (job s) (stateOf (s .args .state) (s .args .sums .now)) ≡ true
@@ -106,8 +106,8 @@ take-requires c κs =
       refl,
     )
 
-place-of-requires : tie.Need-place-of-requires
-place-of-requires c κs = search needs
+told-requires : tie.Need-told-requires
+told-requires c κs = search needs
 
 answered-requires-2 : tie.Need-answered-requires-2
 answered-requires-2 c κs = search needs
@@ -116,18 +116,17 @@ same-length : tie.Need-same-length
 same-length c = search needs
 
 returns-2 : tie.Need-returns-2
-returns-2 c old zs =
-    let t = c .before .before .before .before in
+returns-2 c zs =
+    let t = c .before .before .before .before .before in
     let d = t .before .before .before .before .before .before .before in
     let f = d .before .before .before .before in
     let p = f .before .before in
     let u = laid f in
     let g = start (begun u) .pre in
+    let r = t .take .ensures _ (planned-of g (part-sizes-are (u .upper .ensures .1) (p .part-sizes .ensures .0) (p .part-sizes .ensures .1))) (counted f)
+    (triangle-of _ _ (rw (given-many g) at (d .displace .ensures)) (u .upper .ensures .0) (u .upper .ensures .1)) in
     rw (c .answered2 .ensures .0, c .answered2 .ensures .1)
-    (made-picks _ _ old (fine (d .before .before)) _ _
-    (t .take .ensures _ (planned-of g (part-sizes-are (u .upper .ensures .1) (p .part-sizes .ensures .0) (p .part-sizes .ensures .1))) (counted f)
-    (triangle-of _ _ (rw (given-many g) at (d .displace .ensures)) (u .upper .ensures .0) (u .upper .ensures .1)))
-    _ (c .before .place-of .ensures))
+    (taken-picks _ _ _ _ (fine (d .before .before)) _ (r .0) _ (r .1) (c .before .told .ensures zs))
 
 pub picks-spec : {M : Type 1} → statement M
 picks-spec =
@@ -142,7 +141,7 @@ picks-spec =
     returns
     displace-requires
     take-requires
-    place-of-requires
+    told-requires
     answered-requires-2
     same-length
     returns-2)

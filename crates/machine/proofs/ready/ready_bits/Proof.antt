@@ -9,10 +9,10 @@ use Rattle.run.specs.Job.{Job}
 use Rattle.run.specs.Job as job
 use Rattle.run.specs.Machine.{refusal, readyBelow, ready, bits}
 use Rattle.tables.specs.code.Laid.{Laid, Waits}
 use Rattle.machine.proofs.TableWaits.{table-reason}
-use Rattle.calls.proofs.ReadyBits.{bits-turn}
-use Rattle.calls.proofs.ready_set.ready_bits.Statement.{statement}
-use Rattle.calls.proofs.ready_set.ready_bits.Tie as tie
+use Rattle.machine.proofs.ReadyBits.{bits-turn}
+use Rattle.machine.proofs.ready.ready_bits.Statement.{statement}
+use Rattle.machine.proofs.ready.ready_bits.Tie as tie
 
 abbrev Inv-loop : tie.InvT-loop
 Inv-loop made workers first row leaves blocks set₀ w₀ set w =

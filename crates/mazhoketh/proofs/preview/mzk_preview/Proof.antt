@@ -1,0 +1,16 @@
+-- `mzk_preview` meets its contract: the call, then its word.
+use borrow.Author.Needs.{needs}
+use Rattle.answers.proofs.RunPicks.{ran-low, ran-preview}
+use Rattle.mazhoketh.proofs.preview.mzk_preview.Statement.{statement}
+use Rattle.mazhoketh.proofs.preview.mzk_preview.Tie as tie
+
+word-of-preview-requires : tie.Need-word-of-preview-requires
+word-of-preview-requires c κs = ran-low (c .before .before .perform-in .ensures)
+
+returns : tie.Need-returns
+returns c = ran-preview (c .before .before .before .perform-in .ensures) (c .word-of-preview .ensures)
+
+pub mzk-preview-spec : {M : Type 1} → statement M
+mzk-preview-spec =
+    tie.close
+    (tie.spec (search needs) (search needs) (search needs) word-of-preview-requires returns)
