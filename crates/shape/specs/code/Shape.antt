@@ -27,11 +27,6 @@ pub record NextChild (count : ℕ) (ns : List ℕ) (k i r : ℕ) : Type 0 where
   pub same : children k (drop i (records count ns)) ≡ children k (drop r (records count ns))
   pub child : r < count → recordAt ns r .parent ≡ k
 
--- a group's children tile it, if it has any
-unfoldable pub tiles : Group → List Group → Bool
-tiles g [] = true
-tiles g (k ∷ ks) = tiled g (g .start) (g .first) (k ∷ ks)
-
 -- the first n of the order are each row once, and the records, which are not too many, stand depth first
 pub record PlanLists (n : ℕ) (order groups : List ℕ) (count : ℕ) : Type 0 where
   pub order-long : n ≤ length order
