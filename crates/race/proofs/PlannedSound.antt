@@ -1,14 +1,14 @@
 -- Planned plans are sound, also in the lists that the planner's call leaves.
 use mathlib.Core.Path.{_≡_}
-use mathlib.Core.Bool.{Bool, true}
+use mathlib.Core.Bool.{Bool, true, _&&_}
 use mathlib.Core.List.{List, [], _∷_, _++_}
 use Prim.Native.Nat.{ℕ, _*_, _/_, _≤_}
 use native.Mathlib.Omega.{arith}
 use lib.Dec.{leb}
-use lib.ListN.{length, drop, length-append}
+use lib.ListN.{length, getD, drop, length-append}
 use borrow.Author.Tests.{leb-true, le-leb}
 use Rattle.base.specs.Replies.{Reply, accepted, inTurn}
-use Rattle.base.proofs.Booleans.{and-left, conj-first, conj-at}
+use Rattle.base.proofs.Booleans.{and-left, and-right, conj-first, conj-at}
 use Rattle.base.proofs.Replies.{lent-accepted}
 use Rattle.matrix.specs.Matrix.{Matrix, isMatrix, neighbours, matrixCheck}
 use Rattle.matrix.proofs.Matrix.{graph}
@@ -21,16 +21,29 @@ use Rattle.race.specs.Planner.{plan, areParameters, planReply}
 use Rattle.race.specs.PlannedSound.{orderLeft, groupsLeft, PlanRoom, PlanLeft, PlannedSound}
 use Rattle.race.proofs.Planned.{rows-few, rows-sound}
 
--- 1 to 16 workers, and a distance
-limits : (w p k : ℕ) → areParameters w p k ≡ true → (1 ≤ w) × (w ≤ maxWorkers) × (isDistance k ≡ true)
-unfolding areParameters
-limits w p k ok =
-    let tests = leb w maxWorkers ∷ leb 50 p ∷ leb p 99 ∷ isDistance k ∷ [] in
-    (leb-true 1 w (conj-first (leb 1 w) tests ok), leb-true w maxWorkers (conj-at (leb 1 w) tests ok 0), conj-at (leb 1 w) tests ok 3)
+-- parameters are within their limits
+pub record Limits (w p k : ℕ) : Type 0 where
+  pub some : 1 ≤ w
+  pub workers : w ≤ maxWorkers
+  pub share : p ≤ 100
+  pub distance : isDistance k ≡ true
+  pub far : (1 ≤ k) × (k ≤ maxDistance)
 
-some-distance : (k : ℕ) → isDistance k ≡ true → 1 ≤ k
-unfolding isDistance
-some-distance k h = leb-true 1 k (and-left (leb 1 k) (leb k maxDistance) h)
+pub limits : (w p k : ℕ) → areParameters w p k ≡ true → Limits w p k
+unfolding areParameters isDistance
+limits w p k ok = record {
+  some = leb-true 1 w (conj-first (leb 1 w) tests ok);
+  workers = leb-true w maxWorkers (at 0);
+  share = omega (arith, leb-true p 99 (at 2));
+  distance = at 3;
+  far = (leb-true 1 k (and-left (leb 1 k) (leb k maxDistance) (at 3)), leb-true k maxDistance (and-right (leb 1 k) (leb k maxDistance) (at 3)));
+}
+  where
+    tests : List Bool
+    tests = leb w maxWorkers ∷ leb 50 p ∷ leb p 99 ∷ (leb 1 k && leb k maxDistance) ∷ []
+
+    at : (i : ℕ) → getD tests i true ≡ true
+    at = conj-at (leb 1 w) tests ok
 
 module _ (m : Matrix) (w p k : ℕ) where
   abbrev made : Plan
@@ -39,11 +52,11 @@ module _ (m : Matrix) (w p k : ℕ) where
   module _ (ok : isMatrix m ≡ true) (given : areParameters w p k ≡ true) where
     made-sound : isSoundAt k m made ≡ true
     unfolding isSoundAt plan
-    made-sound = let (lo, hi, far) = limits w p k given in rows-sound (neighbours m) (m .n) (record { reach = k; p = p }) (graph m ok) (some-distance k far) w lo hi
+    made-sound = let l = limits w p k given in rows-sound (neighbours m) (m .n) (record { reach = k; p = p }) (graph m ok) (l .far .0) w (l .some) (l .workers)
 
     made-few : length (made .groups) ≤ 481
     unfolding plan
-    made-few = let (lo, hi, far) = limits w p k given in rows-few (neighbours m) (m .n) (record { reach = k; p = p }) (graph m ok) (some-distance k far) w hi
+    made-few = let l = limits w p k given in rows-few (neighbours m) (m .n) (record { reach = k; p = p }) (graph m ok) (l .far .0) w (l .workers)
 
     -- the plan's order has all rows
     pub made-long : length (made .order) ≡ m .n
@@ -81,7 +94,7 @@ module _ (m : Matrix) (w p k : ℕ) where
       unfolding checkReply matrixCheck isPlan isPlanAt inTurn
       made-left = record {
         accepts = made-accepted;
-        passes = let (lo, hi, far) = limits w p k given in rw (ok, far, left-lent (isSoundAt k m) made-sound);
+        passes = rw (ok, limits w p k given .distance, left-lent (isSoundAt k m) made-sound);
         runs = λ enough. left-lent (isSound m) (distances .enough m made k ok enough made-sound);
       }
 
