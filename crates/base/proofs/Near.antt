@@ -1,16 +1,16 @@
 -- Rows within some joins of others: more joins, more rows, and a path cut in two.
-use mathlib.Core.Path.{_≡_, refl, sym, ap, subst, fun-ext}
+use mathlib.Core.Path.{_≡_, refl, sym, ap, _∙_, subst, fun-ext}
 use mathlib.Core.Logic.{_⊎_, inl, inr}
-use mathlib.Core.Bool.{Bool, true, false, _&&_, _||_, true≢false}
+use mathlib.Core.Bool.{Bool, true, false, _||_, true≢false}
 use mathlib.Core.List.{List, [], _∷_}
 use Prim.Native.Nat.{ℕ, zero, suc, _+_, _-_, _≤_, _<_}
 use native.Mathlib.Omega.{arith}
 use lib.Dec.{eqb}
 use borrow.Author.Tests.{eqb-true, eq-eqb}
-use Rattle.base.specs.Lists.{any, isIn, range}
+use Rattle.base.specs.Lists.{any, isIn}
 use Rattle.base.specs.Near.{near}
-use Rattle.base.proofs.Booleans.{or-true, or-cases, and-left, and-right, both-ways}
-use Rattle.base.proofs.Lists.{any-of, any-get, isIn-range, range-in}
+use Rattle.base.proofs.Booleans.{or-true, or-cases, both-ways}
+use Rattle.base.proofs.Lists.{any-of, any-get}
 use Rattle.base.proofs.Graph.{Graph}
 
 self : (v : ℕ) → isIn (v ∷ []) v ≡ true
@@ -127,20 +127,18 @@ module _ (adj : ℕ → List ℕ) where
         go ih (inl x) = subst (λ (j : ℕ). near adj j T v ≡ true) e (ih (suc a) z (near-stay a T z p) x)
         go ih (inr (x, c, d)) = subst (λ (j : ℕ). near adj j T v ≡ true) e (ih (suc a) x (near-step a T z x (graph .both x z c) p) d)
 
-    -- xs and ys are within a + b joins of each other if some row is within a joins of xs and b joins of ys
-    pub near-halves : (a b : ℕ) (xs ys : List ℕ) → ((v : ℕ) → isIn ys v ≡ true → v < n)
-        → any (near adj (a + b) xs) ys ≡ any (λ z. near adj a xs z && near adj b ys z) (range 0 n)
-    near-halves a b xs ys low = both-ways (any (near adj (a + b) xs) ys) (any (λ z. near adj a xs z && near adj b ys z) (range 0 n)) to fro
+    -- xs and ys are within a + b joins of each other if some row within b joins of ys is within a joins of xs
+    pub near-halves : (a b : ℕ) (xs ys zs : List ℕ) → ((z : ℕ) → isIn zs z ≡ near adj b ys z) → any (near adj (a + b) xs) ys ≡ any (near adj a xs) zs
+    near-halves a b xs ys zs around = both-ways (any (near adj (a + b) xs) ys) (any (near adj a xs) zs) to fro
       where
-        to : any (near adj (a + b) xs) ys ≡ true → any (λ z. near adj a xs z && near adj b ys z) (range 0 n) ≡ true
+        to : any (near adj (a + b) xs) ys ≡ true → any (near adj a xs) zs ≡ true
         to h =
             let (v, o, k) = any-get (near adj (a + b) xs) ys h in
             let (z, p, q) = near-cut a b xs v k in
-            let r : near adj b ys z ≡ true = near-of b (v ∷ []) ys (λ x m. subst (λ (y : ℕ). isIn ys y ≡ true) (sym (alone v x m)) o) z q in
-            any-of (λ z. near adj a xs z && near adj b ys z) (range 0 n) z (isIn-range 0 n z (omega arith) (omega (arith, near-below b ys low z r))) (rw (p, r) refl)
+            any-of (near adj a xs) zs z (around z ∙ near-of b (v ∷ []) ys (λ x m. subst (λ (y : ℕ). isIn ys y ≡ true) (sym (alone v x m)) o) z q) p
 
-        fro : any (λ z. near adj a xs z && near adj b ys z) (range 0 n) ≡ true → any (near adj (a + b) xs) ys ≡ true
+        fro : any (near adj a xs) zs ≡ true → any (near adj (a + b) xs) ys ≡ true
         fro h =
-            let (z, i, t) = any-get (λ z. near adj a xs z && near adj b ys z) (range 0 n) h in
-            let (v, o, q) = near-one b ys z (and-right (near adj a xs z) (near adj b ys z) t) in
-            any-of (near adj (a + b) xs) ys v o (near-join a b xs v z (and-left (near adj a xs z) (near adj b ys z) t) q)
+            let (z, i, t) = any-get (near adj a xs) zs h in
+            let (v, o, q) = near-one b ys z (sym (around z) ∙ i) in
+            any-of (near adj (a + b) xs) ys v o (near-join a b xs v z t q)

@@ -1,13 +1,13 @@
 -- What the check of a plan's shape goes through: its order, how its groups nest, how they tile.
 use mathlib.Core.Path.{_≡_}
-use mathlib.Core.Bool.{Bool, true}
+use mathlib.Core.Bool.{true}
 use mathlib.Core.List.{List, [], _∷_}
 use Prim.Native.Nat.{ℕ, zero, suc, _*_, _≤_, _<_}
 use lib.ListN.{length, getD, take, drop}
 use Rattle.base.specs.Lists.{isIn, bit}
 use Rattle.matrix.specs.Limits.{maxRows}
-use Rattle.plan.specs.Groups.{Group, width, records}
-use Rattle.plan.specs.Sound.{maxGroups, eachOnce, children, tiled}
+use Rattle.plan.specs.Groups.{width, records}
+use Rattle.plan.specs.Sound.{maxGroups, eachOnce, children}
 use Rattle.plan.specs.code.Checks.{recordAt, standsDepthFirst}
 
 -- the marks of n rows say which of them are in the list

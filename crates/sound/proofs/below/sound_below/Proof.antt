@@ -8,7 +8,7 @@ use Rattle.base.proofs.Booleans.{fails, holds}
 use Rattle.matrix.specs.Matrix.{neighbours}
 use Rattle.matrix.specs.code.Pattern.{pattern}
 use Rattle.plan.specs.Groups.{red, blue}
-use Rattle.plan.specs.Sound.{children, likeApart, childrenSound}
+use Rattle.plan.specs.Sound.{children, beyond, likeApart, childrenSound}
 use Rattle.plan.specs.code.Checks.{recordAt, belowWhole, ofColour}
 use Rattle.sound.proofs.GroupTests.{tiles-fail, sound-colours}
 use Rattle.sound.proofs.below.sound_below.Statement.{statement}
@@ -21,7 +21,7 @@ returns : tie.Need-returns
 returns c =
     let a = c .before .before .before .before .before .before .args in
     record {
-      is = sym (tiles-fail (neighbours (pattern (a .n) (a .starts .now) (a .columns .now))) (take (a .n) (a .order .now)) (recordAt (a .groups .now) (a .k)) (children (a .k) (belowWhole (a .count) (a .groups .now)))
+      is = sym (tiles-fail (beyond (neighbours (pattern (a .n) (a .starts .now) (a .columns .now))) (a .k)) (take (a .n) (a .order .now)) (recordAt (a .groups .now) (a .parent)) (children (a .parent) (belowWhole (a .count) (a .groups .now)))
           (fails (c .before .tiled-below .ensures) (c .if1 .taken)));
       marked = λ e. absurd (true≢false (sym e));
     }
@@ -34,13 +34,13 @@ apart-below-requires c κs =
 
 -- what is left once the group is tiled
 two-colours : (c : tie.Else1) → let a = c .before .before .before .before .before .before .args in
-    let adj = neighbours (pattern (a .n) (a .starts .now) (a .columns .now)) in
-    let ks = children (a .k) (belowWhole (a .count) (a .groups .now)) in
-    childrenSound adj (take (a .n) (a .order .now)) (recordAt (a .groups .now) (a .k)) ks
-    ≡ likeApart adj (take (a .n) (a .order .now)) (ofColour red ks) && likeApart adj (take (a .n) (a .order .now)) (ofColour blue ks)
+    let far = beyond (neighbours (pattern (a .n) (a .starts .now) (a .columns .now))) (a .k) in
+    let ks = children (a .parent) (belowWhole (a .count) (a .groups .now)) in
+    childrenSound far (take (a .n) (a .order .now)) (recordAt (a .groups .now) (a .parent)) ks
+    ≡ likeApart far (take (a .n) (a .order .now)) (ofColour red ks) && likeApart far (take (a .n) (a .order .now)) (ofColour blue ks)
 two-colours c =
     let a = c .before .before .before .before .before .before .args in
-    sound-colours (neighbours (pattern (a .n) (a .starts .now) (a .columns .now))) (take (a .n) (a .order .now)) (recordAt (a .groups .now) (a .k)) (children (a .k) (belowWhole (a .count) (a .groups .now)))
+    sound-colours (beyond (neighbours (pattern (a .n) (a .starts .now) (a .columns .now))) (a .k)) (take (a .n) (a .order .now)) (recordAt (a .groups .now) (a .parent)) (children (a .parent) (belowWhole (a .count) (a .groups .now)))
     (holds (c .before .tiled-below .ensures) (c .if1 .left))
 
 returns-2 : tie.Need-returns-2
