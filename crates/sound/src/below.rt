@@ -6,7 +6,7 @@ use plan::fields::BLUE;
 use plan::fields::RED;
 use shape::tiling::tiled_below;
 ghost use mathlib.Core.Path.{_≡_};
-ghost use Prim.Native.Nat.{_+_, _^_, _<_};
+ghost use Prim.Native.Nat.{_+_, _^_, _≤_, _<_};
 ghost use lib.ListN.{take};
 ghost use Rattle.matrix.specs.Matrix.{neighbours};
 ghost use Rattle.matrix.specs.code.Pattern.{pattern};

@@ -61,8 +61,8 @@ fn make(call: &str, stack: usize, given: &Given) -> Option<u64> {
         "survey" => on_stack(stack, || {
             library::survey(given.matrix(), &given.movements, 1, given.n / 2, &mut forces, &mut shift)
         }),
-        "plan" => on_stack(stack, || library::plan(given.matrix(), 16, given.p, &mut order, &mut groups)),
-        "check" => on_stack(stack, || library::check(given.matrix(), given.plan())),
+        "plan" => on_stack(stack, || library::plan(given.matrix(), 16, given.p, 4, &mut order, &mut groups)),
+        "check" => on_stack(stack, || library::check(given.matrix(), given.plan(), 4)),
         "write_plan" => on_stack(stack, || library::write_plan(given.n, given.plan(), &mut file)),
         "read_plan" => on_stack(stack, || library::read_plan(&given.file, &mut order, &mut groups)),
         "picks" => on_stack(stack, || library::picks(given.run(), &mut state, &mut sums, &given.schedule)),

@@ -40,16 +40,16 @@ small : (c : tie.In-loop Inv-loop μ-loop) → c .before .loop .i < 512
 small c = omega (arith, start (c .before) .pre .1 .few, c .loop-test .taken)
 
 cast-sound-below : tie.Need-cast-sound-below Inv-loop μ-loop
-cast-sound-below c = omega (arith, small (c .before))
+cast-sound-below c = omega (arith, small (c .before .before))
 
 mul-sound-below : tie.Need-mul-sound-below Inv-loop μ-loop
-mul-sound-below c = omega (arith, small (c .before))
+mul-sound-below c = omega (arith, small (c .before .before))
 
 sound-below-requires : tie.Need-sound-below-requires Inv-loop μ-loop
 sound-below-requires c κs =
-    let l = c .before .before in
+    let l = c .before .before .before in
     let s = start l in
-    (s .pre .0, s .pre .1, c .before .loop-test .taken, l .loop .inv .1, omega (arith, small (c .before)))
+    (s .pre .0, s .pre .1, c .before .before .loop-test .taken, l .loop .inv .1, l .loop .inv .2, omega (arith, small (c .before .before)), s .pre .2)
 
 -- the test of group k, and the groups after it
 turn : (c : tie.In-loop Inv-loop μ-loop) → let l = c .before in let a = start l .args in
@@ -63,22 +63,24 @@ turn c =
     ∙ all-next (beyond (neighbours (pattern (a .n) (a .starts .now) (a .columns .now))) (a .k)) (take (a .n) (a .order .now)) (belowWhole (a .count) (a .groups .now)) (a .count) (l .loop .i) (a .groups .now) (c .loop-test .taken)
 
 returns : tie.Need-returns Inv-loop μ-loop
-returns c = sym (turn (c .before .before .before) ∙ rw (fails (c .before .sound-below .ensures .is) (c .if1 .taken)))
+returns c = sym (turn (c .before .before .before .before) ∙ rw (fails (c .before .sound-below .ensures .is) (c .if1 .taken)))
 
 add-i : tie.Need-add-i Inv-loop μ-loop
-add-i c = omega (arith, small (c .before .before .before))
+add-i c = omega (arith, small (c .before .before .before .before))
 
 loop-less : tie.Need-loop-less Inv-loop μ-loop
-loop-less c = omega (arith, c .before .before .before .loop-test .taken)
+loop-less c = omega (arith, c .before .before .before .before .loop-test .taken)
 
 loop-again : tie.Need-loop-again Inv-loop μ-loop
 loop-again c =
     let b = c .before in
-    let l = b .before .before .before in
+    let l = b .before .before .before .before in
+    let marked = b .sound-below .ensures .marked (holds refl (c .if1 .left)) in
     let e : 1024 * l .loop .i + 512 + 512 ≡ 1024 * (l .loop .i + 1) = omega arith in (
-      turn (b .before .before) ∙ rw (holds (b .sound-below .ensures .is) (c .if1 .left)),
-      subst (λ (top : ℕ). UpTo top (b .sound-below .last .1 .1 .1 .1 .1 .1 .0)) e (b .sound-below .ensures .marked (holds refl (c .if1 .left))),
-      omega (arith, b .before .before .loop-test .taken),
+      turn (b .before .before .before) ∙ rw (holds (b .sound-below .ensures .is) (c .if1 .left)),
+      subst (λ (top : ℕ). UpTo top (b .sound-below .last .1 .1 .1 .1 .1 .1 .0)) e (marked .0),
+      subst (λ (top : ℕ). UpTo top (b .sound-below .last .1 .1 .1 .1 .1 .1 .1 .0)) e (marked .1),
+      omega (arith, b .before .before .before .loop-test .taken),
     )
 
 returns-2 : tie.Need-returns-2 Inv-loop μ-loop
