@@ -196,7 +196,14 @@ pub fn survey(
 pub fn plan(matrix: &MatrixTwins, workers: u32, p: u32, k: u32, lists: &mut [Twin; 2]) -> u64 {
     let [order, groups] = lists;
     let (matrix_ours, matrix_theirs) = (matrix.ours(), matrix.theirs());
-    let ours = library::plan(matrix_ours, workers, p, k, order.ours_mut(), groups.ours_mut());
+    let ours = library::plan(
+        matrix_ours,
+        workers,
+        p,
+        k,
+        order.ours_mut(),
+        groups.ours_mut(),
+    );
     let theirs = calls::plan(
         matrix_theirs,
         workers,

@@ -191,7 +191,17 @@ pub fn plan(
     ensures lent_groups { λ r. ⌜ now (groups .exit) ≡ lent (planReply (matrixOf n (now (starts .entry)) (now (columns .entry)) (now (values .entry))) workers p k (length (now (order .entry))) (width * length (now (groups .entry))))
         (map ofGroup (plan (matrixOf n (now (starts .entry)) (now (columns .entry)) (now (values .entry))) workers p k .groups)) (now (groups .entry)) ⌝ }
 {
-    let made = plan_flat(n, starts, columns, values, workers, p, k, order, groups.len());
+    let made = plan_flat(
+        n,
+        starts,
+        columns,
+        values,
+        workers,
+        p,
+        k,
+        order,
+        groups.len(),
+    );
     gather(made.numbers, made.count, groups);
     made.answer
 }

@@ -90,5 +90,14 @@ pub extern "C" fn mzk_check(
 ) -> u64
     ensures { λ r. ⌜ r ≡ word (checkReply (matrixIn n (now («row_starts» .entry)) (now (columns .entry)) (now (values .entry))) (unsigned 4 (now (order .entry))) (unsigned 4 (now (groups .entry))) «group_count» k) ⌝ }
 {
-    check_in(n, row_starts, columns, values, order, groups, group_count, k)
+    check_in(
+        n,
+        row_starts,
+        columns,
+        values,
+        order,
+        groups,
+        group_count,
+        k,
+    )
 }

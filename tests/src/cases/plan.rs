@@ -38,7 +38,12 @@ pub fn check(rng: &mut Prng, seen: &mut Seen) {
     let mut k = 1 + rng.below(4) as u32;
     let plan = match rng.below(2) {
         0 => plans::any_plan(rng, &matrix),
-        _ => planner::plan_at(matrix.rows(), 1 + rng.below(WORKERS) as u32, 60, 1 + rng.below(4) as u32),
+        _ => planner::plan_at(
+            matrix.rows(),
+            1 + rng.below(WORKERS) as u32,
+            60,
+            1 + rng.below(4) as u32,
+        ),
     };
     if rng.below(12) == 0 {
         k = rng.one_of(&[0, 5, u32::MAX]);

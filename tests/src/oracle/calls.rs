@@ -75,7 +75,14 @@ pub fn survey(
 }
 
 /// The plan of a matrix; counts its groups.
-pub fn plan(matrix: MatrixLists, workers: u32, p: u32, k: u32, order: &mut [u8], groups: &mut [u8]) -> u64 {
+pub fn plan(
+    matrix: MatrixLists,
+    workers: u32,
+    p: u32,
+    k: u32,
+    order: &mut [u8],
+    groups: &mut [u8],
+) -> u64 {
     let lists = Lists::of(matrix);
     let mut plan = || {
         let rows = lists.rows()?;
