@@ -68,7 +68,8 @@ static void check_chain(void)
         end += sprintf(end, "%d %d -1\n%d %d 2\n", row, row - 1, row, row);
     CHECK(is(read_text((size_t)(end - text), 0, 0), MZK_ACCEPTED, 8));
     CHECK(is(mzk_plan(MATRIX(8), 2, 60, 2, order, sizeof order, groups, sizeof groups), MZK_ACCEPTED, 5));
-    CHECK(is(mzk_plan(MATRIX(8), 2, 60, 2, order, sizeof order, groups, 4 * 5 * MZK_GROUP_FIELDS - 1), MZK_TOO_SHORT, 5));
+    CHECK(is(mzk_plan(MATRIX(8), 2, 60, 2, order, sizeof order, groups, 4 * 5 * MZK_GROUP_FIELDS - 1),
+             MZK_TOO_SHORT, 5));
     CHECK(is(mzk_plan(MATRIX(8), 2, 49, 2, order, sizeof order, groups, sizeof groups), MZK_PARAMETERS, 0));
     CHECK(is(mzk_check(MATRIX(8), order, sizeof order, groups, sizeof groups, 5, 2), MZK_ACCEPTED, 0));
     CHECK(is(mzk_plan(MATRIX(8), 2, 60, 5, order, sizeof order, groups, sizeof groups), MZK_PARAMETERS, 0));

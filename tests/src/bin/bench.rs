@@ -291,6 +291,7 @@ const EACH: [Rules; 3] = [
     Rules {
         load: planner::alike,
         root: planner::alike,
+        k: planner::DISTANCE,
     },
     Rules {
         root: planner::alike,
