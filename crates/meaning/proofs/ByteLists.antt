@@ -202,8 +202,12 @@ module _ (m : Matrix) (w p k : ℕ) (order groups : List ℕ) (returned : ℕ) (
   planned-left =
       let size = length (plan m w p k .groups) in
       let count : groupCount ≡ size = omega (arith, made .groups-size, length-flat (plan m w p k .groups)) in
-      let again = rw (left-lists .accepts, lent-again size (plan m w p k .order) rows, lent-again size (flat (plan m w p k .groups)) numbers) at (left-lists .passes, left-lists .runs) in
-      rw (unsigned-left ok (plan m w p k .order) (small .rows) order (a .order-left), unsigned-left ok (flat (plan m w p k .groups)) (small .numbers) groups (a .groups-left), count) again
+      let order-again = lent-again size (plan m w p k .order) rows in
+      let groups-again = lent-again size (flat (plan m w p k .groups)) numbers in
+      let passes = rw (left-lists .accepts, order-again, groups-again) at (left-lists .passes) in
+      let order-is = unsigned-left ok (plan m w p k .order) (small .rows) order (a .order-left) in
+      let groups-are = unsigned-left ok (flat (plan m w p k .groups)) (small .numbers) groups (a .groups-left) in
+      (rw (order-is, groups-are, count) passes, λ enough. rw (order-is, groups-are, count) (rw (left-lists .accepts, order-again, groups-again) at (left-lists .runs enough)))
 
 -- ---- surveying
 
