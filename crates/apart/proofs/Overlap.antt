@@ -82,8 +82,8 @@ module _ (n : ℕ) (starts columns : List ℕ) where
     around-near (suc j) xs =
         fun-ext (λ v. touched-near (around n starts columns j xs) v ∙ ap (λ (p : ℕ → Bool). p v || any p (adj v)) (around-near j xs))
 
-    -- two lists of rows are beyond k joins of each other if no row is within k - k / 2 joins of the one and k / 2 of the
-    -- other
+    -- two lists of rows are beyond k joins of each other if no row is within k - k / 2 joins of the one and k / 2 of
+    -- the other
     pub overlap : (k : ℕ) (xs ys : List ℕ) → any (isIn (around n starts columns (k - k / 2) xs)) (around n starts columns (k / 2) ys) ≡ not (beyond (neighbours (pattern n starts columns)) k xs ys)
     unfolding beyond adj
     overlap k xs ys =

@@ -40,8 +40,8 @@ pub record Extent : Type 0 where
   pub levels : ℕ
   pub workers : ℕ
 
--- "a pair takes all if fewer than 2 × k would be left", "or if b is not below the free workers, the pair takes all levels
--- and workers left"
+-- "a pair takes all if fewer than 2 × k would be left", "or if b is not below the free workers, the pair takes all
+-- levels and workers left"
 unfoldable pub extentOf : (reach b all free : ℕ) → End → Extent
 extentOf reach b all free e =
     cond (ltb (all - e .levels) (2 * reach) || leb free b)
@@ -56,8 +56,8 @@ extentFrom reach w R all free (e ∷ es) =
     let b = nearest (e .load) w R in
     extentOf reach b all free (best (λ f. off b (f .load) w R) e es)
 
--- the next pair: "From the first free level", at least 2 × k "levels are taken, then more until closeness is above p per
--- cent"
+-- the next pair: "From the first free level", at least 2 × k "levels are taken, then more until closeness is above p
+-- per cent"
 unfoldable pub extent : (w R : ℕ) (policy : Policy) (free : ℕ) → List ℕ → Extent
 extent w R policy free qs =
     extentFrom (policy .reach) w R (length qs) free (fromFirst (λ e. serves (e .load) w R (policy .p)) (drop (2 * policy .reach - 1) (endsFrom 0 0 qs)))

@@ -7,7 +7,8 @@ ghost use Rattle.plan.specs.Sound.{maxWorkers};
 ghost use Rattle.extents.specs.Extents.{nearest, serves, extent, cut};
 ghost use Rattle.extents.specs.code.Scans.{maxLoad, policyOf, endsOn, nearestEnd, Scale};
 
-// What the rules take: a colour has at least reach levels, a pair twice as many, and closeness is to be above p per cent.
+// What the rules take: a colour has at least reach levels, a pair twice as many, and closeness is to be above p per
+// cent.
 pub struct Policy {
     pub reach: usize,
     pub p: u32,

@@ -85,8 +85,8 @@ fn check_flat(
     sound::check(n, starts, columns, values, order, &numbers, count as u32, k)
 }
 
-// The check of a plan at the distance k: 5 if the lists are no matrix, 7 if k is no distance, 8 if the plan is not sound
-// at k.
+// The check of a plan at the distance k: 5 if the lists are no matrix, 7 if k is no distance, 8 if the plan is not
+// sound at k.
 pub fn check(
     n: u32,
     starts: &[u32],

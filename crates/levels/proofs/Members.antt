@@ -17,7 +17,7 @@ use Rattle.levels.proofs.Root.{root-same}
 module _ (adj : ℕ → List ℕ) (reach n : ℕ) (S T : List ℕ) (same : isIn S ≡ isIn T) where
   region-same : region adj reach n S ≡ region adj reach n T
   unfolding region
-  region-same = ap (λ (p : ℕ → Bool). filter p (range 0 n)) (near-same adj (reach - 1) S T same)
+  region-same = ap (λ (p : ℕ → Bool). filter p (range 0 n)) (near-same adj _ S T same)
 
   next-same : (last rest : List ℕ) → isNext adj S last rest ≡ isNext adj T last rest
   unfolding isNext

@@ -50,8 +50,8 @@ pub record ByteLists : Type 0 where
   -- room: the second call returns its rows and leaves them
   pub written-read : (m : Matrix) → isMatrix m ≡ true → (old : List ℕ) (returned : ℕ) (new : List ℕ) → length (written m) ≤ length old
       → Answered (writeReply m (length old)) (written m) old returned new → (r : Reading (take returned new)) → RoomFor m r → (r .returned ≡ m .n) × SameRows (leftBy (m .n) r) m
-  -- a plan that is made at k, as mzk_plan promises, passes the check at k in the bytes where it is left, whatever stands
-  -- past it; made at 2, 3 or 4 it is a plan for every run: no later call refuses it with 8
+  -- a plan that is made at k, as mzk_plan promises, passes the check at k in the bytes where it is left, whatever
+  -- stands past it; made at 2, 3 or 4 it is a plan for every run: no later call refuses it with 8
   pub planned : (m : Matrix) (workers p k : ℕ) (order groups : List ℕ) (returned : ℕ) (newOrder newGroups : List ℕ) → PlanAnswered m workers p k order groups returned newOrder newGroups
       → (count : ℕ) → planIn m workers p k order groups ≡ accepted count
       → (checkReply m (unsigned 4 newOrder) (unsigned 4 newGroups) count k ≡ accepted 0) × (2 ≤ k → isPlan m (unsigned 4 newOrder) (unsigned 4 newGroups) count ≡ true)

@@ -14,7 +14,8 @@ use Rattle.lent.specs.Word.{word}
 abbrev pub planIn : Matrix → (workers p k : ℕ) (order groups : List ℕ) → Reply
 planIn m workers p k order groups = planReply m workers p k (length order / 4) (length groups / 4)
 
--- the planner's call, of a matrix, workers, a share, a distance and two lists: the returned word, and the lists after it
+-- the planner's call, of a matrix, workers, a share, a distance and two lists: the returned word, and the lists after
+-- it
 pub record PlanAnswered (m : Matrix) (workers p k : ℕ) (order groups : List ℕ) (returned : ℕ) (newOrder newGroups : List ℕ) : Type 0 where
   pub returns : returned ≡ word (planIn m workers p k order groups)
   pub order-left : newOrder ≡ lent (planIn m workers p k order groups) (unsignedBytes 4 (plan m workers p k .order)) order

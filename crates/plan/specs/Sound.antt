@@ -69,9 +69,9 @@ beyond adj k xs ys = not (any (near adj k xs) ys)
 unfoldable pub stretchOf : List ℕ → Group → List ℕ
 stretchOf order g = take (g .length) (drop (g .start) order)
 
--- The condition on two like-coloured children of one parent is a test of their rows, far: document 01's, "no freedoms of
--- two like-coloured children of one parent are joined or have a common joined freedom", or document 02's, "no path of k
--- joins or fewer links like-coloured siblings"
+-- The condition on two like-coloured children of one parent is a test of their rows, far: document 01's, "no freedoms
+-- of two like-coloured children of one parent are joined or have a common joined freedom", or document 02's, "no path
+-- of k joins or fewer links like-coloured siblings"
 unfoldable pub likeApart : (far : List ℕ → List ℕ → Bool) (order : List ℕ) → List Group → Bool
 likeApart far order [] = true
 likeApart far order (g ∷ gs) =

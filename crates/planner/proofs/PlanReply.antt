@@ -1,20 +1,17 @@
 -- The reply of a call of the planner, case by case, and what the lent lists then hold.
 use mathlib.Core.Path.{_≡_, sym, _∙_}
-use mathlib.Core.Bool.{true, false, _&&_}
+use mathlib.Core.Bool.{true, false}
 use mathlib.Core.List.{List, _++_}
 use Prim.Native.Nat.{ℕ, _*_, _/_, _≤_, _<_}
 use native.Mathlib.Omega.{arith}
-use lib.Dec.{leb}
 use lib.ListN.{length, take, drop}
-use borrow.Author.Tests.{leb-true, le-leb, lt-leb}
+use borrow.Author.Tests.{le-leb, lt-leb}
 use Rattle.base.specs.Replies.{Reply, accepted, refused, inTurn, lent}
-use Rattle.base.proofs.Booleans.{and-left, and-right}
 use Rattle.base.proofs.Replies.{lent-refused, lent-accepted}
 use Rattle.matrix.specs.Matrix.{Matrix, isMatrix, matrixCheck}
 use Rattle.levels.specs.code.Rows.{Rows, adjOf}
-use Rattle.levels.proofs.Rows.{pattern-neighbours, rows-of, rows-graph}
+use Rattle.levels.proofs.Rows.{pattern-neighbours, rows-of}
 use Rattle.plan.specs.Groups.{Plan, width, flat}
-use Rattle.plan.specs.Sound.{maxWorkers}
 use Rattle.race.specs.Planner.{planRows, plan, areParameters, planReply}
 use Rattle.cycle.specs.code.Records.{Holds}
 use Rattle.race.proofs.PlannedSound.{planned-sound}

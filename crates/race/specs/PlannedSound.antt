@@ -1,5 +1,5 @@
--- "The planner's plans at k are sound at k, by one argument for all four distances": for every matrix, 1 to 16 workers, p
--- from 50 to 99 and k from 1 to 4; they never need more than 481 of the 512 records. So are the plans that its call
+-- "The planner's plans at k are sound at k, by one argument for all four distances": for every matrix, 1 to 16 workers,
+-- p from 50 to 99 and k from 1 to 4; they never need more than 481 of the 512 records. So are the plans that its call
 -- leaves in lent lists.
 use mathlib.Core.Path.{_≡_}
 use mathlib.Core.Bool.{true}

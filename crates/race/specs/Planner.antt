@@ -95,8 +95,9 @@ plan m w p k = planRows (neighbours m) (m .n) (record { reach = k; p = p }) w
 unfoldable pub areParameters : (w p k : ℕ) → Bool
 areParameters w p k = leb 1 w && leb w maxWorkers && leb 50 p && leb p 99 && isDistance k
 
--- The reply: 5, 7 ("A k outside its limits is treated as a bad p"), 9 "of order, groups, counted in records"; accepted with the count of groups.
--- The two lists are then `lent` of the reply, plan's order and its flat groups; room is each list's length
+-- The reply: 5, 7 ("A k outside its limits is treated as a bad p"), 9 "of order, groups, counted in records"; accepted
+-- with the count of groups. The two lists are then `lent` of the reply, plan's order and its flat groups; room is each
+-- list's length
 unfoldable pub planReply : Matrix → (w p k orderRoom groupsRoom : ℕ) → Reply
 planReply m w p k orderRoom groupsRoom =
     inTurn refused (matrixCheck m ∷ check why.badParameter (areParameters w p k) ∷ roomFor (m .n) orderRoom ∷ roomFor (length (plan m w p k .groups)) (groupsRoom / width) ∷ [])

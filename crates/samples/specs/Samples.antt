@@ -210,8 +210,8 @@ samples =
     ∷ (numbers (takenIn chainAnswers ∷ []) is numbers (wholeRun chainJob ∷ []))
     -- the chain is taken: a matrix, displacements, a sound plan
     ∷ (ofTest (isMatrix chain && areDisplacements 8 (chainJob .displacements) && isSound chain (chainJob .plan)) is ofTest true)
-    -- "The planner takes k from 1 to 4"; two joined freedoms at 1 are three groups, for which room for one is short, at 4
-    -- one leaf
+    -- "The planner takes k from 1 to 4"; two joined freedoms at 1 are three groups, for which room for one is short, at
+    -- 4 one leaf
     ∷ (concat (map (λ k. parameterReply 16 k 60) (range 0 6)) is numbers (7 ∷ 0 ∷ 9 ∷ 3 ∷ 0 ∷ 1 ∷ 0 ∷ 1 ∷ 0 ∷ 1 ∷ 7 ∷ 0 ∷ []))
     -- "The planner's plans at k are sound at k": the chain's at 1 to 4
     ∷ (concat (map (λ k. ofTest (isSoundAt k chain (plan chain 2 60 k))) (range 1 4)) is numbers (1 ∷ 1 ∷ 1 ∷ 1 ∷ []))

@@ -1,4 +1,5 @@
--- A group's rows are marked, then the columns of all marked rows, one join after the other: the marked rows are its region.
+-- A group's rows are marked, then the columns of all marked rows, one join after the other: the marked rows are its
+-- region.
 use mathlib.Core.Path.{_≡_, refl, sym, ap, _∙_, subst, fun-ext}
 use mathlib.Core.Bool.{Bool, true, false, not, _&&_, _||_, cond, or-comm}
 use mathlib.Core.List.{List, [], _∷_, map}

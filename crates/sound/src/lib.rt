@@ -109,8 +109,8 @@ pub fn is_plan(
     is_plan_at(n, starts, columns, order, groups, count, RUN_DISTANCE)
 }
 
-// The check of a plan at the distance k: 5 if the lists are no matrix, 7 if k is no distance, 8 if the plan is not sound
-// at k.
+// The check of a plan at the distance k: 5 if the lists are no matrix, 7 if k is no distance, 8 if the plan is not
+// sound at k.
 pub fn check(
     n: u32,
     starts: &[u32],

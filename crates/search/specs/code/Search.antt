@@ -70,7 +70,8 @@ SoFar adj reach n T k marks =
 abbrev pub Kept : (marks marks′ : List ℕ) → Type 0
 Kept marks marks′ = (v : ℕ) → (getD marks′ v 0 ≡ getD marks v 0) ⊎ (3 ≤ getD marks′ v 0)
 
--- from k levels to k′, and then one that is empty: whatever T and its region are, its levels are so far right if they were
+-- from k levels to k′, and then one that is empty: whatever T and its region are, its levels are so far right if they
+-- were
 pub record Spread (adj : ℕ → List ℕ) (n k k′ : ℕ) (marks marks′ queue′ : List ℕ) : Type 0 where
   pub frontier : Frontier n k′ marks′ queue′ 0 0
   pub kept : Kept marks marks′

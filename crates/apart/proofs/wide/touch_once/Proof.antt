@@ -1,5 +1,4 @@
 -- `wide::touch_once`: one row, unless it has touched its rows before.
-use mathlib.Core.Path.{_≡_, _∙_}
 use Prim.Native.Nat.{_<_}
 use native.Mathlib.Omega.{arith}
 use borrow.Author.Needs.{needs}

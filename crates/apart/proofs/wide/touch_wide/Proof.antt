@@ -6,7 +6,7 @@ use Prim.Native.Nat.{ℕ, _-_}
 use native.Mathlib.Omega.{arith}
 use lib.ListN.{length}
 use Rattle.base.proofs.Booleans.{fails, holds}
-use Rattle.apart.specs.code.Marks.{closed, touchedBy, around, Widened}
+use Rattle.apart.specs.code.Marks.{closed, touchedBy, Widened}
 use Rattle.apart.proofs.Touching.{around-two}
 use Rattle.apart.proofs.Widening.{Widening, widening-start, widening-long, widening-stops, widening-next, widening-end}
 use Rattle.apart.proofs.wide.touch_wide.Statement.{statement}
