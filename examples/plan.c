@@ -4,9 +4,9 @@
  *     target/plan data/bcsstk14.mtx 16 60 target/bcsstk14.plan
  *     target/plan --list target/bcsstk14.plan
  *
- * `plan MATRIX WORKERS P FILE` plans the matrix of a file for the workers and p, and writes the plan file. `plan --list
- * FILE` prints the plan of a file, of any size, as netplan does: the order, then a line for each group. refusals.h has
- * the exit statuses. */
+ * `plan MATRIX WORKERS P FILE` plans the matrix of a file for the workers and p, and writes the plan file; a fifth
+ * argument, 1 to 4, is the distance that the plan keeps, 2 if there is none. `plan --list FILE` prints the plan of a
+ * file, of any size, as netplan does: the order, then a line for each group. refusals.h has the exit statuses. */
 
 #include "plans.h"
 
@@ -45,8 +45,8 @@ static void print_plan(void)
 int main(int argc, char **argv)
 {
     bool listed = argc == 3 && strcmp(argv[1], "--list") == 0;
-    if (!listed && argc != 5) {
-        fprintf(stderr, "usage: plan MATRIX WORKERS P FILE\n       plan --list FILE\n");
+    if (!listed && argc != 5 && argc != 6) {
+        fprintf(stderr, "usage: plan MATRIX WORKERS P FILE [DISTANCE]\n       plan --list FILE\n");
         return REFUSED;
     }
     if (listed) {
@@ -56,8 +56,9 @@ int main(int argc, char **argv)
     }
     uint8_t workers = argument_number("WORKERS", argv[2], 1, MZK_WORKERS);
     uint8_t closeness = argument_number("P", argv[3], 50, 99);
+    uint8_t distance = argc == 6 ? argument_number("DISTANCE", argv[5], 1, MZK_DISTANCE) : RUN_DISTANCE;
     read_matrix(&net, argv[1]);
-    make_plan(&plan, &net, workers, closeness);
+    make_plan(&plan, &net, workers, closeness, distance);
     write_plan(argv[4]);
     return 0;
 }

@@ -13,12 +13,16 @@ struct plan {
 #define PLAN(plan) (plan)->order, 4 * (size_t)(plan)->n, \
     (plan)->groups, 4 * MZK_GROUP_FIELDS * (size_t)(plan)->count, (plan)->count
 
-/* Plans a net. */
-static inline void make_plan(struct plan *plan, const struct net *net, uint8_t workers, uint8_t closeness)
+/* The distance that a run checks its plan at. */
+enum { RUN_DISTANCE = 2 };
+
+/* Plans a net at a distance. */
+static inline void make_plan(struct plan *plan, const struct net *net, uint8_t workers, uint8_t closeness,
+                             uint8_t distance)
 {
     plan->n = net->n;
-    plan->count = accepted("plan", mzk_plan(MATRIX(net), workers, closeness, plan->order, sizeof plan->order,
-                                            plan->groups, sizeof plan->groups));
+    plan->count = accepted("plan", mzk_plan(MATRIX(net), workers, closeness, distance,
+                                            plan->order, sizeof plan->order, plan->groups, sizeof plan->groups));
 }
 
 /* Reads the plan of a file. One byte more than the largest is read, so that a longer file is told from it. */

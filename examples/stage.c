@@ -46,7 +46,7 @@ static void draw_movements(uint64_t bits)
 static uint8_t take_plan(const char *path)
 {
     read_plan(&plan, path);
-    accepted(path, mzk_check(MATRIX(&net), PLAN(&plan)));
+    accepted(path, mzk_check(MATRIX(&net), PLAN(&plan), RUN_DISTANCE));
     return group_field(&plan, 0, 3);
 }
 
@@ -147,7 +147,7 @@ int main(int argc, char **argv)
     if (carried)
         workers = take_plan(argv[3]);
     else
-        make_plan(&plan, &net, workers, CLOSENESS);
+        make_plan(&plan, &net, workers, CLOSENESS, RUN_DISTANCE);
     if (drawn)
         draw_movements(seed);
     else

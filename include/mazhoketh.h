@@ -35,6 +35,7 @@ enum {
     MZK_ENTRIES = 65536,         /* columns, and values, of all full rows, at most */
     MZK_STORED = 32768,          /* entries on and below the diagonal, at most */
     MZK_WORKERS = 16,            /* workers, at most */
+    MZK_DISTANCE = 4,            /* the greatest distance of a plan */
     MZK_GROUPS = 481,            /* records of a sound plan, at most: the room that mzk_plan needs */
     MZK_GROUPS_LIMIT = 512,      /* records that may be lent: a higher group_count is refused */
     MZK_GROUP_FIELDS = 7,        /* numbers of a record */
@@ -122,33 +123,38 @@ uint64_t mzk_survey(uint32_t n,
                     uint8_t *amounts, size_t amounts_bytes,
                     uint8_t *shift, size_t shift_bytes);
 
-/* The plan of a matrix: its n rows into order, and for each group a record into groups (start, length, first worker,
- * workers, colour, parent, depth); returns the number of groups. Start and length are positions in the order, the
- * colour is 0 for the whole, 1 for red and 2 for blue, the parent is the number of its record, and the depth is the
- * parent's plus 1; the whole's parent and depth are 0.
+/* The plan of a matrix at the distance k: its n rows into order, and for each group a record into groups (start,
+ * length, first worker, workers, colour, parent, depth); returns the number of groups. Start and length are positions
+ * in the order, the colour is 0 for the whole, 1 for red and 2 for blue, the parent is the number of its record, and
+ * the depth is the parent's plus 1; the whole's parent and depth are 0.
  * p, 50 to 99, is how near, in per cent, the load of a red and a blue group must come to a whole number of workers.
  * Take 60 first: on the matrices of data/ 50 to 70 keep about as many workers moving, and 99 less than half as many.
- * Refused: 5; 7; 9 (order, groups). */
+ * k, 1 to 4: no path of k joins or fewer links two groups of the same colour and parent. The calls on a run take plans
+ * made with 2, 3 or 4; a sweep that writes only its own row needs 1.
+ * Refused: 5; 7 (workers, p or k outside its limits); 9 (order, groups). */
 uint64_t mzk_plan(uint32_t n,
                   const uint8_t *row_starts, size_t row_starts_bytes,
                   const uint8_t *columns, size_t columns_bytes,
                   const uint8_t *values, size_t values_bytes,
                   uint32_t workers,
                   uint32_t p,
+                  uint32_t k,
                   uint8_t *order, size_t order_bytes,
                   uint8_t *groups, size_t groups_bytes);
 
-/* Whether a plan of group_count records is sound for a matrix: it has each row once, its groups are a tree as mzk_plan
- * makes them, with their depths, and no row of a group is joined to, or joined to a row that is joined to, a row of a
- * sibling of the same colour. Plans of mzk_plan are.
- * Refused: 5; 8. */
+/* Whether a plan of group_count records is sound at the distance k for a matrix: it has each row once, its groups are
+ * a tree as mzk_plan makes them, with their depths, and no path of k joins or fewer links a row of a group with a row
+ * of a sibling of the same colour. Plans of mzk_plan are at the k that they were made with, and at every smaller one;
+ * the calls on a run ask for 2.
+ * Refused: 5; 7 (k outside 1 to 4); 8. */
 uint64_t mzk_check(uint32_t n,
                    const uint8_t *row_starts, size_t row_starts_bytes,
                    const uint8_t *columns, size_t columns_bytes,
                    const uint8_t *values, size_t values_bytes,
                    const uint8_t *order, size_t order_bytes,
                    const uint8_t *groups, size_t groups_bytes,
-                   uint32_t group_count);
+                   uint32_t group_count,
+                   uint32_t k);
 
 /* A plan file carries a plan from where it is made to where it runs. It starts with seven numbers of 32 bits without
  * sign, low byte first: 2 (bodies); then 1 (order), 28 and the bytes of the order, 4 a row; then 3 (groups), where the

@@ -67,11 +67,15 @@ static void check_chain(void)
     for (int row = 2; row <= 8; row++)
         end += sprintf(end, "%d %d -1\n%d %d 2\n", row, row - 1, row, row);
     CHECK(is(read_text((size_t)(end - text), 0, 0), MZK_ACCEPTED, 8));
-    CHECK(is(mzk_plan(MATRIX(8), 2, 60, order, sizeof order, groups, sizeof groups), MZK_ACCEPTED, 5));
-    CHECK(is(mzk_plan(MATRIX(8), 2, 60, order, sizeof order, groups, 4 * 5 * MZK_GROUP_FIELDS - 1), MZK_TOO_SHORT, 5));
-    CHECK(is(mzk_plan(MATRIX(8), 2, 49, order, sizeof order, groups, sizeof groups), MZK_PARAMETERS, 0));
-    CHECK(is(mzk_check(MATRIX(8), order, sizeof order, groups, sizeof groups, 5), MZK_ACCEPTED, 0));
-    CHECK(is(mzk_check(MATRIX(8), order, sizeof order, groups, sizeof groups, 4), MZK_UNSOUND, 0));
+    CHECK(is(mzk_plan(MATRIX(8), 2, 60, 2, order, sizeof order, groups, sizeof groups), MZK_ACCEPTED, 5));
+    CHECK(is(mzk_plan(MATRIX(8), 2, 60, 2, order, sizeof order, groups, 4 * 5 * MZK_GROUP_FIELDS - 1),
+             MZK_TOO_SHORT, 5));
+    CHECK(is(mzk_plan(MATRIX(8), 2, 49, 2, order, sizeof order, groups, sizeof groups), MZK_PARAMETERS, 0));
+    CHECK(is(mzk_check(MATRIX(8), order, sizeof order, groups, sizeof groups, 5, 2), MZK_ACCEPTED, 0));
+    CHECK(is(mzk_plan(MATRIX(8), 2, 60, 5, order, sizeof order, groups, sizeof groups), MZK_PARAMETERS, 0));
+    CHECK(is(mzk_check(MATRIX(8), order, sizeof order, groups, sizeof groups, 5, 3), MZK_UNSOUND, 0));
+    CHECK(is(mzk_check(MATRIX(8), order, sizeof order, groups, sizeof groups, 5, 0), MZK_PARAMETERS, 0));
+    CHECK(is(mzk_check(MATRIX(8), order, sizeof order, groups, sizeof groups, 4, 2), MZK_UNSOUND, 0));
     CHECK(is(mzk_product(MATRIX(8), movements, 31, forces, sizeof forces), MZK_MOVEMENTS, 0));
     CHECK(is(mzk_product(MATRIX(9), movements, 36, forces, sizeof forces), MZK_NO_MATRIX, 0));
     uint64_t ready = mzk_ready(JOB, state, sizeof state, sums, 64);

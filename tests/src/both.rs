@@ -192,25 +192,33 @@ pub fn survey(
     )
 }
 
-/// Plans a matrix.
-pub fn plan(matrix: &MatrixTwins, workers: u32, p: u32, lists: &mut [Twin; 2]) -> u64 {
+/// Plans a matrix at the distance k.
+pub fn plan(matrix: &MatrixTwins, workers: u32, p: u32, k: u32, lists: &mut [Twin; 2]) -> u64 {
     let [order, groups] = lists;
     let (matrix_ours, matrix_theirs) = (matrix.ours(), matrix.theirs());
-    let ours = library::plan(matrix_ours, workers, p, order.ours_mut(), groups.ours_mut());
+    let ours = library::plan(
+        matrix_ours,
+        workers,
+        p,
+        k,
+        order.ours_mut(),
+        groups.ours_mut(),
+    );
     let theirs = calls::plan(
         matrix_theirs,
         workers,
         p,
+        k,
         &mut order.theirs,
         &mut groups.theirs,
     );
     alike("plan", ours, theirs, matrix.lists(), &[order, groups])
 }
 
-/// Checks a plan.
-pub fn check(matrix: &MatrixTwins, plan: &PlanTwins) -> u64 {
-    let ours = library::check(matrix.ours(), plan.ours());
-    let theirs = calls::check(matrix.theirs(), plan.theirs());
+/// Checks a plan at the distance k.
+pub fn check(matrix: &MatrixTwins, plan: &PlanTwins, k: u32) -> u64 {
+    let ours = library::check(matrix.ours(), plan.ours(), k);
+    let theirs = calls::check(matrix.theirs(), plan.theirs(), k);
     let lists = [&plan.order, &plan.groups];
     alike("check", ours, theirs, matrix.lists(), &lists)
 }

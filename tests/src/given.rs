@@ -2,6 +2,7 @@
 
 use crate::lists::{bytes, MatrixLists, PlanLists, RunLists};
 use crate::oracle::matrix::Matrix;
+use crate::oracle::planner::Plan;
 use crate::oracle::{calls, plan_file, planner, text};
 
 /// The lists that a whole run is cut into.
@@ -23,6 +24,32 @@ impl At {
     }
 }
 
+/// The lists of a plan.
+pub struct Made {
+    order: Vec<u8>,
+    groups: Vec<u8>,
+    group_count: u32,
+}
+
+impl Made {
+    fn of(plan: &Plan) -> Made {
+        Made {
+            order: bytes(&plan.order, u32::to_le_bytes),
+            groups: bytes(&plan.flat(), u32::to_le_bytes),
+            group_count: plan.group_count(),
+        }
+    }
+
+    /// As calls take them.
+    pub fn lists(&self) -> PlanLists<'_> {
+        PlanLists {
+            order: &self.order,
+            groups: &self.groups,
+            group_count: self.group_count,
+        }
+    }
+}
+
 /// What calls read: the lists of a net, of its plan for 16 workers and of a run.
 pub struct Given {
     pub text: Vec<u8>,
@@ -35,6 +62,8 @@ pub struct Given {
     pub order: Vec<u8>,
     pub groups: Vec<u8>,
     pub group_count: u32,
+    /// Plans at 3 and at 4.
+    pub farther: [Made; 2],
     /// The plan's file.
     pub file: Vec<u8>,
     /// Picks that take a fresh run to its end, and the states halfway and at the end.
@@ -59,6 +88,7 @@ impl Given {
             order: bytes(&plan.order, u32::to_le_bytes),
             groups: bytes(&plan.flat(), u32::to_le_bytes),
             group_count: plan.group_count(),
+            farther: [3, 4].map(|k| Made::of(&planner::plan_at(matrix.rows(), 16, p, k))),
             file: plan_file::write(&plan.order, &plan.flat()),
             schedule: Vec::new(),
             halfway: At::fresh(matrix.n),

@@ -34,12 +34,12 @@ extern "C" {
     fn mzk_plan(
         n: u32,
         row_starts: In, row_starts_bytes: usize, columns: In, columns_bytes: usize, values: In, values_bytes: usize,
-        workers: u32, p: u32, order: Out, order_bytes: usize, groups: Out, groups_bytes: usize,
+        workers: u32, p: u32, k: u32, order: Out, order_bytes: usize, groups: Out, groups_bytes: usize,
     ) -> u64;
     fn mzk_check(
         n: u32,
         row_starts: In, row_starts_bytes: usize, columns: In, columns_bytes: usize, values: In, values_bytes: usize,
-        order: In, order_bytes: usize, groups: In, groups_bytes: usize, group_count: u32,
+        order: In, order_bytes: usize, groups: In, groups_bytes: usize, group_count: u32, k: u32,
     ) -> u64;
     fn mzk_write_plan(
         n: u32, order: In, order_bytes: usize, groups: In, groups_bytes: usize, group_count: u32,
@@ -127,27 +127,27 @@ pub fn survey(matrix: MatrixLists, movements: &[u8], t: u32, row: u32, amounts: 
     }
 }
 
-/// The plan of a matrix; counts its groups.
+/// The plan of a matrix at the distance k; counts its groups.
 #[rustfmt::skip]
-pub fn plan(matrix: MatrixLists, workers: u32, p: u32, order: &mut [u8], groups: &mut [u8]) -> u64 {
+pub fn plan(matrix: MatrixLists, workers: u32, p: u32, k: u32, order: &mut [u8], groups: &mut [u8]) -> u64 {
     let MatrixLists { n, row_starts, columns, values } = matrix;
     unsafe {
         mzk_plan(
             n, row_starts.as_ptr(), row_starts.len(), columns.as_ptr(), columns.len(), values.as_ptr(), values.len(),
-            workers, p, order.as_mut_ptr(), order.len(), groups.as_mut_ptr(), groups.len(),
+            workers, p, k, order.as_mut_ptr(), order.len(), groups.as_mut_ptr(), groups.len(),
         )
     }
 }
 
-/// The check of a plan.
+/// The check of a plan at the distance k.
 #[rustfmt::skip]
-pub fn check(matrix: MatrixLists, plan: PlanLists) -> u64 {
+pub fn check(matrix: MatrixLists, plan: PlanLists, k: u32) -> u64 {
     let MatrixLists { n, row_starts, columns, values } = matrix;
     let PlanLists { order, groups, group_count } = plan;
     unsafe {
         mzk_check(
             n, row_starts.as_ptr(), row_starts.len(), columns.as_ptr(), columns.len(), values.as_ptr(), values.len(),
-            order.as_ptr(), order.len(), groups.as_ptr(), groups.len(), group_count,
+            order.as_ptr(), order.len(), groups.as_ptr(), groups.len(), group_count, k,
         )
     }
 }

@@ -233,8 +233,10 @@ fn matrix_calls() {
     for _ in 0..20_000 {
         let case = Case::new(&mut rng);
         let b = Bytes::new(&mut rng, &case);
-        let check = calls::check(b.matrix(), b.plan());
-        let sound = |rows| soundness::check(rows, &case.order, &case.groups, case.group_count);
+        let k = 1 + rng.below(4) as u32;
+        let check = calls::check(b.matrix(), b.plan(), k);
+        let sound =
+            |rows| soundness::check_at(rows, &case.order, &case.groups, case.group_count, k);
         assert_eq!(check, word(case.rows().and_then(sound).map(|_| 0)));
         let length = rng.below(20);
         let mut list = vec![0xcc; 8 * length + rng.below(8)];
@@ -260,18 +262,19 @@ fn write_and_plan(rng: &mut Prng, case: &Case, b: &Bytes) {
         .and_then(|rows| text::write_into(rows, &mut told));
     assert_eq!((answer, list), (word(expected), told));
     let (workers, p) = (rng.below(19) as u32, 48 + rng.below(54) as u32);
+    let k = rng.below(6) as u32;
     let (order_length, groups_length) = (rng.below(20), rng.below(200));
     let mut order = vec![0xcc; 4 * order_length + rng.below(4)];
     let mut groups = vec![0xcc; 4 * groups_length + rng.below(4)];
     let kept = (order.clone(), groups.clone());
-    let answer = calls::plan(b.matrix(), workers, p, &mut order, &mut groups);
+    let answer = calls::plan(b.matrix(), workers, p, k, &mut order, &mut groups);
     let mut numbers = (
         vec![0xcccc_cccc; order_length],
         vec![0xcccc_cccc; groups_length],
     );
     let told = case
         .rows()
-        .and_then(|rows| planner::plan_into(rows, workers, p, &mut numbers.0, &mut numbers.1));
+        .and_then(|rows| planner::plan_into(rows, workers, p, k, &mut numbers.0, &mut numbers.1));
     assert_eq!(answer, word(told));
     assert_eq!(order, over(bytes(&numbers.0, u32::to_le_bytes), &kept.0));
     assert_eq!(groups, over(bytes(&numbers.1, u32::to_le_bytes), &kept.1));

@@ -169,7 +169,7 @@ fn capacities_of_plans() {
         let (n, count) = (plan.order.len(), plan.groups.len());
         let into = |order: usize, groups: usize| {
             let mut lists = (vec![9; order], vec![9; groups]);
-            let answer = planner::plan_into(matrix.rows(), 8, 60, &mut lists.0, &mut lists.1);
+            let answer = planner::plan_into(matrix.rows(), 8, 60, 2, &mut lists.0, &mut lists.1);
             (answer, lists)
         };
         let short = |place| Err(Refusal::at(9, place));

@@ -10,17 +10,19 @@ use mazhoketh_tests::{both, cases};
 
 /// The workers and the p that large nets are planned for.
 const WORKERS: [u32; 5] = [2, 3, 5, 8, 16];
-const P: [u32; 4] = [50, 60, 75, 99];
+const P: [u32; 5] = [50, 60, 75, 90, 99];
 
-/// Plans a matrix for all of these, into lists of just the lengths needed and into lists one too short.
+/// Plans a matrix for all of these and distances in turn, into lists of just the lengths needed and one too short.
 fn plan_for_all(rng: &mut Prng, matrix: &Matrix) {
     let lists = cases::matrix_twins(rng, matrix);
+    let mut k = 0;
     for workers in WORKERS {
         for p in P {
-            let count = planner::plan(matrix.rows(), workers, p).groups.len();
+            k = 1 + k % 4;
+            let count = planner::plan_at(matrix.rows(), workers, p, k).groups.len();
             let plan_into = |order: usize, groups: usize| {
                 let mut lent = [Twin::blank(4 * order), Twin::blank(4 * FIELDS * groups)];
-                both::plan(&lists, workers, p, &mut lent)
+                both::plan(&lists, workers, p, k, &mut lent)
             };
             let n = matrix.n as usize;
             assert_eq!(plan_into(n, count), count as u64);

@@ -170,6 +170,10 @@ fn arguments_refused() {
         let sentence = format!("P: found '{p}', wanted a whole number of 50 to 99");
         check_refused(&plan, &[SMALL, "5", p, &carried], 2, &sentence);
     }
+    for distance in ["0", "5", "", "x"] {
+        let sentence = format!("DISTANCE: found '{distance}', wanted a whole number of 1 to 4");
+        check_refused(&plan, &[SMALL, "5", "60", &carried, distance], 2, &sentence);
+    }
     let missing = "no such.mtx: cannot be read: No such file or directory";
     check_refused(&plan, &["no such.mtx", "5", "60", &carried], 3, missing);
     assert!(!Path::new(&carried).exists(), "nothing is written");
@@ -179,7 +183,7 @@ fn arguments_refused() {
         &["--list"],
         &["--list", SMALL, SMALL],
         &[SMALL, "5", "60"],
-        &[SMALL, "5", "60", &carried, "7"],
+        &[SMALL, "5", "60", &carried, "2", "7"],
     ] {
         check_refused(&plan, arguments, 2, usage);
     }

@@ -190,7 +190,7 @@ fn limits_of_p_and_workers() {
         (0, 60, seven),
         (17, 60, seven),
     ] {
-        assert_eq!(planner::judge_limits(workers, p), answer);
+        assert_eq!(planner::judge_limits(workers, p, 2), answer);
     }
 }
 
@@ -679,9 +679,16 @@ fn words_of_plan_and_check() {
     let chain = ChainBytes::new();
     let size = 4 * FIELDS * 5;
     let (mut order, mut groups) = (vec![0; 32], vec![1; size + 3]);
-    let word = calls::plan(chain.matrix(), 2, 60, &mut order, &mut groups[..size - 1]);
+    let word = calls::plan(
+        chain.matrix(),
+        2,
+        60,
+        2,
+        &mut order,
+        &mut groups[..size - 1],
+    );
     assert_eq!(word, 9 << 32 | 5);
-    let word = calls::plan(chain.matrix(), 2, 60, &mut order, &mut groups);
+    let word = calls::plan(chain.matrix(), 2, 60, 2, &mut order, &mut groups);
     assert_eq!(word, 5);
     assert_eq!((&order, &groups[..size]), (&chain.order, &chain.groups[..]));
     assert_eq!(groups[size..], [1; 3]);
@@ -689,8 +696,8 @@ fn words_of_plan_and_check() {
         chain.groups,
         bytes(CHAIN_GROUPS.as_flattened(), u32::to_le_bytes)
     );
-    assert_eq!(calls::check(chain.matrix(), chain.plan(5)), 0);
-    assert_eq!(calls::check(chain.matrix(), chain.plan(6)), 8 << 32);
+    assert_eq!(calls::check(chain.matrix(), chain.plan(5), 2), 0);
+    assert_eq!(calls::check(chain.matrix(), chain.plan(6), 2), 8 << 32);
 }
 
 #[test]

@@ -23,7 +23,7 @@ use Rattle.matrix.proofs.Cut.{cut, cut-matrix, cut-displacements, displacements
 use Rattle.plan.specs.Groups.{Plan, width, planOf}
 use Rattle.plan.specs.Sound.{maxGroups, isSound, isPlan, planCheck}
 use Rattle.plan.specs.code.Room.{maxFields}
-use Rattle.plan.proofs.Cut.{cut-plan, plan-kept}
+use Rattle.plan.proofs.Cut.{cut-lent, plan-kept}
 use Rattle.words.specs.LittleEndian.{unsigned, signed}
 use Rattle.run.specs.Job.{Job, jobOf}
 use Rattle.run.specs.Machine.{isState}
@@ -48,6 +48,11 @@ unfolding isPlan
 records-fit m order groups count h =
     let bs : List Bool = leb count maxGroups ∷ leb (width * count) (length groups) ∷ isSound m (planOf (m .n) order groups count) ∷ [] in
     omega (arith, leb-true count maxGroups (conj-at (leb (m .n) (length order)) bs h 0))
+
+-- lists that are cut are a plan if and only if they were
+cut-plan : (m : Matrix) (order groups : List ℕ) (count : ℕ) → m .n ≤ maxRows → isPlan m (take maxRows order) (take maxFields groups) count ≡ isPlan m order groups count
+unfolding isPlan
+cut-plan m order groups count few = cut-lent m order groups count few (isSound m)
 
 -- displacements that pass their check
 displaced : (n : ℕ) (x : List ℤ) → displacementCheck n x .holds ≡ true → areDisplacements n x ≡ true

@@ -1,7 +1,7 @@
 pub mod Touching
+pub mod Widening
 pub mod RowsOf
 pub mod Stretch
 pub mod Overlap
 pub mod LikeApart
-pub mod Spread
 pub mod Compare

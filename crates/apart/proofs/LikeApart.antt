@@ -13,7 +13,7 @@ use Rattle.base.proofs.Lists.{any-ext}
 use Rattle.base.proofs.Each.{Each, each-map}
 use Rattle.base.proofs.Left.{all-same}
 use Rattle.plan.specs.Groups.{Group}
-use Rattle.plan.specs.Sound.{apart, stretchOf, likeApart}
+use Rattle.plan.specs.Sound.{stretchOf, likeApart}
 use Rattle.plan.specs.code.Checks.{ofColour}
 use Rattle.plan.proofs.Colours.{like}
 use Rattle.apart.specs.code.Marks.{clashes, Stamped}
@@ -76,39 +76,39 @@ each-colour P c (g ∷ gs) each = go (eqb (g .colour) c) refl (each-colour P c g
     go true e ih = ((eqb-true (g .colour) c e, each .0), ih)
     go false e ih = ih
 
--- what is left to compare: none of the groups touches a row with a mark above low, and they are apart
-abbrev pub leftApart : (adj : ℕ → List ℕ) (order : List ℕ) (touched : Group → List ℕ) (low : ℕ) (marks : List ℕ) → List Group → Bool
-leftApart adj order touched low marks gs = all (λ g. clear low marks (touched g)) gs && likeApart adj order gs
+-- what is left to compare: none of the rows tested of the groups has a mark above low, and they are far apart
+abbrev pub leftApart : (far : List ℕ → List ℕ → Bool) (order : List ℕ) (tested : Group → List ℕ) (low : ℕ) (marks : List ℕ) → List Group → Bool
+leftApart far order tested low marks gs = all (λ g. clear low marks (tested g)) gs && likeApart far order gs
 
--- two groups that touch a common row are not apart
-abbrev pub Overlaps : (adj : ℕ → List ℕ) (order : List ℕ) (touched : Group → List ℕ) → Group → Group → Type 0
-Overlaps adj order touched g h = any (isIn (touched g)) (touched h) ≡ not (apart adj (stretchOf order g) (stretchOf order h))
+-- a row that g stamps is one that h tests if and only if the groups are not far apart
+abbrev pub Overlaps : (far : List ℕ → List ℕ → Bool) (order : List ℕ) (stamped tested : Group → List ℕ) → Group → Group → Type 0
+Overlaps far order stamped tested g h = any (isIn (stamped g)) (tested h) ≡ not (far (stretchOf order g) (stretchOf order h))
 
-module _ (adj : ℕ → List ℕ) (order : List ℕ) (touched : Group → List ℕ) (low mine : ℕ) (up : low < mine) where
+module _ (far : List ℕ → List ℕ → Bool) (order : List ℕ) (stamped tested : Group → List ℕ) (low mine : ℕ) (up : low < mine) where
   abbrev left : List ℕ → List Group → Bool
-  left = leftApart adj order touched low
+  left = leftApart far order tested low
 
   abbrev Over : Group → Group → Type 0
-  Over = Overlaps adj order touched
+  Over = Overlaps far order stamped tested
 
   module _ (g : Group) (marks marks′ : List ℕ) where
     -- the marks of g say who is like it and not apart from it
-    all-stamped : (hs : List Group) → Stamped mine (touched g) marks marks′ → Each (λ h. (h .colour ≡ g .colour) × Over g h) hs
-        → all (λ h. clear low marks′ (touched h)) hs ≡ not (any (like adj order g) hs) && all (λ h. clear low marks (touched h)) hs
+    all-stamped : (hs : List Group) → Stamped mine (stamped g) marks marks′ → Each (λ h. (h .colour ≡ g .colour) × Over g h) hs
+        → all (λ h. clear low marks′ (tested h)) hs ≡ not (any (like far order g) hs) && all (λ h. clear low marks (tested h)) hs
     all-stamped [] s each = refl
     all-stamped (h ∷ hs) s each =
-        rw (clear-stamped low mine (touched g) marks marks′ (touched h) up s, all-stamped hs s (each .1), eq-eqb (g .colour) (h .colour) (sym (each .0 .0)), each .0 .1)
-        (merge (not (apart adj (stretchOf order g) (stretchOf order h))) (any (like adj order g) hs) (clear low marks (touched h)) (all (λ h. clear low marks (touched h)) hs))
+        rw (clear-stamped low mine (stamped g) marks marks′ (tested h) up s, all-stamped hs s (each .1), eq-eqb (g .colour) (h .colour) (sym (each .0 .0)), each .0 .1)
+        (merge (not (far (stretchOf order g) (stretchOf order h))) (any (like far order g) hs) (clear low marks (tested h)) (all (λ h. clear low marks (tested h)) hs))
       where
         merge : (x y c a : Bool) → (not x && c) && (not y && a) ≡ not (x || y) && (c && a)
         merge true y c a = refl
         merge false true c a = and-false c
         merge false false c a = refl
 
-    left-next : (hs : List Group) → Stamped mine (touched g) marks marks′ → Each (λ h. (h .colour ≡ g .colour) × Over g h) hs → clear low marks (touched g) ≡ true
+    left-next : (hs : List Group) → Stamped mine (stamped g) marks marks′ → Each (λ h. (h .colour ≡ g .colour) × Over g h) hs → clear low marks (tested g) ≡ true
         → left marks (g ∷ hs) ≡ left marks′ hs
     unfolding likeApart
-    left-next hs s each free = rw (free, all-stamped hs s each) (turn (all (λ h. clear low marks (touched h)) hs) (not (any (like adj order g) hs)) (likeApart adj order hs))
+    left-next hs s each free = rw (free, all-stamped hs s each) (turn (all (λ h. clear low marks (tested h)) hs) (not (any (like far order g) hs)) (likeApart far order hs))
       where
         turn : (a b c : Bool) → a && (b && c) ≡ (b && a) && c
         turn true true c = refl
@@ -118,30 +118,33 @@ module _ (adj : ℕ → List ℕ) (order : List ℕ) (touched : Group → List �
 
     -- no new mark
     left-same : (hs : List Group) → Stamped mine [] marks marks′ → left marks hs ≡ left marks′ hs
-    left-same hs s = ap (λ (b : Bool). b && likeApart adj order hs) (all-same (λ h. clear low marks (touched h)) (λ h. clear low marks′ (touched h)) hs same)
+    left-same hs s = ap (λ (b : Bool). b && likeApart far order hs) (all-same (λ h. clear low marks (tested h)) (λ h. clear low marks′ (tested h)) hs same)
       where
-        same : (h : Group) → clear low marks (touched h) ≡ clear low marks′ (touched h)
-        same h = ap not (any-ext (λ z. ltb low (getD marks z 0)) (λ z. ltb low (getD marks′ z 0)) (touched h) (λ v _. ap (ltb low) (sym (s .is v))))
+        same : (h : Group) → clear low marks (tested h) ≡ clear low marks′ (tested h)
+        same h = ap not (any-ext (λ z. ltb low (getD marks z 0)) (λ z. ltb low (getD marks′ z 0)) (tested h) (λ v _. ap (ltb low) (sym (s .is v))))
 
   -- the next child is g: compared with those of its colour before it if it has the colour
   module _ (c : ℕ) (g : Group) (gs : List Group) (marks : List ℕ) where
-    -- what g touches, if it has the colour
-    abbrev mine-touched : List ℕ
-    mine-touched = cond (eqb (g .colour) c) (touched g) []
+    -- what is tested and stamped of g, if it has the colour
+    abbrev mine-tested : List ℕ
+    mine-tested = cond (eqb (g .colour) c) (tested g) []
 
-    pub colour-stops : clear low marks mine-touched ≡ false → left marks (ofColour c (g ∷ gs)) ≡ false
+    abbrev mine-stamped : List ℕ
+    mine-stamped = cond (eqb (g .colour) c) (stamped g) []
+
+    pub colour-stops : clear low marks mine-tested ≡ false → left marks (ofColour c (g ∷ gs)) ≡ false
     unfolding likeApart
     colour-stops h = go (eqb (g .colour) c) h
       where
-        go : (b : Bool) → clear low marks (cond b (touched g) []) ≡ false → left marks (keep b g (ofColour c gs)) ≡ false
+        go : (b : Bool) → clear low marks (cond b (tested g) []) ≡ false → left marks (keep b g (ofColour c gs)) ≡ false
         go true h = rw h
         go false h = absurd (true≢false h)
 
-    pub colour-next : (marks′ : List ℕ) → Each (Over g) gs → clear low marks mine-touched ≡ true → Stamped mine mine-touched marks marks′
+    pub colour-next : (marks′ : List ℕ) → Each (Over g) gs → clear low marks mine-tested ≡ true → Stamped mine mine-stamped marks marks′
         → left marks (ofColour c (g ∷ gs)) ≡ left marks′ (ofColour c gs)
     colour-next marks′ each h s = go (eqb (g .colour) c) refl h s
       where
-        go : (b : Bool) → eqb (g .colour) c ≡ b → clear low marks (cond b (touched g) []) ≡ true → Stamped mine (cond b (touched g) []) marks marks′
+        go : (b : Bool) → eqb (g .colour) c ≡ b → clear low marks (cond b (tested g) []) ≡ true → Stamped mine (cond b (stamped g) []) marks marks′
             → left marks (keep b g (ofColour c gs)) ≡ left marks′ (ofColour c gs)
         go true e h s =
             left-next g marks marks′ (ofColour c gs) s

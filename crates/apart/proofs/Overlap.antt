@@ -1,20 +1,23 @@
--- Two disjoint lists of rows are apart exactly if no row is touched by both.
-use mathlib.Core.Path.{_≡_, refl, sym, _∙_, subst}
+-- Two lists of rows are beyond k joins of each other exactly if no row is around both.
+use mathlib.Core.Path.{_≡_, refl, sym, ap, _∙_, subst, fun-ext}
 use mathlib.Core.Logic.{_⊎_, inl, inr, _≢_}
 use mathlib.Core.Bool.{Bool, true, false, not, _||_}
 use mathlib.Core.List.{List}
-use Prim.Native.Nat.{ℕ}
+use Prim.Native.Nat.{ℕ, zero, suc, _+_, _-_, _/_}
+use native.Mathlib.Omega.{arith}
 use lib.Dec.{eqb}
 use borrow.Author.Tests.{eqb-true, eq-eqb}
 use Rattle.base.specs.Lists.{any, isIn}
 use Rattle.base.proofs.Booleans.{or-true, or-cases, same-or, both-ways}
 use Rattle.base.proofs.Lists.{any-of, any-get, isIn-concat-map}
 use Rattle.base.proofs.Graph.{Graph}
+use Rattle.base.specs.Near.{near}
+use Rattle.base.proofs.Near.{near-halves}
 use Rattle.matrix.specs.Matrix.{columnsOf, neighbours}
 use Rattle.matrix.specs.code.Pattern.{pattern}
 use Rattle.matrix.proofs.Matrix.{neighbour-column, column-neighbour}
-use Rattle.plan.specs.Sound.{apart}
-use Rattle.apart.specs.code.Marks.{closed, touchedBy}
+use Rattle.plan.specs.Sound.{beyond}
+use Rattle.apart.specs.code.Marks.{closed, touchedBy, around}
 
 not-not : (b : Bool) → not (not b) ≡ b
 not-not true = refl
@@ -51,42 +54,41 @@ module _ (n : ℕ) (starts columns : List ℕ) where
   one-by : (rows : List ℕ) (u z : ℕ) → isIn rows u ≡ true → isIn (closed n starts columns u) z ≡ true → isIn (touchedBy n starts columns rows) z ≡ true
   one-by rows u z a b = isIn-concat-map (closed n starts columns) rows z ∙ any-of (λ u. isIn (closed n starts columns u) z) rows u a b
 
-  module _ (graph : Graph (neighbours (pattern n starts columns)) n) (xs ys : List ℕ) (disjoint : (v : ℕ) → isIn xs v ≡ true → isIn ys v ≡ true → ⊥) where
-    -- adjacent, or adjacent to a common row
-    near : ℕ → ℕ → Bool
-    near u v = isIn (adj v) u || any (isIn (adj u)) (adj v)
+  -- one join more, more rows
+  pub around-more : (j : ℕ) (xs : List ℕ) (v : ℕ) → isIn (around n starts columns j xs) v ≡ true → isIn (around n starts columns (suc j) xs) v ≡ true
+  unfolding around
+  around-more j xs v h = one-by (around n starts columns j xs) v v h (own v)
 
-    touch : ℕ → Bool
-    touch = isIn (touchedBy n starts columns xs)
-
-    to : any touch (touchedBy n starts columns ys) ≡ true → any (λ u. any (near u) ys) xs ≡ true
-    unfolding touch near adj
-    to h =
-        let (z, zy, zx) = any-get touch (touchedBy n starts columns ys) h in
-        let (u, ux, uz) = by-one xs z zx in
-        let (v, vy, vz) = by-one ys z zy in
-        any-of (λ u. any (near u) ys) xs u ux (any-of (near u) ys v vy (go u v z ux vy (own-or-other u z uz) (own-or-other v z vz)))
+  module _ (graph : Graph (neighbours (pattern n starts columns)) n) where
+    -- the rows touch what is within one join of them
+    touched-near : (xs : List ℕ) (v : ℕ) → isIn (touchedBy n starts columns xs) v ≡ isIn xs v || any (isIn xs) (adj v)
+    unfolding adj
+    touched-near xs v = both-ways (isIn (touchedBy n starts columns xs) v) (isIn xs v || any (isIn xs) (adj v)) to (λ h. fro (or-cases (isIn xs v) (any (isIn xs) (adj v)) h))
       where
-        go : (u v z : ℕ) → isIn xs u ≡ true → isIn ys v ≡ true → (z ≡ u) ⊎ (isIn (adj u) z ≡ true) → (z ≡ v) ⊎ (isIn (adj v) z ≡ true) → near u v ≡ true
-        go u v z ux vy (inl e) (inl f) = absurd (disjoint u ux (subst (λ (x : ℕ). isIn ys x ≡ true) (sym f ∙ e) vy))
-        go u v z ux vy (inl e) (inr f) = rw (subst (λ (x : ℕ). isIn (adj v) x ≡ true) e f) refl
-        go u v z ux vy (inr e) (inl f) = rw (graph .both v u (subst (λ (x : ℕ). isIn (adj u) x ≡ true) f e)) refl
-        go u v z ux vy (inr e) (inr f) = rw (any-of (isIn (adj u)) (adj v) z f e) (or-true (isIn (adj v) u))
+        to : isIn (touchedBy n starts columns xs) v ≡ true → isIn xs v || any (isIn xs) (adj v) ≡ true
+        to h = let (u, a, b) = by-one xs v h in go u a (own-or-other u v b)
+          where
+            go : (u : ℕ) → isIn xs u ≡ true → (v ≡ u) ⊎ (isIn (adj u) v ≡ true) → isIn xs v || any (isIn xs) (adj v) ≡ true
+            go u a (inl e) = rw (subst (λ (x : ℕ). isIn xs x ≡ true) (sym e) a) refl
+            go u a (inr c) = rw (any-of (isIn xs) (adj v) u (graph .both v u c) a) (or-true (isIn xs v))
 
-    fro : any (λ u. any (near u) ys) xs ≡ true → any touch (touchedBy n starts columns ys) ≡ true
-    unfolding touch near adj
-    fro h =
-        let (u, ux, t) = any-get (λ u. any (near u) ys) xs h in
-        let (v, vy, s) = any-get (near u) ys t in
-        go u v ux vy (or-cases (isIn (adj v) u) (any (isIn (adj u)) (adj v)) s)
-      where
-        both : (z u v : ℕ) → isIn xs u ≡ true → isIn ys v ≡ true → isIn (closed n starts columns u) z ≡ true → isIn (closed n starts columns v) z ≡ true → any touch (touchedBy n starts columns ys) ≡ true
-        both z u v ux vy a b = any-of touch (touchedBy n starts columns ys) z (one-by ys v z vy b) (one-by xs u z ux a)
+        fro : (isIn xs v ≡ true) ⊎ (any (isIn xs) (adj v) ≡ true) → isIn (touchedBy n starts columns xs) v ≡ true
+        fro (inl a) = one-by xs v v a (own v)
+        fro (inr a) = let (u, c, b) = any-get (isIn xs) (adj v) a in one-by xs u v b (other u v (graph .both u v c))
 
-        go : (u v : ℕ) → isIn xs u ≡ true → isIn ys v ≡ true → (isIn (adj v) u ≡ true) ⊎ (any (isIn (adj u)) (adj v) ≡ true) → any touch (touchedBy n starts columns ys) ≡ true
-        go u v ux vy (inl e) = both u u v ux vy (own u) (other v u e)
-        go u v ux vy (inr e) = let (z, zv, zu) = any-get (isIn (adj u)) (adj v) e in both z u v ux vy (other u z zu) (other v z zv)
+    around-near : (j : ℕ) (xs : List ℕ) → isIn (around n starts columns j xs) ≡ near (adj) j xs
+    unfolding around near adj
+    around-near zero xs = refl
+    around-near (suc j) xs =
+        fun-ext (λ v. touched-near (around n starts columns j xs) v ∙ ap (λ (p : ℕ → Bool). p v || any p (adj v)) (around-near j xs))
 
-    pub overlap : any (isIn (touchedBy n starts columns xs)) (touchedBy n starts columns ys) ≡ not (apart (neighbours (pattern n starts columns)) xs ys)
-    unfolding apart touch near adj
-    overlap = both-ways (any touch (touchedBy n starts columns ys)) (any (λ u. any (near u) ys) xs) to fro ∙ sym (not-not (any (λ u. any (near u) ys) xs))
+    -- two lists of rows are beyond k joins of each other if no row is within k - k / 2 joins of the one and k / 2 of
+    -- the other
+    pub overlap : (k : ℕ) (xs ys : List ℕ) → any (isIn (around n starts columns (k - k / 2) xs)) (around n starts columns (k / 2) ys) ≡ not (beyond (neighbours (pattern n starts columns)) k xs ys)
+    unfolding beyond adj
+    overlap k xs ys =
+        let e : k - k / 2 + k / 2 ≡ k = omega arith in
+        ap (λ (p : ℕ → Bool). any p (around n starts columns (k / 2) ys)) (around-near (k - k / 2) xs)
+        ∙ sym (near-halves adj graph (k - k / 2) (k / 2) xs ys (around n starts columns (k / 2) ys) (λ z. ap (λ (p : ℕ → Bool). p z) (around-near (k / 2) ys)))
+        ∙ ap (λ (j : ℕ). any (near adj j xs) ys) e
+        ∙ sym (not-not (any (near adj k xs) ys))

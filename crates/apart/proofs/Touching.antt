@@ -14,7 +14,7 @@ use Rattle.base.specs.Lists.{any, isIn, concat}
 use Rattle.base.proofs.Booleans.{and-false, clash, is-false}
 use Rattle.base.proofs.Lists.{isIn-append, any-of, any-ext}
 use Rattle.matrix.specs.Limits.{maxRows}
-use Rattle.apart.specs.code.Marks.{clashes, Stamped, Touched, UpTo}
+use Rattle.apart.specs.code.Marks.{closed, touchedBy, around, clashes, Stamped, Touched, UpTo, Opened, Widened, Fresh}
 
 -- ---- lists
 
@@ -139,3 +139,85 @@ module _ (low mine : ℕ) (xs : List ℕ) (j : ℕ) (here : j < length xs) where
     touched-all-stops a b c p q =
         subst (λ (l : List ℕ). Touched low mine l a c false) (sym (concat-map-append f (take (j + 1) xs) (drop (j + 1) xs)) ∙ ap (λ (l : List ℕ). concat (map f l)) (take-append-drop (j + 1) xs))
         (touched-part low mine (concat (map f (take (j + 1) xs))) (concat (map f (drop (j + 1) xs))) a c (touched-all-next a b c false p q))
+
+-- ---- rows that have touched theirs
+
+-- rows stamped twice, the second time all of the first and more
+pub stamped-over : (mine : ℕ) (xs ys a b c : List ℕ) → ((v : ℕ) → isIn xs v ≡ true → isIn ys v ≡ true) → Stamped mine xs a b → Stamped mine ys b c → Stamped mine ys a c
+stamped-over mine xs ys a b c more s t = record { long = t .long ∙ s .long; is = λ v. t .is v ∙ go v (isIn xs v) refl (isIn ys v) refl }
+  where
+    go : (v : ℕ) (p : Bool) → isIn xs v ≡ p → (q : Bool) → isIn ys v ≡ q → cond q mine (getD b v 0) ≡ cond q mine (getD a v 0)
+    go v p e true f = refl
+    go v true e false f = absurd (true≢false (sym (more v e) ∙ f))
+    go v false e false f = s .is v ∙ rw e
+
+-- marks up to mine are no other child's
+pub none-above : (mine : ℕ) (marks zs : List ℕ) → ((v : ℕ) → getD marks v 0 ≤ mine) → not (any (clashes mine mine marks) zs) ≡ true
+unfolding clashes
+none-above mine marks zs h = ap not (any-ext (clashes mine mine marks) (λ z. false) zs (λ v _. rw (le-ltb mine (getD marks v 0) (h v))) ∙ never zs)
+  where
+    never : (xs : List ℕ) → any (λ (x : ℕ). false) xs ≡ false
+    never [] = refl
+    never (x ∷ xs) = never xs
+
+module _ {n : ℕ} {starts columns : List ℕ} {mine : ℕ} where
+  -- none at first
+  pub opened-none : (done marks : List ℕ) → Fresh mine done → Opened n starts columns mine done marks
+  opened-none done marks f = record { long = f .long; most = λ v. omega (arith, f .below v); opened = λ v e. absurd (omega (arith, f .below v)) }
+
+  -- more rows are stamped
+  pub opened-kept : (done marks marks′ zs : List ℕ) → Opened n starts columns mine done marks → Stamped mine zs marks marks′ → Opened n starts columns mine done marks′
+  opened-kept done marks marks′ zs o s = record { long = o .long; most = o .most; opened = λ v e z h. s .is z ∙ same (isIn zs z) (o .opened v e z h) }
+    where
+      same : (b : Bool) {m : ℕ} → m ≡ mine → cond b mine m ≡ mine
+      same true e = refl
+      same false e = e
+
+  -- a row has touched its rows before
+  pub touched-before : (low : ℕ) (done marks : List ℕ) (u : ℕ) → Opened n starts columns mine done marks → getD done u 0 ≡ mine → Touched low mine (closed n starts columns u) marks marks true
+  unfolding clashes
+  touched-before low done marks u o e = record {
+    free = sym (ap not (any-ext (clashes low mine marks) (λ z. false) zs (λ z h. rw (eq-eqb (getD marks z 0) mine (o .opened u e z h)) (and-false (ltb low (getD marks z 0)))) ∙ never zs));
+    stamped = λ _. record { long = refl; is = λ v. same v (isIn zs v) refl };
+  }
+    where
+      zs : List ℕ
+      zs = closed n starts columns u
+
+      never : (xs : List ℕ) → any (λ (x : ℕ). false) xs ≡ false
+      never [] = refl
+      never (x ∷ xs) = never xs
+
+      same : (v : ℕ) (b : Bool) → isIn (closed n starts columns u) v ≡ b → getD marks v 0 ≡ cond b mine (getD marks v 0)
+      same v true h = o .opened u e v h
+      same v false h = refl
+
+  -- now it has
+  pub opened-more : (low : ℕ) (done marks marks′ : List ℕ) (u : ℕ) (r : Bool) → u < length done → Opened n starts columns mine done marks → Touched low mine (closed n starts columns u) marks marks′ r
+      → Widened n starts columns low mine (closed n starts columns u) marks (set done u mine) marks′ r
+  opened-more low done marks marks′ u r l o t = record {
+    touched = t;
+    after = λ e.
+        let s = t .stamped e in
+        let kept = opened-kept done marks marks′ (closed n starts columns u) o s in
+        record { long = length-set done u mine ∙ o .long; most = λ v. most v (eqb v u) refl; opened = λ v h z i. now kept s v (eqb v u) refl h z i };
+  }
+    where
+      most : (v : ℕ) (b : Bool) → eqb v u ≡ b → getD (set done u mine) v 0 ≤ mine
+      most v true e = let q = eqb-true v u e in omega (arith, subst (λ (y : ℕ). getD (set done u mine) y 0 ≡ mine) (sym q) (getD-set-same done u mine 0 l))
+      most v false e = omega (arith, getD-set-other done u v mine 0 (eqb-false v u e), o .most v)
+
+      now : Opened n starts columns mine done marks′ → Stamped mine (closed n starts columns u) marks marks′ → (v : ℕ) (b : Bool) → eqb v u ≡ b → getD (set done u mine) v 0 ≡ mine
+          → (z : ℕ) → isIn (closed n starts columns v) z ≡ true → getD marks′ z 0 ≡ mine
+      now kept s v true e h z i =
+          let here : isIn (closed n starts columns u) z ≡ true = subst (λ (y : ℕ). isIn (closed n starts columns y) z ≡ true) (eqb-true v u e) i in
+          s .is z ∙ rw here
+      now kept s v false e h z i = kept .opened v (sym (getD-set-other done u v mine 0 (eqb-false v u e)) ∙ h) z i
+
+-- rows some of which touched theirs, list after list
+pub around-two : (n : ℕ) (starts columns rows : List ℕ) → concat (map (λ u. touchedBy n starts columns (closed n starts columns u)) rows) ≡ around n starts columns 2 rows
+unfolding around
+around-two n starts columns [] = refl
+around-two n starts columns (u ∷ rows) =
+    ap (λ (l : List ℕ). touchedBy n starts columns (closed n starts columns u) ++ l) (around-two n starts columns rows)
+    ∙ sym (concat-map-append (closed n starts columns) (closed n starts columns u) (touchedBy n starts columns rows))

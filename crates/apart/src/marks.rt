@@ -25,7 +25,7 @@ fn touch(marks: &mut [u32; MAX_ROWS], z: usize, low: u32, mine: u32) -> bool
 }
 
 // So do the rows of a list.
-fn touch_all(marks: &mut [u32; MAX_ROWS], rows: &[u32], low: u32, mine: u32) -> bool
+pub fn touch_all(marks: &mut [u32; MAX_ROWS], rows: &[u32], low: u32, mine: u32) -> bool
     requires { ⌜ (length (now marks) ≡ maxRows) × ((j : ℕ) → j < length (now rows) → getD (now rows) j 0 < maxRows) ⌝ }
     ensures { λ r. ⌜ Touched low mine (now (rows .entry)) (now (marks .entry)) (now (marks .exit)) r ⌝ }
 {
@@ -41,7 +41,7 @@ fn touch_all(marks: &mut [u32; MAX_ROWS], rows: &[u32], low: u32, mine: u32) -> 
 }
 
 // So do row u and the rows adjacent to it.
-fn touch_row(
+pub fn touch_row(
     n: usize,
     starts: &[u32],
     columns: &[u32],

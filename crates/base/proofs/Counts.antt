@@ -9,6 +9,7 @@ use lib.ListN.{length}
 use borrow.Author.Tests.{eqb-true, eq-eqb, ne-eqb}
 use Rattle.base.specs.Lists.{filter, keep, isIn, range, bit}
 pub use Rattle.base.specs.code.Counts.{count}
+use Rattle.base.proofs.Lists.{isIn-range, length-filter-le, length-range}
 
 -- the same numbers, as often
 abbrev pub Same : List ℕ → List ℕ → Type 0
@@ -113,3 +114,16 @@ same-length (x ∷ xs) ys s =
     let q : bit true + count x xs ≡ count x ys = rw me at (s x) in
     let one : 1 ≤ count x ys = omega arith in
     ap suc (same-length xs (remove x ys) (λ u. omega (arith, s u, remove-count x u ys one))) ∙ remove-length x ys one
+
+-- numbers below n, each once: the same in ascending order, and at most n
+module _ (n : ℕ) (xs : List ℕ) (below : (v : ℕ) → isIn xs v ≡ true → v < n) (once : (v : ℕ) → count v xs ≤ 1) where
+  pub once-length : length (filter (isIn xs) (range 0 n)) ≡ length xs
+  once-length = same-length (filter (isIn xs) (range 0 n)) xs (λ v. count-filter v (isIn xs) (range 0 n) ∙ go v (isIn xs v) refl)
+    where
+      go : (v : ℕ) (b : Bool) → isIn xs v ≡ b → bit b * count v (range 0 n) ≡ count v xs
+      go v true e =
+          omega (arith, count-range v 0 n, in-count v (range 0 n) (isIn-range 0 n v (omega arith) (omega (arith, below v e))), once v, in-count v xs e)
+      go v false e = omega (arith, out-count v xs e)
+
+  pub once-short : length xs ≤ n
+  once-short = omega (arith, once-length, length-filter-le (isIn xs) (range 0 n), length-range 0 n)

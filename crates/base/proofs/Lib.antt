@@ -4,6 +4,7 @@ pub mod Counts
 pub mod Integers
 pub mod Sums
 pub mod Graph
+pub mod Near
 pub mod Each
 pub mod Begins
 pub mod Best

@@ -10,7 +10,7 @@ use lib.ListN.{length, take, drop, getD, set, replicate}
 use lib.Seq.{slice, take-nil, drop-nil, getD-set-same, getD-set-other}
 use borrow.Author.Tests.{eqb-true, eqb-false, eq-eqb}
 use Rattle.base.specs.Lists.{filter, keep, any, all, isIn, concat, range, trim, trimCons}
-use Rattle.base.proofs.Booleans.{and-false, and-left, and-right, or-true, or-cases}
+use Rattle.base.proofs.Booleans.{and-false, and-left, and-right, or-true, or-cases, both-ways}
 
 module _ {ℓ} {A : Type ℓ} where
   pub filter-append : (p : A → Bool) (xs ys : List A) → filter p (xs ++ ys) ≡ filter p xs ++ filter p ys
@@ -121,6 +121,13 @@ any-get p (x ∷ xs) h = go (or-cases (p x) (any p xs) h) (λ k. any-get p xs k)
         → (t : ℕ) × (isIn (x ∷ xs) t ≡ true) × (p t ≡ true)
     go (inl e) ih = (x, rw (eq-eqb x x refl) refl, e)
     go (inr k) ih = let (t, a, b) = ih k in (t, rw a (or-true (eqb t x)), b)
+
+-- lists with the same members
+pub any-same : (p : ℕ → Bool) (xs ys : List ℕ) → ((v : ℕ) → isIn xs v ≡ isIn ys v) → any p xs ≡ any p ys
+any-same p xs ys same = both-ways (any p xs) (any p ys) (λ h. moved xs ys same h) (λ h. moved ys xs (λ v. sym (same v)) h)
+  where
+    moved : (xs ys : List ℕ) → ((v : ℕ) → isIn xs v ≡ isIn ys v) → any p xs ≡ true → any p ys ≡ true
+    moved xs ys same h = let (v, a, b) = any-get p xs h in any-of p ys v (sym (same v) ∙ a) b
 
 pub length-range : (k n : ℕ) → length (range k n) ≡ n
 length-range k zero = refl

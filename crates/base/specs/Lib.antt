@@ -1,4 +1,5 @@
 pub mod Lists
+pub mod Near
 pub mod Ascii
 pub mod Integers
 pub mod Refusals

@@ -8,13 +8,14 @@ use lib.Seq.{length-take-le, getD-take}
 use borrow.Author.Tests.{le-leb, lt-leb}
 use Rattle.base.specs.Lists.{concat, sum}
 use Rattle.base.proofs.Counts.{same-length}
-use Rattle.levels.specs.Levels.{reach, ownLevels}
+use Rattle.levels.specs.Levels.{ownLevels}
 use Rattle.levels.specs.code.Group.{Proper}
 use Rattle.levels.specs.code.Rows.{adjOf}
 use Rattle.sort.specs.code.Sort.{maxLevels}
 use Rattle.sort.specs.code.Sorted.{Sorted}
 use Rattle.levels.proofs.Proper.{proper-same}
 use Rattle.levels.proofs.Own.{own-same}
+use Rattle.levels.proofs.Rows.{rows-graph}
 use Rattle.plan.specs.Groups.{width, fieldsOf, groupOf}
 use Rattle.extents.specs.Extents.{Policy}
 use Rattle.race.specs.Loads.{loadOf}
@@ -35,7 +36,7 @@ module _ {n : ℕ} {policy : Policy} {stages index : ℕ} {starts columns T reco
 
   -- its own levels
   abbrev ls : List (List ℕ)
-  ls = ownLevels adj n T
+  ls = ownLevels adj (policy .reach) n T
 
   -- there is room for its record
   pub record-room : width * (index + 1) ≤ length records
@@ -46,16 +47,16 @@ module _ {n : ℕ} {policy : Policy} {stages index : ℕ} {starts columns T reco
 
   -- ---- after the sort
 
-  module _ {m : ℕ} {stretch ends : List ℕ} (s : Sorted adj n (2 * reach) T m stretch ends) where
+  module _ {m : ℕ} {stretch ends : List ℕ} (s : Sorted adj (policy .reach) n (2 * policy .reach) T m stretch ends) where
     pub levels-few : m ≤ maxLevels
-    levels-few = omega (arith, s .levels-are, own-few adj n T, task .rows .small)
+    levels-few = omega (arith, s .levels-are, own-few adj (policy .reach) n T, task .rows .small)
 
-    pub unsorted : m < 2 * reach → stretch ≡ T
-    unsorted l = s .order-is ∙ rw (lt-leb (2 * reach) m l)
+    pub unsorted : m < 2 * policy .reach → stretch ≡ T
+    unsorted l = s .order-is ∙ rw (lt-leb (2 * policy .reach) m l)
 
-    module _ (enough : 2 * reach ≤ m) where
+    module _ (enough : 2 * policy .reach ≤ m) where
       stretch-is : stretch ≡ concat ls
-      stretch-is = s .order-is ∙ rw (le-leb (2 * reach) m enough)
+      stretch-is = s .order-is ∙ rw (le-leb (2 * policy .reach) m enough)
 
       ends-length : length (take m ends) ≡ m
       ends-length = length-take-le m ends (omega (arith, s .ends-long, levels-few))
@@ -76,7 +77,7 @@ module _ {n : ℕ} {policy : Policy} {stages index : ℕ} {starts columns T reco
       levelled-in = rw levels-are levelled
 
       pub stretch-proper : Proper n stretch
-      stretch-proper = rw stretch-is (proper-same n (concat ls) T (own-same adj n T (task .proper)) (task .proper))
+      stretch-proper = rw stretch-is (proper-same n (concat ls) T (own-same adj (policy .reach) n (rows-graph (task .rows)) T (task .proper)) (task .proper))
 
       pub ends-few : length (take m ends) ≤ maxLevels
       ends-few = omega (arith, ends-length, levels-few)
@@ -111,15 +112,16 @@ module _ {n : ℕ} {policy : Policy} {stages index : ℕ} {starts columns T reco
             levelled = levelled-in;
             loads-are = rw levels-are loads-are;
             share = task .share;
+            far = task .far;
             scale = record {
-              some = rw all-is (load-some adj (concat ls) (own-some adj n T (omega (arith, s .levels-are))));
+              some = rw all-is (load-some adj (concat ls) (own-some adj (policy .reach) n T (omega (arith, s .levels-are))));
               few = rw (loaded .all-is) (load-few n starts columns stretch (task .rows) stretch-proper);
               workers = omega (arith, task .workers);
             };
             within = omega (arith, ap sum loads-are, load-concat adj ls, all-is);
             levels = rw levels-are (omega (arith, s .levels-are));
             free = omega arith;
-            inside = omega (arith, task .inside, ap length stretch-is, same-length (concat ls) T (own-same adj n T (task .proper)));
+            inside = omega (arith, task .inside, ap length stretch-is, same-length (concat ls) T (own-same adj (policy .reach) n (rows-graph (task .rows)) T (task .proper)));
             workers = task .workers;
             shallow = omega (arith, task .shallow, stages-left);
             few = omega (arith, task .few);

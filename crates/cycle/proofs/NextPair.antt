@@ -7,7 +7,6 @@ use native.Mathlib.Omega.{arith}
 use lib.ListN.{length, take, drop, getD, length-append, length-map}
 use lib.Seq.{take-take}
 use Rattle.base.specs.Lists.{concat}
-use Rattle.levels.specs.Levels.{reach}
 use Rattle.levels.specs.code.Rows.{adjOf}
 use Rattle.plan.specs.Groups.{Plan, red, blue, groupOf}
 use Rattle.race.specs.Loads.{loadOf}
@@ -27,7 +26,7 @@ abbrev pub Found : (policy : Policy) (up : Parent) (left : Left) (ends loads : L
 Found policy up left ends loads pair =
     (pair .levels ≡ extent (up .workers) (up .load) policy (left .free) loads .levels)
     × (pair .workers ≡ extent (up .workers) (up .load) policy (left .free) loads .workers)
-    × (pair .reds ≡ getD ends (cut (take (pair .levels) loads) - 1) 0 - left .done)
+    × (pair .reds ≡ getD ends (cut (policy .reach) (take (pair .levels) loads) - 1) 0 - left .done)
     × (pair .rows ≡ getD ends (pair .levels - 1) 0 - left .done)
 
 -- the plan of a pair and those after it, its sizes known
@@ -53,19 +52,19 @@ module _ {n : ℕ} {policy : Policy} {stages : ℕ} {starts columns stretch ends
 
   -- how many of its levels are red
   abbrev c : ℕ
-  c = cutOf adj (up .workers) (up .load) policy k ls
+  c = cutOf adj (up .workers) (up .load) policy (task .far .0) k ls
 
   map-take : (j : ℕ) (ms : List (List ℕ)) → take j (map (loadOf adj) ms) ≡ map (loadOf adj) (take j ms)
   map-take zero ms = refl
   map-take (suc j) [] = refl
   map-take (suc j) (m ∷ ms) = ap (λ (xs : List ℕ). loadOf adj m ∷ xs) (map-take j ms)
 
-  cut-is : c ≡ cut (take k (map (loadOf adj) ls))
-  cut-is = ap cut (sym (map-take k ls))
+  cut-is : c ≡ cut (policy .reach) (take k (map (loadOf adj) ls))
+  cut-is = ap (cut (policy .reach)) (sym (map-take k ls))
 
-  pub bounds : Bounds (length ls) k c
+  pub bounds : Bounds (policy .reach) (length ls) k c
   bounds = rw (length-map ls (loadOf adj)) at
-      (pair-bounds (up .workers) (up .load) policy (left .free) (map (loadOf adj) ls) k c (task .free) (rw (length-map ls (loadOf adj)) (task .levels)) (found′ .0) cut-is)
+      (pair-bounds (up .workers) (up .load) policy (left .free) (map (loadOf adj) ls) k c (task .far .0) (task .free) (rw (length-map ls (loadOf adj)) (task .levels)) (found′ .0) cut-is)
 
   -- its rows
   abbrev pub reds : List ℕ
@@ -126,7 +125,7 @@ module _ {n : ℕ} {policy : Policy} {stages : ℕ} {starts columns stretch ends
       let child = planGroup adj n policy stages in
       let one : concat (take c (take k ls)) ≡ reds = ap concat (take-take c k ls (omega (arith, bounds .blues))) in
       let start : up .start + left .done + pair .reds + (pair .rows - pair .reds) ≡ up .start + (left .done + pair .rows) = omega (arith, rows-length) in
-      let next = pairs-next adj (up .workers) (up .load) policy (left .free) ls (task .free) (task .levels) in
+      let next = pairs-next adj (up .workers) (up .load) policy (task .far .0) (left .free) ls (task .free) (task .levels) in
       ap (planPairs child (up .index) (up .depth + 1) (up .start + left .done) (left .first) (left .index)) (rw (← found′ .0, ← found′ .1, one) at next)
       ∙ pairs-cons child (up .index) (up .depth + 1) (up .start + left .done) (left .first) (left .index) reds blues (pair .workers)
       (pairs adj (length (drop k ls)) (up .workers) (up .load) policy (left .free - pair .workers) (drop k ls)) (pair .reds) (pair .rows - pair .reds) reds-length blues-length
@@ -138,20 +137,20 @@ module _ {n : ℕ} {policy : Policy} {stages : ℕ} {starts columns stretch ends
   count-next = rw plan-next (simp length-append)
 
   -- what it takes
-  taken : Taken (length ls) (left .free) (extentOf adj (up .workers) (up .load) policy (left .free) ls)
-  taken = extent-of adj (up .workers) (up .load) policy (left .free) ls (task .free) (task .levels)
+  taken : Taken (policy .reach) (length ls) (left .free) (extentOf adj (up .workers) (up .load) policy (task .far .0) (left .free) ls)
+  taken = extent-of adj (up .workers) (up .load) policy (task .far .0) (left .free) ls (task .free) (task .levels)
 
   -- no more workers than are free
   pub workers-most : pair .workers ≤ left .free
   workers-most = omega (arith, found′ .1, taken-most taken)
 
   -- where it does not take all levels, enough for a pair and a worker are left
-  pub left-over : (pair .levels ≡ length ls → ⊥) → (pair .levels + 2 * reach ≤ length ls) × (pair .workers < left .free)
+  pub left-over : (pair .levels ≡ length ls → ⊥) → (pair .levels + 2 * policy .reach ≤ length ls) × (pair .workers < left .free)
   left-over some = go (taken .rest)
     where
       e : Extent
-      e = extentOf adj (up .workers) (up .load) policy (left .free) ls
+      e = extentOf adj (up .workers) (up .load) policy (task .far .0) (left .free) ls
 
-      go : ((e .levels ≡ length ls) × (e .workers ≡ left .free)) ⊎ ((e .levels + 2 * reach ≤ length ls) × (e .workers < left .free)) → (pair .levels + 2 * reach ≤ length ls) × (pair .workers < left .free)
+      go : ((e .levels ≡ length ls) × (e .workers ≡ left .free)) ⊎ ((e .levels + 2 * policy .reach ≤ length ls) × (e .workers < left .free)) → (pair .levels + 2 * policy .reach ≤ length ls) × (pair .workers < left .free)
       go (inl h) = absurd (some (found′ .0 ∙ h .0))
       go (inr h) = (omega (arith, found′ .0), omega (arith, found′ .1))

@@ -7,7 +7,6 @@ use native.Mathlib.Omega.{arith}
 use lib.ListN.{length, take, drop, getD, length-drop, length-map, drop-of-length-le}
 use lib.Seq.{take-all}
 use Rattle.base.specs.Lists.{sum}
-use Rattle.levels.specs.Levels.{reach}
 use Rattle.levels.specs.code.Group.{Proper}
 use Rattle.levels.specs.code.Rows.{adjOf}
 use Rattle.levels.proofs.Proper.{proper-left, proper-right}
@@ -46,11 +45,12 @@ module _ {n : ℕ} {policy : Policy} {stages : ℕ} {starts columns stretch ends
   loads-count = ap length (task .loads-are) ∙ length-map ls (loadOf (adjOf n starts columns))
 
   -- what the search for the next pair asks
-  pub next-asked : Scale (up .workers) (up .load) × (sum loads ≤ up .load) × (2 * reach ≤ length loads) × (policy .p ≤ 100) × (1 ≤ left .free) × (length ends ≡ length loads)
+  pub next-asked : Scale (up .workers) (up .load) × (sum loads ≤ up .load) × (1 ≤ policy .reach) × (2 * policy .reach ≤ length loads) × (policy .p ≤ 100) × (1 ≤ left .free) × (length ends ≡ length loads)
       × ((j : ℕ) → j < length ends → left .done ≤ getD ends j 0)
   next-asked = (
     task .scale,
     task .within,
+    task .far .0,
     omega (arith, loads-count, task .levels),
     task .share,
     task .free,
@@ -92,7 +92,7 @@ module _ {n : ℕ} {policy : Policy} {stages : ℕ} {starts columns stretch ends
   parts-in = (omega (arith, rows-length task found), omega (arith, stretch-length))
 
   -- its levels are among those that are left
-  pub levels-in-ends : (2 * reach ≤ pair .levels) × (pair .levels ≤ length ends) × (pair .levels ≤ length loads)
+  pub levels-in-ends : (2 * policy .reach ≤ pair .levels) × (pair .levels ≤ length ends) × (pair .levels ≤ length loads)
   levels-in-ends = let k = bounds task found in (k .some, omega (arith, ends-count task), omega (arith, loads-count task))
 
   -- its numbers are small
@@ -104,6 +104,7 @@ module _ {n : ℕ} {policy : Policy} {stages : ℕ} {starts columns stretch ends
     rows = task .rows;
     proper = proper-left n (reds task found) (blues task found ++ later task found) parts-proper;
     share = task .share;
+    far = task .far;
     size = sym (reds-length task found);
     inside = omega (arith, task .inside, stretch-length, reds-length task found, rows-length task found);
     workers = omega (arith, task .workers, workers-most task found);
@@ -142,6 +143,7 @@ module _ {n : ℕ} {policy : Policy} {stages : ℕ} {starts columns stretch ends
       rows = task .rows;
       proper = proper-left n (blues task found) (later task found) rest-proper;
       share = task .share;
+      far = task .far;
       size = sym (blues-length task found);
       inside = omega (arith, task .inside, stretch-length, rows-length task found);
       workers = omega (arith, task .workers, workers-most task found);
@@ -212,7 +214,7 @@ module _ {n : ℕ} {policy : Policy} {stages : ℕ} {starts columns stretch ends
         rest-levels : levelsIn (left .done + b) (part ends (pair .levels) (length ends)) (part two b (length two)) ≡ drop (pair .levels) ls
         rest-levels = levels-in rest-levelled
 
-        over : (pair .levels + 2 * reach ≤ length ls) × (pair .workers < left .free)
+        over : (pair .levels + 2 * policy .reach ≤ length ls) × (pair .workers < left .free)
         over = left-over task found (λ e. some (e ∙ sym (ends-count task)))
 
         pub rest-task : PairsTask n policy stages starts columns (part two b (length two)) (part ends (pair .levels) (length ends)) (part loads (pair .levels) (length loads)) records₂ up (leftAfter left pair j)
@@ -223,6 +225,7 @@ module _ {n : ℕ} {policy : Policy} {stages : ℕ} {starts columns stretch ends
           levelled = rest-levelled;
           loads-are = part-to-end loads (pair .levels) ∙ ap (drop (pair .levels)) (task .loads-are) ∙ map-drop (loadOf adj) (pair .levels) ls;
           share = task .share;
+          far = task .far;
           scale = task .scale;
           within = omega (arith, task .within, ap sum (part-to-end loads (pair .levels)), sum-split (pair .levels) loads);
           levels = omega (arith, length-drop (pair .levels) ls, over);

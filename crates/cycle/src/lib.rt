@@ -1,6 +1,5 @@
 // The group planner and the pair planner, which call each other.
 use extents::Policy;
-use extents::REACH;
 use extents::cut;
 use extents::next_extent;
 use loads::level_loads;
@@ -14,7 +13,6 @@ ghost use mathlib.Core.Path.{_≡_};
 ghost use Prim.Native.Nat.{ℕ, _+_, _-_, _*_, _<_, _≤_};
 ghost use lib.ListN.{length, take, getD};
 ghost use Rattle.base.specs.Lists.{sum};
-ghost use Rattle.levels.specs.Levels.{reach};
 ghost use Rattle.levels.specs.code.Rows.{adjOf};
 ghost use Rattle.extents.specs.Extents.{extent, cut};
 ghost use Rattle.race.specs.Planner.{planGroup};
@@ -52,16 +50,16 @@ pub struct Pair {
 
 // The next pair.
 fn next_pair(ends: &[u32], loads: &[u32], policy: Policy, up: Parent, left: Left) -> Pair
-    requires { ⌜ Scale (up .workers) (up .load) × (sum (now loads) ≤ up .load) × (2 * reach ≤ length (now loads)) × (policy .p ≤ 100) × (1 ≤ left .free) × (length (now ends) ≡ length (now loads))
+    requires { ⌜ Scale (up .workers) (up .load) × (sum (now loads) ≤ up .load) × (1 ≤ policy .reach) × (2 * policy .reach ≤ length (now loads)) × (policy .p ≤ 100) × (1 ≤ left .free) × (length (now ends) ≡ length (now loads))
         × ((j : ℕ) → j < length (now ends) → left .done ≤ getD (now ends) j 0) ⌝ }
     ensures { λ r. ⌜ (r .levels ≡ extent (up .workers) (up .load) (policyOf policy) (left .free) (now (loads .entry)) .levels)
         × (r .workers ≡ extent (up .workers) (up .load) (policyOf policy) (left .free) (now (loads .entry)) .workers)
-        × (r .reds ≡ getD (now (ends .entry)) (cut (take (r .levels) (now (loads .entry))) - 1) 0 - left .done)
+        × (r .reds ≡ getD (now (ends .entry)) (cut (policy .reach) (take (r .levels) (now (loads .entry))) - 1) 0 - left .done)
         × (r .rows ≡ getD (now (ends .entry)) (r .levels - 1) 0 - left .done) ⌝ }
 {
     let e = next_extent(loads, up.workers, up.load, policy, left.free);
     let levels = e.levels;
-    let c = cut(&loads[..levels]);
+    let c = cut(&loads[..levels], policy.reach);
     let red_end = ends[c - 1];
     let end = ends[levels - 1];
     Pair {
@@ -141,8 +139,9 @@ pub fn plan_group(
         return index + 1;
     }
     let mut ends = [0u32; MAX_LEVELS];
-    let m = level_sort(starts, columns, order, &mut ends, n, 2 * REACH);
-    if m < 2 * REACH {
+    let reach = policy.reach;
+    let m = level_sort(starts, columns, order, &mut ends, n, reach, 2 * reach);
+    if m < 2 * reach {
         return index + 1;
     }
     let mut loads = [0u32; MAX_LEVELS];

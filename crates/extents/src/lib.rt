@@ -4,12 +4,13 @@ ghost use Prim.Native.Nat.{_+_, _-_, _*_, _<_, _≤_};
 ghost use lib.ListN.{length};
 ghost use Rattle.base.specs.Lists.{sum, distance, fromFirst};
 ghost use Rattle.plan.specs.Sound.{maxWorkers};
-ghost use Rattle.levels.specs.Levels.{reach};
 ghost use Rattle.extents.specs.Extents.{nearest, serves, extent, cut};
 ghost use Rattle.extents.specs.code.Scans.{maxLoad, policyOf, endsOn, nearestEnd, Scale};
 
-// What the rules take: closeness is to be above p per cent.
+// What the rules take: a colour has at least reach levels, a pair twice as many, and closeness is to be above p per
+// cent.
 pub struct Policy {
+    pub reach: usize,
     pub p: u32,
 }
 
@@ -18,9 +19,6 @@ pub struct Extent {
     pub levels: usize,
     pub workers: u32,
 }
-
-// The distance that a colouring keeps: a colour has at least so many levels, a pair twice as many.
-pub const REACH: usize = 2;
 
 // How far a and b are from each other.
 fn off(a: u32, b: u32) -> u32
@@ -104,12 +102,12 @@ fn nearest_end(loads: &[u32], k: usize, x: u32, y: u32) -> usize
 
 // The next pair's levels and workers.
 pub fn next_extent(loads: &[u32], w: u32, load: u32, policy: Policy, free: u32) -> Extent
-    requires { ⌜ Scale w load × (sum (now loads) ≤ load) × (2 * reach ≤ length (now loads)) × (policy .p ≤ 100) ⌝ }
+    requires { ⌜ Scale w load × (sum (now loads) ≤ load) × (1 ≤ policy .reach) × (2 * policy .reach ≤ length (now loads)) × (policy .p ≤ 100) ⌝ }
     ensures { λ r. ⌜ (r .levels ≡ extent w load (policyOf policy) free (now (loads .entry)) .levels)
         × (r .workers ≡ extent w load (policyOf policy) free (now (loads .entry)) .workers) ⌝ }
 {
     let all = loads.len();
-    let least = 2 * REACH;
+    let least = 2 * policy.reach;
     let k = first_end(loads, least, w, load, policy.p);
     if all < k {
         return Extent {
@@ -138,10 +136,10 @@ pub fn next_extent(loads: &[u32], w: u32, load: u32, policy: Policy, free: u32) 
 }
 
 // How many of a pair's levels are red.
-pub fn cut(loads: &[u32]) -> usize
-    requires { ⌜ (sum (now loads) ≤ maxLoad) × (2 * reach ≤ length (now loads)) ⌝ }
-    ensures { λ r. ⌜ r ≡ cut (now (loads .entry)) ⌝ }
+pub fn cut(loads: &[u32], reach: usize) -> usize
+    requires { ⌜ (sum (now loads) ≤ maxLoad) × (1 ≤ reach) × (2 * reach ≤ length (now loads)) ⌝ }
+    ensures { λ r. ⌜ r ≡ cut reach (now (loads .entry)) ⌝ }
 {
-    let end = loads.len() - REACH;
-    nearest_end(&loads[..end], REACH, 2, total(loads))
+    let end = loads.len() - reach;
+    nearest_end(&loads[..end], reach, 2, total(loads))
 }

@@ -75,16 +75,18 @@ fn check_flat(
     order: &[u32],
     numbers: [u32; MAX_FIELDS],
     count: usize,
+    k: u32,
 ) -> Verdict
-    ensures { λ r. ⌜ replyOf r ≡ checkReply (matrixOf n (now (starts .entry)) (now (columns .entry)) (now (values .entry))) (now (order .entry)) numbers count ⌝ }
+    ensures { λ r. ⌜ replyOf r ≡ checkReply (matrixOf n (now (starts .entry)) (now (columns .entry)) (now (values .entry))) (now (order .entry)) numbers count k ⌝ }
 {
     if MAX_GROUPS < count {
-        return sound::check(n, starts, columns, values, order, &numbers, TOO_MANY);
+        return sound::check(n, starts, columns, values, order, &numbers, TOO_MANY, k);
     }
-    sound::check(n, starts, columns, values, order, &numbers, count as u32)
+    sound::check(n, starts, columns, values, order, &numbers, count as u32, k)
 }
 
-// The check of a plan: 5 if the lists are no matrix, 8 if the plan is not sound for it.
+// The check of a plan at the distance k: 5 if the lists are no matrix, 7 if k is no distance, 8 if the plan is not
+// sound at k.
 pub fn check(
     n: u32,
     starts: &[u32],
@@ -92,8 +94,9 @@ pub fn check(
     values: &[i32],
     order: &[u32],
     groups: &[Group],
+    k: u32,
 ) -> Verdict
-    ensures { λ r. ⌜ replyOf r ≡ checkReply (matrixOf n (now (starts .entry)) (now (columns .entry)) (now (values .entry))) (now (order .entry)) (flat (map groupOf (now (groups .entry)))) (length (now (groups .entry))) ⌝ }
+    ensures { λ r. ⌜ replyOf r ≡ checkReply (matrixOf n (now (starts .entry)) (now (columns .entry)) (now (values .entry))) (now (order .entry)) (flat (map groupOf (now (groups .entry)))) (length (now (groups .entry))) k ⌝ }
 {
     check_flat(
         n,
@@ -103,6 +106,7 @@ pub fn check(
         order,
         flatten(groups),
         groups.len(),
+        k,
     )
 }
 
@@ -142,10 +146,11 @@ fn plan_flat(
     values: &[i32],
     workers: u32,
     p: u32,
+    k: u32,
     order: &mut [u32],
     room: usize,
 ) -> Made
-    ensures { λ r. ⌜ Planned (matrixOf n (now (starts .entry)) (now (columns .entry)) (now (values .entry))) workers p (now (order .entry)) room r (now (order .exit)) ⌝ }
+    ensures { λ r. ⌜ Planned (matrixOf n (now (starts .entry)) (now (columns .entry)) (now (values .entry))) workers p k (now (order .entry)) room r (now (order .exit)) ⌝ }
 {
     let mut numbers = [0u32; MAX_FIELDS];
     let size = size_for(room);
@@ -156,6 +161,7 @@ fn plan_flat(
         values,
         workers,
         p,
+        k,
         order,
         &mut numbers[..size],
     );
@@ -175,16 +181,27 @@ pub fn plan(
     values: &[i32],
     workers: u32,
     p: u32,
+    k: u32,
     order: &mut [u32],
     groups: &mut [Group],
 ) -> Verdict
-    ensures reply { λ r. ⌜ replyOf r ≡ planReply (matrixOf n (now (starts .entry)) (now (columns .entry)) (now (values .entry))) workers p (length (now (order .entry))) (width * length (now (groups .entry))) ⌝ }
-    ensures lent_order { λ r. ⌜ now (order .exit) ≡ lent (planReply (matrixOf n (now (starts .entry)) (now (columns .entry)) (now (values .entry))) workers p (length (now (order .entry))) (width * length (now (groups .entry))))
-        (plan (matrixOf n (now (starts .entry)) (now (columns .entry)) (now (values .entry))) workers p .order) (now (order .entry)) ⌝ }
-    ensures lent_groups { λ r. ⌜ now (groups .exit) ≡ lent (planReply (matrixOf n (now (starts .entry)) (now (columns .entry)) (now (values .entry))) workers p (length (now (order .entry))) (width * length (now (groups .entry))))
-        (map ofGroup (plan (matrixOf n (now (starts .entry)) (now (columns .entry)) (now (values .entry))) workers p .groups)) (now (groups .entry)) ⌝ }
+    ensures reply { λ r. ⌜ replyOf r ≡ planReply (matrixOf n (now (starts .entry)) (now (columns .entry)) (now (values .entry))) workers p k (length (now (order .entry))) (width * length (now (groups .entry))) ⌝ }
+    ensures lent_order { λ r. ⌜ now (order .exit) ≡ lent (planReply (matrixOf n (now (starts .entry)) (now (columns .entry)) (now (values .entry))) workers p k (length (now (order .entry))) (width * length (now (groups .entry))))
+        (plan (matrixOf n (now (starts .entry)) (now (columns .entry)) (now (values .entry))) workers p k .order) (now (order .entry)) ⌝ }
+    ensures lent_groups { λ r. ⌜ now (groups .exit) ≡ lent (planReply (matrixOf n (now (starts .entry)) (now (columns .entry)) (now (values .entry))) workers p k (length (now (order .entry))) (width * length (now (groups .entry))))
+        (map ofGroup (plan (matrixOf n (now (starts .entry)) (now (columns .entry)) (now (values .entry))) workers p k .groups)) (now (groups .entry)) ⌝ }
 {
-    let made = plan_flat(n, starts, columns, values, workers, p, order, groups.len());
+    let made = plan_flat(
+        n,
+        starts,
+        columns,
+        values,
+        workers,
+        p,
+        k,
+        order,
+        groups.len(),
+    );
     gather(made.numbers, made.count, groups);
     made.answer
 }

@@ -7,7 +7,7 @@ use native.Mathlib.Omega.{arith}
 use lib.ListN.{length, getD, drop}
 use Rattle.matrix.specs.Matrix.{neighbours}
 use Rattle.plan.specs.Groups.{Group, records, ofFields}
-use Rattle.plan.specs.Sound.{maxWorkers, maxGroups, depthFirst, sound, isSound}
+use Rattle.plan.specs.Sound.{apart, maxWorkers, maxGroups, depthFirst, sound, isSound}
 use Rattle.plan.specs.code.Checks.{recordAt, belowWhole, standsDepthFirst, Reads}
 use Rattle.plan.specs.declared.fields.Record.{Record}
 use Rattle.plan.proofs.FlatRecords.{length-records}
@@ -23,18 +23,18 @@ module _ {j : Job} {groups : List ℕ} {count : ℕ} {sizes : List ℕ} (g : Pla
   abbrev n : ℕ
   n = j .matrix .n
 
-  is-sound : sound (neighbours (j .matrix)) n (j .plan .order) (records count groups) ≡ true
+  is-sound : sound (apart (neighbours (j .matrix))) n (j .plan .order) (records count groups) ≡ true
   unfolding isSound
-  is-sound = subst (λ (gs : List Group). sound (neighbours (j .matrix)) n (j .plan .order) gs ≡ true) (g .groups-are) (g .sized .accepted .plan)
+  is-sound = subst (λ (gs : List Group). sound (apart (neighbours (j .matrix))) n (j .plan .order) gs ≡ true) (g .groups-are) (g .sized .accepted .plan)
 
   -- they stand depth first, and are not too many
   pub in-order : (standsDepthFirst count groups ≡ true) × (count ≤ maxGroups)
   unfolding sound
   in-order = let h = go (records count groups) is-sound in (h .0, omega (arith, h .1, length-records count groups))
     where
-      go : (gs : List Group) → sound (neighbours (j .matrix)) n (j .plan .order) gs ≡ true → (depthFirst (0 ∷ []) 1 (drop 1 gs) ≡ true) × (length gs ≤ maxGroups)
+      go : (gs : List Group) → sound (apart (neighbours (j .matrix))) n (j .plan .order) gs ≡ true → (depthFirst (0 ∷ []) 1 (drop 1 gs) ≡ true) × (length gs ≤ maxGroups)
       go [] h = absurd (true≢false (sym h))
-      go (k ∷ ks) h = let f = sound-facts (neighbours (j .matrix)) n (j .plan .order) k ks h in (f .inOrder, f .short)
+      go (k ∷ ks) h = let f = sound-facts (apart (neighbours (j .matrix))) n (j .plan .order) k ks h in (f .inOrder, f .short)
 
   -- a leaf is one of them
   pub leaf-inside : (i : ℕ) → Leaf j i → i < count

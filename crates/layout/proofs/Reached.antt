@@ -14,7 +14,7 @@ use borrow.Author.Tests.{eqb-true, eqb-false, eq-eqb, leb-true}
 use Rattle.base.specs.Lists.{isIn, isEmpty}
 use Rattle.base.proofs.Booleans.{and-left, and-right, or-cases, conj-first, conj-at}
 use Rattle.plan.specs.Groups.{Group, red, blue, width, records, ofFields}
-use Rattle.plan.specs.Sound.{maxWorkers, depthFirst, children, tiled, likeApart, childrenSound, sound}
+use Rattle.plan.specs.Sound.{apart, maxWorkers, depthFirst, children, tiled, likeApart, childrenSound, sound}
 use Rattle.plan.specs.code.Checks.{recordAt, belowWhole, fitting, pending, complete, laid}
 use Rattle.plan.proofs.Records.{ancestors, Step, step-of, Sounds}
 use Rattle.plan.proofs.FlatRecords.{length-records, records-at, records-none}
@@ -159,7 +159,7 @@ module _ (count : ℕ) (ns : List ℕ) (n : ℕ) where
             rw (e, z) (ih (omega (arith, o .0)) (o .6) y)
 
     -- .. with its own children
-    opens : (adj : ℕ → List ℕ) (order path : List ℕ) (s : ℕ) → childrenSound adj order h (children i (left (suc i))) ≡ true → Next path s
+    opens : (adj : ℕ → List ℕ) (order path : List ℕ) (s : ℕ) → childrenSound (apart adj) order h (children i (left (suc i))) ≡ true → Next path s
         → Open (suc i) (suc i) (i ∷ path) (cond (hasChild i (belowWhole count ns)) s (s + h .length))
     unfolding childrenSound laid complete
     opens adj order path s c x = rw (has-child i (belowWhole count ns), rw add-one at (children-later count ns nested i)) (go (children i (left (suc i))) refl c)
@@ -170,7 +170,7 @@ module _ (count : ℕ) (ns : List ℕ) (n : ℕ) where
         done : laid h (s + h .length) (h .first + h .workers) 0 [] ≡ true
         done = rw (eq-eqb (s + h .length) (h .start + h .length) e) (eq-eqb (h .first + h .workers) (h .first + h .workers) refl)
 
-        go : (ks : List Group) → children i (left (suc i)) ≡ ks → childrenSound adj order h ks ≡ true → Open (suc i) (suc i) (i ∷ path) (cond (not (isEmpty ks)) s (s + h .length))
+        go : (ks : List Group) → children i (left (suc i)) ≡ ks → childrenSound (apart adj) order h ks ≡ true → Open (suc i) (suc i) (i ∷ path) (cond (not (isEmpty ks)) s (s + h .length))
         go [] q t = (omega arith, h, h .first + h .workers, 0, x .last, rw q done, subst (Open (suc i) i path) e (x .opened))
         go (k ∷ ks) q t = (
           omega arith,
@@ -178,7 +178,7 @@ module _ (count : ℕ) (ns : List ℕ) (n : ℕ) where
           h .first,
           0,
           x .last,
-          rw q (subst (λ (y : ℕ). laid h y (h .first) 0 (k ∷ ks) ≡ true) (x .start) (sym (tiled-laid h (h .start) (h .first) (k ∷ ks)) ∙ and-left (tiled h (h .start) (h .first) (k ∷ ks)) (likeApart adj order (k ∷ ks)) t)),
+          rw q (subst (λ (y : ℕ). laid h y (h .first) 0 (k ∷ ks) ≡ true) (x .start) (sym (tiled-laid h (h .start) (h .first) (k ∷ ks)) ∙ and-left (tiled h (h .start) (h .first) (k ∷ ks)) (likeApart (apart adj) order (k ∷ ks)) t)),
           subst (Open (suc i) i path) e (x .opened),
         )
 
@@ -190,23 +190,23 @@ record-get count ns i d l =
     let e : i ≡ i + 0 = omega arith in
     ap (λ (k : ℕ). getD (records count ns) k d) e ∙ sym (getD-drop i (records count ns) 0 d) ∙ ap (λ (gs : List Group). getD gs 0 d) (records-at count i ns l)
 
-sounds-at : (adj : ℕ → List ℕ) (order : List ℕ) (k : ℕ) (gs : List Group) → Sounds adj order k gs → (i : ℕ) (d : Group) → i < length gs
-    → childrenSound adj order (getD gs i d) (children (k + i) (drop (suc i) gs)) ≡ true
+sounds-at : (adj : ℕ → List ℕ) (order : List ℕ) (k : ℕ) (gs : List Group) → Sounds (apart adj) order k gs → (i : ℕ) (d : Group) → i < length gs
+    → childrenSound (apart adj) order (getD gs i d) (children (k + i) (drop (suc i) gs)) ≡ true
 sounds-at adj order k [] s i d l = absurd (omega arith)
-sounds-at adj order k (g ∷ gs) s zero d l = let e : k ≡ k + 0 = omega arith in subst (λ (y : ℕ). childrenSound adj order g (children y gs) ≡ true) e (s .0)
+sounds-at adj order k (g ∷ gs) s zero d l = let e : k ≡ k + 0 = omega arith in subst (λ (y : ℕ). childrenSound (apart adj) order g (children y gs) ≡ true) e (s .0)
 sounds-at adj order k (g ∷ gs) s (suc i) d l =
     let e : suc k + i ≡ k + suc i = omega arith in
-    subst (λ (y : ℕ). childrenSound adj order (getD gs i d) (children y (drop (suc i) gs)) ≡ true) e (sounds-at adj order (suc k) gs (s .1) i d (omega arith))
+    subst (λ (y : ℕ). childrenSound (apart adj) order (getD gs i d) (children y (drop (suc i) gs)) ≡ true) e (sounds-at adj order (suc k) gs (s .1) i d (omega arith))
 
-module _ (adj : ℕ → List ℕ) (n : ℕ) (order : List ℕ) (c : ℕ) (ns : List ℕ) (ok : sound adj n order (records (suc c) ns) ≡ true) where
+module _ (adj : ℕ → List ℕ) (n : ℕ) (order : List ℕ) (c : ℕ) (ns : List ℕ) (ok : sound (apart adj) n order (records (suc c) ns) ≡ true) where
   abbrev count : ℕ
   count = suc c
 
-  facts : SoundFacts adj n order (ofFields ns) (records c (drop width ns))
+  facts : SoundFacts (apart adj) n order (ofFields ns) (records c (drop width ns))
   unfolding records
-  facts = sound-facts adj n order (ofFields ns) (records c (drop width ns)) ok
+  facts = sound-facts (apart adj) n order (ofFields ns) (records c (drop width ns)) ok
 
-  below : (i : ℕ) → i < count → childrenSound adj order (recordAt ns i) (children i (drop (suc i) (records count ns))) ≡ true
+  below : (i : ℕ) → i < count → childrenSound (apart adj) order (recordAt ns i) (children i (drop (suc i) (records count ns))) ≡ true
   unfolding records
   below i l =
       let e : 0 + i ≡ i = omega arith in
@@ -254,12 +254,12 @@ module _ (adj : ℕ → List ℕ) (n : ℕ) (order : List ℕ) (c : ℕ) (ns : L
   end-at : reached count ns count ≡ n
   end-at = let b = before c (omega arith) in open-none count ns n count count (b .path) (reached count ns count) (records-none count count ns (omega arith)) (b .opened)
 
-module _ (adj : ℕ → List ℕ) (n : ℕ) (order : List ℕ) (count : ℕ) (ns : List ℕ) (ok : sound adj n order (records count ns) ≡ true) where
+module _ (adj : ℕ → List ℕ) (n : ℕ) (order : List ℕ) (count : ℕ) (ns : List ℕ) (ok : sound (apart adj) n order (records count ns) ≡ true) where
   -- record i starts where the leaves before it end, and has a first worker
   pub start-reached : (i : ℕ) → i < count → (recordAt ns i .start ≡ reached count ns i) × (recordAt ns i .first < maxWorkers)
   start-reached = go count ok
     where
-      go : (k : ℕ) → sound adj n order (records k ns) ≡ true → (i : ℕ) → i < k → (recordAt ns i .start ≡ reached k ns i) × (recordAt ns i .first < maxWorkers)
+      go : (k : ℕ) → sound (apart adj) n order (records k ns) ≡ true → (i : ℕ) → i < k → (recordAt ns i .start ≡ reached k ns i) × (recordAt ns i .first < maxWorkers)
       go zero h i l = absurd (omega arith)
       go (suc c) h i l = start-at adj n order c ns h i l
 
@@ -268,6 +268,6 @@ module _ (adj : ℕ → List ℕ) (n : ℕ) (order : List ℕ) (count : ℕ) (ns
   unfolding sound records
   reached-end = go count ok
     where
-      go : (k : ℕ) → sound adj n order (records k ns) ≡ true → reached k ns k ≡ n
+      go : (k : ℕ) → sound (apart adj) n order (records k ns) ≡ true → reached k ns k ≡ n
       go zero h = absurd (true≢false (sym h))
       go (suc c) h = end-at adj n order c ns h

@@ -1,4 +1,4 @@
--- Levels are distances: two adjacent rows have levels that differ by at most 1.
+-- Levels are distances: a row has one, and two adjacent rows have levels that differ by at most 1.
 use mathlib.Core.Path.{_≡_, sym}
 use mathlib.Core.Bool.{true, not, true≢false}
 use mathlib.Core.List.{List, [], _∷_}
@@ -39,3 +39,12 @@ module _ (adj : ℕ → List ℕ) (T : List ℕ) where
   levels-close (suc k) last rest zero (suc zero) u v hu hv c = omega arith
   levels-close (suc k) last rest zero (suc (suc j)) u v hu hv c = absurd (far k _ _ j u v hu hv c)
   levels-close (suc k) last rest (suc i) (suc j) u v hu hv c = suc-le-suc (levels-close k _ _ i j u v hu hv c)
+
+  -- nobody is at two levels
+  pub level-once : (k : ℕ) (last rest : List ℕ) (i j v : ℕ) → At k last rest i v → At k last rest j v → j ≤ i
+  unfolding levelsFrom
+  level-once zero last rest i j v hi hj = absurd (true≢false (sym hj))
+  level-once (suc k) last rest i zero v hi hj = zero-le
+  level-once (suc k) last rest zero (suc j) v hi hj =
+      absurd (not-both _ (filter-passes (isNext adj T last rest) rest v hi) (filter-passes (λ u. not (isNext adj T last rest u)) rest v (unreached k _ _ j v hj)))
+  level-once (suc k) last rest (suc i) (suc j) v hi hj = suc-le-suc (level-once k _ _ i j v hi hj)

@@ -1,23 +1,23 @@
 -- A group's levels depend on who is in it, not on its order. A group's rows in ascending order are as many.
 use mathlib.Core.Path.{_≡_, refl, ap, _∙_, fun-ext}
-use mathlib.Core.Bool.{Bool, true, false, not, _||_}
+use mathlib.Core.Bool.{Bool, not}
 use mathlib.Core.List.{List, [], _∷_, map}
-use Prim.Native.Nat.{ℕ, zero, suc, _*_, _≤_}
+use Prim.Native.Nat.{ℕ, zero, suc, _*_, _-_, _≤_}
 use native.Mathlib.Omega.{arith}
 use lib.ListN.{length}
-use Rattle.base.specs.Lists.{filter, any, isIn, range, trim, bit}
-use Rattle.base.specs.code.Counts.{count}
+use Rattle.base.specs.Lists.{filter, isIn, range, trim}
 use Rattle.base.proofs.Booleans.{both-ways}
-use Rattle.base.proofs.Lists.{filter-passes, filter-of, isIn-range, length-filter-le, length-range}
-use Rattle.base.proofs.Counts.{same-length, count-filter, count-range, in-count, out-count}
+use Rattle.base.proofs.Lists.{filter-passes, filter-of, isIn-range}
+use Rattle.base.proofs.Counts.{once-length, once-short}
+use Rattle.base.proofs.Near.{near-same}
 use Rattle.levels.specs.code.Group.{Proper}
-use Rattle.levels.specs.Levels.{near, region, isNext, levelsFrom, levels, ownLevels}
+use Rattle.levels.specs.Levels.{region, isNext, levelsFrom, levels, ownLevels}
 use Rattle.levels.proofs.Root.{root-same}
 
-module _ (adj : ℕ → List ℕ) (n : ℕ) (S T : List ℕ) (same : isIn S ≡ isIn T) where
-  region-same : region adj n S ≡ region adj n T
-  unfolding region near
-  region-same = ap (λ (p : ℕ → Bool). filter (λ v. p v || any p (adj v)) (range 0 n)) same
+module _ (adj : ℕ → List ℕ) (reach n : ℕ) (S T : List ℕ) (same : isIn S ≡ isIn T) where
+  region-same : region adj reach n S ≡ region adj reach n T
+  unfolding region
+  region-same = ap (λ (p : ℕ → Bool). filter p (range 0 n)) (near-same adj _ S T same)
 
   next-same : (last rest : List ℕ) → isNext adj S last rest ≡ isNext adj T last rest
   unfolding isNext
@@ -31,13 +31,13 @@ module _ (adj : ℕ → List ℕ) (n : ℕ) (S T : List ℕ) (same : isIn S ≡ 
       ap (λ (p : ℕ → Bool). filter p rest ∷ levelsFrom adj k S (filter p rest) (filter (λ v. not (p v)) rest)) (next-same last rest)
       ∙ ap (λ (ls : List (List ℕ)). filter (isNext adj T last rest) rest ∷ ls) (from-same k _ _)
 
-  pub levels-same : levels adj n S ≡ levels adj n T
+  pub levels-same : levels adj reach n S ≡ levels adj reach n T
   unfolding levels
-  levels-same = ap (levelsFrom adj (2 * n) S []) region-same ∙ from-same (2 * n) [] (region adj n T)
+  levels-same = ap (levelsFrom adj (2 * n) S []) region-same ∙ from-same (2 * n) [] (region adj reach n T)
 
-  pub own-levels-same : ownLevels adj n S ≡ ownLevels adj n T
+  pub own-levels-same : ownLevels adj reach n S ≡ ownLevels adj reach n T
   unfolding ownLevels
-  own-levels-same = ap (λ (p : ℕ → Bool). trim (map (filter p) (levels adj n S))) same ∙ ap (λ (ls : List (List ℕ)). trim (map (filter (isIn T)) ls)) levels-same
+  own-levels-same = ap (λ (p : ℕ → Bool). trim (map (filter p) (levels adj reach n S))) same ∙ ap (λ (ls : List (List ℕ)). trim (map (filter (isIn T)) ls)) levels-same
 
 -- T's rows, ascending
 module _ {n : ℕ} {T : List ℕ} (pr : Proper n T) where
@@ -47,16 +47,11 @@ module _ {n : ℕ} {T : List ℕ} (pr : Proper n T) where
       (λ h. filter-of (isIn T) (range 0 n) v (isIn-range 0 n v (omega arith) (omega (arith, pr .inside v h))) h))
 
   pub own-length : length (filter (isIn T) (range 0 n)) ≡ length T
-  own-length = same-length (filter (isIn T) (range 0 n)) T (λ v. count-filter v (isIn T) (range 0 n) ∙ go v (isIn T v) refl)
-    where
-      go : (v : ℕ) (b : Bool) → isIn T v ≡ b → bit b * count v (range 0 n) ≡ count v T
-      go v true e =
-          omega (arith, count-range v 0 n, in-count v (range 0 n) (isIn-range 0 n v (omega arith) (omega (arith, pr .inside v e))), pr .once v, in-count v T e)
-      go v false e = omega (arith, out-count v T e)
+  own-length = once-length n T (pr .inside) (pr .once)
 
   -- no more rows than there are
   pub proper-short : length T ≤ n
-  proper-short = omega (arith, own-length, length-filter-le (isIn T) (range 0 n), length-range 0 n)
+  proper-short = once-short n T (pr .inside) (pr .once)
 
 -- who is in T is in T's rows in ascending order
 module _ {n : ℕ} {T own : List ℕ} (pr : Proper n T) (e : own ≡ filter (isIn T) (range 0 n)) where

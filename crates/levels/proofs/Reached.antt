@@ -25,10 +25,15 @@ some-le [] = omega arith
 some-le (x ∷ xs) = omega arith
 
 module _ (adj : ℕ → List ℕ) (T : List ℕ) where
-  -- whoever is not yet reached is of T, or adjacent to one of T that is on the last level or not yet reached
+  -- a path leads from v to T or to the last level, through rows not yet reached
+  pub data Path (last rest : List ℕ) : ℕ → Type 0 where
+    own : {v : ℕ} → isIn T v ≡ true → Path last rest v
+    ended : {v : ℕ} (u : ℕ) → isIn (adj v) u ≡ true → isIn last u ≡ true → Path last rest v
+    through : {v : ℕ} (u : ℕ) → isIn (adj v) u ≡ true → isIn rest u ≡ true → Path last rest u → Path last rest v
+
+  -- so it does from every row not yet reached
   abbrev pub Fed : (last rest : List ℕ) → Type 0
-  Fed last rest = (v : ℕ) → isIn rest v ≡ true
-      → (isIn T v ≡ true) ⊎ ((t : ℕ) × (isIn T t ≡ true) × (isIn (adj v) t ≡ true) × ((isIn last t ≡ true) ⊎ (isIn rest t ≡ true)))
+  Fed last rest = (v : ℕ) → isIn rest v ≡ true → Path last rest v
 
   -- the next level, and who is left then
   abbrev new : (last rest : List ℕ) → List ℕ
@@ -50,30 +55,29 @@ module _ (adj : ℕ → List ℕ) (T : List ℕ) where
   next-of [] rest v t h c = absurd (true≢false (sym h))
   next-of (x ∷ xs) rest v t h c = any-of (isIn (x ∷ xs)) (adj v) t c h
 
-  fed : (last rest : List ℕ) → Fed last rest → Fed (new last rest) (left last rest)
-  fed last rest f v h = go (f v (filter-in (λ u. not (isNext adj T last rest u)) rest v h))
+  onward : (last rest : List ℕ) (v : ℕ) → isIn (left last rest) v ≡ true → Path last rest v → Path (new last rest) (left last rest) v
+  onward last rest v h (own a) = own a
+  onward last rest v h (ended u c l) = absurd (not-both _ (next-of last rest v u l c) (filter-passes (λ u. not (isNext adj T last rest u)) rest v h))
+  onward last rest v h (through u c r p) = go (new-or-left last rest u r) (λ k. onward last rest u k p)
     where
-      was : not (isNext adj T last rest v) ≡ true
-      was = filter-passes (λ u. not (isNext adj T last rest u)) rest v h
+      go : (isIn (new last rest) u ≡ true) ⊎ (isIn (left last rest) u ≡ true) → (isIn (left last rest) u ≡ true → Path (new last rest) (left last rest) u) → Path (new last rest) (left last rest) v
+      go (inl a) ih = ended u c a
+      go (inr a) ih = through u c a (ih a)
 
-      go : (isIn T v ≡ true) ⊎ ((t : ℕ) × (isIn T t ≡ true) × (isIn (adj v) t ≡ true) × ((isIn last t ≡ true) ⊎ (isIn rest t ≡ true)))
-          → (isIn T v ≡ true) ⊎ ((t : ℕ) × (isIn T t ≡ true) × (isIn (adj v) t ≡ true) × ((isIn (new last rest) t ≡ true) ⊎ (isIn (left last rest) t ≡ true)))
-      go (inl a) = inl a
-      go (inr (t, a, c, inl l)) = absurd (not-both _ (next-of last rest v t l c) was)
-      go (inr (t, a, c, inr r)) = inr (t, a, c, new-or-left last rest t r)
+  fed : (last rest : List ℕ) → Fed last rest → Fed (new last rest) (left last rest)
+  fed last rest f v h = onward last rest v h (f v (filter-in (λ u. not (isNext adj T last rest u)) rest v h))
 
   -- after an empty level a root is found
-  root-new : (rest : List ℕ) (v : ℕ) → Fed [] rest → isIn rest v ≡ true → 1 ≤ length (new [] rest)
+  root-at : (rest : List ℕ) (v : ℕ) → isIn rest v ≡ true → Path [] rest v → 1 ≤ length (new [] rest)
   unfolding isNext
-  root-new rest v f h = go (f v h)
-    where
-      found : (t : ℕ) → isIn T t ≡ true → isIn rest t ≡ true → 1 ≤ length (new [] rest)
-      found t a h = let (r, q) = root-some adj T rest t a h in in-pos (new [] rest) r (filter-of (isNext adj T [] rest) rest r (root-in adj T rest r q) q)
+  root-at rest v h (own a) =
+      let (r, q) = root-some adj T rest v a h in
+      in-pos (new [] rest) r (filter-of (isNext adj T [] rest) rest r (root-in adj T rest r q) q)
+  root-at rest v h (ended u c l) = absurd (true≢false (sym l))
+  root-at rest v h (through u c r p) = root-at rest u r p
 
-      go : (isIn T v ≡ true) ⊎ ((t : ℕ) × (isIn T t ≡ true) × (isIn (adj v) t ≡ true) × ((isIn [] t ≡ true) ⊎ (isIn rest t ≡ true))) → 1 ≤ length (new [] rest)
-      go (inl a) = found v a h
-      go (inr (t, a, c, inl l)) = absurd (true≢false (sym l))
-      go (inr (t, a, c, inr r)) = found t a r
+  root-new : (rest : List ℕ) (v : ℕ) → Fed [] rest → isIn rest v ≡ true → 1 ≤ length (new [] rest)
+  root-new rest v f h = root-at rest v h (f v h)
 
   -- while some are left, each level brings the end nearer
   less : (k : ℕ) (last rest : List ℕ) (v : ℕ) → Fed last rest → isIn rest v ≡ true → 2 * length rest + some last ≤ suc k

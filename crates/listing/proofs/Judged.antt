@@ -21,9 +21,9 @@ use Rattle.market.specs.AcceptedText.{leftIn, SameRows}
 use Rattle.market.proofs.Accepted.{parse-accepted}
 use Rattle.market.proofs.AcceptedText.{accepted-text}
 use Rattle.race.specs.Planner.{plan, areParameters}
-use Rattle.planner.proofs.PlanReply.{parameters-in}
+use Rattle.race.proofs.PlannedSound.{limits}
 use Rattle.listing.specs.declared.first_line.Parameters.the-variants.{Given, Missing}
-use Rattle.listing.specs.Listing.{maxInput, firstLine, restOf, Parameters, parameters, missing, parametersOf, refusedLine, planned, judged, listing}
+use Rattle.listing.specs.Listing.{netDistance, maxInput, firstLine, restOf, Parameters, parameters, missing, parametersOf, refusedLine, planned, judged, listing}
 use Rattle.listing.specs.code.FirstLine.{inWord, given}
 use Rattle.listing.proofs.FirstLine.{first-taken}
 
@@ -46,7 +46,7 @@ planned-same {m} {other} e s (parameters w p) =
 planned-same e s missing = refl
 
 -- a number past 32 bits is past every limit
-large : (w p : ℕ) → (areParameters w p ≡ true → ⊥) → (m : Matrix) → planned m (parameters w p) ≡ planned m missing
+large : (w p : ℕ) → (areParameters w p netDistance ≡ true → ⊥) → (m : Matrix) → planned m (parameters w p) ≡ planned m missing
 unfolding planned
 large w p h m = rw (is-false h)
 
@@ -64,10 +64,10 @@ planned-given m (parameters w p) a b e = go (ltb w 4294967296) refl (ltb p 42949
     go true hs true ht = rw (w-is, p-is, hs, ht)
     go true hs false ht =
         let b-is : b ≡ 4294967295 = p-is ∙ rw ht in
-        large w p (λ h. omega (arith, parameters-in w p h .1, ltb-false p 4294967296 ht)) m ∙ sym (large a b (λ h. omega (arith, parameters-in a b h .1)) m)
+        large w p (λ h. omega (arith, limits w p netDistance h .share, ltb-false p 4294967296 ht)) m ∙ sym (large a b (λ h. omega (arith, limits a b netDistance h .share)) m)
     go false hs t ht =
         let a-is : a ≡ 4294967295 = w-is ∙ rw hs in
-        large w p (λ h. omega (arith, parameters-in w p h .0, ltb-false w 4294967296 hs)) m ∙ sym (large a b (λ h. omega (arith, parameters-in a b h .0)) m)
+        large w p (λ h. omega (arith, limits w p netDistance h .workers, ltb-false w 4294967296 hs)) m ∙ sym (large a b (λ h. omega (arith, limits a b netDistance h .workers)) m)
 
 pub planned-missing : (m : Matrix) (ps : Parameters) → Missing ≡ given ps → planned m ps ≡ refusedLine 7 0
 unfolding planned

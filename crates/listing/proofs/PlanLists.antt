@@ -16,7 +16,7 @@ use Rattle.plan.specs.Groups.{Plan, flat, planOf}
 use Rattle.plan.proofs.FlatRecords.{plan-flat}
 use Rattle.race.specs.Planner.{plan, areParameters, planReply}
 use Rattle.race.proofs.PlannedSound.{made-long, planned-sound}
-use Rattle.listing.specs.Listing.{parameters, planned, planListing, refusedLine}
+use Rattle.listing.specs.Listing.{netDistance, parameters, planned, planListing, refusedLine}
 
 -- the first k records of a flat list, and an order, are the plan
 pub record Left (m : Matrix) (w p k : ℕ) (order groups : List ℕ) : Type 0 where
@@ -25,35 +25,35 @@ pub record Left (m : Matrix) (w p k : ℕ) (order groups : List ℕ) : Type 0 wh
 
 module _ (m : Matrix) (w p : ℕ) (is : isMatrix m ≡ true) (order groups : List ℕ) (rows : length order ≡ maxRows) (room : length groups ≡ maxFields) where
   abbrev made : Plan
-  made = plan m w p
+  made = plan m w p netDistance
 
   abbrev reply : Reply
-  reply = planReply m w p (length order) (length groups)
+  reply = planReply m w p netDistance (length order) (length groups)
 
   -- the lists have room for every plan: only the parameters are refused
-  reply-is : (t : Bool) → areParameters w p ≡ t → reply ≡ cond t (accepted (length (made .groups))) (refused why.badParameter 0)
+  reply-is : (t : Bool) → areParameters w p netDistance ≡ t → reply ≡ cond t (accepted (length (made .groups))) (refused why.badParameter 0)
   unfolding planReply matrixCheck inTurn
-  reply-is true e = planned-sound .left m w p order groups is e (record { rows = omega (arith, matrix-facts m is .few); records = omega (arith, planned-sound .few m w p is e) }) .accepts
+  reply-is true e = planned-sound .left m w p netDistance order groups is e (record { rows = omega (arith, matrix-facts m is .few); records = omega (arith, planned-sound .few m w p netDistance is e) }) .accepts
   reply-is false e = rw (is, e)
 
   pub planned-refused : (q k : ℕ) → refused q k ≡ reply → planned m (parameters w p) ≡ refusedLine q k
   unfolding planned
-  planned-refused q k r = go (areParameters w p) refl
+  planned-refused q k r = go (areParameters w p netDistance) refl
     where
-      go : (t : Bool) → areParameters w p ≡ t → cond t (planListing made) (refusedLine why.badParameter 0) ≡ refusedLine q k
+      go : (t : Bool) → areParameters w p netDistance ≡ t → cond t (planListing made) (refusedLine why.badParameter 0) ≡ refusedLine q k
       go true e = let z = r ∙ reply-is true e in cc
       go false e = let z = r ∙ reply-is false e in cc
 
   pub planned-accepted : (k : ℕ) → accepted k ≡ reply → (order′ groups′ : List ℕ) → order′ ≡ lent reply (made .order) order → groups′ ≡ lent reply (flat (made .groups)) groups → Left m w p k order′ groups′
   unfolding planned
-  planned-accepted k r order′ groups′ o g = go (areParameters w p) refl
+  planned-accepted k r order′ groups′ o g = go (areParameters w p netDistance) refl
     where
-      go : (t : Bool) → areParameters w p ≡ t → Left m w p k order′ groups′
+      go : (t : Bool) → areParameters w p netDistance ≡ t → Left m w p k order′ groups′
       go true e =
           let a = reply-is true e in
           let count : k ≡ length (made .groups) = let z = r ∙ a in cc in
           let order-is = o ∙ lent-accepted (made .order) order reply (length (made .groups)) a in
           let groups-are = g ∙ lent-accepted (flat (made .groups)) groups reply (length (made .groups)) a in
-          let plan-is = plan-flat made (m .n) (drop (length (made .order)) order) (drop (length (flat (made .groups))) groups) (made-long m w p is e) in
-          record { few = rw count (planned-sound .few m w p is e); listed = rw (e, count, order-is, groups-are, plan-is) }
+          let plan-is = plan-flat made (m .n) (drop (length (made .order)) order) (drop (length (flat (made .groups))) groups) (made-long m w p netDistance is e) in
+          record { few = rw count (planned-sound .few m w p netDistance is e); listed = rw (e, count, order-is, groups-are, plan-is) }
       go false e = let z = r ∙ reply-is false e in let y : _≡_ {A = ℕ} 0 1 = cc in absurd (omega arith)

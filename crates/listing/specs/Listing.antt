@@ -69,8 +69,12 @@ groupLines i (g ∷ gs) = natural i ++ spaced (fieldsOf g) ++ lineFeed ∷ group
 unfoldable pub planListing : Plan → List ℕ
 planListing p = orderLine (p .order) ++ titleLine ++ groupLines 0 (p .groups)
 
+-- "`netplan` keeps 2"
+abbrev pub netDistance : ℕ
+netDistance = 2
+
 unfoldable pub planned : Matrix → Parameters → List ℕ
-planned m (parameters w p) = cond (areParameters w p) (planListing (plan m w p)) (refusedLine why.badParameter 0)
+planned m (parameters w p) = cond (areParameters w p netDistance) (planListing (plan m w p netDistance)) (refusedLine why.badParameter 0)
 planned m missing = refusedLine why.badParameter 0
 
 -- "then the matrix text is judged, its lines counted from 1; then a first line that isn't two numbers .. gives 7"

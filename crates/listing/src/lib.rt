@@ -43,6 +43,9 @@ const LINE: usize = NUMBER * (WIDTH + 1);
 
 pub const MAX_OUTPUT: usize = TITLES + NUMBER * MAX_ROWS + LINE * MAX_GROUPS;
 
+// "`netplan` keeps 2"
+const DISTANCE: u32 = 2;
+
 // What is written for a matrix and two parameters, and the place after it.
 fn put_planned(
     output: &mut [u8],
@@ -65,6 +68,7 @@ fn put_planned(
         values,
         workers,
         p,
+        DISTANCE,
         &mut order,
         &mut groups,
     );

@@ -11,7 +11,7 @@ use lib.Seq.{getD-drop}
 use Rattle.base.specs.Lists.{bit, isEmpty}
 use Rattle.matrix.specs.Matrix.{neighbours}
 use Rattle.plan.specs.Groups.{Group, blue, width, ofFields, records}
-use Rattle.plan.specs.Sound.{maxGroups, isSound, sound}
+use Rattle.plan.specs.Sound.{apart, maxGroups, isSound, sound}
 use Rattle.plan.specs.code.Checks.{recordAt, belowWhole, standsDepthFirst}
 use Rattle.plan.proofs.FlatRecords.{length-records}
 use Rattle.plan.proofs.Nested.{children-later}
@@ -29,7 +29,7 @@ use Rattle.layout.proofs.NextRecord.{parent-before}
 
 -- ---- what the code needs of a sound plan's records
 
-recorded : (adj : ℕ → List ℕ) (n : ℕ) (order : List ℕ) (count : ℕ) (groups : List ℕ) → sound adj n order (records count groups) ≡ true → width * count ≤ length groups → Recorded count groups
+recorded : (adj : ℕ → List ℕ) (n : ℕ) (order : List ℕ) (count : ℕ) (groups : List ℕ) → sound (apart adj) n order (records count groups) ≡ true → width * count ≤ length groups → Recorded count groups
 unfolding records sound
 recorded adj n order zero groups ok l = absurd (true≢false (sym ok))
 recorded adj n order (suc c) groups ok l = record {
@@ -40,8 +40,8 @@ recorded adj n order (suc c) groups ok l = record {
   firsts = λ i b. start-reached adj n order (suc c) groups ok i b .1;
 }
   where
-    facts : SoundFacts adj n order (ofFields groups) (records c (drop width groups))
-    facts = sound-facts adj n order (ofFields groups) (records c (drop width groups)) ok
+    facts : SoundFacts (apart adj) n order (ofFields groups) (records c (drop width groups))
+    facts = sound-facts (apart adj) n order (ofFields groups) (records c (drop width groups)) ok
 
     at : (i : ℕ) → 1 ≤ i → i < suc c → recordAt groups i .parent < i
     at i a b =
@@ -69,9 +69,9 @@ is-bit : (v : ℕ) (b : Bool) → v ≡ bit b → v ≡ bit (eqb v 1)
 is-bit v b e = subst (λ (y : ℕ). y ≡ bit (eqb y 1)) (sym e) (ap bit (sym (eqb-bit b)))
 
 module _ (j : Job) (ok : Accepted j) (count : ℕ) (groups : List ℕ) (is : j .plan .groups ≡ records count groups) where
-  ok-records : sound (neighbours (j .matrix)) (j .matrix .n) (j .plan .order) (records count groups) ≡ true
+  ok-records : sound (apart (neighbours (j .matrix))) (j .matrix .n) (j .plan .order) (records count groups) ≡ true
   unfolding isSound
-  ok-records = subst (λ (gs : List Group). sound (neighbours (j .matrix)) (j .matrix .n) (j .plan .order) gs ≡ true) is (ok .plan)
+  ok-records = subst (λ (gs : List Group). sound (apart (neighbours (j .matrix))) (j .matrix .n) (j .plan .order) gs ≡ true) is (ok .plan)
 
   pub recorded-of : width * count ≤ length groups → Recorded count groups
   recorded-of l = recorded (neighbours (j .matrix)) (j .matrix .n) (j .plan .order) count groups ok-records l
@@ -80,9 +80,9 @@ module _ (j : Job) (ok : Accepted j) (count : ℕ) (groups : List ℕ) (is : j .
   unfolding records sound
   nested = go count ok-records
     where
-      go : (c : ℕ) → sound (neighbours (j .matrix)) (j .matrix .n) (j .plan .order) (records c groups) ≡ true → standsDepthFirst c groups ≡ true
+      go : (c : ℕ) → sound (apart (neighbours (j .matrix))) (j .matrix .n) (j .plan .order) (records c groups) ≡ true → standsDepthFirst c groups ≡ true
       go zero h = absurd (true≢false (sym h))
-      go (suc c) h = sound-facts (neighbours (j .matrix)) (j .matrix .n) (j .plan .order) (ofFields groups) (records c (drop width groups)) h .inOrder
+      go (suc c) h = sound-facts (apart (neighbours (j .matrix))) (j .matrix .n) (j .plan .order) (ofFields groups) (records c (drop width groups)) h .inOrder
 
   group-at : (i : ℕ) → i < count → groupAt j i ≡ recordAt groups i
   group-at i l = ap (λ (gs : List Group). getD gs i (ofFields [])) is ∙ record-get count groups i (ofFields []) l

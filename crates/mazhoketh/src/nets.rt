@@ -58,7 +58,7 @@ pub extern "C" fn mzk_product(
     product_in(n, row_starts, columns, values, movements, forces)
 }
 
-// The plan of a matrix.
+// The plan of a matrix at a distance.
 #[no_mangle]
 pub extern "C" fn mzk_plan(
     n: u32,
@@ -67,15 +67,16 @@ pub extern "C" fn mzk_plan(
     values: &[u8],
     workers: u32,
     p: u32,
+    k: u32,
     order: &mut [u8],
     groups: &mut [u8],
 ) -> u64
-    ensures { λ r. ⌜ PlanAnswered (matrixIn n (now («row_starts» .entry)) (now (columns .entry)) (now (values .entry))) workers p (now (order .entry)) (now (groups .entry)) r (now (order .exit)) (now (groups .exit)) ⌝ }
+    ensures { λ r. ⌜ PlanAnswered (matrixIn n (now («row_starts» .entry)) (now (columns .entry)) (now (values .entry))) workers p k (now (order .entry)) (now (groups .entry)) r (now (order .exit)) (now (groups .exit)) ⌝ }
 {
-    plan_in(n, row_starts, columns, values, workers, p, order, groups)
+    plan_in(n, row_starts, columns, values, workers, p, k, order, groups)
 }
 
-// Whether a plan is sound for a matrix.
+// Whether a plan is sound at a distance for a matrix.
 #[no_mangle]
 pub extern "C" fn mzk_check(
     n: u32,
@@ -85,8 +86,18 @@ pub extern "C" fn mzk_check(
     order: &[u8],
     groups: &[u8],
     group_count: u32,
+    k: u32,
 ) -> u64
-    ensures { λ r. ⌜ r ≡ word (checkReply (matrixIn n (now («row_starts» .entry)) (now (columns .entry)) (now (values .entry))) (unsigned 4 (now (order .entry))) (unsigned 4 (now (groups .entry))) «group_count») ⌝ }
+    ensures { λ r. ⌜ r ≡ word (checkReply (matrixIn n (now («row_starts» .entry)) (now (columns .entry)) (now (values .entry))) (unsigned 4 (now (order .entry))) (unsigned 4 (now (groups .entry))) «group_count» k) ⌝ }
 {
-    check_in(n, row_starts, columns, values, order, groups, group_count)
+    check_in(
+        n,
+        row_starts,
+        columns,
+        values,
+        order,
+        groups,
+        group_count,
+        k,
+    )
 }

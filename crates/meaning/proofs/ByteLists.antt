@@ -29,10 +29,10 @@ use Rattle.market.proofs.FullCount.{length-rows}
 use Rattle.market.proofs.FullRows.{length-row-starts}
 use Rattle.market.proofs.WriteThenRead.{write-then-read}
 use Rattle.plan.specs.Groups.{flat}
-use Rattle.plan.specs.Sound.{isSound, checkReply}
+use Rattle.plan.specs.Sound.{isSoundAt, isPlan, checkReply}
 use Rattle.plan.proofs.FlatRecords.{length-flat}
 use Rattle.race.specs.Planner.{plan, areParameters, planReply}
-use Rattle.race.specs.PlannedSound.{orderLeft, groupsLeft}
+use Rattle.race.specs.PlannedSound.{orderLeft, groupsLeft, PlanLeft}
 use Rattle.race.proofs.PlannedSound.{planned-sound}
 use Rattle.race.proofs.Rooms.{Planned, planned}
 use Rattle.words.specs.LittleEndian.{unsigned, signed, unsignedBytes, signedBytes}
@@ -170,35 +170,44 @@ module _ (m : Matrix) (ok : isMatrix m ≡ true) where
 
 -- ---- planning
 
-module _ (m : Matrix) (w p : ℕ) (order groups : List ℕ) (returned : ℕ) (newOrder newGroups : List ℕ) (a : PlanAnswered m w p order groups returned newOrder newGroups) (k : ℕ)
-    (ok : planIn m w p order groups ≡ accepted k) where
-  parameters : areParameters w p ≡ true
+module _ (m : Matrix) (w p k : ℕ) (order groups : List ℕ) (returned : ℕ) (newOrder newGroups : List ℕ) (a : PlanAnswered m w p k order groups returned newOrder newGroups) (groupCount : ℕ)
+    (ok : planIn m w p k order groups ≡ accepted groupCount) where
+  parameters : areParameters w p k ≡ true
   unfolding planReply
-  parameters = accepted-all _ _ k ok .1 .0
+  parameters = accepted-all _ _ groupCount ok .1 .0
 
-  made : Planned m w p (length order / 4) (length groups / 4) k
-  made = planned m w p (length order / 4) (length groups / 4) k ok
+  made : Planned m w p k (length order / 4) (length groups / 4) groupCount
+  made = planned m w p k (length order / 4) (length groups / 4) groupCount ok
 
-  small : Small (plan m w p .order) (plan m w p .groups)
-  unfolding isSound
-  small = sound-small _ (m .n) (plan m w p .order) (plan m w p .groups) (matrix-facts m (made .matrix) .few) (planned-sound .sound m w p (made .matrix) parameters)
+  small : Small (plan m w p k .order) (plan m w p k .groups)
+  unfolding isSoundAt
+  small = sound-small _ (m .n) (plan m w p k .order) (plan m w p k .groups) (matrix-facts m (made .matrix) .few) (planned-sound .sound m w p k (made .matrix) parameters)
 
   -- the lists that the bytes stand for
   abbrev rows : List ℕ
-  rows = unsigned 4 (drop (length (unsignedBytes 4 (plan m w p .order))) order)
+  rows = unsigned 4 (drop (length (unsignedBytes 4 (plan m w p k .order))) order)
 
   abbrev numbers : List ℕ
-  numbers = unsigned 4 (drop (length (unsignedBytes 4 (flat (plan m w p .groups)))) groups)
+  numbers = unsigned 4 (drop (length (unsignedBytes 4 (flat (plan m w p k .groups)))) groups)
 
-  planned-left : checkReply m (unsigned 4 newOrder) (unsigned 4 newGroups) k ≡ accepted 0
+  -- they begin with the plan
+  left-lists : PlanLeft m w p k (plan m w p k .order ++ rows) (flat (plan m w p k .groups) ++ numbers)
+  left-lists = planned-sound .left m w p k _ _ (made .matrix) parameters (record {
+    rows = omega (arith, length-append (plan m w p k .order) rows, made .order-size);
+    records = omega (arith, length-append (flat (plan m w p k .groups)) numbers, length-flat (plan m w p k .groups));
+  })
+
+  planned-left : (checkReply m (unsigned 4 newOrder) (unsigned 4 newGroups) groupCount k ≡ accepted 0) × (2 ≤ k → isPlan m (unsigned 4 newOrder) (unsigned 4 newGroups) groupCount ≡ true)
   unfolding orderLeft groupsLeft
   planned-left =
-      let O = plan m w p .order ++ rows in
-      let G = flat (plan m w p .groups) ++ numbers in
-      let count : k ≡ length (plan m w p .groups) = omega (arith, made .groups-size, length-flat (plan m w p .groups)) in
-      let left = planned-sound .left m w p O G (made .matrix) parameters (record { rows = omega (arith, length-append (plan m w p .order) rows, made .order-size); records = omega (arith, length-append (flat (plan m w p .groups)) numbers, length-flat (plan m w p .groups)) }) in
-      let passes = rw (left .accepts, lent-again (length (plan m w p .groups)) (plan m w p .order) rows, lent-again (length (plan m w p .groups)) (flat (plan m w p .groups)) numbers) at (left .passes) in
-      rw (unsigned-left ok (plan m w p .order) (small .rows) order (a .order-left), unsigned-left ok (flat (plan m w p .groups)) (small .numbers) groups (a .groups-left), count) passes
+      let size = length (plan m w p k .groups) in
+      let count : groupCount ≡ size = omega (arith, made .groups-size, length-flat (plan m w p k .groups)) in
+      let order-again = lent-again size (plan m w p k .order) rows in
+      let groups-again = lent-again size (flat (plan m w p k .groups)) numbers in
+      let passes = rw (left-lists .accepts, order-again, groups-again) at (left-lists .passes) in
+      let order-is = unsigned-left ok (plan m w p k .order) (small .rows) order (a .order-left) in
+      let groups-are = unsigned-left ok (flat (plan m w p k .groups)) (small .numbers) groups (a .groups-left) in
+      (rw (order-is, groups-are, count) passes, λ enough. rw (order-is, groups-are, count) (rw (left-lists .accepts, order-again, groups-again) at (left-lists .runs enough)))
 
 -- ---- surveying
 

@@ -47,11 +47,11 @@ tiled-inside n g i s f (r ∷ b ∷ ks) h =
     let blue : Inside n b = record { rows = omega (arith, p .then, i .rows); crew = omega (arith, p .firstB, p .alike, i .crew); coloured = omega (arith, p .isBlue) } in
     (red, (blue, tiled-inside n g i (s + r .length + b .length) (f + r .workers) ks (p .rest)))
 
-children-inside : (adj : ℕ → List ℕ) (order : List ℕ) (n : ℕ) (g : Group) → Inside n g → (ks : List Group) → childrenSound adj order g ks ≡ true → Each (Inside n) ks
+children-inside : (far : List ℕ → List ℕ → Bool) (order : List ℕ) (n : ℕ) (g : Group) → Inside n g → (ks : List Group) → childrenSound far order g ks ≡ true → Each (Inside n) ks
 unfolding childrenSound
-children-inside adj order n g i [] h = tt
-children-inside adj order n g i (k ∷ ks) h =
-    tiled-inside n g i (g .start) (g .first) (k ∷ ks) (and-left (tiled g (g .start) (g .first) (k ∷ ks)) (likeApart adj order (k ∷ ks)) h)
+children-inside far order n g i [] h = tt
+children-inside far order n g i (k ∷ ks) h =
+    tiled-inside n g i (g .start) (g .first) (k ∷ ks) (and-left (tiled g (g .start) (g .first) (k ∷ ks)) (likeApart far order (k ∷ ks)) h)
 
 -- those of the records whose parent stands before index i lie inside
 abbrev Known : (n i : ℕ) → List Group → Type 0
@@ -66,11 +66,11 @@ known-more n i (g ∷ gs) k c = go (eqb (g .parent) i) refl c (known-more n i gs
     go true e c ih = ((λ l. c .0), ih (c .1))
     go false e c ih = ((λ l. k .0 (let d = eqb-false (g .parent) i e in omega arith)), ih c)
 
-all-inside : (adj : ℕ → List ℕ) (order : List ℕ) (n i : ℕ) (gs : List Group) → Down i gs → Sounds adj order i gs → Known n i gs → Each (Inside n) gs
-all-inside adj order n i [] d s k = tt
-all-inside adj order n i (g ∷ gs) d s k =
+all-inside : (far : List ℕ → List ℕ → Bool) (order : List ℕ) (n i : ℕ) (gs : List Group) → Down i gs → Sounds far order i gs → Known n i gs → Each (Inside n) gs
+all-inside far order n i [] d s k = tt
+all-inside far order n i (g ∷ gs) d s k =
     let here = k .0 (d .0) in
-    (here, all-inside adj order n (suc i) gs (d .1) (s .1) (known-more n i gs (k .1) (children-inside adj order n g here (children i gs) (s .0))))
+    (here, all-inside far order n (suc i) gs (d .1) (s .1) (known-more n i gs (k .1) (children-inside far order n g here (children i gs) (s .0))))
 
 -- no record stands before index 0
 known-none : (n : ℕ) (gs : List Group) → Known n 0 gs
@@ -118,14 +118,14 @@ pub record Small (order : List ℕ) (gs : List Group) : Type 0 where
   pub numbers : Each (Holds 4) (flat gs)
 
 -- those of a sound plan
-pub sound-small : (adj : ℕ → List ℕ) (n : ℕ) (order : List ℕ) (gs : List Group) → n ≤ maxRows → sound adj n order gs ≡ true → Small order gs
+pub sound-small : (far : List ℕ → List ℕ → Bool) (n : ℕ) (order : List ℕ) (gs : List Group) → n ≤ maxRows → sound far n order gs ≡ true → Small order gs
 unfolding sound flat
-sound-small adj n order [] few h = absurd (true≢false (sym h))
-sound-small adj n order (g ∷ gs) few h =
-    let f = sound-facts adj n order g gs h in
+sound-small far n order [] few h = absurd (true≢false (sym h))
+sound-small far n order (g ∷ gs) few h =
+    let f = sound-facts far n order g gs h in
     let top : Inside n g = record { rows = omega (arith, f .start, f .covers); crew = omega (arith, f .first, f .few); coloured = omega (arith, f .colour) } in
-    let first = known-more n 0 gs (known-none n gs) (children-inside adj order n g top (children 0 gs) (f .under .0)) in
-    let below : Each (Inside n) gs = all-inside adj order n 1 gs (f .down) (f .under .1) first in
+    let first = known-more n 0 gs (known-none n gs) (children-inside far order n g top (children 0 gs) (f .under .0)) in
+    let below : Each (Inside n) gs = all-inside far order n 1 gs (f .down) (f .under .1) first in
     let parents : Each (λ h. h .parent < maxGroups) gs = each-map (λ h. h .parent < 1 + length gs) (λ h. h .parent < maxGroups) (λ h l. omega (arith, f .short)) gs (parents-low 1 gs (f .down)) in
     let depths : Each (λ h. h .depth ≤ maxDepth) gs = depths-low (0 ∷ []) 1 gs (f .inOrder) in
     let places : Each (λ h. (h .parent < maxGroups) × (h .depth ≤ maxDepth)) gs = both-each (λ h. h .parent < maxGroups) (λ h. h .depth ≤ maxDepth) gs parents depths in

@@ -220,20 +220,21 @@ module _ (m : Matrix) where
       one-bit true = omega arith
       one-bit false = omega arith
 
-  plan-told : (w p a b : ℕ) → Told (planReply m w p a b)
+  plan-told : (w p k a b : ℕ) → Told (planReply m w p k a b)
   unfolding planReply matrixCheck
-  plan-told w p a b =
+  plan-told w p k a b =
       turn Told refused (matrixCheck m) _ _ (told-refused why.notMatrix 0 (omega arith) (omega arith)) (λ ok.
       turn Told refused _ _ _ (told-refused why.badParameter 0 (omega arith) (omega arith)) (λ given.
-      let few : length (plan m w p .groups) ≤ 481 = planned-sound .few m w p ok given in
+      let few : length (plan m w p k .groups) ≤ 481 = planned-sound .few m w p k ok given in
       turn Told refused _ _ _ (told-refused why.tooShort (m .n) (omega arith) (omega (arith, matrix-facts m ok .few))) (λ e.
-      turn Told refused _ [] _ (told-refused why.tooShort (length (plan m w p .groups)) (omega arith) (omega arith)) (λ e. last Told refused _ (told-accepted (length (plan m w p .groups)) (omega arith))))))
+      turn Told refused _ [] _ (told-refused why.tooShort (length (plan m w p k .groups)) (omega arith) (omega arith)) (λ e. last Told refused _ (told-accepted (length (plan m w p k .groups)) (omega arith))))))
 
-  check-told : (order groups : List ℕ) (count : ℕ) → Told (checkReply m order groups count)
-  unfolding checkReply matrixCheck planCheck
-  check-told order groups count =
+  check-told : (order groups : List ℕ) (count k : ℕ) → Told (checkReply m order groups count k)
+  unfolding checkReply matrixCheck
+  check-told order groups count k =
       turn Told refused (matrixCheck m) _ _ (told-refused why.notMatrix 0 (omega arith) (omega arith)) (λ ok.
-      turn Told refused (planCheck m order groups count) [] _ (told-refused why.unsound 0 (omega arith) (omega arith)) (λ e. last Told refused _ (told-accepted 0 (omega arith))))
+      turn Told refused _ _ _ (told-refused why.badParameter 0 (omega arith) (omega arith)) (λ far.
+      turn Told refused _ [] _ (told-refused why.unsound 0 (omega arith) (omega arith)) (λ e. last Told refused _ (told-accepted 0 (omega arith)))))
 
 -- ---- the calls of a run
 
@@ -336,4 +337,4 @@ read-plan-told planFile order groups =
 
 -- the theorem
 pub words : Words
-words = record { read = λ text starts columns values. read-told text _ _ _; write = write-told; product = product-told; survey = survey-told; plan = λ m w p order groups. plan-told m w p _ _; check = check-told; write-plan = write-plan-told; read-plan = read-plan-told; run = run-tells; preview = preview-foretold; one = one }
+words = record { read = λ text starts columns values. read-told text _ _ _; write = write-told; product = product-told; survey = survey-told; plan = λ m w p k order groups. plan-told m w p k _ _; check = check-told; write-plan = write-plan-told; read-plan = read-plan-told; run = run-tells; preview = preview-foretold; one = one }

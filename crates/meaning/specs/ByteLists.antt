@@ -12,7 +12,7 @@ use Rattle.market.specs.FullRows.{readMatrix}
 use Rattle.market.specs.AcceptedText.{SameRows}
 use Rattle.market.specs.Text.{written, writeReply}
 use Rattle.market.specs.WriteThenRead.{size}
-use Rattle.plan.specs.Sound.{checkReply}
+use Rattle.plan.specs.Sound.{isPlan, checkReply}
 use Rattle.words.specs.LittleEndian.{unsigned, signed}
 use Rattle.survey.specs.Survey.{amountsOf, farthest}
 use Rattle.lent.specs.Word.{Answered}
@@ -50,10 +50,11 @@ pub record ByteLists : Type 0 where
   -- room: the second call returns its rows and leaves them
   pub written-read : (m : Matrix) → isMatrix m ≡ true → (old : List ℕ) (returned : ℕ) (new : List ℕ) → length (written m) ≤ length old
       → Answered (writeReply m (length old)) (written m) old returned new → (r : Reading (take returned new)) → RoomFor m r → (r .returned ≡ m .n) × SameRows (leftBy (m .n) r) m
-  -- a plan that is made, as mzk_plan promises, passes the check in the bytes where it is
-  -- left, whatever stands past it: no later call refuses them with 8
-  pub planned : (m : Matrix) (workers p : ℕ) (order groups : List ℕ) (returned : ℕ) (newOrder newGroups : List ℕ) → PlanAnswered m workers p order groups returned newOrder newGroups
-      → (count : ℕ) → planIn m workers p order groups ≡ accepted count → checkReply m (unsigned 4 newOrder) (unsigned 4 newGroups) count ≡ accepted 0
+  -- a plan that is made at k, as mzk_plan promises, passes the check at k in the bytes where it is left, whatever
+  -- stands past it; made at 2, 3 or 4 it is a plan for every run: no later call refuses it with 8
+  pub planned : (m : Matrix) (workers p k : ℕ) (order groups : List ℕ) (returned : ℕ) (newOrder newGroups : List ℕ) → PlanAnswered m workers p k order groups returned newOrder newGroups
+      → (count : ℕ) → planIn m workers p k order groups ≡ accepted count
+      → (checkReply m (unsigned 4 newOrder) (unsigned 4 newGroups) count k ≡ accepted 0) × (2 ≤ k → isPlan m (unsigned 4 newOrder) (unsigned 4 newGroups) count ≡ true)
   -- a survey, as mzk_survey promises, leaves in bytes the amounts, and the shift if it returns 1, whatever stands past
   -- them: no number is lost
   pub surveyed : (m : Matrix) (x : List ℤ) (t i : ℕ) (sums moves : List ℕ) (returned : ℕ) (newSums newMoves : List ℕ) → SurveyAnswered m x t i sums moves returned newSums newMoves

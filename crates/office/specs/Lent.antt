@@ -11,11 +11,12 @@ use Rattle.words.specs.LittleEndian.{unsignedBytes}
 use Rattle.lent.specs.Word.{word}
 
 -- the planner's reply, of lists of four bytes a number
-abbrev pub planIn : Matrix → (workers p : ℕ) (order groups : List ℕ) → Reply
-planIn m workers p order groups = planReply m workers p (length order / 4) (length groups / 4)
+abbrev pub planIn : Matrix → (workers p k : ℕ) (order groups : List ℕ) → Reply
+planIn m workers p k order groups = planReply m workers p k (length order / 4) (length groups / 4)
 
--- the planner's call, of a matrix, workers, a share and two lists: the returned word, and the lists after it
-pub record PlanAnswered (m : Matrix) (workers p : ℕ) (order groups : List ℕ) (returned : ℕ) (newOrder newGroups : List ℕ) : Type 0 where
-  pub returns : returned ≡ word (planIn m workers p order groups)
-  pub order-left : newOrder ≡ lent (planIn m workers p order groups) (unsignedBytes 4 (plan m workers p .order)) order
-  pub groups-left : newGroups ≡ lent (planIn m workers p order groups) (unsignedBytes 4 (flat (plan m workers p .groups))) groups
+-- the planner's call, of a matrix, workers, a share, a distance and two lists: the returned word, and the lists after
+-- it
+pub record PlanAnswered (m : Matrix) (workers p k : ℕ) (order groups : List ℕ) (returned : ℕ) (newOrder newGroups : List ℕ) : Type 0 where
+  pub returns : returned ≡ word (planIn m workers p k order groups)
+  pub order-left : newOrder ≡ lent (planIn m workers p k order groups) (unsignedBytes 4 (plan m workers p k .order)) order
+  pub groups-left : newGroups ≡ lent (planIn m workers p k order groups) (unsignedBytes 4 (flat (plan m workers p k .groups))) groups

@@ -1,4 +1,4 @@
-// check: whether a plan is sound for a matrix.
+// check: whether a plan is sound at a distance for a matrix.
 use lent::lists::load_signed;
 use lent::lists::load_unsigned;
 use lent::word::word_of;
@@ -20,8 +20,9 @@ pub fn check_in(
     order: &[u8],
     groups: &[u8],
     group_count: u32,
+    k: u32,
 ) -> u64
-    ensures { λ r. ⌜ r ≡ word (checkReply (matrixIn n (now («row_starts» .entry)) (now (columns .entry)) (now (values .entry))) (unsigned 4 (now (order .entry))) (unsigned 4 (now (groups .entry))) «group_count») ⌝ }
+    ensures { λ r. ⌜ r ≡ word (checkReply (matrixIn n (now («row_starts» .entry)) (now (columns .entry)) (now (values .entry))) (unsigned 4 (now (order .entry))) (unsigned 4 (now (groups .entry))) «group_count» k) ⌝ }
 {
     let mut starts = [0u32; MAX_STARTS];
     let mut column_list = [0u32; MAX_CELLS];
@@ -36,6 +37,7 @@ pub fn check_in(
         load_unsigned(order, &mut order_list),
         load_unsigned(groups, &mut group_list),
         group_count,
+        k,
     );
     word_of(answer)
 }

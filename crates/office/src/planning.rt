@@ -26,13 +26,14 @@ fn plan_of(
     values: &[i32],
     workers: u32,
     p: u32,
+    k: u32,
     order: &mut [u32],
     groups: &mut [u32],
     order_bytes: &mut [u8],
     group_bytes: &mut [u8],
 ) -> u64
     requires { ⌜ (maxRows ≤ length (now order)) × (maxFields ≤ length (now groups)) ⌝ }
-    ensures { λ r. ⌜ PlanAnswered (matrixOf n (now (starts .entry)) (now (columns .entry)) (now (values .entry))) workers p (now («order_bytes» .entry)) (now («group_bytes» .entry)) r (now («order_bytes» .exit)) (now («group_bytes» .exit)) ⌝ }
+    ensures { λ r. ⌜ PlanAnswered (matrixOf n (now (starts .entry)) (now (columns .entry)) (now (values .entry))) workers p k (now («order_bytes» .entry)) (now («group_bytes» .entry)) r (now («order_bytes» .exit)) (now («group_bytes» .exit)) ⌝ }
 {
     let order_room = least(order_bytes.len() / 4, order.len());
     let groups_room = least(group_bytes.len() / 4, groups.len());
@@ -43,6 +44,7 @@ fn plan_of(
         values,
         workers,
         p,
+        k,
         &mut order[..order_room],
         &mut groups[..groups_room],
     );
@@ -63,10 +65,11 @@ pub fn plan_in(
     values: &[u8],
     workers: u32,
     p: u32,
+    k: u32,
     order: &mut [u8],
     groups: &mut [u8],
 ) -> u64
-    ensures { λ r. ⌜ PlanAnswered (matrixIn n (now («row_starts» .entry)) (now (columns .entry)) (now (values .entry))) workers p (now (order .entry)) (now (groups .entry)) r (now (order .exit)) (now (groups .exit)) ⌝ }
+    ensures { λ r. ⌜ PlanAnswered (matrixIn n (now («row_starts» .entry)) (now (columns .entry)) (now (values .entry))) workers p k (now (order .entry)) (now (groups .entry)) r (now (order .exit)) (now (groups .exit)) ⌝ }
 {
     let mut starts = [0u32; MAX_STARTS];
     let mut column_list = [0u32; MAX_CELLS];
@@ -80,6 +83,7 @@ pub fn plan_in(
         load_signed(values, &mut value_list),
         workers,
         p,
+        k,
         &mut order_list,
         &mut group_list,
         order,

@@ -11,13 +11,13 @@ use Rattle.base.specs.Lists.{keep, any}
 use Rattle.base.proofs.Booleans.{and-false}
 use Rattle.base.proofs.Each.{Each}
 use Rattle.plan.specs.Groups.{Group, red, blue}
-use Rattle.plan.specs.Sound.{apart, stretchOf, likeApart}
+use Rattle.plan.specs.Sound.{stretchOf, likeApart}
 use Rattle.plan.specs.code.Checks.{ofColour}
 
-module _ (adj : ℕ → List ℕ) (order : List ℕ) where
-  -- a child that is like g and not apart from it
+module _ (far : List ℕ → List ℕ → Bool) (order : List ℕ) where
+  -- a child that is like g and not far from it
   abbrev pub like : Group → Group → Bool
-  like g h = eqb (g .colour) (h .colour) && not (apart adj (stretchOf order g) (stretchOf order h))
+  like g h = eqb (g .colour) (h .colour) && not (far (stretchOf order g) (stretchOf order h))
 
   -- who is like g has its colour
   like-colour : (g : Group) (c : ℕ) (hs : List Group) → g .colour ≡ c → any (like g) (ofColour c hs) ≡ any (like g) hs
@@ -30,7 +30,7 @@ module _ (adj : ℕ → List ℕ) (order : List ℕ) where
 
   -- the children compared colour by colour
   pub colour-by-colour : (gs : List Group) → Each (λ g. (g .colour ≡ red) ⊎ (g .colour ≡ blue)) gs
-      → likeApart adj order gs ≡ likeApart adj order (ofColour red gs) && likeApart adj order (ofColour blue gs)
+      → likeApart far order gs ≡ likeApart far order (ofColour red gs) && likeApart far order (ofColour blue gs)
   unfolding likeApart
   colour-by-colour [] each = refl
   colour-by-colour (g ∷ gs) each = go (each .0) (colour-by-colour gs (each .1))
@@ -43,12 +43,12 @@ module _ (adj : ℕ → List ℕ) (order : List ℕ) where
       swap true b c = refl
       swap false b c = sym (and-false b)
 
-      go : (g .colour ≡ red) ⊎ (g .colour ≡ blue) → likeApart adj order gs ≡ likeApart adj order (ofColour red gs) && likeApart adj order (ofColour blue gs)
-          → not (any (like g) gs) && likeApart adj order gs
-          ≡ likeApart adj order (keep (eqb (g .colour) red) g (ofColour red gs)) && likeApart adj order (keep (eqb (g .colour) blue) g (ofColour blue gs))
+      go : (g .colour ≡ red) ⊎ (g .colour ≡ blue) → likeApart far order gs ≡ likeApart far order (ofColour red gs) && likeApart far order (ofColour blue gs)
+          → not (any (like g) gs) && likeApart far order gs
+          ≡ likeApart far order (keep (eqb (g .colour) red) g (ofColour red gs)) && likeApart far order (keep (eqb (g .colour) blue) g (ofColour blue gs))
       go (inl e) ih =
           rw (eq-eqb (g .colour) red e, ne-eqb (g .colour) blue (λ (q : g .colour ≡ blue). omega arith), like-colour g red gs e, ih)
-          (assoc (not (any (like g) gs)) (likeApart adj order (ofColour red gs)) (likeApart adj order (ofColour blue gs)))
+          (assoc (not (any (like g) gs)) (likeApart far order (ofColour red gs)) (likeApart far order (ofColour blue gs)))
       go (inr e) ih =
           rw (ne-eqb (g .colour) red (λ (q : g .colour ≡ red). omega arith), eq-eqb (g .colour) blue e, like-colour g blue gs e, ih)
-          (swap (not (any (like g) gs)) (likeApart adj order (ofColour red gs)) (likeApart adj order (ofColour blue gs)))
+          (swap (not (any (like g) gs)) (likeApart far order (ofColour red gs)) (likeApart far order (ofColour blue gs)))

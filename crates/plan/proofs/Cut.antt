@@ -15,7 +15,7 @@ use Rattle.matrix.specs.Limits.{maxRows}
 use Rattle.matrix.specs.Matrix.{Matrix, isMatrix}
 use Rattle.matrix.proofs.Cut.{cut, cut-neighbours}
 use Rattle.plan.specs.Groups.{Plan, width, ofFields, records, planOf}
-use Rattle.plan.specs.Sound.{maxGroups, sound, isSound, isPlan}
+use Rattle.plan.specs.Sound.{maxGroups, apart, beyond, sound, isSound, isSoundAt, planLent}
 use Rattle.plan.specs.code.Room.{maxFields}
 
 -- ---- records
@@ -44,23 +44,26 @@ module _ (m : Matrix) (order groups : List ℕ) (count : ℕ) (few : m .n ≤ ma
   unfolding planOf
   plan-kept h = rw (take-take (m .n) maxRows order few, records-cut count maxFields groups h)
 
-  -- cut, the lists are a plan if and only if they were
-  pub cut-plan : isPlan m (take maxRows order) (take maxFields groups) count ≡ isPlan m order groups count
-  unfolding isPlan
-  cut-plan = rw (length-take maxRows order, length-take maxFields groups, leb-min (m .n) maxRows (length order) few) (go (leb count maxGroups) refl)
+  -- cut, the lists are a plan that passes a test if and only if they were
+  pub cut-lent : (test : Plan → Bool) → planLent test m (take maxRows order) (take maxFields groups) count ≡ planLent test m order groups count
+  cut-lent test = rw (length-take maxRows order, length-take maxFields groups, leb-min (m .n) maxRows (length order) few) (go (leb count maxGroups) refl)
     where
       before : Bool
       before = leb (m .n) (length order)
 
       go : (b : Bool) → leb count maxGroups ≡ b
-          → before && leb count maxGroups && leb (width * count) (min maxFields (length groups)) && isSound m (planOf (m .n) (take maxRows order) (take maxFields groups) count)
-          ≡ before && leb count maxGroups && leb (width * count) (length groups) && isSound m (planOf (m .n) order groups count)
+          → before && leb count maxGroups && leb (width * count) (min maxFields (length groups)) && test (planOf (m .n) (take maxRows order) (take maxFields groups) count)
+          ≡ before && leb count maxGroups && leb (width * count) (length groups) && test (planOf (m .n) order groups count)
       go true e =
           let fits : width * count ≤ maxFields = omega (arith, leb-true count maxGroups e) in
           rw (leb-min (width * count) maxFields (length groups) fits, plan-kept fits)
       go false e = rw (e, and-false before)
 
--- a matrix whose lists are cut has the same sound plans
+-- a matrix whose lists are cut has the same sound plans, at every distance
 pub cut-sound : (m : Matrix) (p : Plan) → isMatrix m ≡ true → isSound (cut m) p ≡ isSound m p
 unfolding isSound
-cut-sound m p ok = ap (λ (adj : ℕ → List ℕ). sound adj (m .n) (p .order) (p .groups)) (cut-neighbours m ok)
+cut-sound m p ok = ap (λ (adj : ℕ → List ℕ). sound (apart adj) (m .n) (p .order) (p .groups)) (cut-neighbours m ok)
+
+pub cut-sound-at : (k : ℕ) (m : Matrix) (p : Plan) → isMatrix m ≡ true → isSoundAt k (cut m) p ≡ isSoundAt k m p
+unfolding isSoundAt
+cut-sound-at k m p ok = ap (λ (adj : ℕ → List ℕ). sound (beyond adj k) (m .n) (p .order) (p .groups)) (cut-neighbours m ok)

@@ -12,7 +12,7 @@ use Rattle.base.specs.Lists.{fromFirst}
 use Rattle.base.proofs.Integers.{never}
 use Rattle.matrix.specs.Matrix.{neighbours}
 use Rattle.plan.specs.Groups.{Group, ofFields}
-use Rattle.plan.specs.Sound.{depthFirst, sound, isSound}
+use Rattle.plan.specs.Sound.{depthFirst, apart, sound, isSound}
 use Rattle.plan.specs.Depths.{groupAt, Depths}
 use Rattle.plan.proofs.Records.{ancestors, Step, step-of}
 use Rattle.plan.proofs.Sound.{sound-facts}
@@ -60,21 +60,21 @@ module _ (all : List Group) where
       go true q ih = rw (eqb-true k i q, from i g gs e .0) (s .depth ∙ up .1)
       go false q ih = ih (omega (arith, eqb-false k i q)) hi
 
-module _ (adj : ℕ → List ℕ) (n : ℕ) (order : List ℕ) where
-  whole-deep : (gs : List Group) → sound adj n order gs ≡ true → groupAt gs 0 .depth ≡ 0
+module _ (far : List ℕ → List ℕ → Bool) (n : ℕ) (order : List ℕ) where
+  whole-deep : (gs : List Group) → sound far n order gs ≡ true → groupAt gs 0 .depth ≡ 0
   unfolding sound
   whole-deep [] h = never h
-  whole-deep (g ∷ gs) h = sound-facts adj n order g gs h .depth
+  whole-deep (g ∷ gs) h = sound-facts far n order g gs h .depth
 
-  others-deep : (gs : List Group) → sound adj n order gs ≡ true → (i : ℕ) → 0 < i → i < length gs → groupAt gs i .depth ≡ suc (groupAt gs (groupAt gs i .parent) .depth)
+  others-deep : (gs : List Group) → sound far n order gs ≡ true → (i : ℕ) → 0 < i → i < length gs → groupAt gs i .depth ≡ suc (groupAt gs (groupAt gs i .parent) .depth)
   unfolding sound
   others-deep [] h i lo hi = never h
-  others-deep (g ∷ gs) h i lo hi = let f = sound-facts adj n order g gs h in deeper (g ∷ gs) (0 ∷ []) 1 gs refl (f .depth, tt) (f .inOrder) i lo hi
+  others-deep (g ∷ gs) h i lo hi = let f = sound-facts far n order g gs h in deeper (g ∷ gs) (0 ∷ []) 1 gs refl (f .depth, tt) (f .inOrder) i lo hi
 
 -- the theorem
 pub depths : Depths
 unfolding isSound
 depths = record {
-  whole = λ m p h. whole-deep (neighbours m) (m .n) (p .order) (p .groups) h;
-  others = λ m p h. others-deep (neighbours m) (m .n) (p .order) (p .groups) h;
+  whole = λ m p h. whole-deep (apart (neighbours m)) (m .n) (p .order) (p .groups) h;
+  others = λ m p h. others-deep (apart (neighbours m)) (m .n) (p .order) (p .groups) h;
 }

@@ -93,14 +93,14 @@ down path i (g ∷ gs) b h = let s = step-of path i g gs h in (b (g .parent) (s 
 
 -- ---- children
 
-module _ (adj : ℕ → List ℕ) (order : List ℕ) where
+module _ (far : List ℕ → List ℕ → Bool) (order : List ℕ) where
   -- every record's children, which all stand after it, are as a sound plan's
   abbrev pub Sounds : ℕ → List Group → Type 0
   Sounds i [] = Unit {0}
-  Sounds i (g ∷ gs) = (childrenSound adj order g (children i gs) ≡ true) × Sounds (suc i) gs
+  Sounds i (g ∷ gs) = (childrenSound far order g (children i gs) ≡ true) × Sounds (suc i) gs
 
   -- what `allSound` says, where the records `below` that stand before index i have no children from i on
-  pub sounds : (below : List Group) (i : ℕ) (gs : List Group) → Down i gs → ((k : ℕ) → i ≤ k → children k below ≡ children k gs) → allSound adj order below i gs ≡ true → Sounds i gs
+  pub sounds : (below : List Group) (i : ℕ) (gs : List Group) → Down i gs → ((k : ℕ) → i ≤ k → children k below ≡ children k gs) → allSound far order below i gs ≡ true → Sounds i gs
   unfolding allSound
   sounds below i [] d r h = tt
   sounds below i (g ∷ gs) d r h = (here, sounds below (suc i) gs (d .1) after rest)
@@ -108,9 +108,9 @@ module _ (adj : ℕ → List ℕ) (order : List ℕ) where
       after : (k : ℕ) → suc i ≤ k → children k below ≡ children k gs
       after k l = r k (omega arith) ∙ children-skip k g gs (λ e. omega (arith, d .0))
 
-      here : childrenSound adj order g (children i gs) ≡ true
-      here = subst (λ (l : List Group). childrenSound adj order g l ≡ true) (r i (omega arith) ∙ children-skip i g gs (λ e. omega (arith, d .0)))
-          (and-left (childrenSound adj order g (children i below)) (allSound adj order below (i + 1) gs) h)
+      here : childrenSound far order g (children i gs) ≡ true
+      here = subst (λ (l : List Group). childrenSound far order g l ≡ true) (r i (omega arith) ∙ children-skip i g gs (λ e. omega (arith, d .0)))
+          (and-left (childrenSound far order g (children i below)) (allSound far order below (i + 1) gs) h)
 
-      rest : allSound adj order below (suc i) gs ≡ true
-      rest = subst (λ (k : ℕ). allSound adj order below k gs ≡ true) (add-one i) (and-right (childrenSound adj order g (children i below)) (allSound adj order below (i + 1) gs) h)
+      rest : allSound far order below (suc i) gs ≡ true
+      rest = subst (λ (k : ℕ). allSound far order below k gs ≡ true) (add-one i) (and-right (childrenSound far order g (children i below)) (allSound far order below (i + 1) gs) h)

@@ -14,7 +14,7 @@ use Rattle.plan.proofs.Once.{once}
 use Rattle.plan.proofs.Records.{Down, before-one, down, Sounds, sounds}
 
 -- the whole g, and the records gs after it
-pub record SoundFacts (adj : ℕ → List ℕ) (n : ℕ) (order : List ℕ) (g : Group) (gs : List Group) : Type 0 where
+pub record SoundFacts (far : List ℕ → List ℕ → Bool) (n : ℕ) (order : List ℕ) (g : Group) (gs : List Group) : Type 0 where
   pub once : eachOnce n order ≡ true
   pub start : g .start ≡ 0
   pub covers : g .length ≡ n
@@ -27,12 +27,12 @@ pub record SoundFacts (adj : ℕ → List ℕ) (n : ℕ) (order : List ℕ) (g :
   pub short : length (g ∷ gs) ≤ maxGroups
   pub inOrder : depthFirst (0 ∷ []) 1 gs ≡ true
   pub down : Down 1 gs
-  pub under : Sounds adj order 0 (g ∷ gs)
+  pub under : Sounds far order 0 (g ∷ gs)
 
 -- the tests, as facts
-pub sound-facts : (adj : ℕ → List ℕ) (n : ℕ) (order : List ℕ) (g : Group) (gs : List Group) → sound adj n order (g ∷ gs) ≡ true → SoundFacts adj n order g gs
+pub sound-facts : (far : List ℕ → List ℕ → Bool) (n : ℕ) (order : List ℕ) (g : Group) (gs : List Group) → sound far n order (g ∷ gs) ≡ true → SoundFacts far n order g gs
 unfolding sound allSound
-sound-facts adj n order g gs h = record {
+sound-facts far n order g gs h = record {
   once = conj-first (eachOnce n order) bs h;
   start = eqb-true (g .start) 0 (at 0);
   covers = eqb-true (g .length) n (at 1);
@@ -46,14 +46,14 @@ sound-facts adj n order g gs h = record {
   inOrder = at 9;
   down = below;
   under = (
-    and-left (childrenSound adj order g (children 0 gs)) (allSound adj order gs (0 + 1) gs) (at 10),
-    sounds adj order gs 1 gs below (λ k l. refl) (and-right (childrenSound adj order g (children 0 gs)) (allSound adj order gs (0 + 1) gs) (at 10)),
+    and-left (childrenSound far order g (children 0 gs)) (allSound far order gs (0 + 1) gs) (at 10),
+    sounds far order gs 1 gs below (λ k l. refl) (and-right (childrenSound far order g (children 0 gs)) (allSound far order gs (0 + 1) gs) (at 10)),
   );
 }
   where
     bs : List Bool
     bs = eqb (g .start) 0 ∷ eqb (g .length) n ∷ eqb (g .first) 0 ∷ eqb (g .colour) whole ∷ eqb (g .parent) 0 ∷ eqb (g .depth) 0 ∷ leb 1 (g .workers) ∷ leb (g .workers) maxWorkers
-        ∷ leb (length (g ∷ gs)) maxGroups ∷ depthFirst (0 ∷ []) 1 gs ∷ allSound adj order gs 0 (g ∷ gs) ∷ []
+        ∷ leb (length (g ∷ gs)) maxGroups ∷ depthFirst (0 ∷ []) 1 gs ∷ allSound far order gs 0 (g ∷ gs) ∷ []
 
     at : (k : ℕ) → getD bs k true ≡ true
     at = conj-at (eachOnce n order) bs h
@@ -62,7 +62,7 @@ sound-facts adj n order g gs h = record {
     below = down (0 ∷ []) 1 gs before-one (at 9)
 
 -- a sound plan's order has all rows
-pub sound-long : (adj : ℕ → List ℕ) (n : ℕ) (order : List ℕ) (gs : List Group) → sound adj n order gs ≡ true → length order ≡ n
+pub sound-long : (far : List ℕ → List ℕ → Bool) (n : ℕ) (order : List ℕ) (gs : List Group) → sound far n order gs ≡ true → length order ≡ n
 unfolding sound
-sound-long adj n order [] h = never h
-sound-long adj n order (g ∷ gs) h = once n order (sound-facts adj n order g gs h .once) .long
+sound-long far n order [] h = never h
+sound-long far n order (g ∷ gs) h = once n order (sound-facts far n order g gs h .once) .long

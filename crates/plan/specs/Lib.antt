@@ -1,4 +1,5 @@
 pub mod Groups
 pub mod Sound
 pub mod Depths
+pub mod Distances
 pub mod code

@@ -1,40 +1,28 @@
 -- The reply of a call of the planner, case by case, and what the lent lists then hold.
 use mathlib.Core.Path.{_≡_, sym, _∙_}
-use mathlib.Core.Bool.{true, false, _&&_}
+use mathlib.Core.Bool.{true, false}
 use mathlib.Core.List.{List, _++_}
 use Prim.Native.Nat.{ℕ, _*_, _/_, _≤_, _<_}
 use native.Mathlib.Omega.{arith}
-use lib.Dec.{leb}
 use lib.ListN.{length, take, drop}
-use borrow.Author.Tests.{leb-true, le-leb, lt-leb}
+use borrow.Author.Tests.{le-leb, lt-leb}
 use Rattle.base.specs.Replies.{Reply, accepted, refused, inTurn, lent}
-use Rattle.base.proofs.Booleans.{and-left, and-right}
 use Rattle.base.proofs.Replies.{lent-refused, lent-accepted}
 use Rattle.matrix.specs.Matrix.{Matrix, isMatrix, matrixCheck}
 use Rattle.levels.specs.code.Rows.{Rows, adjOf}
-use Rattle.levels.proofs.Rows.{pattern-neighbours, rows-of, rows-graph}
+use Rattle.levels.proofs.Rows.{pattern-neighbours, rows-of}
 use Rattle.plan.specs.Groups.{Plan, width, flat}
-use Rattle.plan.specs.Sound.{maxWorkers}
 use Rattle.race.specs.Planner.{planRows, plan, areParameters, planReply}
 use Rattle.cycle.specs.code.Records.{Holds}
-use Rattle.race.proofs.Planned.{rows-few}
+use Rattle.race.proofs.PlannedSound.{planned-sound}
 
--- parameters are within their limits
-pub parameters-in : (w p : ℕ) → areParameters w p ≡ true → (w ≤ maxWorkers) × (p ≤ 100)
-unfolding areParameters
-parameters-in w p h =
-    let few = and-left (leb 1 w && leb w maxWorkers && leb 50 p) (leb p 99) h in (
-      leb-true w maxWorkers (and-right (leb 1 w) (leb w maxWorkers) (and-left (leb 1 w && leb w maxWorkers) (leb 50 p) few)),
-      omega (arith, leb-true p 99 (and-right (leb 1 w && leb w maxWorkers && leb 50 p) (leb p 99) h)),
-    )
-
-module _ (m : Matrix) (w p : ℕ) (order groups : List ℕ) where
+module _ (m : Matrix) (w p k : ℕ) (order groups : List ℕ) where
   -- the plan and the reply
   abbrev made : Plan
-  made = plan m w p
+  made = plan m w p k
 
   abbrev reply : Reply
-  reply = planReply m w p (length order) (length groups)
+  reply = planReply m w p k (length order) (length groups)
 
   -- a reply, and the lists after it
   abbrev pub Replied : Reply → (order′ groups′ : List ℕ) → Type 0
@@ -48,11 +36,11 @@ module _ (m : Matrix) (w p : ℕ) (order groups : List ℕ) where
   refuses-matrix e = refuses 5 0 (rw e)
 
   module _ (is : isMatrix m ≡ true) where
-    pub refuses-parameters : areParameters w p ≡ false → Replied (refused 7 0) order groups
+    pub refuses-parameters : areParameters w p k ≡ false → Replied (refused 7 0) order groups
     unfolding planReply matrixCheck inTurn
     refuses-parameters e = refuses 7 0 (rw (is, e))
 
-    module _ (are : areParameters w p ≡ true) where
+    module _ (are : areParameters w p k ≡ true) where
       pub refuses-order : length order < m .n → Replied (refused 9 (m .n)) order groups
       unfolding planReply matrixCheck inTurn
       refuses-order l = refuses 9 (m .n) (rw (is, are, lt-leb (m .n) (length order) l))
@@ -63,7 +51,7 @@ module _ (m : Matrix) (w p : ℕ) (order groups : List ℕ) where
 
       -- once all is planned
       module _ (long : m .n ≤ length order) {before list records : List ℕ} {count : ℕ}
-          (held : Holds (planRows (adjOf (m .n) (m .starts) (m .columns)) (m .n) (record { p = p }) w) 0 before list records count) where
+          (held : Holds (planRows (adjOf (m .n) (m .starts) (m .columns)) (m .n) (record { reach = k; p = p }) w) 0 before list records count) where
         held′ : Holds made 0 before list records count
         unfolding plan
         held′ = rw (pattern-neighbours m) at held
@@ -71,8 +59,8 @@ module _ (m : Matrix) (w p : ℕ) (order groups : List ℕ) where
         count-is : count ≡ length (made .groups)
         count-is = held′ .count-is ∙ omega arith
 
-        pub count-few : w ≤ maxWorkers → count ≤ 481
-        count-few l = rw (held .count-is) (omega (arith, rows-few (adjOf (m .n) (m .starts) (m .columns)) (m .n) (rows-graph rows) (record { p = p }) w l))
+        pub count-few : count ≤ 481
+        count-few = omega (arith, count-is, planned-sound .few m w p k is are)
 
         pub refuses-groups : length groups / width < count → Replied (refused 9 count) order groups
         unfolding planReply matrixCheck inTurn

@@ -1,4 +1,4 @@
-// The planner: RACE's recursive distance-2 colouring.
+// The planner: RACE's recursive colouring at a distance.
 use crate::whole::plan_rows;
 use base::MATRIX;
 use base::PARAMETER;
@@ -10,6 +10,7 @@ use matrix::limits::MAX_ROWS;
 use plan::MAX_WORKERS;
 use plan::fields::MAX_FIELDS;
 use plan::fields::WIDTH;
+use plan::is_distance;
 use symmetric::is_matrix;
 
 mod whole;
@@ -25,9 +26,9 @@ ghost use Rattle.race.specs.Planner.{plan, areParameters, planReply};
 // "all workers, 1 to 16"
 const MOST_WORKERS: u32 = MAX_WORKERS as u32;
 
-// Whether there may be so many workers and this share.
-fn are_parameters(workers: u32, p: u32) -> bool
-    ensures { λ r. ⌜ r ≡ areParameters workers p ⌝ }
+// Whether there may be so many workers, this share and this distance.
+fn are_parameters(workers: u32, p: u32, k: u32) -> bool
+    ensures { λ r. ⌜ r ≡ areParameters workers p k ⌝ }
 {
     if workers < 1 {
         return false;
@@ -38,10 +39,13 @@ fn are_parameters(workers: u32, p: u32) -> bool
     if p < 50 {
         return false;
     }
-    p <= 99
+    if 99 < p {
+        return false;
+    }
+    is_distance(k)
 }
 
-// The plan of a matrix: its order, and its groups in a flat list.
+// The plan of a matrix at the distance k: its order, and its groups in a flat list.
 pub fn plan(
     n: u32,
     starts: &[u32],
@@ -49,19 +53,20 @@ pub fn plan(
     values: &[i32],
     workers: u32,
     p: u32,
+    k: u32,
     order: &mut [u32],
     groups: &mut [u32],
 ) -> Verdict
-    ensures reply { λ r. ⌜ replyOf r ≡ planReply (matrixOf n (now (starts .entry)) (now (columns .entry)) (now (values .entry))) workers p (length (now (order .entry))) (length (now (groups .entry))) ⌝ }
-    ensures lent_order { λ r. ⌜ now (order .exit) ≡ lent (planReply (matrixOf n (now (starts .entry)) (now (columns .entry)) (now (values .entry))) workers p (length (now (order .entry))) (length (now (groups .entry))))
-        (plan (matrixOf n (now (starts .entry)) (now (columns .entry)) (now (values .entry))) workers p .order) (now (order .entry)) ⌝ }
-    ensures lent_groups { λ r. ⌜ now (groups .exit) ≡ lent (planReply (matrixOf n (now (starts .entry)) (now (columns .entry)) (now (values .entry))) workers p (length (now (order .entry))) (length (now (groups .entry))))
-        (flat (plan (matrixOf n (now (starts .entry)) (now (columns .entry)) (now (values .entry))) workers p .groups)) (now (groups .entry)) ⌝ }
+    ensures reply { λ r. ⌜ replyOf r ≡ planReply (matrixOf n (now (starts .entry)) (now (columns .entry)) (now (values .entry))) workers p k (length (now (order .entry))) (length (now (groups .entry))) ⌝ }
+    ensures lent_order { λ r. ⌜ now (order .exit) ≡ lent (planReply (matrixOf n (now (starts .entry)) (now (columns .entry)) (now (values .entry))) workers p k (length (now (order .entry))) (length (now (groups .entry))))
+        (plan (matrixOf n (now (starts .entry)) (now (columns .entry)) (now (values .entry))) workers p k .order) (now (order .entry)) ⌝ }
+    ensures lent_groups { λ r. ⌜ now (groups .exit) ≡ lent (planReply (matrixOf n (now (starts .entry)) (now (columns .entry)) (now (values .entry))) workers p k (length (now (order .entry))) (length (now (groups .entry))))
+        (flat (plan (matrixOf n (now (starts .entry)) (now (columns .entry)) (now (values .entry))) workers p k .groups)) (now (groups .entry)) ⌝ }
 {
     if !is_matrix(n, starts, columns, values) {
         return Verdict::Refused(MATRIX, 0);
     }
-    if !are_parameters(workers, p) {
+    if !are_parameters(workers, p, k) {
         return Verdict::Refused(PARAMETER, 0);
     }
     let rows = n as usize;
@@ -76,7 +81,10 @@ pub fn plan(
         &mut list[..rows],
         &mut records,
         rows,
-        Policy { p },
+        Policy {
+            reach: k as usize,
+            p,
+        },
         workers,
     );
     let room = groups.len() / WIDTH;

@@ -13,7 +13,7 @@ ghost use Rattle.base.specs.Lists.{concat, range};
 ghost use Rattle.levels.specs.Levels.{ownLevels};
 ghost use Rattle.levels.specs.code.Rows.{Rows, adjOf};
 ghost use Rattle.plan.specs.Groups.{width};
-ghost use Rattle.plan.specs.Sound.{maxWorkers, maxGroups};
+ghost use Rattle.plan.specs.Sound.{maxWorkers, maxGroups, maxDistance};
 ghost use Rattle.extents.specs.code.Scans.{policyOf};
 ghost use Rattle.race.specs.Planner.{planRows};
 ghost use Rattle.cycle.specs.code.Records.{Holds};
@@ -35,12 +35,12 @@ fn number(order: &mut [u32])
 }
 
 // The rows by their levels.
-fn sort_rows(starts: &[u32], columns: &[u32], order: &mut [u32], n: usize)
-    requires { ⌜ Rows n (now starts) (now columns) × (now order ≡ range 0 n) ⌝ }
-    ensures { λ _. ⌜ now (order .exit) ≡ concat (ownLevels (adjOf n (now (starts .entry)) (now (columns .entry))) n (range 0 n)) ⌝ }
+fn sort_rows(starts: &[u32], columns: &[u32], order: &mut [u32], n: usize, reach: usize)
+    requires { ⌜ Rows n (now starts) (now columns) × (now order ≡ range 0 n) × (1 ≤ reach) ⌝ }
+    ensures { λ _. ⌜ now (order .exit) ≡ concat (ownLevels (adjOf n (now (starts .entry)) (now (columns .entry))) reach n (range 0 n)) ⌝ }
 {
     let mut ends = [0u32; MAX_LEVELS];
-    level_sort(starts, columns, order, &mut ends, n, 0);
+    level_sort(starts, columns, order, &mut ends, n, reach, 0);
 }
 
 // The plan of all rows; the answer is how many groups it has. If it is one, the whole is a leaf, and its rows are still
@@ -54,7 +54,7 @@ pub fn plan_rows(
     policy: Policy,
     workers: u32,
 ) -> u32
-    requires { ⌜ Rows n (now starts) (now columns) × (length (now order) ≡ n) × (length (now records) ≡ width * maxGroups) × (policy .p ≤ 100) × (workers ≤ maxWorkers) ⌝ }
+    requires { ⌜ Rows n (now starts) (now columns) × (length (now order) ≡ n) × (length (now records) ≡ width * maxGroups) × (policy .p ≤ 100) × (1 ≤ policy .reach) × (policy .reach ≤ maxDistance) × (workers ≤ maxWorkers) ⌝ }
     ensures { λ r. ⌜ Holds (planRows (adjOf n (now (starts .entry)) (now (columns .entry))) n (policyOf policy) workers) 0 (now (records .entry)) (now (order .exit)) (now (records .exit)) r ⌝ }
 {
     number(order);
@@ -69,7 +69,7 @@ pub fn plan_rows(
     };
     let count = plan_group(starts, columns, order, records, n, policy, STAGES, 0, whole);
     if count == 1 {
-        sort_rows(starts, columns, order, n);
+        sort_rows(starts, columns, order, n, policy.reach);
     }
     count
 }

@@ -1,7 +1,7 @@
 -- A child's records, depth first, and those after them: whose children they are.
 use mathlib.Core.Path.{_≡_, sym, ap, _∙_, subst}
 use mathlib.Core.Logic.{_⊎_, inl, inr, _≢_}
-use mathlib.Core.Bool.{true}
+use mathlib.Core.Bool.{Bool, true}
 use mathlib.Core.List.{List, [], _∷_, _++_, append-nil}
 use Prim.Native.Nat.{ℕ, suc, _+_, _≤_, _<_}
 use native.Mathlib.Omega.{arith}
@@ -80,11 +80,11 @@ module _ (up index : ℕ) (g : Group) (below later : List Group) (lt : up < inde
         ∙ ap (λ (l : List Group). l ++ children i later) (outside up index (index + suc (length below)) i (g ∷ below) under-mine (λ q. omega arith) (inr lo))
 
 -- every group of a list, and of the list after it
-pub all-append : (adj : ℕ → List ℕ) (O : List ℕ) (world : List Group) (i : ℕ) (xs ys : List Group)
-    → allSound adj O world i xs ≡ true → allSound adj O world (i + length xs) ys ≡ true → allSound adj O world i (xs ++ ys) ≡ true
+pub all-append : (far : List ℕ → List ℕ → Bool) (O : List ℕ) (world : List Group) (i : ℕ) (xs ys : List Group)
+    → allSound far O world i xs ≡ true → allSound far O world (i + length xs) ys ≡ true → allSound far O world i (xs ++ ys) ≡ true
 unfolding allSound
-all-append adj O world i [] ys a b = subst (λ (k : ℕ). allSound adj O world k ys ≡ true) (omega arith) b
-all-append adj O world i (x ∷ xs) ys a b =
-    rw (and-left (childrenSound adj O x (children i world)) (allSound adj O world (i + 1) xs) a)
-    (all-append adj O world (i + 1) xs ys (and-right (childrenSound adj O x (children i world)) (allSound adj O world (i + 1) xs) a)
-    (subst (λ (k : ℕ). allSound adj O world k ys ≡ true) (omega arith) b))
+all-append far O world i [] ys a b = subst (λ (k : ℕ). allSound far O world k ys ≡ true) (omega arith) b
+all-append far O world i (x ∷ xs) ys a b =
+    rw (and-left (childrenSound far O x (children i world)) (allSound far O world (i + 1) xs) a)
+    (all-append far O world (i + 1) xs ys (and-right (childrenSound far O x (children i world)) (allSound far O world (i + 1) xs) a)
+    (subst (λ (k : ℕ). allSound far O world k ys ≡ true) (omega arith) b))

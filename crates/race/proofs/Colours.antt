@@ -10,7 +10,6 @@ use lib.Seq.{getD-drop}
 use Rattle.base.specs.Lists.{concat, isIn}
 use Rattle.base.proofs.Lists.{isIn-concat}
 use Rattle.base.proofs.Each.{Each, Pairwise, each-map}
-use Rattle.levels.specs.Levels.{reach}
 use Rattle.plan.specs.Groups.{red, blue}
 use Rattle.race.specs.Planner.{Pair}
 use Rattle.race.proofs.Tiles.{Tiles, done, more}
@@ -45,25 +44,25 @@ in-blue c m ls v h =
     (m + i, omega arith, lt, r)
 
 -- a part's rows stand in the levels ls, a blue part's from place reach on
-abbrev Within : List (List ℕ) → Part → Type 0
-Within ls x = (v : ℕ) → isIn (x .rows) v ≡ true → (j : ℕ) × In ls j v × (x .colour ≡ blue → reach ≤ j)
+abbrev Within : (reach : ℕ) → List (List ℕ) → Part → Type 0
+Within reach ls x = (v : ℕ) → isIn (x .rows) v ≡ true → (j : ℕ) × In ls j v × (x .colour ≡ blue → reach ≤ j)
 
-within-drop : (c : ℕ) (ls : List (List ℕ)) (x : Part) → Within (drop c ls) x → Within ls x
-within-drop c ls x h v k = let (j, q, b) = h v k in (c + j, in-drop c ls j v q, λ e. omega (arith, b e))
+within-drop : (reach c : ℕ) (ls : List (List ℕ)) (x : Part) → Within reach (drop c ls) x → Within reach ls x
+within-drop reach c ls x h v k = let (j, q, b) = h v k in (c + j, in-drop c ls j v q, λ e. omega (arith, b e))
 
-tiles-within : {free : ℕ} {ls : List (List ℕ)} {cs : List Pair} (f : ℕ) → Tiles free ls cs → Each (Within ls) (parts f cs)
+tiles-within : {reach free : ℕ} {ls : List (List ℕ)} {cs : List Pair} (f : ℕ) → Tiles reach free ls cs → Each (Within reach ls) (parts f cs)
 tiles-within f done = tt
-tiles-within {ls = ls} f (more {cs = cs} c m w a b l pos le ts) =
-    let reds : Within ls (record { rows = concat (take m (take c ls)); colour = red; first = f; workers = w }) = λ v h. let (i, lt, q) = in-red c m ls v h in (i, q, λ e. absurd (omega arith)) in
-    let blues : Within ls (record { rows = concat (drop m (take c ls)); colour = blue; first = f; workers = w }) = λ v h. let (i, ge, lt, q) = in-blue c m ls v h in (i, q, λ e. omega arith) in
-    (reds, (blues, each-map (Within (drop c ls)) (Within ls) (within-drop c ls) (parts (f + w) cs) (tiles-within (f + w) ts)))
+tiles-within {reach} {ls = ls} f (more {cs = cs} c m w a b l pos le ts) =
+    let reds : Within reach ls (record { rows = concat (take m (take c ls)); colour = red; first = f; workers = w }) = λ v h. let (i, lt, q) = in-red c m ls v h in (i, q, λ e. absurd (omega arith)) in
+    let blues : Within reach ls (record { rows = concat (drop m (take c ls)); colour = blue; first = f; workers = w }) = λ v h. let (i, ge, lt, q) = in-blue c m ls v h in (i, q, λ e. omega arith) in
+    (reds, (blues, each-map (Within reach (drop c ls)) (Within reach ls) (within-drop reach c ls) (parts (f + w) cs) (tiles-within (f + w) ts)))
 
 -- ---- apart
 
 module _ (A : ℕ → ℕ → Type 0) where
   -- rows of levels more than reach apart are so related
-  abbrev pub Separated : List (List ℕ) → Type 0
-  Separated ls = (i j u v : ℕ) → isIn (getD ls i []) u ≡ true → isIn (getD ls j []) v ≡ true → i + reach < j → A u v
+  abbrev pub Separated : (reach : ℕ) → List (List ℕ) → Type 0
+  Separated reach ls = (i j u v : ℕ) → isIn (getD ls i []) u ≡ true → isIn (getD ls j []) v ≡ true → i + reach < j → A u v
 
   -- each row of xs is so related to each row of ys
   abbrev pub Across : List ℕ → List ℕ → Type 0
@@ -74,17 +73,17 @@ module _ (A : ℕ → ℕ → Type 0) where
   Like x y = x .colour ≡ y .colour → Across (x .rows) (y .rows)
 
   -- the parts of a tiling
-  pub tiles-apart : {free : ℕ} {ls : List (List ℕ)} {cs : List Pair} (f : ℕ) → Tiles free ls cs → Separated ls → Pairwise Like (parts f cs)
+  pub tiles-apart : {reach free : ℕ} {ls : List (List ℕ)} {cs : List Pair} (f : ℕ) → Tiles reach free ls cs → Separated reach ls → Pairwise Like (parts f cs)
   tiles-apart f done sep = tt
-  tiles-apart {ls = ls} f (more {cs = cs} c m w a b l pos le ts) sep =
+  tiles-apart {reach} {ls = ls} f (more {cs = cs} c m w a b l pos le ts) sep =
       let later = tiles-within (f + w) ts in
       let reds : Part = record { rows = concat (take m (take c ls)); colour = red; first = f; workers = w } in
       let blues : Part = record { rows = concat (drop m (take c ls)); colour = blue; first = f; workers = w } in
-      let red-later : Each (Like reds) (parts (f + w) cs) = each-map (Within (drop c ls)) (Like reds) (λ y h e u v hu hv.
+      let red-later : Each (Like reds) (parts (f + w) cs) = each-map (Within reach (drop c ls)) (Like reds) (λ y h e u v hu hv.
       let (i, lt, p) = in-red c m ls u hu in
       let (j, q, far) = h v hv in
       sep i (c + j) u v p (in-drop c ls j v q) (omega arith)) (parts (f + w) cs) later in
-      let blue-later : Each (Like blues) (parts (f + w) cs) = each-map (Within (drop c ls)) (Like blues) (λ y h e u v hu hv.
+      let blue-later : Each (Like blues) (parts (f + w) cs) = each-map (Within reach (drop c ls)) (Like blues) (λ y h e u v hu hv.
       let (i, ge, lt, p) = in-blue c m ls u hu in
       let (j, q, far) = h v hv in
       sep i (c + j) u v p (in-drop c ls j v q) (omega (arith, far (sym e)))) (parts (f + w) cs) later in

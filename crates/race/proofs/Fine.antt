@@ -8,9 +8,9 @@ use native.Mathlib.Omega.{arith}
 use lib.ListN.{length, length-append}
 use Rattle.base.proofs.Counts.{Same, count-append, same-length}
 use Rattle.base.proofs.Each.{Each, Pairwise, each-map}
-use Rattle.levels.proofs.Own.{Apart}
+use Rattle.levels.proofs.Own.{Beyond}
 use Rattle.plan.specs.Groups.{Group}
-use Rattle.plan.specs.Sound.{maxDepth, children, tiled, likeApart, childrenSound, allSound}
+use Rattle.plan.specs.Sound.{maxDepth, children, tiled, beyond, likeApart, childrenSound, allSound}
 use Rattle.race.proofs.Parts.{Part, allRows, recordOf, recordsOf, groupsOf}
 use Rattle.race.proofs.Colours.{Like}
 use Rattle.race.proofs.Placed.{Placed, Covers, placed-left, placed-right, placed-sub}
@@ -23,12 +23,12 @@ abbrev pub perWorker : (stages : ℕ) → ℕ
 perWorker zero = 0
 perWorker (suc s) = 2 + 2 * perWorker s
 
-module _ (adj : ℕ → List ℕ) where
+module _ (adj : ℕ → List ℕ) (reach : ℕ) where
   -- the group g at index, of the rows T: its order, and the records below it
   pub record Fine (stages index : ℕ) (g : Group) (T order : List ℕ) (below : List Group) : Type 0 where
     pub same : Same order T
     pub parents : Each (Inside index (index + suc (length below))) below
-    pub sound : (O : List ℕ) (world : List Group) → Placed O (g .start) order → Ready world below index (index + suc (length below)) → allSound adj O world index (g ∷ below) ≡ true
+    pub sound : (O : List ℕ) (world : List Group) → Placed O (g .start) order → Ready world below index (index + suc (length below)) → allSound (beyond adj reach) O world index (g ∷ below) ≡ true
     pub walked : (anc : List ℕ) (tail : List Group) → g .depth ≡ length anc → length anc + stages ≤ maxDepth → Walked index [] anc (index + 1) below tail
     pub few : length below ≤ g .workers * perWorker stages
 
@@ -38,7 +38,7 @@ module _ (adj : ℕ → List ℕ) where
     pub under : Each (Under up index (index + length gs)) gs
     pub own : children up gs ≡ recordsOf up depth start xs
     pub covers : (O : List ℕ) → Placed O start order → Covers O start xs
-    pub sound : (O : List ℕ) (world : List Group) → Placed O start order → Ready world gs index (index + length gs) → allSound adj O world index gs ≡ true
+    pub sound : (O : List ℕ) (world : List Group) → Placed O start order → Ready world gs index (index + length gs) → allSound (beyond adj reach) O world index gs ≡ true
     pub walked : (es anc : List ℕ) (tail : List Group) → Above up es → depth ≡ suc (length anc) → suc (length anc) + stages ≤ maxDepth → Walked up es anc index gs tail
     pub few : length gs ≤ groupsOf (perWorker stages) xs
 
@@ -66,7 +66,7 @@ module _ (adj : ℕ → List ℕ) where
     own = block-children up index g below later lt refl (f .parents) (k .under) ∙ ap (λ (l : List Group). g ∷ l) (k .own);
     covers = λ O h. (placed-sub O start a (x .rows) (f .same) (placed-left O start a r h), k .covers O (rest O h));
     sound = λ O world h ready.
-        all-append adj O world index (g ∷ below) later
+        all-append (beyond adj reach) O world index (g ∷ below) later
         (f .sound O world (placed-left O start a r h) (ready-mine up index g below later lt refl (f .parents) (k .under) world ready))
         (k .sound O world (rest O h) (ready-theirs up index g below later lt refl (f .parents) (k .under) world ready));
     walked = λ es anc tail h d b.
@@ -94,7 +94,7 @@ module _ (adj : ℕ → List ℕ) where
   }
 
   -- children that tile and are apart
-  children-sound : (O : List ℕ) (g : Group) (ks : List Group) → tiled g (g .start) (g .first) ks ≡ true → likeApart adj O ks ≡ true → childrenSound adj O g ks ≡ true
+  children-sound : (O : List ℕ) (g : Group) (ks : List Group) → tiled g (g .start) (g .first) ks ≡ true → likeApart (beyond adj reach) O ks ≡ true → childrenSound (beyond adj reach) O g ks ≡ true
   unfolding childrenSound
   children-sound O g [] a b = refl
   children-sound O g (k ∷ ks) a b = rw (a, b) refl
@@ -102,7 +102,7 @@ module _ (adj : ℕ → List ℕ) where
   -- a group over its children
   pub fine-split : (stages index : ℕ) (g : Group) (T : List ℕ) (xs : List Part) (order : List ℕ) (gs : List Group)
       → Kids stages index (g .depth + 1) (g .start) (index + 1) xs order gs → Same (allRows xs) T
-      → tiled g (g .start) (g .first) (recordsOf index (g .depth + 1) (g .start) xs) ≡ true → Pairwise (Like (Apart adj)) xs → groupsOf (perWorker stages) xs ≤ g .workers * perWorker (suc stages)
+      → tiled g (g .start) (g .first) (recordsOf index (g .depth + 1) (g .start) xs) ≡ true → Pairwise (Like (Beyond adj reach)) xs → groupsOf (perWorker stages) xs ≤ g .workers * perWorker (suc stages)
       → Fine (suc stages) index g T order gs
   unfolding allSound
   fine-split stages index g T xs order gs k s tile like few = record {
@@ -110,10 +110,10 @@ module _ (adj : ℕ → List ℕ) where
     parents = each-map (Under index (index + 1) (index + 1 + length gs)) (Inside index (index + suc (length gs))) inside gs (k .under);
     sound = λ O world h ready.
         let mine : children index world ≡ recordsOf index (g .depth + 1) (g .start) xs = ready index (omega arith) (omega arith) ∙ k .own in
-        let here : childrenSound adj O g (children index world) ≡ true
-        = ap (λ (l : List Group). childrenSound adj O g l) mine
-        ∙ children-sound O g (recordsOf index (g .depth + 1) (g .start) xs) tile (like-apart adj O index (g .depth + 1) (g .start) xs (k .covers O h) like) in
-        let there : allSound adj O world (index + 1) gs ≡ true = k .sound O world h (λ i lo hi. ready i (omega arith) (omega arith)) in
+        let here : childrenSound (beyond adj reach) O g (children index world) ≡ true
+        = ap (λ (l : List Group). childrenSound (beyond adj reach) O g l) mine
+        ∙ children-sound O g (recordsOf index (g .depth + 1) (g .start) xs) tile (like-apart adj reach O index (g .depth + 1) (g .start) xs (k .covers O h) like) in
+        let there : allSound (beyond adj reach) O world (index + 1) gs ≡ true = k .sound O world h (λ i lo hi. ready i (omega arith) (omega arith)) in
         rw (here, there) refl;
     walked = λ anc tail d b. k .walked [] anc tail tt (omega arith) (omega arith);
     few = omega (arith, k .few);

@@ -67,7 +67,7 @@ halves : (m : ℕ) (ls : List (List ℕ)) → concat (take m ls) ++ concat (drop
 halves m ls = sym (concat-append (take m ls) (drop m ls)) ∙ ap (λ (l : List (List ℕ)). concat l) (take-append-drop m ls)
 
 -- the parts hold the levels' rows, in order
-pub tiles-rows : {free : ℕ} {ls : List (List ℕ)} {cs : List Pair} (f : ℕ) → Tiles free ls cs → allRows (parts f cs) ≡ concat ls
+pub tiles-rows : {reach free : ℕ} {ls : List (List ℕ)} {cs : List Pair} (f : ℕ) → Tiles reach free ls cs → allRows (parts f cs) ≡ concat ls
 tiles-rows f done = refl
 tiles-rows {ls = ls} f (more {cs = cs} c m w a b l pos le ts) =
     let mine = take c ls in
@@ -77,7 +77,7 @@ tiles-rows {ls = ls} f (more {cs = cs} c m w a b l pos le ts) =
     ∙ halves c ls
 
 -- the records of the parts tile their parent
-pub tiles-tiled : {free : ℕ} {ls : List (List ℕ)} {cs : List Pair} (g : Group) (up depth s f : ℕ) → Tiles free ls cs
+pub tiles-tiled : {reach free : ℕ} {ls : List (List ℕ)} {cs : List Pair} (g : Group) (up depth s f : ℕ) → Tiles reach free ls cs
     → s + length (allRows (parts f cs)) ≡ g .start + g .length → f + free ≡ g .first + g .workers → tiled g s f (recordsOf up depth s (parts f cs)) ≡ true
 unfolding tiled
 tiles-tiled g up depth s f done e d = rw (eq-eqb s (g .start + g .length) (omega arith), eq-eqb f (g .first + g .workers) (omega arith)) refl
@@ -97,9 +97,9 @@ groupsOf m [] = 0
 groupsOf m (x ∷ xs) = (1 + x .workers * m) + groupsOf m xs
 
 -- in a tiling that is at most 2 + 2 m for each worker
-pub tiles-groups : {free : ℕ} {ls : List (List ℕ)} {cs : List Pair} (m f : ℕ) → Tiles free ls cs → groupsOf m (parts f cs) ≤ free * (2 + 2 * m)
+pub tiles-groups : {reach free : ℕ} {ls : List (List ℕ)} {cs : List Pair} (m f : ℕ) → Tiles reach free ls cs → groupsOf m (parts f cs) ≤ free * (2 + 2 * m)
 tiles-groups m f done = omega arith
-tiles-groups {free} m f (more {cs = cs} c k w a b l pos le ts) = go (free - w) (groupsOf m (parts (f + w) cs)) (omega arith) (tiles-groups m (f + w) ts)
+tiles-groups {free = free} m f (more {cs = cs} c k w a b l pos le ts) = go (free - w) (groupsOf m (parts (f + w) cs)) (omega arith) (tiles-groups m (f + w) ts)
   where
     go : (d q : ℕ) → d + w ≡ free → q ≤ d * (2 + 2 * m) → (1 + w * m) + ((1 + w * m) + q) ≤ free * (2 + 2 * m)
     go d q e h = subst (λ (x : ℕ). (1 + w * m) + ((1 + w * m) + q) ≤ x * (2 + 2 * m)) e (omega arith)

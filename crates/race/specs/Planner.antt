@@ -9,8 +9,8 @@ use Rattle.base.specs.Replies.{Reply, accepted, refused, check, inTurn, roomFor
 use Rattle.base.specs.Refusals as why
 use Rattle.matrix.specs.Matrix.{Matrix, neighbours, matrixCheck}
 use Rattle.plan.specs.Groups.{Group, Plan, whole, red, blue, width}
-use Rattle.plan.specs.Sound.{maxWorkers, maxDepth}
-use Rattle.levels.specs.Levels.{reach, ownLevels}
+use Rattle.plan.specs.Sound.{maxWorkers, maxDepth, isDistance}
+use Rattle.levels.specs.Levels.{ownLevels}
 use Rattle.race.specs.Loads.{loadOf}
 use Rattle.extents.specs.Extents.{Policy, extent, cut}
 
@@ -51,7 +51,7 @@ pairs adj (suc k) w R policy free [] = []
 pairs adj (suc k) w R policy free (l ∷ ls) =
     let e = extent w R policy free (map (loadOf adj) (l ∷ ls)) in
     let mine = take (e .levels) (l ∷ ls) in
-    let c = cut (map (loadOf adj) mine) in
+    let c = cut (policy .reach) (map (loadOf adj) mine) in
     record { reds = concat (take c mine); blues = concat (drop c mine); workers = e .workers }
     ∷ pairs adj k w R policy (free - e .workers) (drop (e .levels) (l ∷ ls))
 
@@ -65,9 +65,9 @@ planPairs child up depth start first index (c ∷ cs) =
     let b = child index₁ (childOf up depth mid (length (c .blues)) first (c .workers) blue) (c .blues) in
     a then b then planPairs child up depth (mid + length (c .blues)) (first + c .workers) (index₁ + length (b .groups)) cs
 
--- "T is split if it has at least two workers, depth below 4 and m at least 4" (the depth: a stage is left)
-unfoldable pub splits : Group → List (List ℕ) → Bool
-splits g ls = leb 2 (g .workers) && leb (2 * reach) (length ls)
+-- "T is split if it has at least two workers, depth below 4" (a stage is left), and "with m at least 2 × k"
+unfoldable pub splits : (reach : ℕ) → Group → List (List ℕ) → Bool
+splits reach g ls = leb 2 (g .workers) && leb (2 * reach) (length ls)
 
 -- "A group is planned by planning its pairs"
 unfoldable pub split : (adj : ℕ → List ℕ) (child : Planner) (policy : Policy) (index : ℕ) → Group → List (List ℕ) → Plan
@@ -79,25 +79,26 @@ split adj child policy index g ls =
 unfoldable pub planGroup : (adj : ℕ → List ℕ) (n : ℕ) (policy : Policy) (stages : ℕ) → Planner
 planGroup adj n policy zero index g T = leaf g T
 planGroup adj n policy (suc s) index g T =
-    let ls = ownLevels adj n T in
-    elim (splits g ls) [ true ↦ split adj (planGroup adj n policy s) policy index g ls | false ↦ leaf g T ]
+    let ls = ownLevels adj (policy .reach) n T in
+    elim (splits (policy .reach) g ls) [ true ↦ split adj (planGroup adj n policy s) policy index g ls | false ↦ leaf g T ]
 
 -- "the whole is sorted even as a leaf"
 unfoldable pub planRows : (adj : ℕ → List ℕ) (n : ℕ) (policy : Policy) (w : ℕ) → Plan
 planRows adj n policy w =
-    planGroup adj n policy maxDepth 0 (wholeOf n w) (concat (ownLevels adj n (range 0 n)))
+    planGroup adj n policy maxDepth 0 (wholeOf n w) (concat (ownLevels adj (policy .reach) n (range 0 n)))
 
--- the plan of a matrix for w workers
-unfoldable pub plan : Matrix → (w p : ℕ) → Plan
-plan m w p = planRows (neighbours m) (m .n) (record { p = p }) w
+-- the plan of a matrix for w workers at the distance k
+unfoldable pub plan : Matrix → (w p k : ℕ) → Plan
+plan m w p k = planRows (neighbours m) (m .n) (record { reach = k; p = p }) w
 
--- "all workers, 1 to 16", "p is 50 to 99"
-unfoldable pub areParameters : (w p : ℕ) → Bool
-areParameters w p = leb 1 w && leb w maxWorkers && leb 50 p && leb p 99
+-- "all workers, 1 to 16", "p is 50 to 99", "The planner takes k from 1 to 4"
+unfoldable pub areParameters : (w p k : ℕ) → Bool
+areParameters w p k = leb 1 w && leb w maxWorkers && leb 50 p && leb p 99 && isDistance k
 
--- The reply: 5, 7, 9 "of order, groups, counted in records"; accepted with the count of groups.
--- The two lists are then `lent` of the reply, plan's order and its flat groups; room is each list's length
-unfoldable pub planReply : Matrix → (w p orderRoom groupsRoom : ℕ) → Reply
-planReply m w p orderRoom groupsRoom =
-    inTurn refused (matrixCheck m ∷ check why.badParameter (areParameters w p) ∷ roomFor (m .n) orderRoom ∷ roomFor (length (plan m w p .groups)) (groupsRoom / width) ∷ [])
-    (accepted (length (plan m w p .groups)))
+-- The reply: 5, 7 ("A k outside its limits is treated as a bad p"), 9 "of order, groups, counted in records"; accepted
+-- with the count of groups. The two lists are then `lent` of the reply, plan's order and its flat groups; room is each
+-- list's length
+unfoldable pub planReply : Matrix → (w p k orderRoom groupsRoom : ℕ) → Reply
+planReply m w p k orderRoom groupsRoom =
+    inTurn refused (matrixCheck m ∷ check why.badParameter (areParameters w p k) ∷ roomFor (m .n) orderRoom ∷ roomFor (length (plan m w p k .groups)) (groupsRoom / width) ∷ [])
+    (accepted (length (plan m w p k .groups)))

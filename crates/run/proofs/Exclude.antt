@@ -122,7 +122,7 @@ module _ (adj : ℕ → List ℕ) (order : List ℕ) (fin : Group → Bool) wher
         go false hq ih = ih (active-next a (t .0) hq)
 
     -- two active positions of different workers
-    pub clear : (T all : Tree) (leader s e p q v w : ℕ) → Tiles adj order T s e → likeApart adj order (tops T) ≡ true
+    pub clear : (T all : Tree) (leader s e p q v w : ℕ) → Tiles adj order T s e → likeApart (apart adj) order (tops T) ≡ true
         → (redOpen fin T ≡ true → redOpen fin all ≡ true) → v ≢ w
         → Active T all leader s e p v → Active T all leader s e q w → Clear adj order p q
     unfolding tops likeApart
@@ -136,10 +136,10 @@ module _ (adj : ℕ → List ℕ) (order : List ℕ) (fin : Group → Bool) wher
         like h = eqb (g .colour) (h .colour) && not (apart adj (stretchOf order g) (stretchOf order h))
 
         apart-here : any like (tops next) ≡ false
-        apart-here = not-true _ (and-left (not (any like (tops next))) (likeApart adj order (tops next)) k)
+        apart-here = not-true _ (and-left (not (any like (tops next))) (likeApart (apart adj) order (tops next)) k)
 
-        apart-next : likeApart adj order (tops next) ≡ true
-        apart-next = and-right (not (any like (tops next))) (likeApart adj order (tops next)) k
+        apart-next : likeApart (apart adj) order (tops next) ≡ true
+        apart-next = and-right (not (any like (tops next))) (likeApart (apart adj) order (tops next)) k
 
         up-next : redOpen fin next ≡ true → redOpen fin all ≡ true
         up-next z = up (red-next fin g below next z)
@@ -150,7 +150,7 @@ module _ (adj : ℕ → List ℕ) (order : List ℕ) (fin : Group → Bool) wher
             cross g p hp (a .inside) (t .1) all (λ z. up (active-red a (t .2) hp z)) (active-blue a hp) next leader (s + g .length) e q w (t .3) apart-here up-next (active-next b (t .0) hq)
 
         inner : (B : Tree) → Tiled adj order g B → Active B B (g .first) (g .start) (g .start + g .length) p v → Active B B (g .first) (g .start) (g .start + g .length) q w
-            → (Tiles adj order B (g .start) (g .start + g .length) → likeApart adj order (tops B) ≡ true → Clear adj order p q) → Clear adj order p q
+            → (Tiles adj order B (g .start) (g .start + g .length) → likeApart (apart adj) order (tops B) ≡ true → Clear adj order p q) → Clear adj order p q
         inner none i x y ih = absurd (d (sym (x .owned) ∙ leaf ∙ y .owned))
           where
             leaf : ownerIn (g .first) p none ≡ ownerIn (g .first) q none
@@ -158,7 +158,7 @@ module _ (adj : ℕ → List ℕ) (order : List ℕ) (fin : Group → Bool) wher
         inner (node h hb hn) i x y ih = ih (i .0) (i .1)
 
         go : (x : Bool) → holds g p ≡ x → (y : Bool) → holds g q ≡ y
-            → (Tiles adj order below (g .start) (g .start + g .length) → likeApart adj order (tops below) ≡ true
+            → (Tiles adj order below (g .start) (g .start + g .length) → likeApart (apart adj) order (tops below) ≡ true
             → Active below below (g .first) (g .start) (g .start + g .length) p v → Active below below (g .first) (g .start) (g .start + g .length) q w → Clear adj order p q)
             → (Active next all leader (s + g .length) e p v → Active next all leader (s + g .length) e q w → Clear adj order p q) → Clear adj order p q
         go true hp true hq deep later = let x = active-below a hp in let y = active-below b hq in inner below (t .2) x y (λ tb kb. deep tb kb x y)

@@ -11,7 +11,7 @@ use Rattle.base.specs.Lists.{filter, keep}
 use Rattle.base.proofs.Booleans.{and-left, and-right}
 use Rattle.matrix.specs.Matrix.{neighbours}
 use Rattle.plan.specs.Groups.{Group, whole}
-use Rattle.plan.specs.Sound.{maxWorkers, eachOnce, children, tiled, likeApart, childrenSound, sound}
+use Rattle.plan.specs.Sound.{apart, maxWorkers, eachOnce, children, tiled, likeApart, childrenSound, sound}
 use Rattle.plan.proofs.Records.{Sounds}
 use Rattle.plan.proofs.Sound.{sound-facts}
 use Rattle.plan.proofs.Pair.{pair-of}
@@ -36,16 +36,16 @@ module _ (adj : ℕ → List ℕ) (order : List ℕ) where
   -- every group's children are as a sound plan's
   abbrev AllSound : Tree → Type 0
   AllSound none = Unit {0}
-  AllSound (node g below next) = (childrenSound adj order g (tops below) ≡ true) × AllSound below × AllSound next
+  AllSound (node g below next) = (childrenSound (apart adj) order g (tops below) ≡ true) × AllSound below × AllSound next
 
   -- a sound list of records makes such a tree
-  grown : (gs : List Group) (i up : ℕ) → Sounds adj order i gs → AllSound (forest up i gs)
+  grown : (gs : List Group) (i up : ℕ) → Sounds (apart adj) order i gs → AllSound (forest up i gs)
   unfolding forest
   grown [] i up s = tt
   grown (g ∷ gs) i up s = go (eqb (g .parent) up) refl (grown gs (suc i) i (s .1)) (grown gs (suc i) up (s .1))
     where
       go : (b : Bool) → eqb (g .parent) up ≡ b → AllSound (forest i (suc i) gs) → AllSound (forest up (suc i) gs) → AllSound (forest up i (g ∷ gs))
-      go true e x y = rw (e, forest) (subst (λ (l : List Group). childrenSound adj order g l ≡ true) (sym (tops-children i (suc i) gs)) (s .0), x, y)
+      go true e x y = rw (e, forest) (subst (λ (l : List Group). childrenSound (apart adj) order g l ≡ true) (sym (tops-children i (suc i) gs)) (s .0), x, y)
       go false e x y = rw (e, forest) y
 
   -- siblings that tile the rest of g from position s and worker f on
@@ -58,12 +58,12 @@ module _ (adj : ℕ → List ℕ) (order : List ℕ) where
     pub tiles : Tiled adj order g B
     pub pairs : Paired g B
 
-  under : (g : Group) (B : Tree) → childrenSound adj order g (tops B) ≡ true → (tiled g (g .start) (g .first) (tops B) ≡ true → Laid g (g .start) (g .first) B) → Under g B
+  under : (g : Group) (B : Tree) → childrenSound (apart adj) order g (tops B) ≡ true → (tiled g (g .start) (g .first) (tops B) ≡ true → Laid g (g .start) (g .first) B) → Under g B
   unfolding tops childrenSound
   under g none h f = record { tiles = tt; pairs = tt }
   under g (node k kb kn) h f =
-      let l = f (and-left (tiled g (g .start) (g .first) (k ∷ tops kn)) (likeApart adj order (k ∷ tops kn)) h) in
-      record { tiles = (l .tiles, and-right (tiled g (g .start) (g .first) (k ∷ tops kn)) (likeApart adj order (k ∷ tops kn)) h); pairs = l .pairs }
+      let l = f (and-left (tiled g (g .start) (g .first) (k ∷ tops kn)) (likeApart (apart adj) order (k ∷ tops kn)) h) in
+      record { tiles = (l .tiles, and-right (tiled g (g .start) (g .first) (k ∷ tops kn)) (likeApart (apart adj) order (k ∷ tops kn)) h); pairs = l .pairs }
 
   -- the tree of a sound plan, two siblings at a time
   laid : (g : Group) (T : Tree) (s f : ℕ) → AllSound T → tiled g s f (tops T) ≡ true → Laid g s f T
@@ -99,12 +99,12 @@ pub record Whole (adj : ℕ → List ℕ) (n : ℕ) (order : List ℕ) (groups :
   pub under : Under adj order top below
 
 -- what the tests of `sound` say
-pub whole-of : (adj : ℕ → List ℕ) (n : ℕ) (order : List ℕ) (groups : List Group) → sound adj n order groups ≡ true → Whole adj n order groups
+pub whole-of : (adj : ℕ → List ℕ) (n : ℕ) (order : List ℕ) (groups : List Group) → sound (apart adj) n order groups ≡ true → Whole adj n order groups
 unfolding sound tree workersOf
 whole-of adj n order [] h = absurd (true≢false (sym h))
 whole-of adj n order (g ∷ gs) h =
-    let f = sound-facts adj n order g gs h in
-    let mine : childrenSound adj order g (tops (forest 0 1 gs)) ≡ true = subst (λ (l : List Group). childrenSound adj order g l ≡ true) (sym (tops-children 0 1 gs)) (f .under .0) in
+    let f = sound-facts (apart adj) n order g gs h in
+    let mine : childrenSound (apart adj) order g (tops (forest 0 1 gs)) ≡ true = subst (λ (l : List Group). childrenSound (apart adj) order g l ≡ true) (sym (tops-children 0 1 gs)) (f .under .0) in
     record {
       top = g;
       below = forest 0 1 gs;

@@ -8,6 +8,7 @@ use lib.IntN.{ℤ, pos, negsuc}
 use lib.ListN.{length, take, drop, replicate}
 use Rattle.base.specs.Lists.{best, concat, range, sum, sumBelow, bit}
 use Rattle.base.specs.Ascii.{ascii}
+use Rattle.base.specs.Near.{near}
 use Rattle.base.specs.Integers.{sumℤ, within, same, fits64}
 use Rattle.base.specs.Replies.{Reply, accepted, refused, inTurn}
 use Rattle.matrix.specs.Matrix.{Matrix, partOf, columnsOf, valuesOf, lookup, entry, neighbours, adjacent, adjacentPairs, ascending, mirrored, isRow, lowerEntries, isMatrix, matrixCheck, displacement, areDisplacements}
@@ -18,8 +19,8 @@ use Rattle.market.specs.Parse.{Triplet, Parsed, matrixText, rejected, entries, 
 use Rattle.market.specs.FullRows.{full, cell, rowOf, rowsOf, startsFrom, rowStarts, columns, values, ofTriplets, readMatrix}
 use Rattle.market.specs.Text.{decimal, textOf, columnOf, lower, written}
 use Rattle.plan.specs.Groups.{Plan, width, fieldsOf, flat}
-use Rattle.plan.specs.Sound.{eachOnce, depthFirst, children, tiled, apart, stretchOf, likeApart, childrenSound, allSound, sound, isSound}
-use Rattle.levels.specs.Levels.{near, region, root, isNext, levelsFrom, levels, ownLevels}
+use Rattle.plan.specs.Sound.{eachOnce, depthFirst, children, tiled, apart, beyond, stretchOf, likeApart, childrenSound, allSound, sound, isSound, isSoundAt, isDistance}
+use Rattle.levels.specs.Levels.{region, root, isNext, levelsFrom, levels, ownLevels}
 use Rattle.extents.specs.Extents.{Extent, endsFrom, nearest, off, serves, extentOf, extentFrom, extent, cutAt, cut}
 use Rattle.race.specs.Loads.{weight, loadOf}
 use Rattle.race.specs.Planner.{nothing, _then_, leaf, pairs, planPairs, splits, split, planGroup, planRows, plan, areParameters, planReply}
@@ -101,7 +102,7 @@ abbrev chain : Matrix
 chain = matrixIn chainText
 
 abbrev job : Matrix → List ℤ → (w p : ℕ) → Job
-job m x w p = record { matrix = m; displacements = x; plan = plan m w p }
+job m x w p = record { matrix = m; displacements = x; plan = plan m w p 2 }
 
 abbrev chainJob : Job
 chainJob = job chain (replicate 8 (pos 1)) 2 60
@@ -155,8 +156,8 @@ chainAnswers =
     ∷ picked 12 0 0 ∷ isReady 0 0 ∷ picked 0 12 0 ∷ denied 9 8
     ∷ forces (numbers (1 ∷ 0 ∷ 0 ∷ 0 ∷ 0 ∷ 0 ∷ 0 ∷ 1 ∷ [])) ∷ []
 
-abbrev parameterReply : (w p : ℕ) → List ℤ
-parameterReply w p = ofReply (planReply two w p 2 width)
+abbrev parameterReply : (w k p : ℕ) → List ℤ
+parameterReply w k p = ofReply (planReply two w p k 2 width)
 
 abbrev samples : List Bool
 samples =
@@ -174,15 +175,15 @@ samples =
     ∷ (numbers (accesses lone 0 ∷ length (leaves (tree (lone .plan .groups))) ∷ []) is numbers (2 ∷ 1 ∷ []))
     ∷ (ofAnswers (runAnswers lone (picks (0 ∷ 0 ∷ []) ∷ forceList 1 ∷ [])) is ofAnswers (picked 2 0 0 ∷ forces (negsuc 14 ∷ []) ∷ []))
     -- P: "eight unjoined freedoms at `2 60`: levels 0, 2, .. 14; same groups as the chain"
-    ∷ (ofLevels (ownLevels (neighbours unjoined) 8 (range 0 8)) is numbers (1 ∷ 0 ∷ 0 ∷ 1 ∷ 1 ∷ 0 ∷ 1 ∷ 2 ∷ 0 ∷ 1 ∷ 3 ∷ 0 ∷ 1 ∷ 4 ∷ 0 ∷ 1 ∷ 5 ∷ 0 ∷ 1 ∷ 6 ∷ 0 ∷ 1 ∷ 7 ∷ []))
-    ∷ (ofPlan (plan unjoined 2 60) is numbers (range 0 8) ++ groups8)
+    ∷ (ofLevels (ownLevels (neighbours unjoined) 2 8 (range 0 8)) is numbers (1 ∷ 0 ∷ 0 ∷ 1 ∷ 1 ∷ 0 ∷ 1 ∷ 2 ∷ 0 ∷ 1 ∷ 3 ∷ 0 ∷ 1 ∷ 4 ∷ 0 ∷ 1 ∷ 5 ∷ 0 ∷ 1 ∷ 6 ∷ 0 ∷ 1 ∷ 7 ∷ []))
+    ∷ (ofPlan (plan unjoined 2 60 2) is numbers (range 0 8) ++ groups8)
     -- P: "two joined freedoms, 16 workers: one leaf"
-    ∷ (ofPlan (plan two 16 60) is numbers (0 ∷ 1 ∷ 0 ∷ 2 ∷ 0 ∷ 16 ∷ 0 ∷ 0 ∷ 0 ∷ []))
+    ∷ (ofPlan (plan two 16 60 2) is numbers (0 ∷ 1 ∷ 0 ∷ 2 ∷ 0 ∷ 16 ∷ 0 ∷ 0 ∷ 0 ∷ []))
     -- P: "level loads 1, 2, .. 16, 15, .. 1, w = 8, p = 60: first pair is levels 0 to 6 (28 of 256), cut before level 5
     -- (15 against 13)"
-    ∷ (ofExtent (extent 8 (sum hill) (record { p = 60 }) 8 hill) is numbers (7 ∷ 1 ∷ []))
+    ∷ (ofExtent (extent 8 (sum hill) (record { reach = 2; p = 60 }) 8 hill) is numbers (7 ∷ 1 ∷ []))
     ∷ (numbers (sum (take 7 hill) ∷ sum hill ∷ []) is numbers (28 ∷ 256 ∷ []))
-    ∷ (numbers (cut (take 7 hill) ∷ []) is numbers (5 ∷ []))
+    ∷ (numbers (cut 2 (take 7 hill) ∷ []) is numbers (5 ∷ []))
     ∷ (numbers (sum (take 5 hill) ∷ sum (drop 5 (take 7 hill)) ∷ []) is numbers (15 ∷ 13 ∷ []))
     -- P: "a = 1.5 gives b = 2". P: "a = 0.6 at p = 60 doesn't serve"
     ∷ (numbers (nearest 3 1 2 ∷ []) is numbers (2 ∷ []))
@@ -195,14 +196,14 @@ samples =
     -- "n 4,096 passes, 4,097 gives 3; p 50 and 99 pass, 49 and 100 give 7; an empty text gives 1 at place 1"
     ∷ (ofParsed (parse (text "4096 4096 0\n")) is numbers (0 ∷ 4096 ∷ []))
     ∷ (ofParsed (parse (text "4097 4097 0\n")) is numbers (3 ∷ 2 ∷ []))
-    ∷ (concat (map (parameterReply 2) (49 ∷ 50 ∷ 99 ∷ 100 ∷ [])) is numbers (7 ∷ 0 ∷ 0 ∷ 1 ∷ 0 ∷ 1 ∷ 7 ∷ 0 ∷ []))
+    ∷ (concat (map (parameterReply 2 2) (49 ∷ 50 ∷ 99 ∷ 100 ∷ [])) is numbers (7 ∷ 0 ∷ 0 ∷ 1 ∷ 0 ∷ 1 ∷ 7 ∷ 0 ∷ []))
     ∷ (ofParsed (parse []) is numbers (1 ∷ 1 ∷ []))
     -- "freedoms 0, 2 and 3 of T, joined only to outsider 1, have levels 0, 2 and 2"
-    ∷ (ofLevels (ownLevels (neighbours star) 4 (0 ∷ 2 ∷ 3 ∷ [])) is numbers (1 ∷ 0 ∷ 0 ∷ 2 ∷ 2 ∷ 3 ∷ []))
+    ∷ (ofLevels (ownLevels (neighbours star) 2 4 (0 ∷ 2 ∷ 3 ∷ [])) is numbers (1 ∷ 0 ∷ 0 ∷ 2 ∷ 2 ∷ 3 ∷ []))
     -- "the unreached freedom of the group with the fewest joined freedoms in the whole matrix, the lowest number on a
     -- tie": an end of the chain 3 1 0 2 4; of rows 1 and 3 of the star, row 3
-    ∷ (ofLevels (ownLevels (neighbours folded) 5 (range 0 5)) is numbers (1 ∷ 3 ∷ 1 ∷ 1 ∷ 1 ∷ 0 ∷ 1 ∷ 2 ∷ 1 ∷ 4 ∷ []))
-    ∷ (ofLevels (ownLevels (neighbours star) 4 (1 ∷ 3 ∷ [])) is numbers (1 ∷ 3 ∷ 1 ∷ 1 ∷ []))
+    ∷ (ofLevels (ownLevels (neighbours folded) 2 5 (range 0 5)) is numbers (1 ∷ 3 ∷ 1 ∷ 1 ∷ 1 ∷ 0 ∷ 1 ∷ 2 ∷ 1 ∷ 4 ∷ []))
+    ∷ (ofLevels (ownLevels (neighbours star) 2 4 (1 ∷ 3 ∷ [])) is numbers (1 ∷ 3 ∷ 1 ∷ 1 ∷ []))
     -- a whole run of the chain: the machine's answers and the model's; 2 picks for each row and 4 for each adjacent
     -- pair
     ∷ (ofAnswers (runAnswers chainJob chainCalls) is ofAnswers chainAnswers)
@@ -210,6 +211,13 @@ samples =
     ∷ (numbers (takenIn chainAnswers ∷ []) is numbers (wholeRun chainJob ∷ []))
     -- the chain is taken: a matrix, displacements, a sound plan
     ∷ (ofTest (isMatrix chain && areDisplacements 8 (chainJob .displacements) && isSound chain (chainJob .plan)) is ofTest true)
+    -- "The planner takes k from 1 to 4"; two joined freedoms at 1 are three groups, for which room for one is short, at
+    -- 4 one leaf
+    ∷ (concat (map (λ k. parameterReply 16 k 60) (range 0 6)) is numbers (7 ∷ 0 ∷ 9 ∷ 3 ∷ 0 ∷ 1 ∷ 0 ∷ 1 ∷ 0 ∷ 1 ∷ 7 ∷ 0 ∷ []))
+    -- "The planner's plans at k are sound at k": the chain's at 1 to 4
+    ∷ (concat (map (λ k. ofTest (isSoundAt k chain (plan chain 2 60 k))) (range 1 4)) is numbers (1 ∷ 1 ∷ 1 ∷ 1 ∷ []))
+    -- the chain's plan at 2 is not sound at 3: rows 1 and 4, three joins apart, are red
+    ∷ (concat (map (λ k. ofTest (isSoundAt k chain (chainJob .plan))) (range 1 4)) is numbers (1 ∷ 1 ∷ 0 ∷ 0 ∷ []))
     -- "Reading its text returns the matrix"
     ∷ (ofMatrix (readMatrix (parse (written chain))) is ofMatrix chain)
     ∷ []
@@ -233,11 +241,11 @@ unfolding full cell rowOf rowsOf startsFrom rowStarts columns values ofTriplets 
 texts = tt
 
 plans : Unit {0}
-unfolding fieldsOf flat eachOnce depthFirst children tiled apart stretchOf likeApart childrenSound allSound sound isSound
+unfolding fieldsOf flat eachOnce depthFirst children tiled near apart beyond stretchOf likeApart childrenSound allSound sound isSound isSoundAt isDistance
 plans = tt
 
 planners : Unit {0}
-unfolding near region root isNext levelsFrom levels ownLevels weight loadOf endsFrom best nearest off serves extentOf extentFrom extent cutAt cut nothing _then_ leaf pairs planPairs splits split planGroup planRows plan areParameters planReply
+unfolding region root isNext levelsFrom levels ownLevels weight loadOf endsFrom best nearest off serves extentOf extentFrom extent cutAt cut nothing _then_ leaf pairs planPairs splits split planGroup planRows plan areParameters planReply
 planners = tt
 
 updating : Unit {0}

@@ -58,9 +58,9 @@ roots-below {roots = roots} given v h = let (i, l, e) = get-in roots v h in omeg
 gap : {n k : ℕ} {marks queue : List ℕ} → Frontier n k marks queue 0 0 → atMark n marks (k + 2) ≡ []
 gap {n} {k} {marks} f = atMark-none n marks (k + 2) (λ v l. eqb-false (getD marks v 0) (k + 2) (sym (f .front-is v l)))
 
-module _ {adj : ℕ → List ℕ} {n : ℕ} {T roots : List ℕ} {k i : ℕ} {marks queue : List ℕ} (b : Between adj n T roots k i marks queue) where
+module _ {adj : ℕ → List ℕ} {reach n : ℕ} {T roots : List ℕ} {k i : ℕ} {marks queue : List ℕ} (b : Between adj reach n T roots k i marks queue) where
   -- its row was reached before
-  pub between-old : getD marks (getD roots i 0) 0 ≢ 1 → Between adj n T roots k (i + 1) marks queue
+  pub between-old : getD marks (getD roots i 0) 0 ≢ 1 → Between adj reach n T roots k (i + 1) marks queue
   between-old h = record { frontier = b .frontier; so-far = b .so-far; passed = below-more (λ j. getD marks (getD roots j 0) 0 ≢ 1) i (b .passed) h }
 
   -- its row is the root
@@ -91,10 +91,10 @@ module _ {adj : ℕ → List ℕ} {n : ℕ} {T roots : List ℕ} {k i : ℕ} {ma
         given .first marks
         ∙ filter-first (λ v. eqb (getD marks v 0) 1) roots i here (λ j l. ne-eqb (getD marks (getD roots j 0) 0) 1 (b .passed j l)) (eq-eqb (getD marks v 0) 1 new)
 
-    root-so-far : SoFar adj n T (k + 1) marks′
+    root-so-far : SoFar adj reach n T (k + 1) marks′
     root-so-far =
         let f = b .frontier in
-        so-far-step adj n T k marks marks′ (isIn (v ∷ [])) (turn-is (v ∷ []) f below all) (f .fresh)
+        so-far-step adj reach n T k marks marks′ (isIn (v ∷ [])) (turn-is (v ∷ []) f below all) (f .fresh)
         (omega (arith, root-frontier .enough))
         (λ x h. next-root adj T (atMark n marks (k + 2)) (atMark n marks 1) v (gap f) root-is x) (b .so-far)
 
@@ -104,11 +104,11 @@ module _ {adj : ℕ → List ℕ} {n : ℕ} {T roots : List ℕ} {k i : ℕ} {ma
         omega arith
 
     pub between-new : {k′ : ℕ} {marks″ queue″ : List ℕ} → Spread adj n (k + 1) k′ marks′ marks″ queue″
-        → Between adj n T roots k′ (i + 1) marks″ queue″ × Kept marks marks″
+        → Between adj reach n T roots k′ (i + 1) marks″ queue″ × Kept marks marks″
     between-new {k′} {marks″} {queue″} s = (
       record {
         frontier = s .frontier;
-        so-far = s .so-far T root-so-far;
+        so-far = s .so-far reach T root-so-far;
         passed = below-more (λ j. getD marks″ (getD roots j 0) 0 ≢ 1) i (λ j l. kept-reached marks marks″ (getD roots j 0) kept (b .passed j l)) (kept-reached marks′ marks″ v (s .kept) root-reached);
       },
       kept,
@@ -122,9 +122,9 @@ module _ {adj : ℕ → List ℕ} {n : ℕ} {T roots : List ℕ} {k i : ℕ} {ma
 unreached-le : (n : ℕ) (marks : List ℕ) → unreached n marks ≤ n
 unreached-le n marks = omega (arith, length-filter-le (λ v. eqb (getD marks v 0) 1) (range 0 n), length-range 0 n)
 
-pub between-start : (adj : ℕ → List ℕ) (n : ℕ) (T roots marks queue : List ℕ) → n ≤ maxRows → length marks ≡ maxRows → length queue ≡ maxRows
-    → atMark n marks 1 ≡ region adj n T → ((v : ℕ) → getD marks v 0 ≤ 1) → Between adj n T roots 0 0 marks queue
-between-start adj n T roots marks queue small ml ql e le = record {
+pub between-start : (adj : ℕ → List ℕ) (reach n : ℕ) (T roots marks queue : List ℕ) → n ≤ maxRows → length marks ≡ maxRows → length queue ≡ maxRows
+    → atMark n marks 1 ≡ region adj reach n T → ((v : ℕ) → getD marks v 0 ≤ 1) → Between adj reach n T roots 0 0 marks queue
+between-start adj reach n T roots marks queue small ml ql e le = record {
   frontier = record {
     ready = record { small = small; marks-long = ml; queue-long = ql; room = omega (arith, unreached-le n marks) };
     low = omega arith;
@@ -133,14 +133,14 @@ between-start adj n T roots marks queue small ml ql e le = record {
     front-is = λ u l. sym (ne-eqb (getD marks u 0) 2 (λ q. omega (arith, le u)));
     enough = omega (arith, unreached-le n marks);
   };
-  so-far = so-far-start adj n T marks e (λ v l. le v);
+  so-far = so-far-start adj reach n T marks e (λ v l. le v);
   passed = λ j l. absurd (omega arith);
 }
 
-pub levelled : {adj : ℕ → List ℕ} {n : ℕ} {T roots : List ℕ} {k i : ℕ} {marks queue : List ℕ} (marks₀ : List ℕ) → Roots adj n T roots → length roots ≤ i
-    → Between adj n T roots k i marks queue → Kept marks₀ marks → atMark n marks₀ 1 ≡ region adj n T → ((v : ℕ) → isIn T v ≡ true → v < n) → Levelled adj n T k marks
-levelled {adj} {n} {T} {roots} {k} {i} {marks} {queue} marks₀ given done b kept e below = record {
-  levels-are = so-far-end adj n T k marks (omega (arith, f .enough)) (f .fresh) (gap f) none (b .so-far);
+pub levelled : {adj : ℕ → List ℕ} {reach n : ℕ} {T roots : List ℕ} {k i : ℕ} {marks queue : List ℕ} (marks₀ : List ℕ) → Roots adj n T roots → length roots ≤ i
+    → Between adj reach n T roots k i marks queue → Kept marks₀ marks → atMark n marks₀ 1 ≡ region adj reach n T → ((v : ℕ) → isIn T v ≡ true → v < n) → Levelled adj reach n T k marks
+levelled {adj} {reach} {n} {T} {roots} {k} {i} {marks} {queue} marks₀ given done b kept e below = record {
+  levels-are = so-far-end adj reach n T k marks (omega (arith, f .enough)) (f .fresh) (gap f) none (b .so-far);
   few = omega (arith, f .enough);
   fresh = f .fresh;
   reached = λ v h. go v h (kept v);
@@ -157,7 +157,7 @@ levelled {adj} {n} {T} {roots} {k} {i} {marks} {queue} marks₀ given done b kep
 
     -- a row of T was not yet reached at first
     first : (v : ℕ) → isIn T v ≡ true → getD marks₀ v 0 ≡ 1
-    first v h = eqb-true (getD marks₀ v 0) 1 (sym (isIn-atMark n marks₀ 1 v (below v h)) ∙ ap (λ (xs : List ℕ). isIn xs v) e ∙ region-own adj n T v (below v h) h)
+    first v h = eqb-true (getD marks₀ v 0) 1 (sym (isIn-atMark n marks₀ 1 v (below v h)) ∙ ap (λ (xs : List ℕ). isIn xs v) e ∙ region-own adj reach n T v (below v h) h)
 
     go : (v : ℕ) → isIn T v ≡ true → (getD marks v 0 ≡ getD marks₀ v 0) ⊎ (3 ≤ getD marks v 0) → 3 ≤ getD marks v 0
     go v h (inr l) = l

@@ -125,10 +125,10 @@ frontier-front {n} {k} {marks} f u h =
 pub record Spreading (adj : ℕ → List ℕ) (n k d : ℕ) (marks₀ marks queue : List ℕ) (lo hi : ℕ) : Type 0 where
   pub frontier : Frontier n d marks queue lo hi
   pub kept : Kept marks₀ marks
-  pub so-far : (T : List ℕ) → SoFar adj n T k marks₀ → SoFar adj n T d marks
+  pub so-far : (reach : ℕ) (T : List ℕ) → SoFar adj reach n T k marks₀ → SoFar adj reach n T d marks
 
 pub spreading-start : {n k : ℕ} {marks queue : List ℕ} {lo hi : ℕ} (adj : ℕ → List ℕ) → Frontier n k marks queue lo hi → Spreading adj n k k marks marks queue lo hi
-spreading-start {marks = marks} adj f = record { frontier = f; kept = kept-refl marks; so-far = λ T s. s }
+spreading-start {marks = marks} adj f = record { frontier = f; kept = kept-refl marks; so-far = λ reach T s. s }
 
 module _ {adj : ℕ → List ℕ} {n k d : ℕ} {marks₀ marks queue : List ℕ} {lo hi : ℕ} {marks′ queue′ : List ℕ} {r : ℕ} (graph : Graph adj n)
     (s : Spreading adj n k d marks₀ marks queue lo hi) (l : lo < hi)
@@ -149,9 +149,9 @@ module _ {adj : ℕ → List ℕ} {n k d : ℕ} {marks₀ marks queue : List ℕ
       record {
         frontier = frontier-step vs f below after (omega arith);
         kept = kept-trans marks₀ marks marks′ (s .kept) (kept-turn vs f below after);
-        so-far = λ T t.
-            so-far-step adj n T d marks marks′ (isIn vs) (turn-is vs f below after) (f .fresh) (omega (arith, f .enough))
-            (λ v i. next-level graph T marks (d + 2) _ F (getD queue lo 0) here (f .front) (f .front-is) v) (s .so-far T t);
+        so-far = λ reach T t.
+            so-far-step adj reach n T d marks marks′ (isIn vs) (turn-is vs f below after) (f .fresh) (omega (arith, f .enough))
+            (λ v i. next-level graph T marks (d + 2) _ F (getD queue lo 0) here (f .front) (f .front-is) v) (s .so-far reach T t);
       }
 
   pub spreading-less : 2 * unreached n marks′ + (1 - (1 - (r - hi))) < 2 * unreached n marks + (1 - (1 - (hi - lo)))

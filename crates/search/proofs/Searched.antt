@@ -12,11 +12,11 @@ use Rattle.search.specs.code.Marks.{atMark, Marked}
 use Rattle.search.specs.code.Search.{Levelled, Searched}
 
 -- what is found of T's rows in any order holds of T
-pub searched : {adj : ℕ → List ℕ} {n : ℕ} {T own rows : List ℕ} {k : ℕ} {marks : List ℕ} → own ≡ filter (isIn T) (range 0 n) → isIn rows ≡ isIn T → Levelled adj n rows k marks → Searched adj n T own k marks
-searched {adj} {n} {T} {own} {rows} e same l = record {
+pub searched : {adj : ℕ → List ℕ} {reach n : ℕ} {T own rows : List ℕ} {k : ℕ} {marks : List ℕ} → own ≡ filter (isIn T) (range 0 n) → isIn rows ≡ isIn T → Levelled adj reach n rows k marks → Searched adj reach n T own k marks
+searched {adj} {reach} {n} {T} {own} {rows} e same l = record {
   own-is = e;
   levelled = record {
-    levels-are = sym (levels-same adj n rows T same) ∙ l .levels-are;
+    levels-are = sym (levels-same adj reach n rows T same) ∙ l .levels-are;
     few = l .few;
     fresh = l .fresh;
     reached = λ v h. l .reached v (ap (λ (p : ℕ → Bool). p v) same ∙ h);

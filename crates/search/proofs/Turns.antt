@@ -50,7 +50,7 @@ module _ (m k : ℕ) where
 
 -- ---- one turn
 
-module _ (adj : ℕ → List ℕ) (n : ℕ) (T : List ℕ) (k : ℕ) (old new : List ℕ) (p : ℕ → Bool)
+module _ (adj : ℕ → List ℕ) (reach n : ℕ) (T : List ℕ) (k : ℕ) (old new : List ℕ) (p : ℕ → Bool)
     (turn : (v : ℕ) → getD new v 0 ≡ cond (eqb (getD old v 0) 1 && p v) (k + 3) (getD old v 0))
     (fresh : (v : ℕ) → v < n → getD old v 0 ≤ k + 2) where
   -- rows of one mark are rows of another test on the old marks
@@ -73,7 +73,7 @@ module _ (adj : ℕ → List ℕ) (n : ℕ) (T : List ℕ) (k : ℕ) (old new : 
 
   -- where the test is who is next of the rows not yet reached, the turn is a level
   pub so-far-step : k < 2 * n → ((v : ℕ) → isIn (atMark n old 1) v ≡ true → isNext adj T (atMark n old (k + 2)) (atMark n old 1) v ≡ p v)
-      → SoFar adj n T k old → SoFar adj n T (k + 1) new
+      → SoFar adj reach n T k old → SoFar adj reach n T (k + 1) new
   unfolding levelsFrom
   so-far-step l next s =
       s
@@ -142,9 +142,9 @@ next-root adj T last rest r e h v = ap (λ (l : List ℕ). isNext adj T l rest v
 
 -- ---- the first turn, and the last
 
-pub so-far-start : (adj : ℕ → List ℕ) (n : ℕ) (T marks : List ℕ) → atMark n marks 1 ≡ region adj n T → ((v : ℕ) → v < n → getD marks v 0 ≤ 1) → SoFar adj n T 0 marks
+pub so-far-start : (adj : ℕ → List ℕ) (reach n : ℕ) (T marks : List ℕ) → atMark n marks 1 ≡ region adj reach n T → ((v : ℕ) → v < n → getD marks v 0 ≤ 1) → SoFar adj reach n T 0 marks
 unfolding levels
-so-far-start adj n T marks e small =
+so-far-start adj reach n T marks e small =
     let z : 2 * n - 0 ≡ 2 * n = omega arith in
     let none : atMark n marks 2 ≡ [] = atMark-none n marks 2 (λ v l q. omega (arith, small v l)) in
     ap (levelsFrom adj (2 * n) T []) (sym e)
@@ -170,9 +170,9 @@ map-none f a (suc j) h =
     let ih : map f (range (suc a) j) ≡ replicate j [] = map-none f (suc a) j (λ d l. h d (omega arith)) in
     rw (e, ih)
 
-pub so-far-end : (adj : ℕ → List ℕ) (n : ℕ) (T : List ℕ) (k : ℕ) (marks : List ℕ) → k ≤ 2 * n → ((v : ℕ) → v < n → getD marks v 0 ≤ k + 2) → atMark n marks (k + 2) ≡ []
-    → root adj T (atMark n marks 1) ≡ [] → SoFar adj n T k marks → levels adj n T ≡ map (atMark n marks) (range 3 (2 * n))
-so-far-end adj n T k marks le fresh none nil s =
+pub so-far-end : (adj : ℕ → List ℕ) (reach n : ℕ) (T : List ℕ) (k : ℕ) (marks : List ℕ) → k ≤ 2 * n → ((v : ℕ) → v < n → getD marks v 0 ≤ k + 2) → atMark n marks (k + 2) ≡ []
+    → root adj T (atMark n marks 1) ≡ [] → SoFar adj reach n T k marks → levels adj reach n T ≡ map (atMark n marks) (range 3 (2 * n))
+so-far-end adj reach n T k marks le fresh none nil s =
     let sum : k + (2 * n - k) ≡ 2 * n = omega arith in
     s
     ∙ ap (λ (l : List ℕ). map (atMark n marks) (range 3 k) ++ levelsFrom adj (2 * n - k) T l (atMark n marks 1)) none

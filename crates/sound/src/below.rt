@@ -1,4 +1,4 @@
-// The children of every group tile it and are apart.
+// The children of every group tile it, and like-coloured ones keep their distance.
 use apart::apart_below;
 use matrix::limits::MAX_ROWS;
 use plan::MAX_GROUPS;
@@ -6,12 +6,12 @@ use plan::fields::BLUE;
 use plan::fields::RED;
 use shape::tiling::tiled_below;
 ghost use mathlib.Core.Path.{_≡_};
-ghost use Prim.Native.Nat.{_+_, _^_, _<_};
+ghost use Prim.Native.Nat.{_+_, _^_, _≤_, _<_};
 ghost use lib.ListN.{take};
 ghost use Rattle.matrix.specs.Matrix.{neighbours};
 ghost use Rattle.matrix.specs.code.Pattern.{pattern};
 ghost use Rattle.plan.specs.Groups.{records};
-ghost use Rattle.plan.specs.Sound.{maxGroups, children, childrenSound, allSound};
+ghost use Rattle.plan.specs.Sound.{maxGroups, maxDistance, children, beyond, childrenSound, allSound};
 ghost use Rattle.plan.specs.code.Checks.{recordAt, belowWhole};
 ghost use Rattle.shape.specs.code.Shape.{PlanLists};
 ghost use Rattle.apart.specs.code.Marks.{OfMatrix, UpTo, Judged};
@@ -21,7 +21,7 @@ const MARKS: u32 = MAX_GROUPS as u32;
 
 const MARKS_OF_BOTH: u32 = 2 * MARKS;
 
-// The children of the group at k, if it has any, tile it and are apart.
+// The children of the group at parent, if it has any, tile it, and like-coloured ones are beyond k joins of each other.
 fn sound_below(
     n: usize,
     starts: &[u32],
@@ -30,17 +30,32 @@ fn sound_below(
     groups: &[u32],
     count: usize,
     marks: &mut [u32; MAX_ROWS],
+    done: &mut [u32; MAX_ROWS],
+    parent: usize,
     k: usize,
     low: u32,
 ) -> bool
-    requires { ⌜ OfMatrix n (now starts) (now columns) × PlanLists n (now order) (now groups) count × (k < count) × UpTo low (now marks) × (low + maxGroups + maxGroups < 2 ^ 32) ⌝ }
-    ensures { λ r. ⌜ Judged (childrenSound (neighbours (pattern n (now (starts .entry)) (now (columns .entry)))) (take n (now (order .entry)))
-        (recordAt (now (groups .entry)) k) (children k (belowWhole count (now (groups .entry))))) (low + maxGroups + maxGroups) (now (marks .exit)) r ⌝ }
+    requires { ⌜ OfMatrix n (now starts) (now columns) × PlanLists n (now order) (now groups) count × (parent < count) × UpTo low (now marks) × UpTo low (now done) × (low + maxGroups + maxGroups < 2 ^ 32) × (k ≤ maxDistance) ⌝ }
+    ensures { λ r. ⌜ Judged (childrenSound (beyond (neighbours (pattern n (now (starts .entry)) (now (columns .entry)))) k) (take n (now (order .entry)))
+        (recordAt (now (groups .entry)) parent) (children parent (belowWhole count (now (groups .entry))))) (low + maxGroups + maxGroups) (now (marks .exit)) (now (done .exit)) r ⌝ }
 {
-    if !tiled_below(groups, count, k) {
+    if !tiled_below(groups, count, parent) {
         return false;
     }
-    if !apart_below(n, starts, columns, order, groups, count, marks, k, RED, low) {
+    if !apart_below(
+        n,
+        starts,
+        columns,
+        order,
+        groups,
+        count,
+        marks,
+        done,
+        parent,
+        k,
+        RED,
+        low,
+    ) {
         return false;
     }
     apart_below(
@@ -51,6 +66,8 @@ fn sound_below(
         groups,
         count,
         marks,
+        done,
+        parent,
         k,
         BLUE,
         low + MARKS,
@@ -65,14 +82,16 @@ pub fn all_sound(
     order: &[u32],
     groups: &[u32],
     count: usize,
+    k: usize,
 ) -> bool
-    requires { ⌜ OfMatrix n (now starts) (now columns) × PlanLists n (now order) (now groups) count ⌝ }
-    ensures { λ r. ⌜ r ≡ allSound (neighbours (pattern n (now (starts .entry)) (now (columns .entry)))) (take n (now (order .entry)))
+    requires { ⌜ OfMatrix n (now starts) (now columns) × PlanLists n (now order) (now groups) count × (k ≤ maxDistance) ⌝ }
+    ensures { λ r. ⌜ r ≡ allSound (beyond (neighbours (pattern n (now (starts .entry)) (now (columns .entry)))) k) (take n (now (order .entry)))
         (belowWhole count (now (groups .entry))) 0 (records count (now (groups .entry))) ⌝ }
 {
     let mut marks = [0u32; MAX_ROWS];
-    let mut k = 0;
-    while k < count {
+    let mut done = [0u32; MAX_ROWS];
+    let mut i = 0;
+    while i < count {
         if !sound_below(
             n,
             starts,
@@ -81,12 +100,14 @@ pub fn all_sound(
             groups,
             count,
             &mut marks,
+            &mut done,
+            i,
             k,
-            MARKS_OF_BOTH * k as u32,
+            MARKS_OF_BOTH * i as u32,
         ) {
             return false;
         }
-        k += 1;
+        i += 1;
     }
     true
 }

@@ -21,6 +21,9 @@ struct Five {
     answer: Verdict,
 }
 
+// The distance that a run asks for.
+const DISTANCE: u32 = 2;
+
 // The plan of a matrix in an array of five groups, which is lent as a slice.
 fn plan_in(
     n: u32,
@@ -32,12 +35,22 @@ fn plan_in(
     order: &mut [u32],
     list: [Group; 5],
 ) -> Five
-    ensures { λ r. ⌜ (replyOf (r .answer) ≡ planReply (matrixOf n (now (starts .entry)) (now (columns .entry)) (now (values .entry))) workers p (length (now (order .entry))) (width * length list))
-        × (r .groups ≡ lent (planReply (matrixOf n (now (starts .entry)) (now (columns .entry)) (now (values .entry))) workers p (length (now (order .entry))) (width * length list))
-        (map ofGroup (plan (matrixOf n (now (starts .entry)) (now (columns .entry)) (now (values .entry))) workers p .groups)) list) ⌝ }
+    ensures { λ r. ⌜ (replyOf (r .answer) ≡ planReply (matrixOf n (now (starts .entry)) (now (columns .entry)) (now (values .entry))) workers p 2 (length (now (order .entry))) (width * length list))
+        × (r .groups ≡ lent (planReply (matrixOf n (now (starts .entry)) (now (columns .entry)) (now (values .entry))) workers p 2 (length (now (order .entry))) (width * length list))
+        (map ofGroup (plan (matrixOf n (now (starts .entry)) (now (columns .entry)) (now (values .entry))) workers p 2 .groups)) list) ⌝ }
 {
     let mut groups = list;
-    let answer = groups::plan(n, starts, columns, values, workers, p, order, &mut groups);
+    let answer = groups::plan(
+        n,
+        starts,
+        columns,
+        values,
+        workers,
+        p,
+        DISTANCE,
+        order,
+        &mut groups,
+    );
     Five { groups, answer }
 }
 
@@ -50,9 +63,9 @@ fn check_in(
     order: &[u32],
     list: [Group; 5],
 ) -> Verdict
-    ensures { λ r. ⌜ replyOf r ≡ checkReply (matrixOf n (now (starts .entry)) (now (columns .entry)) (now (values .entry))) (now (order .entry)) (flat (map groupOf list)) (length list) ⌝ }
+    ensures { λ r. ⌜ replyOf r ≡ checkReply (matrixOf n (now (starts .entry)) (now (columns .entry)) (now (values .entry))) (now (order .entry)) (flat (map groupOf list)) (length list) 2 ⌝ }
 {
-    groups::check(n, starts, columns, values, order, &list)
+    groups::check(n, starts, columns, values, order, &list, DISTANCE)
 }
 
 // Writes a space and a number.

@@ -7,16 +7,16 @@ use native.Mathlib.Omega.{arith}
 use borrow.Author.Tests.{ne-eqb}
 use Rattle.base.proofs.Booleans.{or-false}
 use Rattle.plan.specs.Groups.{Group, blue}
-use Rattle.plan.specs.Sound.{sound}
+use Rattle.plan.specs.Sound.{apart, sound}
 use Rattle.plan.proofs.Sound.{SoundFacts, sound-facts}
 use Rattle.run.specs.Tree.{forest, tree, blocked}
 use Rattle.run.proofs.Holds.{in-holds}
 use Rattle.tables.proofs.FlatOpen.{openReds, red-flat}
 use Rattle.tables.proofs.WayDown.{blockedFrom, blocked-from}
 
-module _ (adj : ℕ → List ℕ) (n : ℕ) (order : List ℕ) (g : Group) (gs : List Group) (ok : sound adj n order (g ∷ gs) ≡ true) (fin : Group → Bool) (q : ℕ) (low : q < n) where
-  facts : SoundFacts adj n order g gs
-  facts = sound-facts adj n order g gs ok
+module _ (adj : ℕ → List ℕ) (n : ℕ) (order : List ℕ) (g : Group) (gs : List Group) (ok : sound (apart adj) n order (g ∷ gs) ≡ true) (fin : Group → Bool) (q : ℕ) (low : q < n) where
+  facts : SoundFacts (apart adj) n order g gs
+  facts = sound-facts (apart adj) n order g gs ok
 
   abbrev opened : ℕ → Bool
   opened up = openReds fin up 1 gs

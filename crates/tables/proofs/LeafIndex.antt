@@ -11,7 +11,7 @@ use borrow.Author.Tests.{eqb-true, eq-eqb}
 use Rattle.base.specs.Lists.{isIn}
 use Rattle.base.proofs.Booleans.{or-cases, or-right-false}
 use Rattle.plan.specs.Groups.{Group}
-use Rattle.plan.specs.Sound.{depthFirst, children, sound}
+use Rattle.plan.specs.Sound.{apart, depthFirst, children, sound}
 use Rattle.plan.proofs.Records.{ancestors, Step, step-of, Before, before-step, before-one, Sounds}
 use Rattle.plan.proofs.Sound.{sound-facts}
 use Rattle.run.specs.Tree.{holds}
@@ -51,7 +51,7 @@ module _ (q : ℕ) where
   abbrev FoundFrom : List ℕ → ℕ → List Group → ℕ → Type 0
   FoundFrom path k gs i = (m : ℕ) × (isIn path m ≡ true) × (leafFrom q m k gs ≡ i)
 
-  find : (adj : ℕ → List ℕ) (order path : List ℕ) (k : ℕ) (gs : List Group) → depthFirst path k gs ≡ true → Before k path → Sounds adj order k gs → Separate q gs
+  find : (adj : ℕ → List ℕ) (order path : List ℕ) (k : ℕ) (gs : List Group) → depthFirst path k gs ≡ true → Before k path → Sounds (apart adj) order k gs → Separate q gs
       → (i : ℕ) → LeafAt k gs i → FoundFrom path k gs i
   find adj order path k [] d b n s i h = absurd h
   find adj order path k (g ∷ gs) d b n s i h = go h (find adj order (k ∷ ancestors path g) (suc k) gs (p .rest) (before-step path k g gs p b) (n .1) (s .1) i)
@@ -85,11 +85,11 @@ module _ (q : ℕ) where
       go (inr x) ih = let (m, a, e) = ih x in later x m e (or-cases (eqb m k) (isIn (ancestors path g) m) a)
 
 -- the way down from the whole g ends at the leaf that holds q
-pub leaf-index : (adj : ℕ → List ℕ) (n : ℕ) (order : List ℕ) (g : Group) (gs : List Group) → sound adj n order (g ∷ gs) ≡ true
+pub leaf-index : (adj : ℕ → List ℕ) (n : ℕ) (order : List ℕ) (g : Group) (gs : List Group) → sound (apart adj) n order (g ∷ gs) ≡ true
     → (q i : ℕ) → LeafAt q 0 (g ∷ gs) i → leafFrom q 0 1 gs ≡ i
 leaf-index adj n order g gs ok q i (inl x) = leaf-here q 0 1 gs (child-held q 0 gs (x .2)) ∙ x .0
 leaf-index adj n order g gs ok q i (inr x) =
-    let f = sound-facts adj n order g gs ok in
+    let f = sound-facts (apart adj) n order g gs ok in
     let (m, a, e) = find q adj order (0 ∷ []) 1 gs (f .inOrder) before-one (f .under .1) (separate q adj order g gs (f .down) (f .under)) i x in
     root m (or-cases (eqb m 0) false a) e
   where

@@ -8,7 +8,7 @@ use lib.ListN.{length, getD, drop}
 use lib.Dec.{eqb}
 use Rattle.matrix.specs.Matrix.{neighbours}
 use Rattle.plan.specs.Groups.{Group}
-use Rattle.plan.specs.Sound.{sound, isSound}
+use Rattle.plan.specs.Sound.{apart, sound, isSound}
 use Rattle.plan.proofs.Sound.{sound-facts}
 use Rattle.run.specs.Job.{Job}
 use Rattle.run.specs.Tree.{none, forest, tree, holds, ownerIn, blocked}
@@ -47,11 +47,11 @@ firsts-at d all k (g ∷ gs) h = (
   firsts-at d all (suc k) gs (λ i. (let e : suc k + i ≡ k + suc i = omega arith in ap (λ (y : ℕ). getD all y d) e) ∙ h (suc i)),
 )
 
-leaf-owner : (adj : ℕ → List ℕ) (n : ℕ) (order : List ℕ) (g : Group) (gs : List Group) → sound adj n order (g ∷ gs) ≡ true
+leaf-owner : (adj : ℕ → List ℕ) (n : ℕ) (order : List ℕ) (g : Group) (gs : List Group) → sound (apart adj) n order (g ∷ gs) ≡ true
     → (q : ℕ) → q < n → (i : ℕ) (d : Group) → LeafAt q 0 (g ∷ gs) i → ownerIn 0 q (tree (g ∷ gs)) ≡ getD (g ∷ gs) i d .first
 unfolding tree
 leaf-owner adj n order g gs ok q low i d at =
-    let f = sound-facts adj n order g gs ok in
+    let f = sound-facts (apart adj) n order g gs ok in
     owner-here g (forest 0 1 gs) none 0 q (in-holds g q (omega (arith, f .start)) (omega (arith, f .start, f .covers)))
     ∙ owner-down q (λ k. getD (g ∷ gs) k d .first) (g .first) 0 1 gs refl (firsts-at d (g ∷ gs) 1 gs (λ k. (let e : 1 + k ≡ suc k = omega arith in ap (λ (y : ℕ). getD (g ∷ gs) y d) e)))
     ∙ ap (λ (k : ℕ). getD (g ∷ gs) k d .first) (leaf-index adj n order g gs ok q i at)
@@ -64,7 +64,7 @@ module _ (j : Job) (ok : isSound (j .matrix) (j .plan) ≡ true) (d : Group) whe
   unfolding owner isSound sound
   leaf-rows i l q low h = go (j .plan .groups) ok (l .inside) (l .childless) h
     where
-      go : (gs : List Group) → sound (neighbours (j .matrix)) (j .matrix .n) (j .plan .order) gs ≡ true → i < length gs → hasChild i (drop 1 gs) ≡ false → holds (getD gs i d) q ≡ true
+      go : (gs : List Group) → sound (apart (neighbours (j .matrix))) (j .matrix .n) (j .plan .order) gs ≡ true → i < length gs → hasChild i (drop 1 gs) ≡ false → holds (getD gs i d) q ≡ true
           → ownerIn 0 q (tree gs) ≡ getD gs i d .first
       go [] s a b c = absurd (true≢false (sym s))
       go (g ∷ gs) s a b c = leaf-owner (neighbours (j .matrix)) (j .matrix .n) (j .plan .order) g gs s q low i d (leaf-at q g gs i d a c b)
@@ -76,7 +76,7 @@ module _ (j : Job) (ok : isSound (j .matrix) (j .plan) ≡ true) (d : Group) whe
   unfolding isSound sound
   leaf-blocked fin q i l low h blocks start pass = go (j .plan .groups) ok (l .inside) (l .childless) h pass
     where
-      go : (gs : List Group) → sound (neighbours (j .matrix)) (j .matrix .n) (j .plan .order) gs ≡ true → i < length gs → hasChild i (drop 1 gs) ≡ false → holds (getD gs i d) q ≡ true
+      go : (gs : List Group) → sound (apart (neighbours (j .matrix))) (j .matrix .n) (j .plan .order) gs ≡ true → i < length gs → hasChild i (drop 1 gs) ≡ false → holds (getD gs i d) q ≡ true
           → Forward (λ up. openReds fin up 1 (drop 1 gs)) blocks 1 (drop 1 gs) → blocked fin q (tree gs) (tree gs) ≡ blocks i
       go [] s a b c p = absurd (true≢false (sym s))
       go (g ∷ gs) s a b c p = sym (leaf-wait (neighbours (j .matrix)) (j .matrix .n) (j .plan .order) g gs s fin q low blocks start p i (leaf-at q g gs i d a c b))

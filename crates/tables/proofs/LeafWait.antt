@@ -8,7 +8,7 @@ use lib.Dec.{eqb}
 use borrow.Author.Tests.{eqb-true}
 use Rattle.base.proofs.Booleans.{or-false, clash, is-false}
 use Rattle.plan.specs.Groups.{Group, blue}
-use Rattle.plan.specs.Sound.{children, sound}
+use Rattle.plan.specs.Sound.{apart, children, sound}
 use Rattle.plan.proofs.Sound.{sound-facts}
 use Rattle.run.specs.Tree.{tree, holds, blocked}
 use Rattle.tables.proofs.FlatOpen.{openReds}
@@ -58,11 +58,11 @@ module _ (q : ℕ) (opened blocks : ℕ → Bool) where
       go false e h′ h x y = rw e (ap blocks (leaf-out q up i g gs (rw e refl)) ∙ y)
 
 -- the wait of a worker whose next row lies in the leaf at index i is what the pass has for that leaf
-pub leaf-wait : (adj : ℕ → List ℕ) (n : ℕ) (order : List ℕ) (g : Group) (gs : List Group) → sound adj n order (g ∷ gs) ≡ true → (fin : Group → Bool) (q : ℕ) → q < n
+pub leaf-wait : (adj : ℕ → List ℕ) (n : ℕ) (order : List ℕ) (g : Group) (gs : List Group) → sound (apart adj) n order (g ∷ gs) ≡ true → (fin : Group → Bool) (q : ℕ) → q < n
     → (blocks : ℕ → Bool) → blocks 0 ≡ false → Forward (λ up. openReds fin up 1 gs) blocks 1 gs
     → (i : ℕ) → LeafAt q 0 (g ∷ gs) i → blocks i ≡ blocked fin q (tree (g ∷ gs)) (tree (g ∷ gs))
 leaf-wait adj n order g gs ok fin q low blocks none pass i at =
-    let f = sound-facts adj n order g gs ok in
+    let f = sound-facts (apart adj) n order g gs ok in
     let opened : ℕ → Bool = λ up. openReds fin up 1 gs in
     ap blocks (sym (leaf-index adj n order g gs ok q i at)) ∙ passed q opened blocks 0 1 gs (separate q adj order g gs (f .down) (f .under)) pass
     ∙ ap (λ (b : Bool). b || blockedFrom q opened 0 1 gs) none ∙ sym (wait-down adj n order g gs ok fin q low)

@@ -10,7 +10,7 @@ use borrow.Author.Tests.{eq-eqb}
 use Rattle.base.specs.Lists.{filter, keep}
 use Rattle.base.proofs.Booleans.{and-left, or-cases, same-or, is-false}
 use Rattle.plan.specs.Groups.{Group}
-use Rattle.plan.specs.Sound.{children, tiled, likeApart, childrenSound}
+use Rattle.plan.specs.Sound.{apart, children, tiled, likeApart, childrenSound}
 use Rattle.plan.proofs.Pair.{Pair, pair-of, tiled-le}
 use Rattle.plan.proofs.Records.{Down, Sounds}
 use Rattle.run.specs.Tree.{holds}
@@ -42,11 +42,11 @@ module _ (q : ℕ) where
       go (inr x) ih = blue (or-cases (holds b q) (held q ks) x) ih
 
   -- a group holds what its children hold
-  pub child-inside : (adj : ℕ → List ℕ) (order : List ℕ) (g : Group) (ks : List Group) → childrenSound adj order g ks ≡ true → held q ks ≡ true → holds g q ≡ true
+  pub child-inside : (adj : ℕ → List ℕ) (order : List ℕ) (g : Group) (ks : List Group) → childrenSound (apart adj) order g ks ≡ true → held q ks ≡ true → holds g q ≡ true
   unfolding childrenSound
   child-inside adj order g [] h a = absurd (true≢false (sym a))
   child-inside adj order g (k ∷ ks) h a =
-      let i = tiled-in g (g .start) (g .first) (k ∷ ks) (and-left (tiled g (g .start) (g .first) (k ∷ ks)) (likeApart adj order (k ∷ ks)) h) a in
+      let i = tiled-in g (g .start) (g .first) (k ∷ ks) (and-left (tiled g (g .start) (g .first) (k ∷ ks)) (likeApart (apart adj) order (k ∷ ks)) h) a in
       in-holds g q (i .0) (i .1)
 
   -- of these siblings at most one holds q
@@ -70,10 +70,10 @@ module _ (q : ℕ) where
       red : q < r .start + r .length → holds b q || held q ks ≡ false
       red l = rw (is-false {b = holds b q} (λ e. omega (arith, holds-in b q e .0, p .then, p .here)), later (omega (arith, p .here))) refl
 
-  children-single : (adj : ℕ → List ℕ) (order : List ℕ) (g : Group) (ks : List Group) → childrenSound adj order g ks ≡ true → Single ks
+  children-single : (adj : ℕ → List ℕ) (order : List ℕ) (g : Group) (ks : List Group) → childrenSound (apart adj) order g ks ≡ true → Single ks
   unfolding childrenSound
   children-single adj order g [] h = tt
-  children-single adj order g (k ∷ ks) h = tiled-single g (g .start) (g .first) (k ∷ ks) (and-left (tiled g (g .start) (g .first) (k ∷ ks)) (likeApart adj order (k ∷ ks)) h)
+  children-single adj order g (k ∷ ks) h = tiled-single g (g .start) (g .first) (k ∷ ks) (and-left (tiled g (g .start) (g .first) (k ∷ ks)) (likeApart (apart adj) order (k ∷ ks)) h)
 
   -- ---- all records
 
@@ -93,7 +93,7 @@ module _ (q : ℕ) where
       go true x = x .1
       go false x = x
 
-  separate-from : (adj : ℕ → List ℕ) (order : List ℕ) (i : ℕ) (gs : List Group) → Down i gs → Sounds adj order i gs → ((p : ℕ) → p < i → Single (children p gs)) → Separate gs
+  separate-from : (adj : ℕ → List ℕ) (order : List ℕ) (i : ℕ) (gs : List Group) → Down i gs → Sounds (apart adj) order i gs → ((p : ℕ) → p < i → Single (children p gs)) → Separate gs
   unfolding children
   separate-from adj order i [] d s h = tt
   separate-from adj order i (g ∷ gs) d s h = (here .0, separate-from adj order (suc i) gs (d .1) (s .1) (λ p l. go p l (same-or p i)))
@@ -106,7 +106,7 @@ module _ (q : ℕ) where
       go p l (inr n) = single-skip p g gs (h p (omega arith))
 
   -- the records after the whole g
-  pub separate : (adj : ℕ → List ℕ) (order : List ℕ) (g : Group) (gs : List Group) → Down 1 gs → Sounds adj order 0 (g ∷ gs) → Separate gs
+  pub separate : (adj : ℕ → List ℕ) (order : List ℕ) (g : Group) (gs : List Group) → Down 1 gs → Sounds (apart adj) order 0 (g ∷ gs) → Separate gs
   separate adj order g gs d s =
       separate-from adj order 1 gs d (s .1)
       (λ p l. (let e : 0 ≡ p = omega arith in subst (λ (y : ℕ). Single (children y gs)) e (children-single adj order g (children 0 gs) (s .0))))

@@ -71,8 +71,8 @@ struct Implementation {
     write: fn(MatrixLists, Out) -> u64,
     product: fn(MatrixLists, &[u8], Out) -> u64,
     survey: fn(MatrixLists, &[u8], u32, u32, Out, Out) -> u64,
-    plan: fn(MatrixLists, u32, u32, Out, Out) -> u64,
-    check: fn(MatrixLists, PlanLists) -> u64,
+    plan: fn(MatrixLists, u32, u32, u32, Out, Out) -> u64,
+    check: fn(MatrixLists, PlanLists, u32) -> u64,
     write_plan: fn(u32, PlanLists, Out) -> u64,
     read_plan: fn(&[u8], Out, Out) -> u64,
     picks: fn(RunLists, Out, Out, &[u8]) -> u64,
@@ -116,15 +116,21 @@ type Work = fn(&Implementation, &Given, &mut Lent) -> u64;
 
 /// All that is timed, by name.
 #[rustfmt::skip]
-const WORKS: [(&str, Work); 13] = [
+const WORKS: &[(&str, Work)] = &[
     ("read", |by, given, lent| (by.read)(&given.text, &mut lent.row_starts, &mut lent.columns, &mut lent.values)),
     ("write", |by, given, lent| (by.write)(given.matrix(), &mut lent.text)),
     ("product", |by, given, lent| (by.product)(given.matrix(), &given.movements, &mut lent.forces)),
     ("survey", |by, given, lent| {
         (by.survey)(given.matrix(), &given.movements, 1, given.n / 2, &mut lent.forces, &mut lent.shift)
     }),
-    ("plan", |by, given, lent| (by.plan)(given.matrix(), 16, given.p, &mut lent.order, &mut lent.groups)),
-    ("check", |by, given, _| (by.check)(given.matrix(), given.plan())),
+    ("plan", |by, given, lent| (by.plan)(given.matrix(), 16, given.p, 2, &mut lent.order, &mut lent.groups)),
+    ("plan, at 1", |by, given, lent| (by.plan)(given.matrix(), 16, given.p, 1, &mut lent.order, &mut lent.groups)),
+    ("plan, at 3", |by, given, lent| (by.plan)(given.matrix(), 16, given.p, 3, &mut lent.order, &mut lent.groups)),
+    ("plan, at 4", |by, given, lent| (by.plan)(given.matrix(), 16, given.p, 4, &mut lent.order, &mut lent.groups)),
+    ("check", |by, given, _| (by.check)(given.matrix(), given.plan(), 2)),
+    ("check, at 1", |by, given, _| (by.check)(given.matrix(), given.plan(), 1)),
+    ("check, at 3", |by, given, _| (by.check)(given.matrix(), given.farther[0].lists(), 3)),
+    ("check, at 4", |by, given, _| (by.check)(given.matrix(), given.farther[1].lists(), 4)),
     ("write_plan", |by, given, lent| (by.write_plan)(given.n, given.plan(), &mut lent.file)),
     ("read_plan", |by, given, lent| (by.read_plan)(&given.file, &mut lent.order, &mut lent.groups)),
     ("picks, a run in 1 list", |by, given, lent| {
@@ -262,7 +268,7 @@ fn told(time: f64) -> String {
 fn print_net(asked: &Asked, name: &str, net: &Matrix, half: Option<&Matrix>) {
     let given = Given::new(net, 60);
     let half = half.map(|half| Given::new(half, 60));
-    for (call, work) in WORKS {
+    for &(call, work) in WORKS {
         if !asked.has(call_of(call), &Asked::calls()) {
             continue;
         }
@@ -292,6 +298,7 @@ const EACH: [Rules; 3] = [
     Rules {
         load: planner::alike,
         root: planner::alike,
+        k: planner::DISTANCE,
     },
     Rules {
         root: planner::alike,

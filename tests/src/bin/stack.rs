@@ -45,11 +45,14 @@ fn on_stack(bytes: usize, call: impl FnOnce() -> u64) -> u64 {
     word
 }
 
+/// The records of every plan, of seven numbers each.
+const GROUP_BYTES: usize = 4 * 7 * 481;
+
 /// Makes a call on so many bytes of stack; its word, or None if no call has this name.
 #[rustfmt::skip]
 fn make(call: &str, stack: usize, given: &Given) -> Option<u64> {
     let blank = |list: &[u8]| vec![0; list.len()];
-    let (mut order, mut groups, mut text) = (blank(&given.order), blank(&given.groups), blank(&given.text));
+    let (mut order, mut groups, mut text) = (blank(&given.order), vec![0; GROUP_BYTES], blank(&given.text));
     let (mut starts, mut columns, mut values) = (blank(&given.row_starts), blank(&given.columns), blank(&given.values));
     let At { mut state, mut sums } = At::fresh(given.n);
     let (mut forces, mut shift, mut file) = (blank(&sums), blank(&given.movements), blank(&given.file));
@@ -61,8 +64,8 @@ fn make(call: &str, stack: usize, given: &Given) -> Option<u64> {
         "survey" => on_stack(stack, || {
             library::survey(given.matrix(), &given.movements, 1, given.n / 2, &mut forces, &mut shift)
         }),
-        "plan" => on_stack(stack, || library::plan(given.matrix(), 16, given.p, &mut order, &mut groups)),
-        "check" => on_stack(stack, || library::check(given.matrix(), given.plan())),
+        "plan" => on_stack(stack, || library::plan(given.matrix(), 16, given.p, 4, &mut order, &mut groups)),
+        "check" => on_stack(stack, || library::check(given.matrix(), given.farther[1].lists(), 4)),
         "write_plan" => on_stack(stack, || library::write_plan(given.n, given.plan(), &mut file)),
         "read_plan" => on_stack(stack, || library::read_plan(&given.file, &mut order, &mut groups)),
         "picks" => on_stack(stack, || library::picks(given.run(), &mut state, &mut sums, &given.schedule)),

@@ -75,12 +75,19 @@ pub fn survey(
 }
 
 /// The plan of a matrix; counts its groups.
-pub fn plan(matrix: MatrixLists, workers: u32, p: u32, order: &mut [u8], groups: &mut [u8]) -> u64 {
+pub fn plan(
+    matrix: MatrixLists,
+    workers: u32,
+    p: u32,
+    k: u32,
+    order: &mut [u8],
+    groups: &mut [u8],
+) -> u64 {
     let lists = Lists::of(matrix);
     let mut plan = || {
         let rows = lists.rows()?;
-        planner::judge_limits(workers, p)?;
-        let plan = planner::plan(rows, workers, p);
+        planner::judge_limits(workers, p, k)?;
+        let plan = planner::plan_at(rows, workers, p, k);
         super::room(order.len() / 4, rows.n)?;
         super::room(groups.len() / 4 / super::FIELDS, plan.groups.len())?;
         put(order, &plan.order, u32::to_le_bytes);
@@ -90,11 +97,12 @@ pub fn plan(matrix: MatrixLists, workers: u32, p: u32, order: &mut [u8], groups:
     word(plan())
 }
 
-/// The check of a plan.
-pub fn check(matrix: MatrixLists, plan: PlanLists) -> u64 {
+/// The check of a plan at the distance k.
+pub fn check(matrix: MatrixLists, plan: PlanLists, k: u32) -> u64 {
     let lists = Lists::of(matrix).with_plan(plan);
     let checked = lists.rows().and_then(|rows| {
-        soundness::check(rows, &lists.order, &lists.groups, lists.group_count).map(|_| 0)
+        planner::judge_distance(k)?;
+        soundness::check_at(rows, &lists.order, &lists.groups, lists.group_count, k).map(|_| 0)
     });
     word(checked)
 }

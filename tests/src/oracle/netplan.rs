@@ -28,7 +28,7 @@ fn answer(input: &[u8]) -> Result<planner::Plan, Refusal> {
     let (workers, p) = text::two_numbers(line).ok_or(bad_line)?;
     let workers = u32::try_from(workers).map_err(|_| bad_line)?;
     let p = u32::try_from(p).map_err(|_| bad_line)?;
-    planner::judge_limits(workers, p)?;
+    planner::judge_limits(workers, p, planner::DISTANCE)?;
     Ok(planner::plan(matrix.rows(), workers, p))
 }
 

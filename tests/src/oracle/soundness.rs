@@ -1,6 +1,7 @@
 //! The check of a plan (8), on lists with any contents.
 
 use super::matrix::Rows;
+use super::planner::DISTANCE;
 use super::{Fields, Refusal, WORKERS};
 
 /// The most records of a plan.
@@ -64,7 +65,18 @@ pub fn check<'a>(
     groups: &[u32],
     group_count: u32,
 ) -> Result<SoundPlan<'a>, Refusal> {
-    sound(matrix, order, groups, group_count).ok_or(Refusal::at(8, 0))
+    check_at(matrix, order, groups, group_count, DISTANCE)
+}
+
+/// The check at the distance k.
+pub fn check_at<'a>(
+    matrix: Rows,
+    order: &'a [u32],
+    groups: &[u32],
+    group_count: u32,
+    k: u32,
+) -> Result<SoundPlan<'a>, Refusal> {
+    sound(matrix, order, groups, group_count, k).ok_or(Refusal::at(8, 0))
 }
 
 /// The plan, if it is sound.
@@ -73,6 +85,7 @@ fn sound<'a>(
     order: &'a [u32],
     groups: &[u32],
     group_count: u32,
+    k: u32,
 ) -> Option<SoundPlan<'a>> {
     if !(1..=MOST_GROUPS).contains(&group_count) {
         return None;
@@ -88,7 +101,11 @@ fn sound<'a>(
         places,
         leaves,
     };
-    keeps_colours_apart(matrix, &plan).then_some(plan)
+    let apart = match k {
+        DISTANCE => keeps_colours_apart(matrix, &plan),
+        _ => keeps_distance(matrix, &plan, k),
+    };
+    apart.then_some(plan)
 }
 
 /// The plan position of each freedom, if the "order has each freedom once".
@@ -223,6 +240,46 @@ fn keeps_colours_apart(matrix: Rows, plan: &SoundPlan) -> bool {
             last = leaf;
             known || marks.mark_up(leaf as usize, stamp)
         })
+    })
+}
+
+/// Whether "no path of k joins or fewer links like-coloured siblings": from each group's freedoms outwards.
+fn keeps_distance(matrix: Rows, plan: &SoundPlan, k: u32) -> bool {
+    let mut group_of = vec![vec![0; matrix.n]; DEEPEST + 1];
+    for (index, record) in plan.records.iter().enumerate() {
+        for &freedom in &plan.order[record.start..record.start + record.length] {
+            group_of[record.depth][freedom as usize] = index;
+        }
+    }
+    let mut reached = vec![0; matrix.n];
+    let mut queue = Vec::with_capacity(matrix.n);
+    (1..plan.records.len()).all(|index| {
+        let record = &plan.records[index];
+        queue.clear();
+        for &freedom in &plan.order[record.start..record.start + record.length] {
+            reached[freedom as usize] = index;
+            queue.push(freedom);
+        }
+        let mut ring = 0;
+        for _ in 0..k {
+            let (first, end) = (ring, queue.len());
+            ring = end;
+            for at in first..end {
+                for &other in matrix.columns(queue[at] as usize) {
+                    if reached[other as usize] == index {
+                        continue;
+                    }
+                    let sibling = &plan.records[group_of[record.depth][other as usize]];
+                    let like = sibling.depth == record.depth && sibling.colour == record.colour;
+                    if like && sibling.parent == record.parent {
+                        return false;
+                    }
+                    reached[other as usize] = index;
+                    queue.push(other);
+                }
+            }
+        }
+        true
     })
 }
 

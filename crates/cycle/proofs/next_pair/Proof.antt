@@ -5,7 +5,6 @@ use native.Mathlib.Omega.{arith}
 use borrow.Author.Needs.{needs}
 use lib.ListN.{length}
 use lib.Seq.{length-take-le}
-use Rattle.levels.specs.Levels.{reach}
 use Rattle.extents.specs.code.Scans.{policyOf}
 use Rattle.extents.proofs.Ends.{sum-split}
 use Rattle.extents.proofs.Extents.{extent-taken}
@@ -14,18 +13,18 @@ use Rattle.cycle.proofs.next_pair.Statement.{statement}
 use Rattle.cycle.proofs.next_pair.Tie as tie
 
 -- how many levels the pair takes
-levels-in : (c : tie.After-next-extent) → (2 * reach ≤ c .next-extent .result .levels) × (c .next-extent .result .levels ≤ length (c .before .before .before .args .loads .now))
+levels-in : (c : tie.After-next-extent) → (2 * c .before .before .before .args .policy .reach ≤ c .next-extent .result .levels) × (c .next-extent .result .levels ≤ length (c .before .before .before .args .loads .now))
 levels-in c =
     let a = c .before .before .before .args in
-    let t = extent-taken (a .up .workers) (a .up .load) (policyOf (a .policy)) (a .left .free) (a .loads .now) (omega arith) (omega arith) in
+    let t = extent-taken (a .up .workers) (a .up .load) (policyOf (a .policy)) (a .left .free) (a .loads .now) (omega arith) (omega arith) (omega arith) in
     (omega (arith, t .long, c .next-extent .ensures .0), omega (arith, taken-most t, c .next-extent .ensures .0))
 
 -- .. and how many are red
-bounds : (c : tie.After-cut) → Bounds (length (c .before .before .before .before .before .args .loads .now)) (c .before .before .next-extent .result .levels) (c .cut .result)
+bounds : (c : tie.After-cut) → Bounds (c .before .before .before .before .before .args .policy .reach) (length (c .before .before .before .before .before .args .loads .now)) (c .before .before .next-extent .result .levels) (c .cut .result)
 bounds c =
     let a = c .before .before .before .before .before .args in
     pair-bounds (a .up .workers) (a .up .load) (policyOf (a .policy)) (a .left .free) (a .loads .now) (c .before .before .next-extent .result .levels) (c .cut .result)
-    (omega arith) (omega arith) (c .before .before .next-extent .ensures .0) (c .cut .ensures)
+    (omega arith) (omega arith) (omega arith) (c .before .before .next-extent .ensures .0) (c .cut .ensures)
 
 next-extent-requires : tie.Need-next-extent-requires
 next-extent-requires c κs = search needs
@@ -38,7 +37,7 @@ cut-requires c κs =
     let qs = c .before .before .before .before .args .loads .now in
     let k = c .before .next-extent .result .levels in
     let l = levels-in (c .before) in
-    (omega (arith, sum-split k qs), rw (length-take-le k qs (l .1)) (l .0))
+    (omega (arith, sum-split k qs), omega arith, rw (length-take-le k qs (l .1)) (l .0))
 
 sub-red-end : tie.Need-sub-red-end
 sub-red-end c = let b = bounds c in omega arith
@@ -62,13 +61,13 @@ sub-t16 : tie.Need-sub-t16
 sub-t16 c =
     let b = bounds (c .before .before .before) in
     let s = c .before .before .before .before .before .before .before .before in
-    s .pre .6 (c .before .before .before .cut .result - 1) (omega (arith, s .pre .5))
+    s .pre .7 (c .before .before .before .cut .result - 1) (omega (arith, s .pre .6))
 
 sub-t18 : tie.Need-sub-t18
 sub-t18 c =
     let b = bounds (c .before .before .before .before) in
     let s = c .before .before .before .before .before .before .before .before .before in
-    s .pre .6 (c .before .before .before .before .before .before .next-extent .result .levels - 1) (omega (arith, s .pre .5))
+    s .pre .7 (c .before .before .before .before .before .before .next-extent .result .levels - 1) (omega (arith, s .pre .6))
 
 returns : tie.Need-returns
 returns c = (c .before .before .before .before .before .before .next-extent .ensures .0, c .before .before .before .before .before .before .next-extent .ensures .1, rw (c .before .before .before .before .cut .ensures) refl, refl)

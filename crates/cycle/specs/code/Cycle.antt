@@ -6,11 +6,10 @@ use Prim.Native.Nat.{ℕ, _+_, _-_, _*_, _≤_, _<_}
 use lib.ListN.{length}
 use Rattle.base.specs.Lists.{sum}
 use Rattle.matrix.specs.Limits.{maxRows}
-use Rattle.levels.specs.Levels.{reach}
 use Rattle.levels.specs.code.Group.{Proper}
 use Rattle.levels.specs.code.Rows.{Rows, adjOf}
 use Rattle.plan.specs.Groups.{Plan, red, blue, width, groupOf}
-use Rattle.plan.specs.Sound.{maxWorkers, maxDepth, maxGroups}
+use Rattle.plan.specs.Sound.{maxWorkers, maxDepth, maxGroups, maxDistance}
 use Rattle.race.specs.Loads.{loadOf}
 use Rattle.race.specs.Planner.{pairs, planPairs, planGroup}
 use Rattle.extents.specs.Extents.{Policy}
@@ -59,6 +58,7 @@ pub record GroupTask (n : ℕ) (policy : Policy) (stages index : ℕ) (starts co
   pub rows : Rows n starts columns
   pub proper : Proper n stretch
   pub share : policy .p ≤ 100
+  pub far : (1 ≤ policy .reach) × (policy .reach ≤ maxDistance)
   pub size : g .length ≡ length stretch
   pub inside : g .start + length stretch ≤ maxRows
   pub workers : g .first + g .workers ≤ maxWorkers
@@ -74,9 +74,10 @@ pub record PairsTask (n : ℕ) (policy : Policy) (stages : ℕ) (starts columns 
   pub levelled : Levelled (left .done) ends stretch ls
   pub loads-are : loads ≡ map (loadOf (adjOf n starts columns)) ls
   pub share : policy .p ≤ 100
+  pub far : (1 ≤ policy .reach) × (policy .reach ≤ maxDistance)
   pub scale : Scale (up .workers) (up .load)
   pub within : sum loads ≤ up .load
-  pub levels : 2 * reach ≤ length ls
+  pub levels : 2 * policy .reach ≤ length ls
   pub free : 1 ≤ left .free
   pub inside : up .start + left .done + length stretch ≤ maxRows
   pub workers : left .first + left .free ≤ maxWorkers

@@ -10,7 +10,7 @@ use Rattle.extents.specs.declared.Policy as code
 
 -- the policy that a struct stands for
 abbrev pub policyOf : code.Policy → Policy
-policyOf r = record { p = r .p }
+policyOf r = record { reach = r .reach; p = r .p }
 
 -- no group has more load: what the scans compute then has at most 32 bits
 abbrev pub maxLoad : ℕ

@@ -16,7 +16,7 @@ check-requires c κs = search needs
 returns : tie.Need-returns
 returns c =
     let a = c .before .before .before .before .before .before .args in
-    c .check .ensures ∙ reply-too-many _ _ _ _ _ (a .count) (omega arith) (omega (arith, ltb-true))
+    c .check .ensures ∙ reply-too-many _ _ (a .k) _ _ _ (a .count) (omega arith) (omega (arith, ltb-true))
 
 slice-aggregate-check-2 : tie.Need-slice-aggregate-check-2
 slice-aggregate-check-2 c = search needs

@@ -32,7 +32,7 @@ returns : tie.Need-returns
 returns c =
     let a = c .before .before .before .before .before .before .before .before .before .before .before .args in
     let made = c .before .before .before .before .plan in
-    made-planned (matrixOf (a .n) (a .starts .now) (a .columns .now) (a .values .now)) (a .workers) (a .p) (a .order .now) (made .last .1 .1 .1 .1 .1 .1 .0) (replicate maxFields 0) (made .last .1 .1 .1 .1 .1 .1 .1 .0) (a .room)
+    made-planned (matrixOf (a .n) (a .starts .now) (a .columns .now) (a .values .now)) (a .workers) (a .p) (a .k) (a .order .now) (made .last .1 .1 .1 .1 .1 .1 .1 .0) (replicate maxFields 0) (made .last .1 .1 .1 .1 .1 .1 .1 .1 .0) (a .room)
     (c .before .before .before .before .before .before .before .size-for .result) (c .count-of .result) (made .result) refl (c .before .before .before .before .before .before .before .size-for .ensures)
     (made .ensures .0) (made .ensures .1 .0) (made .ensures .1 .1) (c .count-of .ensures)
 

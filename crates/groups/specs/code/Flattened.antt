@@ -27,12 +27,12 @@ gathered count numbers gs = map ofGroup (records count numbers) ++ drop count gs
 
 -- how many groups a reply accepts
 abbrev pub countOf : Reply → ℕ
-countOf (accepted k) = k
+countOf (accepted count) = count
 countOf (refused number place) = 0
 
 -- the planner's answer, the order that it leaves, and its groups in a flat list, for a slice with room for so many
-pub record Planned (m : Matrix) (w p : ℕ) (order : List ℕ) (room : ℕ) (made : Made) (left : List ℕ) : Type 0 where
-  pub reply : replyOf (made .answer) ≡ planReply m w p (length order) (width * room)
-  pub order-left : left ≡ lent (planReply m w p (length order) (width * room)) (plan m w p .order) order
+pub record Planned (m : Matrix) (w p k : ℕ) (order : List ℕ) (room : ℕ) (made : Made) (left : List ℕ) : Type 0 where
+  pub reply : replyOf (made .answer) ≡ planReply m w p k (length order) (width * room)
+  pub order-left : left ≡ lent (planReply m w p k (length order) (width * room)) (plan m w p k .order) order
   pub fits : (made .count ≤ maxGroups) × (made .count ≤ room)
-  pub groups-left : (gs : List Group) → gathered (made .count) (made .numbers) gs ≡ lent (planReply m w p (length order) (width * room)) (map ofGroup (plan m w p .groups)) gs
+  pub groups-left : (gs : List Group) → gathered (made .count) (made .numbers) gs ≡ lent (planReply m w p k (length order) (width * room)) (map ofGroup (plan m w p k .groups)) gs

@@ -20,7 +20,7 @@ held s = matrixOf (s .args .n) (s .args .starts .now) (s .args .columns .now) (s
 
 -- the plan that the planner's lists hold
 left : (c : tie.After-made2) → let w = c .before .before .before .before in let s = w .before .before .before .before .before .before in
-    Left (held s) (s .args .workers) (s .args .p) (c .made2 .given .0 .0) (w .plan .last .1 .1 .1 .1 .1 .1 .0) (w .plan .last .1 .1 .1 .1 .1 .1 .1 .0)
+    Left (held s) (s .args .workers) (s .args .p) (c .made2 .given .0 .0) (w .plan .last .1 .1 .1 .1 .1 .1 .1 .0) (w .plan .last .1 .1 .1 .1 .1 .1 .1 .1 .0)
 left c =
     let w = c .before .before .before .before in
     let s = w .before .before .before .before .before .before in
@@ -58,7 +58,7 @@ put-plan-requires c κs =
     let s = w .before .before .before .before .before .before in
     let rows = matrix-facts (held s) (s .pre .0) .few in
     let count = left m .few in
-    let long = w .plan .kept .1 .1 .1 .1 .1 .1 in
+    let long = w .plan .kept .1 .1 .1 .1 .1 .1 .1 in
     (omega (arith, long .0, length-replicate {A = ℕ} maxRows 0), omega (arith, long .1 .0, length-replicate {A = ℕ} maxFields 0), omega (arith, s .pre .1))
 
 same-length : tie.Need-same-length

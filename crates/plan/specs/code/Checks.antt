@@ -1,6 +1,6 @@
 -- Records where they stand in a flat list, and `tiled` one child at a time.
 use mathlib.Core.Path.{_≡_}
-use mathlib.Core.Bool.{Bool, _&&_, cond}
+use mathlib.Core.Bool.{Bool, true, _&&_, cond}
 use mathlib.Core.List.{List, [], _∷_}
 use Rattle.base.specs.Lists.{filter}
 use Prim.Native.Nat.{ℕ, _+_, _*_, _^_, _<_}
@@ -58,3 +58,8 @@ laid g s f w (h ∷ hs) = fitting s f w h && laid g (s + h .length) (f + w) (pen
 -- the groups of a colour
 abbrev pub ofColour : ℕ → List Group → List Group
 ofColour colour gs = filter (λ g. eqb (g .colour) colour) gs
+
+-- a group's children tile it, if it has any
+unfoldable pub tiles : Group → List Group → Bool
+tiles g [] = true
+tiles g (k ∷ ks) = tiled g (g .start) (g .first) (k ∷ ks)

@@ -11,7 +11,8 @@ use Rattle.matrix.specs.Matrix.{Matrix, isMatrix, matrixOf}
 use Rattle.matrix.specs.Limits.{maxRows}
 use Rattle.plan.specs.Groups.{width}
 use Rattle.race.specs.Planner.{areParameters}
-use Rattle.planner.proofs.PlanReply.{parameters-in, rows, count-few, refuses-matrix, refuses-parameters, refuses-order, refuses-groups, accepts}
+use Rattle.race.proofs.PlannedSound.{limits}
+use Rattle.planner.proofs.PlanReply.{rows, count-few, refuses-matrix, refuses-parameters, refuses-order, refuses-groups, accepts}
 use Rattle.planner.proofs.plan.Statement.{statement}
 use Rattle.planner.proofs.plan.Tie as tie
 
@@ -44,11 +45,11 @@ listed c = c .before .before .before
 is : (c : tie.Else1) → isMatrix (given (start c)) ≡ true
 is c = holds (c .before .is-matrix .ensures) (c .if1 .left)
 
-are : (c : tie.Else2) → let a = start (judged c) .args in areParameters (a .workers) (a .p) ≡ true
+are : (c : tie.Else2) → let a = start (judged c) .args in areParameters (a .workers) (a .p) (a .k) ≡ true
 are c = holds (c .before .are-parameters .ensures) (c .if2 .left)
 
 small : (c : tie.Else2) → start (judged c) .args .n ≤ maxRows
-small c = let s = start (judged c) in let a = s .args in rows (given s) (a .workers) (a .p) (a .order .now) (a .groups .now) (is (judged c)) (are c) .small
+small c = let s = start (judged c) in let a = s .args in rows (given s) (a .workers) (a .p) (a .k) (a .order .now) (a .groups .now) (is (judged c)) (are c) .small
 
 -- once all is planned
 module _ (w : tie.After-plan-rows) where
@@ -75,7 +76,7 @@ module _ (w : tie.After-plan-rows) where
       let s = start matrixAt in
       let a = s .args in
       let ok = are parametersAt in
-      count-few (given s) (a .workers) (a .p) (a .order .now) (a .groups .now) (is matrixAt) ok (roomy w .if3 .left) (w .plan-rows .ensures) (parameters-in (a .workers) (a .p) ok .0)
+      count-few (given s) (a .workers) (a .p) (a .k) (a .order .now) (a .groups .now) (is matrixAt) ok (roomy w .if3 .left) (w .plan-rows .ensures)
 
   -- the list in which the order is made
   abbrev list : List ℕ
@@ -100,7 +101,7 @@ returns : tie.Need-returns
 returns c =
     let s = c .before .before .before .before .before .before in
     let a = s .args in
-    refuses-matrix (given s) (a .workers) (a .p) (a .order .now) (a .groups .now) (fails (c .before .is-matrix .ensures) (c .if1 .taken))
+    refuses-matrix (given s) (a .workers) (a .p) (a .k) (a .order .now) (a .groups .now) (fails (c .before .is-matrix .ensures) (c .if1 .taken))
 
 are-parameters-requires : tie.Need-are-parameters-requires
 are-parameters-requires c κs = tt
@@ -110,14 +111,14 @@ returns-2 c =
     let e = c .before .before in
     let s = start e in
     let a = s .args in
-    refuses-parameters (given s) (a .workers) (a .p) (a .order .now) (a .groups .now) (is e) (fails (c .before .are-parameters .ensures) (c .if2 .taken))
+    refuses-parameters (given s) (a .workers) (a .p) (a .k) (a .order .now) (a .groups .now) (is e) (fails (c .before .are-parameters .ensures) (c .if2 .taken))
 
 returns-3 : tie.Need-returns-3
 returns-3 c =
     let e = c .before in
     let s = start (judged e) in
     let a = s .args in
-    refuses-order (given s) (a .workers) (a .p) (a .order .now) (a .groups .now) (is (judged e)) (are e) (c .if3 .taken)
+    refuses-order (given s) (a .workers) (a .p) (a .k) (a .order .now) (a .groups .now) (is (judged e)) (are e) (c .if3 .taken)
 
 array-borrow-prefix-list : tie.Need-array-borrow-prefix-list
 array-borrow-prefix-list c = small (asked c)
@@ -133,8 +134,8 @@ plan-rows-requires c κs =
     let e = asked (c .before .before) in
     let s = start (judged e) in
     let a = s .args in
-    let q = parameters-in (a .workers) (a .p) (are e) in
-    (rows (given s) (a .workers) (a .p) (a .order .now) (a .groups .now) (is (judged e)) (are e), length-take-le (a .n) (replicate maxRows 0) (small e), refl, q .1, q .0)
+    let q = limits (a .workers) (a .p) (a .k) (are e) in
+    (rows (given s) (a .workers) (a .p) (a .k) (a .order .now) (a .groups .now) (is (judged e)) (are e), length-take-le (a .n) (replicate maxRows 0) (small e), refl, q .share, q .far .0, q .far .1, q .workers)
 
 cast-made : tie.Need-cast-made
 cast-made c = omega (arith, few (c .before .before))
@@ -144,7 +145,7 @@ returns-4 c =
     let w = c .before .before .before in
     let s = start (matrixAt w) in
     let a = s .args in
-    refuses-groups (given s) (a .workers) (a .p) (a .order .now) (a .groups .now) (is (matrixAt w)) (are (parametersAt w)) (roomy w .if3 .left) (w .plan-rows .ensures) (c .if4 .taken)
+    refuses-groups (given s) (a .workers) (a .p) (a .k) (a .order .now) (a .groups .now) (is (matrixAt w)) (are (parametersAt w)) (roomy w .if3 .left) (w .plan-rows .ensures) (c .if4 .taken)
 
 mul-size : tie.Need-mul-size
 mul-size c = omega (arith, few (made c))
@@ -181,7 +182,7 @@ returns-5 c =
     let w = made e in
     let s = start (matrixAt w) in
     let a = s .args in
-    accepts (given s) (a .workers) (a .p) (a .order .now) (a .groups .now) (is (matrixAt w)) (are (parametersAt w)) (roomy w .if3 .left) (w .plan-rows .ensures) (e .if4 .left)
+    accepts (given s) (a .workers) (a .p) (a .k) (a .order .now) (a .groups .now) (is (matrixAt w)) (are (parametersAt w)) (roomy w .if3 .left) (w .plan-rows .ensures) (e .if4 .left)
     (o .copy .last .1 .0) (d .copy2 .last .1 .0) (take (a .n) (list w)) (take (width * count w) (records w)) (front w) refl (o .copy .ensures) (d .copy2 .ensures)
 
 pub plan-spec : {M : Type 1} → statement M

@@ -12,16 +12,16 @@ use Rattle.search.proofs.components.Statement.{statement}
 use Rattle.search.proofs.components.Tie as tie
 
 abbrev Inv-loop : tie.InvT-loop
-Inv-loop starts columns own marks₀ n queue₀ k₀ i₀ i-end marks queue k i = Between (adjOf n starts columns) n own own k i marks queue × Kept marks₀ marks × (i ≤ length own)
+Inv-loop starts columns own marks₀ n reach queue₀ k₀ i₀ i-end marks queue k i = Between (adjOf n starts columns) reach n own own k i marks queue × Kept marks₀ marks × (i ≤ length own)
 
 abbrev μ-loop : tie.MeasureT-loop
-μ-loop starts columns own marks₀ n queue₀ k₀ i₀ i-end marks queue k i = length own - i
+μ-loop starts columns own marks₀ n reach queue₀ k₀ i₀ i-end marks queue k i = length own - i
 
 loop-holds : tie.Need-loop-holds Inv-loop μ-loop
 loop-holds c =
     let a = c .before .before .before in
     let adj = adjOf (a .args .n) (a .args .starts .now) (a .args .columns .now) in (
-      between-start adj (a .args .n) (a .args .own .now) (a .args .own .now) (a .args .marks .now) (replicate 4096 0) (a .pre .0 .small) (a .pre .2) refl (a .pre .3) (a .pre .4),
+      between-start adj (a .args .reach) (a .args .n) (a .args .own .now) (a .args .own .now) (a .args .marks .now) (replicate 4096 0) (a .pre .0 .small) (a .pre .2) refl (a .pre .3) (a .pre .4),
       kept-refl (a .args .marks .now),
       omega arith,
     )

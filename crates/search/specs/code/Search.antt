@@ -62,19 +62,20 @@ pub record Frontier (n k : ℕ) (marks queue : List ℕ) (lo hi : ℕ) : Type 0 
 
 -- T's first k levels are the rows with marks 3 .. k + 2, and the next ones come from the last of them and the rows not
 -- yet reached
-abbrev pub SoFar : (adj : ℕ → List ℕ) (n : ℕ) (T : List ℕ) (k : ℕ) (marks : List ℕ) → Type 0
-SoFar adj n T k marks =
-    levels adj n T ≡ map (atMark n marks) (range 3 k) ++ levelsFrom adj (2 * n - k) T (atMark n marks (k + 2)) (atMark n marks 1)
+abbrev pub SoFar : (adj : ℕ → List ℕ) (reach n : ℕ) (T : List ℕ) (k : ℕ) (marks : List ℕ) → Type 0
+SoFar adj reach n T k marks =
+    levels adj reach n T ≡ map (atMark n marks) (range 3 k) ++ levelsFrom adj (2 * n - k) T (atMark n marks (k + 2)) (atMark n marks 1)
 
 -- a mark is as it was, or is a level
 abbrev pub Kept : (marks marks′ : List ℕ) → Type 0
 Kept marks marks′ = (v : ℕ) → (getD marks′ v 0 ≡ getD marks v 0) ⊎ (3 ≤ getD marks′ v 0)
 
--- from k levels to k′, and then one that is empty: whatever T is, its levels are so far right if they were
+-- from k levels to k′, and then one that is empty: whatever T and its region are, its levels are so far right if they
+-- were
 pub record Spread (adj : ℕ → List ℕ) (n k k′ : ℕ) (marks marks′ queue′ : List ℕ) : Type 0 where
   pub frontier : Frontier n k′ marks′ queue′ 0 0
   pub kept : Kept marks marks′
-  pub so-far : (T : List ℕ) → SoFar adj n T k marks → SoFar adj n T k′ marks′
+  pub so-far : (reach : ℕ) (T : List ℕ) → SoFar adj reach n T k marks → SoFar adj reach n T k′ marks′
 
 -- rows to start from, in their order: whatever is reached, the root is the first of them that is not
 pub record Roots (adj : ℕ → List ℕ) (n : ℕ) (T roots : List ℕ) : Type 0 where
@@ -87,14 +88,14 @@ Passed rows marks i = (j : ℕ) → j < i → getD marks (getD rows j 0) 0 ≢ 1
 
 -- between two components: T's first k levels are done, the last of them empty, and the first i rows to start from are
 -- reached
-pub record Between (adj : ℕ → List ℕ) (n : ℕ) (T roots : List ℕ) (k i : ℕ) (marks queue : List ℕ) : Type 0 where
+pub record Between (adj : ℕ → List ℕ) (reach n : ℕ) (T roots : List ℕ) (k i : ℕ) (marks queue : List ℕ) : Type 0 where
   pub frontier : Frontier n k marks queue 0 0
-  pub so-far : SoFar adj n T k marks
+  pub so-far : SoFar adj reach n T k marks
   pub passed : Passed roots marks i
 
 -- the marks are the levels of T, whose rows all have one; those from k on are empty
-pub record Levelled (adj : ℕ → List ℕ) (n : ℕ) (T : List ℕ) (k : ℕ) (marks : List ℕ) : Type 0 where
-  pub levels-are : levels adj n T ≡ map (atMark n marks) (range 3 (2 * n))
+pub record Levelled (adj : ℕ → List ℕ) (reach n : ℕ) (T : List ℕ) (k : ℕ) (marks : List ℕ) : Type 0 where
+  pub levels-are : levels adj reach n T ≡ map (atMark n marks) (range 3 (2 * n))
   pub few : k ≤ 2 * n
   pub fresh : (v : ℕ) → v < n → getD marks v 0 ≤ k + 2
   pub reached : (v : ℕ) → isIn T v ≡ true → 3 ≤ getD marks v 0
@@ -106,6 +107,6 @@ pub record Gathered (n : ℕ) (T own marks : List ℕ) : Type 0 where
   pub marked : (v : ℕ) → getD marks v 0 ≡ bit (isIn T v)
 
 -- own are the rows of T, ascending, and the marks its levels
-pub record Searched (adj : ℕ → List ℕ) (n : ℕ) (T own : List ℕ) (k : ℕ) (marks : List ℕ) : Type 0 where
+pub record Searched (adj : ℕ → List ℕ) (reach n : ℕ) (T own : List ℕ) (k : ℕ) (marks : List ℕ) : Type 0 where
   pub own-is : own ≡ filter (isIn T) (range 0 n)
-  pub levelled : Levelled adj n T k marks
+  pub levelled : Levelled adj reach n T k marks

@@ -1,13 +1,13 @@
 -- What the check of a plan's shape goes through: its order, how its groups nest, how they tile.
 use mathlib.Core.Path.{_≡_}
-use mathlib.Core.Bool.{Bool, true}
+use mathlib.Core.Bool.{true}
 use mathlib.Core.List.{List, [], _∷_}
 use Prim.Native.Nat.{ℕ, zero, suc, _*_, _≤_, _<_}
 use lib.ListN.{length, getD, take, drop}
 use Rattle.base.specs.Lists.{isIn, bit}
 use Rattle.matrix.specs.Limits.{maxRows}
-use Rattle.plan.specs.Groups.{Group, width, records}
-use Rattle.plan.specs.Sound.{maxGroups, eachOnce, children, tiled}
+use Rattle.plan.specs.Groups.{width, records}
+use Rattle.plan.specs.Sound.{maxGroups, eachOnce, children}
 use Rattle.plan.specs.code.Checks.{recordAt, standsDepthFirst}
 
 -- the marks of n rows say which of them are in the list
@@ -26,11 +26,6 @@ pub record NextChild (count : ℕ) (ns : List ℕ) (k i r : ℕ) : Type 0 where
   pub within : r ≤ count
   pub same : children k (drop i (records count ns)) ≡ children k (drop r (records count ns))
   pub child : r < count → recordAt ns r .parent ≡ k
-
--- a group's children tile it, if it has any
-unfoldable pub tiles : Group → List Group → Bool
-tiles g [] = true
-tiles g (k ∷ ks) = tiled g (g .start) (g .first) (k ∷ ks)
 
 -- the first n of the order are each row once, and the records, which are not too many, stand depth first
 pub record PlanLists (n : ℕ) (order groups : List ℕ) (count : ℕ) : Type 0 where

@@ -95,7 +95,7 @@ module _ {M : Type 1} (𝓤 : URA M) (H : Heap 𝓤) (A : Atoms 𝓤) (W : Given
   Post = walkOf 𝓤 H A check-in.ended stayed (check-in.clauses 𝓤 H A memory run) .post ((κs, qs, tt, a, vals), tt)
 
   abbrev Said : Verdict → Type 0
-  Said r = replyOf r ≡ checkReply (matrixOf n (starts .now) (columns .now) (values .now)) (order .now) (flat (map groupOf list)) (length list)
+  Said r = replyOf r ≡ checkReply (matrixOf n (starts .now) (columns .now) (values .now)) (order .now) (flat (map groupOf list)) (length list) 2
 
   -- the call, for a lifetime α of its own, with the array at l
   module _ (l α : ℕ) (δ : GName) where
@@ -106,7 +106,7 @@ module _ {M : Type 1} (𝓤 : URA M) (H : Heap 𝓤) (A : Atoms 𝓤) (W : Given
     lent-on = (κ₀, (κ₁, (κ₂, (κ₃, (α ∷ [], tt)))))
 
     abbrev passed : Args check.signature lent-on
-    passed = (n, (starts, (columns, (values, (order, (slice, tt))))))
+    passed = (n, (starts, (columns, (values, (order, (slice, (2, tt)))))))
 
     abbrev to-check : Check 𝓤 H A memory run .Ghost
     to-check = (
@@ -115,7 +115,7 @@ module _ {M : Type 1} (𝓤 : URA M) (H : Heap 𝓤) (A : Atoms 𝓤) (W : Given
         (q₀, (q₁, (q₂, (q₃, (fullShare, tt))))),
         tt,
         passed,
-        (vint w32 n ∷ [], (at starts ∷ [], (at columns ∷ [], (at values ∷ [], (at order ∷ [], (at slice ∷ [], tt)))))),
+        (vint w32 n ∷ [], (at starts ∷ [], (at columns ∷ [], (at values ∷ [], (at order ∷ [], (at slice ∷ [], (vint w32 2 ∷ [], tt))))))),
       ),
       tt,
     )
@@ -128,7 +128,8 @@ module _ {M : Type 1} (𝓤 : URA M) (H : Heap 𝓤) (A : Atoms 𝓤) (W : Given
     goes : ent 𝓤 (⋆ 𝓤 H A Passed) (Check 𝓤 H A memory run .pre to-check)
     goes =
         qed W Passed ∵ nothing ! $ move ! (2 ∷ 0 ∷ []) $ join ! $ move ! (2 ∷ 0 ∷ []) $ join ! $ move ! (2 ∷ 0 ∷ []) $ join ! $ move ! (2 ∷ 0 ∷ []) $ join ! $ move ! (2 ∷ 0 ∷ []) $ join ! $
-        nothing ! $ move ! (2 ∷ 0 ∷ []) $ fjoin ! $ move ! (2 ∷ 0 ∷ []) $ fjoin ! $ move ! (2 ∷ 0 ∷ []) $ fjoin ! $ move ! (2 ∷ 0 ∷ []) $ fjoin ! $ move ! (2 ∷ 0 ∷ []) $ fjoin ! $
+        nothing ! $ owned ! u32 (Is u32) (uint-makes 𝓤 H A W w32) 2 _ (refl, lit< tt) $ fjoin ! $
+        move ! (2 ∷ 0 ∷ []) $ fjoin ! $ move ! (2 ∷ 0 ∷ []) $ fjoin ! $ move ! (2 ∷ 0 ∷ []) $ fjoin ! $ move ! (2 ∷ 0 ∷ []) $ fjoin ! $ move ! (2 ∷ 0 ∷ []) $ fjoin ! $
         owned ! u32 (Is u32) (uint-makes 𝓤 H A W w32) n _ (refl, n-small) $ fjoin ! $ move ! (1 ∷ 0 ∷ []) $ join ! $ frame ! $ done !
 
     abbrev Five : Item 𝓤
@@ -177,7 +178,7 @@ module _ {M : Type 1} (𝓤 : URA M) (H : Heap 𝓤) (A : Atoms 𝓤) (W : Given
         move ! (9 ∷ 11 ∷ 0 ∷ 2 ∷ 3 ∷ 4 ∷ 5 ∷ 6 ∷ 7 ∷ 8 ∷ []) $ group ! 10 $ use1 W (raw (Check 𝓤 H A memory run .pre (to-check l₇ α δ))) (goes l₇ α δ) $
         -- [what `check` asks; …; the lender's part; _9; …; _8; …; …; _6; …; _5; …; _4; …; _3; …; _2; …; _1; …; _0; …]
         calls-at ! (fmOf 𝓤 H (W .laws) 𝓣) (Check 𝓤 H A memory run) known (to-check l₇ α δ) (and-then ! (load ! (from ! (stop !)) (look ! 18 refl)) (and-then ! (load ! (from ! (stop !)) (look ! 16 refl))
-        (and-then ! (load ! (from ! (stop !)) (look ! 14 refl)) (and-then ! (load ! (from ! (stop !)) (look ! 12 refl)) (and-then ! (load ! (from ! (stop !)) (look ! 10 refl)) (and-then ! (load ! (from ! (stop !)) (look ! 3 refl)) (no-more !))))))) (λ u.
+        (and-then ! (load ! (from ! (stop !)) (look ! 14 refl)) (and-then ! (load ! (from ! (stop !)) (look ! 12 refl)) (and-then ! (load ! (from ! (stop !)) (look ! 10 refl)) (and-then ! (load ! (from ! (stop !)) (look ! 3 refl)) (and-then ! (lit ! tt) (no-more !)))))))) (λ u.
         hears ! tt (Five l₇ α δ) (λ (r : Verdict). S.the-row .own r (u ∷ [])) (lasts check.ended (lent-on l₇ α δ) (passed l₇ α δ)) (λ r _. Said r) (id⊢ 𝓤 _) (λ r _ said. drop ! $ split ! $
         move ! (1 ∷ []) $ peeks ! S.the-row (Is S.the-row) (shows 𝓤 H A S.the-row) r (u ∷ []) (λ is.
         -- [what the answer owns; the tokens; …; the lender's part; _9; …; _8; …; …; _6; …; … _1; …; _0; …]

@@ -148,14 +148,14 @@ module _ {M : Type 1} (𝓤 : URA M) (H : Heap 𝓤) (A : Atoms 𝓤) (W : Given
   m = matrixOf n (starts .now) (columns .now) (values .now)
 
   abbrev reply : Reply
-  reply = planReply m workers p (length (order .now)) (width * length list)
+  reply = planReply m workers p 2 (length (order .now)) (width * length list)
 
   -- what `plan` ensures of the answer, and of the last groups
   abbrev Said : Verdict → Type 0
   Said r = replyOf r ≡ reply
 
   abbrev Kept : List Group → Type 0
-  Kept gs = gs ≡ lent reply (map ofGroup (planner.plan m workers p .groups)) list
+  Kept gs = gs ≡ lent reply (map ofGroup (planner.plan m workers p 2 .groups)) list
 
   -- the call, for a lifetime α of its own, with the array at l
   module _ (l α : ℕ) (δ : GName) where
@@ -166,7 +166,7 @@ module _ {M : Type 1} (𝓤 : URA M) (H : Heap 𝓤) (A : Atoms 𝓤) (W : Given
     lent-on = (κ₀, (κ₁, (κ₂, (κ₃, (α ∷ [], tt)))))
 
     abbrev passed : Args plan.signature lent-on
-    passed = (n, (starts, (columns, (values, (workers, (p, (order, (slice, tt))))))))
+    passed = (n, (starts, (columns, (values, (workers, (p, (2, (order, (slice, tt)))))))))
 
     abbrev to-plan : Plan 𝓤 H A memory run .Ghost
     to-plan = (
@@ -175,7 +175,7 @@ module _ {M : Type 1} (𝓤 : URA M) (H : Heap 𝓤) (A : Atoms 𝓤) (W : Given
         (q₀, (q₁, (q₂, (q₃, (fullShare, tt))))),
         tt,
         passed,
-        (vint w32 n ∷ [], (at starts ∷ [], (at columns ∷ [], (at values ∷ [], (vint w32 workers ∷ [], (vint w32 p ∷ [], (at order ∷ [], (at slice ∷ [], tt)))))))),
+        (vint w32 n ∷ [], (at starts ∷ [], (at columns ∷ [], (at values ∷ [], (vint w32 workers ∷ [], (vint w32 p ∷ [], (vint w32 2 ∷ [], (at order ∷ [], (at slice ∷ [], tt))))))))),
       ),
       tt,
     )
@@ -189,7 +189,7 @@ module _ {M : Type 1} (𝓤 : URA M) (H : Heap 𝓤) (A : Atoms 𝓤) (W : Given
     goes =
         qed W Passed ∵ nothing ! $ move ! (2 ∷ 0 ∷ []) $ join ! $ move ! (2 ∷ 0 ∷ []) $ join ! $ move ! (2 ∷ 0 ∷ []) $ join ! $ move ! (2 ∷ 0 ∷ []) $ join ! $ move ! (2 ∷ 0 ∷ []) $ join ! $
         nothing ! $ move ! (2 ∷ 0 ∷ []) $ fjoin ! $ move ! (2 ∷ 0 ∷ []) $ fjoin ! $
-        owned ! u32 (Is u32) (uint-makes 𝓤 H A W w32) p _ (refl, p-small) $ fjoin ! $ owned ! u32 (Is u32) (uint-makes 𝓤 H A W w32) workers _ (refl, workers-small) $ fjoin ! $
+        owned ! u32 (Is u32) (uint-makes 𝓤 H A W w32) 2 _ (refl, lit< tt) $ fjoin ! $ owned ! u32 (Is u32) (uint-makes 𝓤 H A W w32) p _ (refl, p-small) $ fjoin ! $ owned ! u32 (Is u32) (uint-makes 𝓤 H A W w32) workers _ (refl, workers-small) $ fjoin ! $
         move ! (2 ∷ 0 ∷ []) $ fjoin ! $ move ! (2 ∷ 0 ∷ []) $ fjoin ! $ move ! (2 ∷ 0 ∷ []) $ fjoin ! $
         owned ! u32 (Is u32) (uint-makes 𝓤 H A W w32) n _ (refl, n-small) $ fjoin ! $ move ! (1 ∷ 0 ∷ []) $ join ! $ frame ! $ done !
 
@@ -198,15 +198,15 @@ module _ {M : Type 1} (𝓤 : URA M) (H : Heap 𝓤) (A : Atoms 𝓤) (W : Given
 
     -- the last lists of the order and of the slice
     abbrev order-last : Lasts plan.ended lent-on passed → List ℕ
-    order-last ws = ws .1 .1 .1 .1 .1 .1 .0
+    order-last ws = ws .1 .1 .1 .1 .1 .1 .1 .0
 
     abbrev groups-last : Lasts plan.ended lent-on passed → List Group
-    groups-last ws = ws .1 .1 .1 .1 .1 .1 .1 .0
+    groups-last ws = ws .1 .1 .1 .1 .1 .1 .1 .1 .0
 
     -- what the call leaves
     abbrev Left : Val → Item 𝓤
     Left u = later (some (λ (r : Verdict). (Tokens ⊛ ‵ (S.the-row .own r (u ∷ []))) ⊛ some (λ (ws : Lasts plan.ended lent-on passed). ‵ (lasts plan.ended lent-on passed ws)
-        ⊛ (raw (fact 𝓤 (Said r)) ⊛ (raw (fact 𝓤 (order-last ws ≡ lent reply (planner.plan m workers p .order) (order .now))) ⊛ raw (fact 𝓤 (Kept (groups-last ws))))))))
+        ⊛ (raw (fact 𝓤 (Said r)) ⊛ (raw (fact 𝓤 (order-last ws ≡ lent reply (planner.plan m workers p 2 .order) (order .now))) ⊛ raw (fact 𝓤 (Kept (groups-last ws))))))))
 
   exits : (d : Five) → Is R.the-row d (LL.vals R.the-type R′.the-laws d) → Said (d .answer) → Kept (d .groups) → (order′ : List ℕ) → length order′ ≡ length (order .now)
       → ent 𝓤 (⋆ 𝓤 H A (‵ (flft κ₃ q₃) ∷ ‵ (flft κ₂ q₂) ∷ ‵ (flft κ₁ q₁) ∷ ‵ (flft κ₀ q₀) ∷ ‵ (finally u32 (order .name) order′) ∷ [])) (Post (LL.val R.the-type R′.the-laws d))
@@ -259,9 +259,9 @@ module _ {M : Type 1} (𝓤 : URA M) (H : Heap 𝓤) (A : Atoms 𝓤) (W : Given
         move ! (9 ∷ 11 ∷ 0 ∷ 2 ∷ 3 ∷ 4 ∷ 5 ∷ 6 ∷ 7 ∷ 8 ∷ []) $ group ! 10 $ use1 W (raw (Plan 𝓤 H A memory run .pre (to-plan l₉ α δ))) (goes l₉ α δ) $
         -- [what `plan` asks; …; the lender's part; _15; …; … _10; …; …; _8; …; … _0; …]
         calls-at ! (fmOf 𝓤 H (W .laws) 𝓣) (Plan 𝓤 H A memory run) known (to-plan l₉ α δ) (and-then ! (load ! (from ! (stop !)) (look ! 30 refl)) (and-then ! (load ! (from ! (stop !)) (look ! 28 refl)) (and-then ! (load ! (from ! (stop !)) (look ! 26 refl))
-        (and-then ! (load ! (from ! (stop !)) (look ! 24 refl)) (and-then ! (load ! (from ! (stop !)) (look ! 22 refl)) (and-then ! (load ! (from ! (stop !)) (look ! 20 refl)) (and-then ! (load ! (from ! (stop !)) (look ! 9 refl)) (and-then ! (load ! (from ! (stop !)) (look ! 5 refl)) (no-more !))))))))) (λ u.
+        (and-then ! (load ! (from ! (stop !)) (look ! 24 refl)) (and-then ! (load ! (from ! (stop !)) (look ! 22 refl)) (and-then ! (load ! (from ! (stop !)) (look ! 20 refl)) (and-then ! (lit ! tt) (and-then ! (load ! (from ! (stop !)) (look ! 9 refl)) (and-then ! (load ! (from ! (stop !)) (look ! 5 refl)) (no-more !)))))))))) (λ u.
         use1 W (Left l₉ α δ u) (id⊢ 𝓤 _) $ await ! tt $ pick ! (λ r. split ! $ move ! (1 ∷ []) $ pick ! (λ ws. split ! $ move ! (1 ∷ []) $ split ! $ heard ! (Said r) (λ said. split ! $ heard ! _ (λ _. heard ! (Kept (groups-last l₉ α δ ws)) (λ kept.
-        fsplit ! $ drop ! $ fsplit ! $ drop ! $ fsplit ! $ drop ! $ fsplit ! $ drop ! $ fsplit ! $ drop ! $ fsplit ! $ drop ! $ fsplit ! $ fsplit ! $ move ! (1 ∷ []) $ feqL ! (λ long.
+        fsplit ! $ drop ! $ fsplit ! $ drop ! $ fsplit ! $ drop ! $ fsplit ! $ drop ! $ fsplit ! $ drop ! $ fsplit ! $ drop ! $ fsplit ! $ drop ! $ fsplit ! $ fsplit ! $ move ! (1 ∷ []) $ feqL ! (λ long.
         move ! (1 ∷ []) $ fsplit ! $ fsplit ! $ move ! (1 ∷ []) $ feqL ! (λ _. move ! (3 ∷ []) $ split ! $ move ! (1 ∷ []) $ peeks ! S.the-row (Is S.the-row) (shows 𝓤 H A S.the-row) r (u ∷ []) (λ is.
         -- [the answer's; the tokens; the last groups; …; the last order; …; the lender's part; _15; …; … _0; …]
         land ! (from ! (stop !)) (init ! 17 refl (EL.lawful S.the-type S′.the-laws 𝓤 H A W tt .typed r _ is .0)) $

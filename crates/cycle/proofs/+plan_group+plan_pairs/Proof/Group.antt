@@ -147,13 +147,13 @@ module _ (t : ℕ) where
       leaf-held w (leaf-workers (adj (start w)) (a .n) (policyOf (a .policy)) (a .stages) (a .index) (groupOf (a .g)) (a .order .now) (c .if2 .taken))
 
   mul-level-sort : lts.Need-mul-level-sort (plan-group-calls t) (plan-group-at t) plan-group.Post
-  mul-level-sort c = omega arith
+  mul-level-sort c = omega (arith, task (start (c .before .before .before .before .before .before .before)) .far .1)
 
   level-sort-requires : lts.Need-level-sort-requires (plan-group-calls t) (plan-group-at t) plan-group.Post
-  level-sort-requires c κs = let k = task (start (c .before .before .before .before .before .before .before)) in (k .rows, k .proper, refl, getD-zeros maxLevels)
+  level-sort-requires c κs = let k = task (start (c .before .before .before .before .before .before .before)) in (k .rows, k .proper, refl, getD-zeros maxLevels, k .far .0)
 
   mul-if3 : lts.Need-mul-if3 (plan-group-calls t) (plan-group-at t) plan-group.Post
-  mul-if3 c = omega arith
+  mul-if3 c = omega (arith, task (start (put (c .before .before))) .far .1)
 
   add-result-3 : lts.Need-add-result-3 (plan-group-calls t) (plan-group-at t) plan-group.Post
   add-result-3 c = let i = index-next (put (c .before .before .before)) in omega arith

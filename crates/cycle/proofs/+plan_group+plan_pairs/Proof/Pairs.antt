@@ -7,7 +7,6 @@ use native.Mathlib.Omega.{arith}
 use borrow.Author.Needs.{needs}
 use lib.ListN.{length, take, length-drop}
 use lib.Seq.{length-take-le}
-use Rattle.levels.specs.Levels.{reach}
 use Rattle.levels.specs.code.Rows.{adjOf}
 use Rattle.plan.specs.Groups.{groupOf}
 use Rattle.extents.specs.code.Scans.{policyOf}
@@ -77,7 +76,7 @@ module _ (t : ℕ) where
     inside : (pair .reds ≤ pair .rows) × (pair .rows ≤ length (start c .args .order .now))
     inside = parts-in (start c .pre .1) (c .next-pair .ensures)
 
-    among : (2 * reach ≤ pair .levels) × (pair .levels ≤ length (start c .args .ends .now)) × (pair .levels ≤ length (start c .args .loads .now))
+    among : (2 * start c .args .policy .reach ≤ pair .levels) × (pair .levels ≤ length (start c .args .ends .now)) × (pair .levels ≤ length (start c .args .loads .now))
     among = levels-in-ends (start c .pre .1) (c .next-pair .ensures)
 
     fits : Fits (start c .args .up) (start c .args .left) pair
@@ -241,7 +240,7 @@ module _ (t : ℕ) where
       let r = red b .plan-group in
       let n = pairAt b in
       let k = pair n .levels in (
-        omega (arith, start n .pre .0, among n, ap length (part-to-end (start n .args .ends .now) k), length-drop k (start n .args .ends .now)),
+        omega (arith, start n .pre .0, start n .pre .1 .far, among n, ap length (part-to-end (start n .args .ends .now) k), length-drop k (start n .args .ends .now)),
         rw (e .after .ensures) (rest-task (start n .pre .1) (n .next-pair .ensures) (red-held (red b)) (r .kept .1 .1 .0) (r .kept .1 .1 .1 .0) (blue-held b) (b .plan-group2 .kept .1 .1 .0) (b .plan-group2 .kept .1 .1 .1 .0) (e .before .if1 .left)),
       )
 

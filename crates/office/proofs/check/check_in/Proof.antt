@@ -20,7 +20,7 @@ returns c =
     let a = starts .before .before .before .before .before .before .before .args in
     let m = matrixIn (a .n) (a .row-starts .now) (a .columns .now) (a .values .now) in
     c .word-of .ensures
-    ∙ ap word (made .check .ensures ∙ decoded-lists m (unsigned 4 (a .order .now)) (unsigned 4 (a .groups .now)) (a .group-count) (loaded-matrix m (starts .load-unsigned .ensures) (columns .load-unsigned2 .ensures) (values .load-signed .ensures)) (order .load-unsigned3 .ensures) (groups .load-unsigned4 .ensures))
+    ∙ ap word (made .check .ensures ∙ decoded-lists m (unsigned 4 (a .order .now)) (unsigned 4 (a .groups .now)) (a .group-count) (a .k) (loaded-matrix m (starts .load-unsigned .ensures) (columns .load-unsigned2 .ensures) (values .load-signed .ensures)) (order .load-unsigned3 .ensures) (groups .load-unsigned4 .ensures))
 
 pub check-in-spec : {M : Type 1} → statement M
 check-in-spec =

@@ -14,7 +14,7 @@ returns c =
     let starts = columns .before .before in
     let a = starts .before .before .before .before .before .before .before .args in
     let m = matrixIn (a .n) (a .row-starts .now) (a .columns .now) (a .values .now) in
-    decoded-matrix m (a .workers) (a .p) (loaded-matrix m (starts .load-unsigned .ensures) (columns .load-unsigned2 .ensures) (values .load-signed .ensures)) (made .plan-of .ensures)
+    decoded-matrix m (a .workers) (a .p) (a .k) (loaded-matrix m (starts .load-unsigned .ensures) (columns .load-unsigned2 .ensures) (values .load-signed .ensures)) (made .plan-of .ensures)
 
 pub plan-in-spec : {M : Type 1} → statement M
 plan-in-spec =

@@ -20,14 +20,14 @@ abbrev given : tie.Start → Matrix
 given c = let a = c .args in matrixOf (a .n) (a .starts .now) (a .columns .now) (a .values .now)
 
 -- the reply of lists that are lent on cut
-same : (w : tie.After-plan) → let s = w .before .before .before .before .before .before .before .before .before .before .before in let a = s .args in planReply (given s) (a .workers) (a .p) (length (take (w .before .before .before .before .least .result) (a .order .now))) (length (take (w .before .before .before .least2 .result) (a .groups .now))) ≡ planIn (given s) (a .workers) (a .p) (a .order-bytes .now) (a .group-bytes .now)
+same : (w : tie.After-plan) → let s = w .before .before .before .before .before .before .before .before .before .before .before in let a = s .args in planReply (given s) (a .workers) (a .p) (a .k) (length (take (w .before .before .before .before .least .result) (a .order .now))) (length (take (w .before .before .before .least2 .result) (a .groups .now))) ≡ planIn (given s) (a .workers) (a .p) (a .k) (a .order-bytes .now) (a .group-bytes .now)
 same w =
     let s = w .before .before .before .before .before .before .before .before .before .before .before in
     let a = s .args in
-    same-reply (given s) (a .workers) (a .p) (a .order .now) (a .groups .now) (a .order-bytes .now) (a .group-bytes .now) (s .pre) (w .before .before .before .before .least .ensures) (w .before .before .before .least2 .ensures)
+    same-reply (given s) (a .workers) (a .p) (a .k) (a .order .now) (a .groups .now) (a .order-bytes .now) (a .group-bytes .now) (s .pre) (w .before .before .before .before .least .ensures) (w .before .before .before .least2 .ensures)
 
 -- the two lists after an accepted call
-held : (c : tie.After-answer) → let w = c .before .before .before .before .before .before in let l = w .plan .last .1 .1 .1 .1 .1 .1 in let s = w .before .before .before .before .before .before .before .before .before .before .before in let a = s .args in Held (given s) (a .workers) (a .p) (a .order-bytes .now) (a .group-bytes .now) (c .answer .given .0 .0) (l .0 ++ drop (w .before .before .before .before .least .result) (a .order .now)) (l .1 .0 ++ drop (w .before .before .before .least2 .result) (a .groups .now))
+held : (c : tie.After-answer) → let w = c .before .before .before .before .before .before in let l = w .plan .last .1 .1 .1 .1 .1 .1 .1 in let s = w .before .before .before .before .before .before .before .before .before .before .before in let a = s .args in Held (given s) (a .workers) (a .p) (a .k) (a .order-bytes .now) (a .group-bytes .now) (c .answer .given .0 .0) (l .0 ++ drop (w .before .before .before .before .least .result) (a .order .now)) (l .1 .0 ++ drop (w .before .before .before .least2 .result) (a .groups .now))
 held c =
     let w = c .before .before .before .before .before .before in
     let e = w .plan .ensures in

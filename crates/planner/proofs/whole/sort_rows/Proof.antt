@@ -7,7 +7,7 @@ use Rattle.planner.proofs.whole.sort_rows.Statement.{statement}
 use Rattle.planner.proofs.whole.sort_rows.Tie as tie
 
 level-sort-requires : tie.Need-level-sort-requires
-level-sort-requires c κs = let s = c .before .before .before .before .before in (s .pre .0, rw (s .pre .1) (proper-range (s .args .n)), refl, getD-zeros 8192)
+level-sort-requires c κs = let s = c .before .before .before .before .before in (s .pre .0, rw (s .pre .1) (proper-range (s .args .n)), refl, getD-zeros 8192, s .pre .2)
 
 same-length : tie.Need-same-length
 same-length c = c .before .before .level-sort .kept .1 .1 .0

@@ -7,8 +7,7 @@ use lib.ListN.{drop}
 use Rattle.base.proofs.Booleans.{fails, holds}
 use Rattle.plan.specs.Groups.{Group, records}
 use Rattle.plan.specs.Sound.{children}
-use Rattle.plan.specs.code.Checks.{recordAt, ofRecord, belowWhole, fitting, pending, complete, laid}
-use Rattle.shape.specs.code.Shape.{tiles}
+use Rattle.plan.specs.code.Checks.{recordAt, ofRecord, belowWhole, fitting, pending, complete, laid, tiles}
 use Rattle.plan.proofs.Laid.{fits}
 use Rattle.shape.proofs.ChildTurns.{leaf-tiles, first-tiles, next-tiles, last-tiles}
 use Rattle.shape.proofs.tiling.tiled_below.Statement.{statement}

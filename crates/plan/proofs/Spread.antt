@@ -1,5 +1,4 @@
--- Children that tile their parent have stretches one after the other, so their rows are disjoint and marks tell whether
--- they are apart.
+-- Children that tile their parent have stretches one after the other, so their rows are disjoint.
 use mathlib.Core.Path.{_≡_, sym, _∙_}
 use mathlib.Core.Logic.{_⊎_}
 use mathlib.Core.Bool.{true}
@@ -12,12 +11,11 @@ use Rattle.base.specs.Lists.{isIn}
 use Rattle.base.proofs.Booleans.{and-left, and-right}
 use Rattle.base.proofs.Each.{Each, Pairwise, each-map}
 use Rattle.base.proofs.Lists.{get-in}
 use Rattle.plan.specs.Groups.{Group, red, blue}
 use Rattle.plan.specs.Sound.{stretchOf}
-use Rattle.plan.specs.code.Checks.{fitting, pending, laid}
-use Rattle.shape.specs.code.Shape.{tiles}
+use Rattle.plan.specs.code.Checks.{fitting, pending, laid, tiles}
 use Rattle.plan.proofs.Laid.{fits, tiled-laid}
 use Rattle.plan.proofs.Once.{Once, injective}
 
 -- y stands after x
 abbrev pub After : Group → Group → Type 0
