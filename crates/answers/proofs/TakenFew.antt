@@ -37,7 +37,7 @@ module _ (j : Job) (ok : Accepted j) where
   taken-left s [] long = omega arith
   taken-left s (w ∷ ws) long = go (refusal j (s .made) w) refl (step j s w) refl (λ t. taken-left t ws)
     where
-      go : (k : ℕ) → refusal j (s .made) w ≡ k → (o : Outcome) → step j s w ≡ o → ((t : State) → length (t .made) ≡ maxWorkers → steps j t ws .taken ≤ left (t .made))
+      go : (k : ℕ) → refusal j (s .made) w ≡ k → (o : Outcome State) → step j s w ≡ o → ((t : State) → length (t .made) ≡ maxWorkers → steps j t ws .taken ≤ left (t .made))
           → steps j s (w ∷ ws) .taken ≤ left (s .made)
       go (suc k) e o f ih = rw (steps-end j s w ws (suc k) (step-end j s w k e)) (omega arith)
       go zero e (halted k) f ih = rw (steps-end j s w ws k f) (omega arith)

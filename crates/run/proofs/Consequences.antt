@@ -28,7 +28,8 @@ use Rattle.run.proofs.EveryRun.{inv, finished-over, answered, ready-is,
 
 -- ---- the model's numbers
 
-abbrev known : ℕ → Bool
+-- the only numbers that the model's answers have
+abbrev pub known : ℕ → Bool
 known = isIn (0 ∷ why.tooShort ∷ why.noWorker ∷ why.allDone ∷ why.mustWait ∷ why.tooEarly ∷ [])
 
 known-ending : (j : Job) (made : List ℕ) (w : ℕ) → known (ending j made w) ≡ true
@@ -56,15 +57,16 @@ known-forces false b n zs = refl
 known-forces true false n zs = refl
 known-forces true true n zs = refl
 
+pub known-call : (j : Job) (made : List ℕ) (c : Call) → known (numberOf (modelAnswer j made c)) ≡ true
+unfolding modelAnswer
+known-call j made (picks ws) = unfold numberOf in known-note j made ws
+known-call j made readySet = unfold numberOf in refl
+known-call j made (forceList room) = known-forces (isFinished j made) (leb (j .matrix .n) room) (j .matrix .n) (product (j .matrix) (j .displacements))
+
 known-all : (j : Job) (made : List ℕ) (cs : List Call) → all known (map numberOf (modelAnswers j made cs)) ≡ true
 unfolding modelAnswers
 known-all j made [] = refl
-known-all j made (c ∷ cs) = rw (one c) (known-all j (modelAfter j made c) cs)
-  where
-    one : (c : Call) → known (numberOf (modelAnswer j made c)) ≡ true
-    one (picks ws) = unfold modelAnswer numberOf in known-note j made ws
-    one readySet = unfold modelAnswer numberOf in refl
-    one (forceList room) = unfold modelAnswer in known-forces (isFinished j made) (leb (j .matrix .n) room) (j .matrix .n) (product (j .matrix) (j .displacements))
+known-all j made (c ∷ cs) = rw (known-call j made c) (known-all j (modelAfter j made c) cs)
 
 -- ---- the ready set of a finished run
 
@@ -72,6 +74,10 @@ none-ready : (j : Job) (made : List ℕ) (k : ℕ) → k ≤ workers j → ((w :
 unfolding readyBelow refusal reason
 none-ready j made zero l h = refl
 none-ready j made (suc k) l h = rw (lt-ltb k (workers j) (omega arith), le-leb (accesses j k) (count made k) (h k (omega arith))) (none-ready j made k (omega arith) h)
+
+pub over-none : (j : Job) (made : List ℕ) → over j made ≡ true → ready j made ≡ []
+unfolding ready
+over-none j made o = none-ready j made (workers j) (omega arith) (over-made j made o)
 
 module _ (j : Job) (ok : Accepted j) (cs : List Call) where
   abbrev made : List ℕ
@@ -88,8 +94,8 @@ module _ (j : Job) (ok : Accepted j) (cs : List Call) where
       go false o = absurd (omega (arith, progress j made (tree-of j ok) o, none))
 
   finished-empty : finishedRun j cs ≡ true → answer j (runState j cs) readySet ≡ isReady 0 0
-  unfolding ready bits
-  finished-empty o = ready-is j ok cs ∙ ap (λ (ws : List ℕ). isReady (bits ws) (length ws)) (none-ready j made (workers j) (omega arith) (over-made j made (sym (finished-over j ok cs) ∙ o)))
+  unfolding bits
+  finished-empty o = ready-is j ok cs ∙ ap (λ (ws : List ℕ). isReady (bits ws) (length ws)) (over-none j made (sym (finished-over j ok cs) ∙ o))
 
   consequence : Consequence j cs
   consequence = record {

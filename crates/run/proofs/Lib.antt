@@ -3,9 +3,12 @@ pub mod Amounts
 pub mod Facts
 pub mod Invariant
 pub mod Able
+pub mod Onward
+pub mod ReadySet
 pub mod Kept
 pub mod Schedule
 pub mod OneAccess
+pub mod Passes
 pub mod Taken
 pub mod Finished
 pub mod AsModel
