@@ -14,7 +14,6 @@ use Rattle.plan.specs.Sound.{maxWorkers}
 use Rattle.run.specs.State.{State}
 use Rattle.run.specs.Machine.{refusal, onward, ready, bits}
 use Rattle.run.specs.Schedule.{Passed, oneTaken, pass, nothing}
-use Rattle.run.specs.Answers.{isReady}
 use Rattle.run.specs.Calls.{pickedOf}
 use Rattle.run.specs.Sequence.{stateAfter}
 use Rattle.run.proofs.Passes.{pass-on, pass-end}
@@ -49,7 +48,7 @@ module _ (m : Matrix) (p : Plan) (x y : Two (List ℤ)) where
     ready-alike : readyFor r s c ≡ readyFor q t c
     unfolding readyFor crewReady
     ready-alike =
-        ap (λ (ws : List ℕ). isReady (bits ws) (length ws))
+        ap (λ (ws : List ℕ). record { bits = bits ws; count = length ws })
         (ap₂ filter (fun-ext (λ w. ap not (away-alike w))) (ap (ready (jobFor r c)) (e c) ∙ ready-same m p (ownOf x c) (ownOf y c) (ownOf t c .made)))
 
   -- a schedule for both

@@ -11,7 +11,7 @@ use Rattle.plan.specs.Sound.{maxWorkers}
 use Rattle.run.specs.Job.{Job, Accepted, workers}
 use Rattle.run.specs.State.{State}
 use Rattle.run.specs.Machine.{bits, over}
-use Rattle.run.specs.Answers.{picks, forceList, Answer, picked, isReady, forces, denied}
+use Rattle.run.specs.Answers.{picks, forceList, forces}
 use Rattle.run.specs.Calls.{pickedOf, placeOf, answer}
 use Rattle.run.specs.Schedule.{pass, oneTaken, nothing}
 use Rattle.run.specs.Model.{isFinished}
@@ -36,13 +36,7 @@ use Rattle.crews.proofs.LentBoth.{lent-both}
 -- how many workers a ready set of crew c has, in an answer
 size-of : Crew → BothAnswer → ℕ
 size-of c (one a) = 0
-size-of c (sets t) = size (ownOf t c)
-  where
-    size : Answer → ℕ
-    size (picked taken number place) = 0
-    size (isReady bits count) = count
-    size (forces zs) = 0
-    size (denied number place) = 0
+size-of c (sets t) = ownOf t c .count
 
 module _ (r : Roof) (ok : AcceptedRoof r) (cs : List BothCall) where
   abbrev s : Two State
@@ -121,7 +115,7 @@ module _ (r : Roof) (ok : AcceptedRoof r) (cs : List BothCall) where
   unfolding readyBoth
   finished-empty o = ready-are ∙ rw (none crew0, none crew1) refl
     where
-      none : (c : Crew) → readyFor r s c ≡ isReady 0 0
+      none : (c : Crew) → readyFor r s c ≡ record { bits = 0; count = 0 }
       none c = unfold readyFor crewReady bits in (rw (over-none (jobFor r c) (ownOf s c .made) (over-is c ∙ o c)) refl)
 
   both-runs : BothRuns r cs

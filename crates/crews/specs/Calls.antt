@@ -10,7 +10,7 @@ use Rattle.plan.specs.Groups.{planOf}
 use Rattle.plan.specs.Sound.{planCheck}
 use Rattle.run.specs.State.{State}
 use Rattle.run.specs.Machine.{bits, isState}
-use Rattle.run.specs.Answers.{forceList, Answer, isReady, denied}
+use Rattle.run.specs.Answers.{forceList, Answer, denied}
 use Rattle.run.specs.Calls.{pickedOf, answer, answerLent}
 use Rattle.crews.specs.Crews.{Crew, crew0, crew1, Two, ownOf, Roof, jobFor, turns, crewReady}
 
@@ -20,13 +20,18 @@ pub data BothCall : Type 0 where
   -- a crew's own force-list call
   forcesFor : Crew → (room : ℕ) → BothCall
 
+-- "sixteen bits .. and the count of those set"
+pub record ReadySet : Type 0 where
+  pub bits : ℕ
+  pub count : ℕ
+
 pub data BothAnswer : Type 0 where
   one : Answer → BothAnswer
   -- the ready set of each
-  sets : Two Answer → BothAnswer
+  sets : Two ReadySet → BothAnswer
 
-unfoldable pub readyFor : Roof → Two State → Crew → Answer
-readyFor r s c = isReady (bits (crewReady r s c)) (length (crewReady r s c))
+unfoldable pub readyFor : Roof → Two State → Crew → ReadySet
+readyFor r s c = record { bits = bits (crewReady r s c); count = length (crewReady r s c) }
 
 unfoldable pub readyBoth : Roof → Two State → BothAnswer
 readyBoth r s = sets (record { of0 = readyFor r s crew0; of1 = readyFor r s crew1 })

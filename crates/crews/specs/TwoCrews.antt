@@ -14,7 +14,7 @@ use Rattle.run.specs.Job.{Job, Accepted, workers}
 use Rattle.run.specs.Updates.{owner, upTo, count}
 use Rattle.run.specs.State.{State, fresh}
 use Rattle.run.specs.Machine.{refusal, halted, step, ready}
-use Rattle.run.specs.Answers.{picks, picked, isReady, forces}
+use Rattle.run.specs.Answers.{picks, picked, forces}
 use Rattle.run.specs.Sequence.{answersFrom, stateAfter}
 use Rattle.run.specs.Model.{isFinished}
 use Rattle.run.specs.OneAccess.{Walk}
@@ -101,7 +101,7 @@ pub record InOrder (r : Roof) (s : Two State) : Type 0 where
 
 -- two empty ready sets
 abbrev pub noneReady : BothAnswer
-noneReady = sets (record { of0 = isReady 0 0; of1 = isReady 0 0 })
+noneReady = sets (record { of0 = record { bits = 0; count = 0 }; of1 = record { bits = 0; count = 0 } })
 
 -- a call with the one pick of worker w for crew c takes it
 abbrev pub Takes : Roof → Two State → Crew → (w : ℕ) → Type 0

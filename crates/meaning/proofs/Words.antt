@@ -44,7 +44,7 @@ use Rattle.run.specs.Answers as calls
 use Rattle.run.specs.LentRuns.{passed}
 use Rattle.run.proofs.Accepted.{facts}
 use Rattle.run.proofs.LentRuns.{lent-runs}
-use Rattle.calls.proofs.ReadyBits.{bits-below}
+use Rattle.calls.proofs.ReadyBits.{ready-low}
 use Rattle.words.specs.LittleEndian.{number}
 use Rattle.words.proofs.Blocks.{length-decoded}
 use Rattle.lent.specs.Word.{word}
@@ -271,7 +271,7 @@ module _ (j : Job) (ok : Accepted j) (s : State) (long : length (s .made) ≡ ma
   unfolding readyOf ready replyTo
   ready-tells =
       let most : 2 ^ workers j ≤ 2 ^ 16 = pow-le-pow-right (omega arith) (facts j ok .few) in
-      told-accepted _ (omega (arith, bits-below j (s .made) (workers j), ready-few j (s .made) (workers j), facts j ok .few))
+      told-accepted _ (omega (arith, ready-low j (s .made) (workers j), ready-few j (s .made) (workers j), facts j ok .few))
 
   answer-tells : (c : Call) → Tells (answer j s c)
   unfolding answer stateCheck answerOf
