@@ -1,4 +1,5 @@
 // The calls for two crews, by the lists that a caller lends: the checks, then what is asked (document 02, Q-9).
+mod ready_sets;
 mod roof;
 
 use base::STATE;
@@ -7,6 +8,7 @@ use calls::Response;
 use layout::counts::first_updates;
 use matrix::limits::MAX_ROWS;
 use plan::fields::WIDTH;
+use ready_sets::ready_sets;
 use roof::are_fine;
 use roof::check_roof;
 use tables::MAX_UPDATES;
@@ -14,18 +16,21 @@ use turns::Crews;
 use upper::order::displace;
 use upper::parts::begin_parts;
 use upper::parts::part_sizes;
+use upper::sizes::sizes_of;
 use upper::upper;
 ghost use mathlib.Core.Path.{_≡_};
+ghost use mathlib.Core.List.{List};
 ghost use Prim.Native.Nat.{_/_};
+ghost use lib.IntN.{ℤ};
 ghost use lib.ListN.{length};
 ghost use Rattle.matrix.specs.Matrix.{matrixOf};
 ghost use Rattle.plan.specs.Groups.{width};
 ghost use Rattle.run.specs.Calls.{placeOf};
 ghost use Rattle.layout.specs.code.UpdateTable.{Given};
-ghost use Rattle.crews.specs.Crews.{Crew, ownOf};
-ghost use Rattle.crews.specs.Calls.{roofOf};
+ghost use Rattle.crews.specs.Crews.{Crew, Two, ownOf};
+ghost use Rattle.crews.specs.Calls.{readySets, answerBoth, roofOf, answerBothLent};
 ghost use Rattle.turns.specs.Records.{statesOf};
-ghost use Rattle.shared.specs.Performed.{PicksMade};
+ghost use Rattle.shared.specs.Performed.{PicksMade, asSets};
 ghost use Rattle.shared.specs.code.Made.{Made};
 
 // The ready sets of both: a bit for each worker, and their count, of crew 0 and of crew 1; or a refusal's number and
@@ -175,4 +180,71 @@ pub fn picks_both(
         sums1,
         schedule,
     )
+}
+
+// The ready sets of both, by the tables of the roof, if the counts are those of states. There is a sum for each row.
+fn look(
+    rows: usize,
+    starts: &[u32],
+    columns: &[u32],
+    order: &[u32],
+    groups: &[u32],
+    crews: Crews,
+) -> Sets
+    requires { ⌜ ((values : List ℤ) × (x : Two (List ℤ)) × ((c : Crew) → Given rows (now starts) (now columns) values (ownOf x c) (now order) (now groups) (length (now groups) / width))) ⌝ }
+    ensures { λ r. ⌜ ((values : List ℤ) (x : Two (List ℤ)) (sums0 sums1 : List ℤ) → ((c : Crew) → Given rows (now (starts .entry)) (now (columns .entry)) values (ownOf x c) (now (order .entry)) (now (groups .entry)) (length (now (groups .entry)) / width))
+        → length sums0 ≡ rows → length sums1 ≡ rows
+        → asSets r ≡ answerBoth (roofOf (matrixOf rows (now (starts .entry)) (now (columns .entry)) values) x (now (order .entry)) (now (groups .entry)) (length (now (groups .entry)) / width)) (statesOf crews sums0 sums1) readySets) ⌝ }
+{
+    let count = groups.len() / WIDTH;
+    let mut sizes = [0u32; MAX_ROWS];
+    sizes_of(rows, starts, columns, order, &mut sizes);
+    let first = first_updates(groups, count, &sizes);
+    if !are_fine(crews, first) {
+        return Sets::Refused(STATE, 0);
+    }
+    ready_sets(crews, groups, count, &sizes, first)
+}
+
+// One call for the ready sets of both. It takes no displacement, but judges them.
+pub fn ready_both(
+    n: u32,
+    starts: &[u32],
+    columns: &[u32],
+    values: &[i32],
+    displacements0: &[i32],
+    displacements1: &[i32],
+    order: &[u32],
+    groups: &[u32],
+    count: u32,
+    crews: Crews,
+    sums0: &[i64],
+    sums1: &[i64],
+) -> Sets
+    ensures { λ r. ⌜ asSets r ≡ answerBothLent (matrixOf n (now (starts .entry)) (now (columns .entry)) (now (values .entry))) (record { of0 = now (displacements0 .entry); of1 = now (displacements1 .entry) }) (now (order .entry)) (now (groups .entry)) count
+        (statesOf crews (now (sums0 .entry)) (now (sums1 .entry))) readySets ⌝ }
+{
+    let checked = check_roof(
+        n,
+        starts,
+        columns,
+        values,
+        displacements0,
+        displacements1,
+        order,
+        groups,
+        count,
+    );
+    if let Verdict::Refused(number, place) = checked {
+        return Sets::Refused(number, place);
+    }
+    let rows = n as usize;
+    if sums0.len() != rows {
+        return Sets::Refused(STATE, 0);
+    }
+    if sums1.len() != rows {
+        return Sets::Refused(STATE, 0);
+    }
+    let size = WIDTH * count as usize;
+    look(rows, starts, columns, order, &groups[..size], crews)
 }

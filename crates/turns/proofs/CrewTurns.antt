@@ -17,14 +17,14 @@ use Rattle.run.specs.Updates.{Update, count, upTo, updates, accesses, next}
 use Rattle.run.specs.State.{State}
 use Rattle.run.specs.Machine.{reason, refusal, moved, halted, stepIf}
 use Rattle.run.proofs.Able.{able, in-order}
-use Rattle.tables.specs.code.Laid.{updatesIn, Laid, Waits}
+use Rattle.tables.specs.code.Laid.{updatesIn, Bounded, Laid, Waits}
 use Rattle.steps.specs.code.Updates.{updateIn, Triangle}
 use Rattle.steps.specs.code.Steps.{rowNext, numberNext, reasonAt, outcomeOf, PickMade}
-use Rattle.steps.proofs.TableUpdates.{updates-are, begins-is, row-is, row-is-update, table-update}
+use Rattle.steps.proofs.TableUpdates.{updates-are, begun-before, begins-is, row-is, row-is-update, table-update}
 use Rattle.machine.proofs.TableWaits.{table-reason}
 use Rattle.crews.specs.Crews.{Crew, other, crewNumber, Two, ownOf, put, Roof, jobFor, inRow, isAway, unlessAway, crewRefusal, crewStep, both, turn}
 use Rattle.crews.proofs.Turns.{not-away, crew-end, who, turn-for, turn-none}
-use Rattle.turns.specs.code.Inside.{insideAt}
+use Rattle.turns.specs.code.Inside.{insideAt, RowTables}
 use Rattle.turns.specs.code.Turned.{misnamed}
 
 -- ---- away or not
@@ -154,3 +154,17 @@ named-low byte crew e = go (leb (2 * maxWorkers) byte) refl (leb crew (byte % ma
     go true x b y = absurd (let z : why.noCrew ≡ 0 = sym (rw x refl) ∙ e in omega arith)
     go false x true y = absurd (let z : why.noWorker ≡ 0 = sym (rw (x, y) refl) ∙ e in omega arith)
     go false x false y = (leb-false (2 * maxWorkers) byte x, leb-false crew (byte % maxWorkers) y)
+
+-- ---- who is ready
+
+-- what a step needs of the tables
+pub row-tables : (j : Job) {first row begins leaves ends : List ℕ} → Laid j first row begins leaves ends → Bounded (j .matrix .n) first row leaves → RowTables (j .matrix .n) first row begins leaves
+row-tables j laid b = record { bounded = b; begun = λ w k l h. begun-before j laid w l k (omega (arith, updates-are j (laid .counted) w l)) }
+
+-- a worker whose next pick for a crew would be taken, by the tables
+pub free-is : (q : Roof) (S : Two State) (c : Crew) {first row begins leaves ends : List ℕ} → ((d : Crew) → Laid (jobFor q d) first row begins leaves ends) → (crew : ℕ) → crew ≡ workers (jobFor q c) → crew ≤ maxWorkers
+    → (blocks : List ℕ) → Waits (jobFor q c) (ownOf S c .made) blocks → (w : ℕ) → w < maxWorkers
+    → unlessAway (reasonAt crew first row leaves blocks (ownOf S c .made) w) (insideAt first row begins (ownOf S (other c) .made) w) ≡ crewRefusal q S c w
+unfolding crewRefusal isAway
+free-is q S c laid crew e few blocks waiting w l =
+    ap₂ unlessAway (table-reason (jobFor q c) (laid c) (ownOf S c .made) blocks waiting crew e few w) (inside-table (jobFor q (other c)) (laid (other c)) (ownOf S (other c) .made) w l)

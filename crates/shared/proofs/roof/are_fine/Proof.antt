@@ -1,5 +1,4 @@
 -- `are_fine`: crew 0's counts, then crew 1's.
-use borrow.Author.Needs.{needs}
 use Rattle.base.proofs.Booleans.{fails, holds}
 use Rattle.shared.proofs.roof.are_fine.Statement.{statement}
 use Rattle.shared.proofs.roof.are_fine.Tie as tie

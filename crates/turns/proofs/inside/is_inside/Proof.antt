@@ -21,7 +21,7 @@ left c = omega (arith, c .before .if1 .left, c .before .before .accesses .ensure
 place : (c : tie.After-start) → let a = entry c .args in placeNext (a .first .now) (a .made .now) (a .w) < 69632
 place c =
     let s = entry c in
-    let r = s .pre .1 .4 .bounded .rising in
+    let r = s .pre .1 .2 .bounded .rising in
     omega (arith, left c, s .pre .0, r .rises (s .args .w) (s .pre .0), r .few (s .args .w + 1) (omega (arith, s .pre .0)))
 
 -- its row
@@ -32,12 +32,12 @@ low : (c : tie.After-wide) → c .wide .result < 4096
 low c =
     let s = entry (c .before .before) in
     let a = s .args in
-    let b = s .pre .1 .4 .bounded in
+    let b = s .pre .1 .2 .bounded in
     rw (read c) (omega (arith, b .row-low (placeNext (a .first .now) (a .made .now) (a .w)), b .rows-few))
 
 -- .. whose first update is not after it
 begun : (c : tie.After-wide) → let a = entry (c .before .before) .args in getD (a .begins .now) (c .wide .result) 0 ≤ placeNext (a .first .now) (a .made .now) (a .w)
-begun c = let s = entry (c .before .before) in rw (read c) (s .pre .1 .4 .begun (s .args .w) _ (s .pre .0) (left (c .before .before)))
+begun c = let s = entry (c .before .before) in rw (read c) (s .pre .1 .2 .begun (s .args .w) _ (s .pre .0) (left (c .before .before)))
 
 mul-done : tie.Need-mul-done
 mul-done c = search needs
@@ -46,7 +46,7 @@ element-copy-out-done : tie.Need-element-copy-out-done
 element-copy-out-done c = search needs
 
 accesses-requires : tie.Need-accesses-requires
-accesses-requires c κs = let s = c .before in (s .pre .0, s .pre .1 .4 .bounded .rising)
+accesses-requires c κs = let s = c .before in (s .pre .0, s .pre .1 .2 .bounded .rising)
 
 returns : tie.Need-returns
 returns c = rw (← c .before .accesses .ensures, le-ltb _ _ (c .if1 .taken))

@@ -11,7 +11,7 @@ use Rattle.turns.proofs.turn.turn.Statement.{statement}
 use Rattle.turns.proofs.turn.turn.Tie as tie
 
 is-inside-requires : tie.Need-is-inside-requires
-is-inside-requires c κs = (c .pre .0, (_, _, _, _, c .pre .1))
+is-inside-requires c κs = (c .pre .0, (_, _, record { bounded = c .pre .1 .bounded; begun = c .pre .1 .begun }))
 
 refusal-requires : tie.Need-refusal-requires
 refusal-requires c κs = (omega arith, (_, c .before .before .before .pre .1 .bounded))
