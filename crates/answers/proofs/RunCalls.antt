@@ -43,14 +43,14 @@ use Rattle.answers.proofs.CutJobs.{answer-same, after-same}
 -- ---- the lists of the job
 
 -- the records of a plan are no more than 512
-records-fit : (m : Matrix) (order groups : List ℕ) (count : ℕ) → isPlan m order groups count ≡ true → width * count ≤ maxFields
+pub records-fit : (m : Matrix) (order groups : List ℕ) (count : ℕ) → isPlan m order groups count ≡ true → width * count ≤ maxFields
 unfolding isPlan
 records-fit m order groups count h =
     let bs : List Bool = leb count maxGroups ∷ leb (width * count) (length groups) ∷ isSound m (planOf (m .n) order groups count) ∷ [] in
     omega (arith, leb-true count maxGroups (conj-at (leb (m .n) (length order)) bs h 0))
 
 -- displacements that pass their check
-displaced : (n : ℕ) (x : List ℤ) → displacementCheck n x .holds ≡ true → areDisplacements n x ≡ true
+pub displaced : (n : ℕ) (x : List ℤ) → displacementCheck n x .holds ≡ true → areDisplacements n x ≡ true
 unfolding displacementCheck
 displaced n x h = h
 

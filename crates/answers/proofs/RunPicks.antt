@@ -56,7 +56,7 @@ turn-picked (c ∷ cs) a {t} {q} {p} e = go (c .holds) (turn-picked cs a) e
     go false h e = absurd (let z : _≡_ {A = ℕ} 0 1 = cc in omega arith)
 
 -- the place of an ending is no more than the picks taken
-place-low : (number taken : ℕ) → placeOf number taken ≤ taken
+pub place-low : (number taken : ℕ) → placeOf number taken ≤ taken
 unfolding placeOf
 place-low zero taken = omega arith
 place-low (suc k) taken = omega arith

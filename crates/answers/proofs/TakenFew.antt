@@ -21,10 +21,10 @@ use Rattle.layout.proofs.UpdateRoom.{room}
 
 module _ (j : Job) (ok : Accepted j) where
   -- how many accesses of the plan's workers are left
-  abbrev left : List ℕ → ℕ
+  abbrev pub left : List ℕ → ℕ
   left made = sumBelow (λ w. accesses j w - count made w) (workers j)
 
-  one-less : (made : List ℕ) (w : ℕ) → length made ≡ maxWorkers → w < workers j → count made w < accesses j w → left made ≡ left (onward made w) + 1
+  pub one-less : (made : List ℕ) (w : ℕ) → length made ≡ maxWorkers → w < workers j → count made w < accesses j w → left made ≡ left (onward made w) + 1
   unfolding onward
   one-less made w long h l =
       sum-below-more (λ v. accesses j v - count (set made w (suc (count made w))) v) (λ v. accesses j v - count made v) 1 (workers j) w h
@@ -52,11 +52,9 @@ module _ (j : Job) (ok : Accepted j) where
   unfolding accesses updates
   accesses-few w l = omega (arith, room j ok w (j .matrix .n) (omega (arith, facts j ok .few)) (omega arith))
 
+  -- so few are left
+  pub left-few : (made : List ℕ) → left made < 2 ^ 31
+  left-few made = omega (arith, sum-below-bound (λ w. accesses j w - count made w) (workers j) (2 * maxUpdates) (λ w l. omega (arith, accesses-few w l)), facts j ok .few)
+
   pub taken-few : (s : State) (ws : List ℕ) → length (s .made) ≡ maxWorkers → steps j s ws .taken < 2 ^ 32
-  taken-few s ws long =
-      omega (
-        arith,
-        taken-left s ws long,
-        sum-below-bound (λ w. accesses j w - count (s .made) w) (workers j) (2 * maxUpdates) (λ w l. omega (arith, accesses-few w l)),
-        facts j ok .few,
-      )
+  taken-few s ws long = omega (arith, taken-left s ws long, left-few (s .made))

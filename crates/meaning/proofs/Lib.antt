@@ -1,7 +1,9 @@
 pub mod StateBack
 pub mod ByteRuns
+pub mod BothRuns
 pub mod EachIn
 pub mod SmallMatrix
 pub mod SmallPlan
 pub mod ByteLists
 pub mod Words
+pub mod BothWords
