@@ -5,11 +5,14 @@ use std::process::Command;
 
 /// The header's sentence, and its figures in tenths of a MiB; beside them, the calls that need next to nothing.
 const SENTENCE: &str =
-    "mzk_read uses up to 2 MiB, mzk_picks, mzk_ready and mzk_forces up to 1.3 MiB, mzk_plan up to \
-                        1 MiB, mzk_write_plan and mzk_read_plan up to 8 KiB, the others up to 0.6 MiB.";
+    "mzk_read uses up to 2 MiB, mzk_picks_both and mzk_ready_both up to 1.5 MiB, mzk_picks, mzk_ready \
+     and mzk_forces up to 1.3 MiB, mzk_plan up to 1 MiB, mzk_write_plan and mzk_read_plan up to 8 KiB, \
+     the others up to 0.6 MiB.";
 const SMALL: [&str; 2] = ["write_plan", "read_plan"];
-const TENTHS: [(&str, usize); 9] = [
+const TENTHS: [(&str, usize); 11] = [
     ("read", 20),
+    ("picks_both", 15),
+    ("ready_both", 15),
     ("picks", 13),
     ("ready", 13),
     ("forces", 13),

@@ -52,6 +52,7 @@ fn make(call: &str, stack: usize, given: &Given) -> Option<u64> {
     let (mut order, mut groups, mut text) = (blank(&given.order), blank(&given.groups), blank(&given.text));
     let (mut starts, mut columns, mut values) = (blank(&given.row_starts), blank(&given.columns), blank(&given.values));
     let At { mut state, mut sums } = At::fresh(given.n);
+    let At { state: mut state1, sums: mut sums1 } = At::fresh(given.n);
     let (mut forces, mut shift, mut file) = (blank(&sums), blank(&given.movements), blank(&given.file));
     let end = &given.finished;
     Some(match call {
@@ -68,6 +69,13 @@ fn make(call: &str, stack: usize, given: &Given) -> Option<u64> {
         "picks" => on_stack(stack, || library::picks(given.run(), &mut state, &mut sums, &given.schedule)),
         "ready" => on_stack(stack, || library::ready(given.run(), &state, &sums)),
         "forces" => on_stack(stack, || library::forces(given.run(), &end.state, &end.sums, &mut forces)),
+        "picks_both" => on_stack(stack, || {
+            let (states, sums) = ([&mut state[..], &mut state1], [&mut sums[..], &mut sums1]);
+            library::picks_both(given.crews(), states, sums, &given.schedule_both)
+        }),
+        "ready_both" => on_stack(stack, || {
+            library::ready_both(given.crews(), [&state, &state1], [&sums, &sums1])
+        }),
         _ => return None,
     })
 }
@@ -90,8 +98,8 @@ fn run(call: &str, stack: usize) {
 /// Says how the program is called.
 fn usage() -> ! {
     eprintln!(
-        "usage: stack CALL BYTES (read, write, product, survey, plan, check, write_plan, read_plan, picks, ready or \
-         forces)"
+        "usage: stack CALL BYTES (read, write, product, survey, plan, check, write_plan, read_plan, picks, ready, \
+         forces, picks_both or ready_both)"
     );
     exit(2);
 }
