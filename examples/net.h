@@ -80,11 +80,17 @@ static inline void read_movements(struct net *net, const char *path)
     }
 }
 
-/* Prints the forces of n rows, one a line, in millinewtons, and ends the output. */
+/* A row's force in a list of forces, in millinewtons. */
+static inline long long force_of(const uint8_t *forces, uint32_t row)
+{
+    return (int64_t)number_in(forces + 8 * row, 8);
+}
+
+/* Prints the forces of n rows, one a line, and ends the output. */
 static inline void print_forces(const uint8_t *forces, uint32_t n)
 {
     for (uint32_t row = 0; row < n; row++)
-        printf("%lld\n", (long long)(int64_t)number_in(forces + 8 * row, 8));
+        printf("%lld\n", force_of(forces, row));
     end_output();
 }
 

@@ -4,6 +4,8 @@
 
 #include "net.h"
 
+enum { CLOSENESS = 60 }; /* p, where none is given */
+
 struct plan {
     uint32_t n, count;
     uint8_t order[4 * MZK_ROWS], groups[4 * MZK_GROUP_FIELDS * MZK_GROUPS_LIMIT];

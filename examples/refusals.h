@@ -39,6 +39,8 @@ static const struct refusal {
     [MZK_UNFINISHED] = { NOWHERE, "a worker has moves left" },
     [MZK_NO_FILE] = { NOWHERE, "no plan file, or a damaged or an older one" },
     [MZK_SURVEY] = { NOWHERE, "a survey error above 1000000, or no such row" },
+    [MZK_NO_CREW] = { INDEX, "the pick names no crew" },
+    [MZK_ELSEWHERE] = { INDEX, "the worker is inside a row of the other crew" },
 };
 
 /* Prints the refusal in a word, of a file or of a call: `FILE:LINE: SENTENCE (refusal NUMBER)`. */

@@ -9,14 +9,7 @@
  * has moved. The forces are printed one a line, if they are those of one core; progress goes to standard error. In place
  * of the file MOVEMENTS, `--seed NUMBER` draws movements. refusals.h has the exit statuses. */
 
-#include <pthread.h>
-#include <sched.h>
-
-#include "plans.h"
-
-/* A call judges all its lists anew, so bursts are long. It keeps its tables in local arrays, so threads have a stack of
- * twice what a call needs. */
-enum { CLOSENESS = 60, BURST = 1000, STACK = 2 * MZK_STACK_BYTES };
+#include "threads.h"
 
 static struct net net;
 static struct plan plan;
@@ -83,35 +76,13 @@ static void *work(void *argument)
         if (number == MZK_WAITS) {
             waits++;
             pthread_cond_wait(&run.moved, &run.lock);
-        } else { /* others may come to the lock */
-            pthread_mutex_unlock(&run.lock);
-            sched_yield();
-            pthread_mutex_lock(&run.lock);
+        } else {
+            let_others_in(&run.lock);
         }
     } while (number != MZK_DONE);
     fprintf(stderr, "worker %u is done: %u bursts, %u waits\n", worker, bursts, waits);
     pthread_mutex_unlock(&run.lock);
     return NULL;
-}
-
-/* Runs the plan with a thread a worker. */
-static void run_threads(uint8_t workers)
-{
-    pthread_t threads[MZK_WORKERS];
-    uint8_t names[MZK_WORKERS];
-    pthread_attr_t attributes;
-    pthread_attr_init(&attributes);
-    pthread_attr_setstacksize(&attributes, STACK);
-    for (uint8_t worker = 0; worker < workers; worker++) {
-        names[worker] = worker;
-        if (pthread_create(&threads[worker], &attributes, work, &names[worker]) != 0) {
-            fprintf(stderr, "no thread for worker %u\n", worker);
-            exit(FAILED);
-        }
-    }
-    for (uint8_t worker = 0; worker < workers; worker++)
-        pthread_join(threads[worker], NULL);
-    pthread_attr_destroy(&attributes);
 }
 
 /* Runs the plan, and prints its forces if they are those of one core; the exit status. */
@@ -120,16 +91,13 @@ static int run_stage(uint8_t workers)
     static uint8_t forces[8 * MZK_ROWS], product[8 * MZK_ROWS];
     size_t length = 8 * (size_t)net.n;
     fprintf(stderr, "%u rows, %u workers, %u groups\n", net.n, workers, plan.count);
-    run_threads(workers);
+    run_threads(workers, work);
     accepted("forces", mzk_forces(JOB, AT, forces, length));
     accepted("product", mzk_product(MATRIX(&net), MOVEMENTS(&net), product, length));
-    if (memcmp(forces, product, length) != 0) {
-        fprintf(stderr, "NOT as on one core; no forces are printed\n");
-        return DIFFERENT;
-    }
-    fprintf(stderr, "as on one core\n");
-    print_forces(forces, net.n);
-    return 0;
+    int status = tell_compared(memcmp(forces, product, length) == 0);
+    if (status == 0)
+        print_forces(forces, net.n);
+    return status;
 }
 
 int main(int argc, char **argv)

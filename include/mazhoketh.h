@@ -15,9 +15,9 @@
  * list of another; lists that are only read may be shared. In a call, a list that is written overlaps no other list.
  * No pointer is null, also of an empty list.
  *
- * Stack: mzk_read uses up to 2 MiB, mzk_picks and mzk_preview up to 1.4 MiB, mzk_ready and mzk_forces up to 1.3 MiB,
- * mzk_plan up to 1 MiB, mzk_write_plan and mzk_read_plan up to 8 KiB, the others up to 0.6 MiB. A thread with
- * MZK_STACK_BYTES and its own needs can make any call. */
+ * Stack: mzk_read uses up to 2 MiB, mzk_picks_both and mzk_ready_both up to 1.5 MiB, mzk_picks and mzk_preview up to
+ * 1.4 MiB, mzk_ready and mzk_forces up to 1.3 MiB, mzk_plan up to 1 MiB, mzk_write_plan and mzk_read_plan up to 8 KiB,
+ * the others up to 0.6 MiB. A thread with MZK_STACK_BYTES and its own needs can make any call. */
 #ifndef MAZHOKETH_H
 #define MAZHOKETH_H
 
@@ -72,7 +72,9 @@ enum {
     MZK_OVERFLOW = 14,    /* the sum to store passes 64 bits (index); never met in a run that began with zeros */
     MZK_UNFINISHED = 15,  /* a worker has moves left */
     MZK_NO_FILE = 16,     /* no plan file; or a plan of other than 1 to 4,096 rows or 1 to 512 groups */
-    MZK_SURVEY = 17       /* a survey error above 1,000,000, or no such row */
+    MZK_SURVEY = 17,      /* a survey error above 1,000,000, or no such row */
+    MZK_NO_CREW = 18,     /* the pick names no crew (its index) */
+    MZK_ELSEWHERE = 19    /* the pick's worker is inside a row of the other crew: pick it there first (index) */
 };
 
 /* The matrix of a text, in full rows, into row_starts, columns and values; returns its number of rows. It has one row
@@ -248,6 +250,51 @@ uint64_t mzk_forces(uint32_t n,
                     const uint8_t *state, size_t state_bytes,
                     const uint8_t *sums, size_t sums_bytes,
                     uint8_t *forces, size_t forces_bytes);
+
+/* Two crews, 0 and 1, may share the workers of one plan: two runs of the same matrix and plan, each with movements,
+ * state and sums of its own. A worker that has begun a row for one crew finishes it before it serves the other; between
+ * rows it is free. Begin both with zeros and write them by mzk_picks_both alone: then some worker can move until both
+ * runs are finished, though one crew's ready set may be empty sooner, the forces of each finished run (mzk_forces) are
+ * the product with its own movements, and nothing that one crew gets, answers or sums, depends on the movements of the
+ * other. */
+
+/* A list of picks for both, one byte each, 16 x crew + worker; otherwise as mzk_picks. Returns how many were taken, all
+ * of them. A pick that is refused has its index as place, and states and sums are as the picks before it left them.
+ * Refused: 5; 6 of crew 0, of crew 1; 8; 11 of either; then pick by pick 18, 10, 12, 13, 19, 14. */
+#define MZK_PICK(crew, worker) ((uint8_t)(MZK_WORKERS * (crew) + (worker)))
+uint64_t mzk_picks_both(uint32_t n,
+                        const uint8_t *row_starts, size_t row_starts_bytes,
+                        const uint8_t *columns, size_t columns_bytes,
+                        const uint8_t *values, size_t values_bytes,
+                        const uint8_t *movements0, size_t movements0_bytes,
+                        const uint8_t *movements1, size_t movements1_bytes,
+                        const uint8_t *order, size_t order_bytes,
+                        const uint8_t *groups, size_t groups_bytes,
+                        uint32_t group_count,
+                        uint8_t *state0, size_t state0_bytes,
+                        uint8_t *sums0, size_t sums0_bytes,
+                        uint8_t *state1, size_t state1_bytes,
+                        uint8_t *sums1, size_t sums1_bytes,
+                        const uint8_t *picks, size_t picks_bytes);
+
+/* The ready sets of both: for each crew the workers whose next pick for it would be taken. Returns sixteen bits for
+ * crew 0, 65,536 times those for crew 1, and above the number the count of those set, 8 bits for each crew.
+ * Refused: 5; 6 of crew 0, of crew 1; 8; 11 of either. */
+#define MZK_CREW_SET(word, crew) ((uint32_t)((uint64_t)(word) >> 16 * (crew) & 0xffff))
+#define MZK_CREW_COUNT(word, crew) ((uint32_t)((uint64_t)(word) >> (40 + 8 * (crew)) & 0xff))
+uint64_t mzk_ready_both(uint32_t n,
+                        const uint8_t *row_starts, size_t row_starts_bytes,
+                        const uint8_t *columns, size_t columns_bytes,
+                        const uint8_t *values, size_t values_bytes,
+                        const uint8_t *movements0, size_t movements0_bytes,
+                        const uint8_t *movements1, size_t movements1_bytes,
+                        const uint8_t *order, size_t order_bytes,
+                        const uint8_t *groups, size_t groups_bytes,
+                        uint32_t group_count,
+                        const uint8_t *state0, size_t state0_bytes,
+                        const uint8_t *sums0, size_t sums0_bytes,
+                        const uint8_t *state1, size_t state1_bytes,
+                        const uint8_t *sums1, size_t sums1_bytes);
 
 #ifdef __cplusplus
 }

@@ -1,7 +1,7 @@
 /* mazhoketh.h from C and from C++: its macros against real words, its sizes against what calls take and need.
  *
- * Document 01's chain of eight rows is planned, filed, surveyed and run; then the longest text that is written is
- * read. */
+ * Document 01's chain of eight rows is planned, filed, surveyed and run, by one crew and by two; then the longest text
+ * that is written is read. */
 
 #include <stdio.h>
 #include <stdlib.h>
@@ -151,6 +151,38 @@ static void check_run(void)
     CHECK(is(mzk_forces(JOB, state, sizeof state, sums, 64, forces, sizeof forces), MZK_ACCEPTED, 0));
 }
 
+/* Two crews on the chain: its first row has 6 moves, and a worker inside it for one crew is not the other's. */
+static void check_crews(void)
+{
+#define BOTH_JOB MATRIX(8), movements, 32, movements1, 32, order, sizeof order, groups, sizeof groups, 5
+#define BOTH_AT states[0], MZK_STATE_BYTES, both_sums[0], 64, states[1], MZK_STATE_BYTES, both_sums[1], 64
+#define PICK(pick) (picks[0] = (pick), mzk_picks_both(BOTH_JOB, BOTH_AT, picks, 1))
+    static uint8_t movements1[32], states[2][MZK_STATE_BYTES], both_sums[2][64], picks[6];
+    uint64_t ready = mzk_ready_both(BOTH_JOB, BOTH_AT);
+    CHECK(MZK_NUMBER(ready) == MZK_ACCEPTED);
+    CHECK(MZK_CREW_SET(ready, 0) == 3 && MZK_CREW_SET(ready, 1) == 3);
+    CHECK(MZK_CREW_COUNT(ready, 0) == 2 && MZK_CREW_COUNT(ready, 1) == 2);
+    CHECK(is(PICK(MZK_PICK(1, 0)), MZK_ACCEPTED, 1));
+    ready = mzk_ready_both(BOTH_JOB, BOTH_AT);
+    CHECK(MZK_CREW_SET(ready, 0) == 2 && MZK_CREW_SET(ready, 1) == 3);
+    CHECK(MZK_CREW_COUNT(ready, 0) == 1 && MZK_CREW_COUNT(ready, 1) == 2);
+    CHECK(is(PICK(MZK_PICK(0, 0)), MZK_ELSEWHERE, 0));
+    CHECK(is(PICK(MZK_PICK(1, 2)), MZK_NO_WORKER, 0));
+    CHECK(is(PICK(MZK_PICK(2, 2)), MZK_NO_CREW, 0));
+    memset(picks, MZK_PICK(1, 0), 5);
+    picks[5] = MZK_PICK(0, 0);
+    CHECK(is(mzk_picks_both(BOTH_JOB, BOTH_AT, picks, 6), MZK_ACCEPTED, 6));
+    CHECK(states[0][0] == 1 && states[1][0] == 6);
+    movements1[3] = 0x7f;
+    CHECK(is(mzk_ready_both(BOTH_JOB, BOTH_AT), MZK_MOVEMENTS, 0));
+    movements1[3] = 0;
+    states[1][8] = 1;
+    CHECK(is(mzk_ready_both(BOTH_JOB, BOTH_AT), MZK_NO_STATE, 0));
+#undef BOTH_JOB
+#undef BOTH_AT
+#undef PICK
+}
+
 /* The longest text that is written: the most entries, off the diagonal, each with its longest line. */
 static void check_longest(void)
 {
@@ -190,6 +222,7 @@ int main(void)
     check_files();
     check_survey();
     check_run();
+    check_crews();
     check_longest();
     check_text_bytes();
     return 0;

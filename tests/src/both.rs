@@ -3,7 +3,7 @@
 
 use crate::guarded::Twin;
 use crate::library;
-use crate::lists::{MatrixLists, PlanLists, RunLists};
+use crate::lists::{CrewLists, MatrixLists, PlanLists, RunLists};
 use crate::oracle::calls;
 
 /// The lists of a matrix, twice.
@@ -98,6 +98,37 @@ impl RunTwins {
     fn lists(&self) -> Vec<&Twin> {
         let others = [&self.movements, &self.plan.order, &self.plan.groups];
         self.matrix.lists().into_iter().chain(others).collect()
+    }
+}
+
+/// The lists of two crews over one matrix and plan, their states and sums apart, twice.
+pub struct CrewTwins {
+    pub run: RunTwins,
+    pub movements1: Twin,
+}
+
+impl CrewTwins {
+    /// The library's lists.
+    pub fn ours(&self) -> CrewLists<'_> {
+        CrewLists {
+            run: self.run.ours(),
+            movements1: self.movements1.ours(),
+        }
+    }
+
+    /// The other implementation's lists.
+    pub fn theirs(&self) -> CrewLists<'_> {
+        CrewLists {
+            run: self.run.theirs(),
+            movements1: &self.movements1.theirs,
+        }
+    }
+
+    /// Every list.
+    fn lists(&self) -> Vec<&Twin> {
+        let mut lists = self.run.lists();
+        lists.push(&self.movements1);
+        lists
     }
 }
 
@@ -279,4 +310,40 @@ pub fn forces(run: &RunTwins, at: &StateTwins, forces: &mut Twin) -> u64 {
         &mut forces.theirs,
     );
     alike("forces", ours, theirs, run.lists(), &[state, sums, forces])
+}
+
+/// Takes picks for two crews.
+pub fn picks_both(lists: &CrewTwins, at: &mut [StateTwins; 2], picks: &Twin) -> u64 {
+    let [at0, at1] = at;
+    let ours = library::picks_both(
+        lists.ours(),
+        [at0.state.ours_mut(), at1.state.ours_mut()],
+        [at0.sums.ours_mut(), at1.sums.ours_mut()],
+        picks.ours(),
+    );
+    let theirs = calls::picks_both(
+        lists.theirs(),
+        [&mut at0.state.theirs, &mut at1.state.theirs],
+        [&mut at0.sums.theirs, &mut at1.sums.theirs],
+        &picks.theirs,
+    );
+    let others = [&at0.state, &at0.sums, &at1.state, &at1.sums, picks];
+    alike("picks_both", ours, theirs, lists.lists(), &others)
+}
+
+/// Asks for the ready sets of two crews.
+pub fn ready_both(lists: &CrewTwins, at: &[StateTwins; 2]) -> u64 {
+    let [at0, at1] = at;
+    let ours = library::ready_both(
+        lists.ours(),
+        [at0.state.ours(), at1.state.ours()],
+        [at0.sums.ours(), at1.sums.ours()],
+    );
+    let theirs = calls::ready_both(
+        lists.theirs(),
+        [&at0.state.theirs, &at1.state.theirs],
+        [&at0.sums.theirs, &at1.sums.theirs],
+    );
+    let others = [&at0.state, &at0.sums, &at1.state, &at1.sums];
+    alike("ready_both", ours, theirs, lists.lists(), &others)
 }

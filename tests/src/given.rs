@@ -1,9 +1,10 @@
 //! A net, its plan and its run as the byte lists that calls read: what is timed, and what stacks are measured on.
 
-use crate::lists::{bytes, MatrixLists, PlanLists, RunLists};
+use crate::lists::{bytes, CrewLists, MatrixLists, PlanLists, RunLists};
+use crate::oracle::leaves::{leaves_of, Leaves};
 use crate::oracle::matrix::Matrix;
 use crate::oracle::planner::Plan;
-use crate::oracle::{calls, plan_file, planner, text};
+use crate::oracle::{calls, plan_file, planner, text, WORKERS};
 
 /// The lists that a whole run is cut into.
 const LISTS: usize = 1_000;
@@ -21,6 +22,13 @@ impl At {
             state: vec![0; calls::STATE_BYTES],
             sums: vec![0; 8 * n as usize],
         }
+    }
+
+    /// Makes the state and the sums fresh again.
+    pub fn clear(&mut self) -> &mut At {
+        self.state.fill(0);
+        self.sums.fill(0);
+        self
     }
 }
 
@@ -70,6 +78,10 @@ pub struct Given {
     pub schedule: Vec<u8>,
     pub halfway: At,
     pub finished: At,
+    /// The movements of a second crew, picks that take both from fresh to their ends, and their states halfway.
+    pub movements1: Vec<u8>,
+    pub schedule_both: Vec<u8>,
+    pub halfway_both: [At; 2],
 }
 
 impl Given {
@@ -93,10 +105,15 @@ impl Given {
             schedule: Vec::new(),
             halfway: At::fresh(matrix.n),
             finished: At::fresh(matrix.n),
+            movements1: bytes(&vec![123_456; matrix.n as usize], i32::to_le_bytes),
+            schedule_both: Vec::new(),
+            halfway_both: [(); 2].map(|_| At::fresh(matrix.n)),
         };
         given.schedule = given.whole_schedule();
         given.halfway = given.after(given.schedule.len() / 2);
         given.finished = given.after(given.schedule.len());
+        given.schedule_both = given.whole_schedule_both(&leaves_of(matrix, &plan));
+        given.halfway_both = given.after_both(given.schedule_both.len() / 2);
         given
     }
 
@@ -128,6 +145,14 @@ impl Given {
         }
     }
 
+    /// The lists of two crews.
+    pub fn crews(&self) -> CrewLists<'_> {
+        CrewLists {
+            run: self.run(),
+            movements1: &self.movements1,
+        }
+    }
+
     /// The picks of a whole run: all ready workers in turn, until one of them waits or ends, and so on.
     fn whole_schedule(&self) -> Vec<u8> {
         let mut schedule = Vec::new();
@@ -149,6 +174,37 @@ impl Given {
         let mut at = At::fresh(self.n);
         let picks = &self.schedule[..picks];
         calls::picks(self.run(), &mut at.state, &mut at.sums, picks);
+        at
+    }
+
+    /// The picks of two whole runs: the schedule for crew 0, and after each row that a worker ends the same row for
+    /// crew 1.
+    fn whole_schedule_both(&self, leaves: &Leaves) -> Vec<u8> {
+        let mut schedule = Vec::new();
+        let (mut made, mut begun) = ([0; WORKERS], [0; WORKERS]);
+        for &worker in &self.schedule {
+            let (made, begun) = (&mut made[worker as usize], &mut begun[worker as usize]);
+            schedule.push(worker);
+            *made += 1;
+            *begun += 1;
+            if leaves.moves_in_row(worker.into(), *made).0 == 0 {
+                schedule.extend(std::iter::repeat_n(WORKERS as u8 + worker, *begun));
+                *begun = 0;
+            }
+        }
+        schedule
+    }
+
+    /// The states after so many picks of the schedule for both.
+    fn after_both(&self, picks: usize) -> [At; 2] {
+        let mut at = [(); 2].map(|_| At::fresh(self.n));
+        let [at0, at1] = &mut at;
+        calls::picks_both(
+            self.crews(),
+            [&mut at0.state, &mut at1.state],
+            [&mut at0.sums, &mut at1.sums],
+            &self.schedule_both[..picks],
+        );
         at
     }
 

@@ -2,7 +2,7 @@
 //!
 //! Each function here is linked only where it is used, so that a test needs no more of the library than it tests.
 
-use crate::lists::{MatrixLists, PlanLists, RunLists};
+use crate::lists::{CrewLists, MatrixLists, PlanLists, RunLists};
 
 /// A list lent for reading, and one lent for writing; its length in bytes follows.
 type In = *const u8;
@@ -75,6 +75,22 @@ extern "C" {
         movements: In, movements_bytes: usize,
         order: In, order_bytes: usize, groups: In, groups_bytes: usize, group_count: u32,
         state: In, state_bytes: usize, sums: In, sums_bytes: usize, forces: Out, forces_bytes: usize,
+    ) -> u64;
+    fn mzk_picks_both(
+        n: u32,
+        row_starts: In, row_starts_bytes: usize, columns: In, columns_bytes: usize, values: In, values_bytes: usize,
+        movements0: In, movements0_bytes: usize, movements1: In, movements1_bytes: usize,
+        order: In, order_bytes: usize, groups: In, groups_bytes: usize, group_count: u32,
+        state0: Out, state0_bytes: usize, sums0: Out, sums0_bytes: usize,
+        state1: Out, state1_bytes: usize, sums1: Out, sums1_bytes: usize, picks: In, picks_bytes: usize,
+    ) -> u64;
+    fn mzk_ready_both(
+        n: u32,
+        row_starts: In, row_starts_bytes: usize, columns: In, columns_bytes: usize, values: In, values_bytes: usize,
+        movements0: In, movements0_bytes: usize, movements1: In, movements1_bytes: usize,
+        order: In, order_bytes: usize, groups: In, groups_bytes: usize, group_count: u32,
+        state0: In, state0_bytes: usize, sums0: In, sums0_bytes: usize,
+        state1: In, state1_bytes: usize, sums1: In, sums1_bytes: usize,
     ) -> u64;
 }
 
@@ -230,6 +246,42 @@ pub fn forces(run: RunLists, state: &[u8], sums: &[u8], forces: &mut [u8]) -> u6
             movements.as_ptr(), movements.len(),
             order.as_ptr(), order.len(), groups.as_ptr(), groups.len(), group_count,
             state.as_ptr(), state.len(), sums.as_ptr(), sums.len(), forces.as_mut_ptr(), forces.len(),
+        )
+    }
+}
+
+/// Picks of two crews; counts those taken.
+#[rustfmt::skip]
+pub fn picks_both(lists: CrewLists, states: [&mut [u8]; 2], sums: [&mut [u8]; 2], picks: &[u8]) -> u64 {
+    let CrewLists { run: RunLists { matrix, movements: movements0, plan }, movements1 } = lists;
+    let MatrixLists { n, row_starts, columns, values } = matrix;
+    let PlanLists { order, groups, group_count } = plan;
+    let ([state0, state1], [sums0, sums1]) = (states, sums);
+    unsafe {
+        mzk_picks_both(
+            n, row_starts.as_ptr(), row_starts.len(), columns.as_ptr(), columns.len(), values.as_ptr(), values.len(),
+            movements0.as_ptr(), movements0.len(), movements1.as_ptr(), movements1.len(),
+            order.as_ptr(), order.len(), groups.as_ptr(), groups.len(), group_count,
+            state0.as_mut_ptr(), state0.len(), sums0.as_mut_ptr(), sums0.len(),
+            state1.as_mut_ptr(), state1.len(), sums1.as_mut_ptr(), sums1.len(), picks.as_ptr(), picks.len(),
+        )
+    }
+}
+
+/// The ready sets of two crews: sixteen bits of each in the low half, their counts in bits 40 to 47 and 48 to 55.
+#[rustfmt::skip]
+pub fn ready_both(lists: CrewLists, states: [&[u8]; 2], sums: [&[u8]; 2]) -> u64 {
+    let CrewLists { run: RunLists { matrix, movements: movements0, plan }, movements1 } = lists;
+    let MatrixLists { n, row_starts, columns, values } = matrix;
+    let PlanLists { order, groups, group_count } = plan;
+    let ([state0, state1], [sums0, sums1]) = (states, sums);
+    unsafe {
+        mzk_ready_both(
+            n, row_starts.as_ptr(), row_starts.len(), columns.as_ptr(), columns.len(), values.as_ptr(), values.len(),
+            movements0.as_ptr(), movements0.len(), movements1.as_ptr(), movements1.len(),
+            order.as_ptr(), order.len(), groups.as_ptr(), groups.len(), group_count,
+            state0.as_ptr(), state0.len(), sums0.as_ptr(), sums0.len(),
+            state1.as_ptr(), state1.len(), sums1.as_ptr(), sums1.len(),
         )
     }
 }

@@ -25,6 +25,25 @@ pub struct RunLists<'a> {
     pub plan: PlanLists<'a>,
 }
 
+/// The lists of two crews over one matrix and plan, their states and sums apart: crew 0's run, and the movements of
+/// crew 1.
+#[derive(Clone, Copy, Debug)]
+pub struct CrewLists<'a> {
+    pub run: RunLists<'a>,
+    pub movements1: &'a [u8],
+}
+
+impl<'a> CrewLists<'a> {
+    /// The lists of a crew's own run.
+    pub fn own(&self, crew: usize) -> RunLists<'a> {
+        let movements = [self.run.movements, self.movements1][crew];
+        RunLists {
+            movements,
+            ..self.run
+        }
+    }
+}
+
 /// The bytes of a list of numbers, each number's low byte first.
 pub fn bytes<T: Copy, const W: usize>(numbers: &[T], word: fn(T) -> [u8; W]) -> Vec<u8> {
     numbers.iter().flat_map(|&number| word(number)).collect()

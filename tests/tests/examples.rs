@@ -42,9 +42,14 @@ struct Net {
 impl Net {
     /// A matrix file with random movements, which are written to a file for an example.
     fn new(name: &str, example: &str) -> Net {
+        Net::drawn(name, example, 181)
+    }
+
+    /// The same with the movements of a seed.
+    fn drawn(name: &str, example: &str, seed: u64) -> Net {
         let path = files::folder().join(name);
         let (_, matrix) = files::read(&path);
-        let movements = nets::random_movements(&mut Prng::new(181), matrix.n);
+        let movements = nets::random_movements(&mut Prng::new(seed), matrix.n);
         let movements_name = format!("movements of {name} for {example}");
         Net {
             path: path.to_str().expect("a path of Unicode").to_string(),
@@ -88,6 +93,56 @@ fn stage() {
             assert!(drawn.status.success(), "{workers} workers on {name}");
         }
     }
+}
+
+/// Two crews: a column each, the product of its own movements.
+#[test]
+fn crews() {
+    let crews = build("crews", "products");
+    for name in LARGE {
+        let mut net = Net::drawn(name, "crew 0", 182);
+        let other = Net::drawn(name, "crew 1", 183);
+        let columns = net.product.lines().zip(other.product.lines());
+        net.product = lines(columns.map(|(own, other)| format!("{own}\t{other}")));
+        for workers in ["1", "5", "16"] {
+            let movements = [&*net.movements_path, &*other.movements_path];
+            net.check(run(
+                &crews,
+                &[&net.path, workers, movements[0], movements[1]],
+            ));
+        }
+    }
+}
+
+/// What is wrong with either crew's movements, or the arguments, is said as by `stage`.
+#[test]
+fn crews_refused() {
+    let crews = build("crews", "refusals");
+    let right = file("right movements of a crew", lines(1..136));
+    let wrong = file("wrong movements of a crew", lines(2..136) + "1e5\n");
+    let found = format!("{wrong}:135: found '1e5', {MOVEMENT}");
+    for movements in [[&right, &wrong], [&wrong, &right]] {
+        let [first, second] = movements;
+        check_ended(run(&crews, &[SMALL, "5", first, second]), 2, &found);
+    }
+    let workers = "WORKERS: found '17', wanted a whole number of 1 to 16";
+    check_ended(run(&crews, &[SMALL, "17", &right, &right]), 2, workers);
+    let usage = "usage: crews MATRIX WORKERS MOVEMENTS0 MOVEMENTS1";
+    for arguments in [
+        &[][..],
+        &[SMALL, "5", &right],
+        &[SMALL, "5", &right, &right, "7"],
+    ] {
+        check_ended(run(&crews, arguments), 2, usage);
+    }
+    let missing = "no such file.txt: cannot be read: No such file or directory";
+    check_ended(
+        run(&crews, &[SMALL, "5", &right, "no such file.txt"]),
+        3,
+        missing,
+    );
+    let full = "standard output: cannot be written: No space left on device";
+    check_ended(run_full(&crews, &[SMALL, "5", &right, &right]), 3, full);
 }
 
 /// The forces that `seq` makes movements for, and a movement at each limit.

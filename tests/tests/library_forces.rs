@@ -47,5 +47,8 @@ fn random_runs() {
 
 #[test]
 fn large_runs() {
-    run::each_large(173, |rng, mut whole| finish(rng, &mut whole, 20_000));
+    run::each_large(173, |rng, matrix, plan| {
+        let mut whole = WholeRun::new(rng, matrix, plan);
+        finish(rng, &mut whole, 20_000);
+    });
 }

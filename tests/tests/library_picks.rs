@@ -19,7 +19,7 @@ fn random_runs() {
 
 #[test]
 fn large_runs() {
-    run::each_large(153, |rng, mut whole| {
-        whole.finish(rng, 20_000, |_, _, _| ())
+    run::each_large(153, |rng, matrix, plan| {
+        WholeRun::new(rng, matrix, plan).finish(rng, 20_000, |_, _, _| ());
     });
 }

@@ -27,7 +27,7 @@ fn random_runs() {
 
 #[test]
 fn large_runs() {
-    run::each_large(213, |rng, mut whole| {
-        whole.finish(rng, 20_000, |rng, run, _| ask(rng, run, 20_000))
+    run::each_large(213, |rng, matrix, plan| {
+        WholeRun::new(rng, matrix, plan).finish(rng, 20_000, |rng, run, _| ask(rng, run, 20_000))
     });
 }

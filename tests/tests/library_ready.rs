@@ -27,5 +27,7 @@ fn random_runs() {
 
 #[test]
 fn large_runs() {
-    run::each_large(163, |rng, mut whole| whole.finish(rng, 20_000, ask));
+    run::each_large(163, |rng, matrix, plan| {
+        WholeRun::new(rng, matrix, plan).finish(rng, 20_000, ask);
+    });
 }

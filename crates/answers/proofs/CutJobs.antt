@@ -46,7 +46,7 @@ module _ (m : Matrix) (ok : isMatrix m ≡ true) (x : List ℤ) (p : Plan) where
   before-same w zero = refl
   before-same w (suc e) = rw (before-same w e, row-same e)
 
-  updates-same : upTo part ≡ upTo whole
+  pub updates-same : upTo part ≡ upTo whole
   updates-same = fun-ext (λ w. fun-ext (before-same w))
 
   -- ---- steps
@@ -59,7 +59,7 @@ module _ (m : Matrix) (ok : isMatrix m ≡ true) (x : List ℤ) (p : Plan) where
   unfolding finished
   finished-same made = fun-ext (λ g. rw updates-same)
 
-  refusal-same : (made : List ℕ) (w : ℕ) → refusal part made w ≡ refusal whole made w
+  pub refusal-same : (made : List ℕ) (w : ℕ) → refusal part made w ≡ refusal whole made w
   unfolding refusal accesses updates waits next workers
   refusal-same made w = rw (updates-same, finished-same made)
 
@@ -72,13 +72,13 @@ module _ (m : Matrix) (ok : isMatrix m ≡ true) (x : List ℤ) (p : Plan) where
   steps-same s [] = refl
   steps-same s (w ∷ ws) = go (step whole s w) refl (λ t. steps-same t ws)
     where
-      go : (o : Outcome) → step whole s w ≡ o → ((t : State) → steps part t ws ≡ steps whole t ws) → steps part s (w ∷ ws) ≡ steps whole s (w ∷ ws)
+      go : (o : Outcome State) → step whole s w ≡ o → ((t : State) → steps part t ws ≡ steps whole t ws) → steps part s (w ∷ ws) ≡ steps whole s (w ∷ ws)
       go (moved t) e ih = steps-on part s w ws t (step-same s w ∙ e) ∙ ap oneMore (ih t) ∙ sym (steps-on whole s w ws t e)
       go (halted k) e ih = steps-end part s w ws k (step-same s w ∙ e) ∙ sym (steps-end whole s w ws k e)
 
   -- ---- the other calls
 
-  ready-same : (made : List ℕ) (k : ℕ) → readyBelow part made k ≡ readyBelow whole made k
+  pub ready-same : (made : List ℕ) (k : ℕ) → readyBelow part made k ≡ readyBelow whole made k
   unfolding readyBelow
   ready-same made zero = refl
   ready-same made (suc w) = rw (refusal-same made w, ready-same made w)
@@ -93,7 +93,7 @@ module _ (m : Matrix) (ok : isMatrix m ≡ true) (x : List ℤ) (p : Plan) where
   fine-same made zero = refl
   fine-same made (suc w) = rw (accesses-same w, fine-same made w)
 
-  state-same : (s : State) → isState part s ≡ isState whole s
+  pub state-same : (s : State) → isState part s ≡ isState whole s
   unfolding isState
   state-same s = rw (fine-same (s .made))
 

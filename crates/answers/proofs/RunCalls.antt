@@ -43,19 +43,19 @@ use Rattle.answers.proofs.CutJobs.{answer-same, after-same}
 -- ---- the lists of the job
 
 -- the records of a plan are no more than 512
-records-fit : (m : Matrix) (order groups : List ℕ) (count : ℕ) → isPlan m order groups count ≡ true → width * count ≤ maxFields
+pub records-fit : (m : Matrix) (order groups : List ℕ) (count : ℕ) → isPlan m order groups count ≡ true → width * count ≤ maxFields
 unfolding isPlan
 records-fit m order groups count h =
     let bs : List Bool = leb count maxGroups ∷ leb (width * count) (length groups) ∷ isSound m (planOf (m .n) order groups count) ∷ [] in
     omega (arith, leb-true count maxGroups (conj-at (leb (m .n) (length order)) bs h 0))
 
 -- lists that are cut are a plan if and only if they were
-cut-plan : (m : Matrix) (order groups : List ℕ) (count : ℕ) → m .n ≤ maxRows → isPlan m (take maxRows order) (take maxFields groups) count ≡ isPlan m order groups count
+pub cut-plan : (m : Matrix) (order groups : List ℕ) (count : ℕ) → m .n ≤ maxRows → isPlan m (take maxRows order) (take maxFields groups) count ≡ isPlan m order groups count
 unfolding isPlan
 cut-plan m order groups count few = cut-lent m order groups count few (isSound m)
 
 -- displacements that pass their check
-displaced : (n : ℕ) (x : List ℤ) → displacementCheck n x .holds ≡ true → areDisplacements n x ≡ true
+pub displaced : (n : ℕ) (x : List ℤ) → displacementCheck n x .holds ≡ true → areDisplacements n x ≡ true
 unfolding displacementCheck
 displaced n x h = h
 

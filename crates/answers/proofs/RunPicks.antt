@@ -66,7 +66,7 @@ previewed-told : (t q p b k : ℕ) → Told (previewed t q p b k)
 previewed-told t q p b k number place e = let z : _≡_ {A = ℕ} 0 1 = cc in omega arith
 
 -- the place of an ending is no more than the picks taken
-place-low : (number taken : ℕ) → placeOf number taken ≤ taken
+pub place-low : (number taken : ℕ) → placeOf number taken ≤ taken
 unfolding placeOf
 place-low zero taken = omega arith
 place-low (suc k) taken = omega arith

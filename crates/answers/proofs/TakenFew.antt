@@ -23,7 +23,7 @@ use Rattle.run.proofs.Able.{able}
 use Rattle.run.proofs.Accepted.{facts}
 use Rattle.run.proofs.Schedule.{step-end, steps-on, steps-end, step-made}
 use Rattle.layout.proofs.UpdateRoom.{room}
-use Rattle.machine.proofs.ReadyBits.{bits-below}
+use Rattle.machine.proofs.ReadyBits.{low-bits}
 
 -- ---- the number that ends a schedule
 
@@ -56,13 +56,13 @@ module _ (j : Job) where
   number-low s [] = omega arith
   number-low s (w ∷ ws) = go (step j s w) refl (λ t. number-low t ws)
     where
-      go : (o : Outcome) → step j s w ≡ o → ((t : State) → steps j t ws .number < 2 ^ 8) → steps j s (w ∷ ws) .number < 2 ^ 8
+      go : (o : Outcome State) → step j s w ≡ o → ((t : State) → steps j t ws .number < 2 ^ 8) → steps j s (w ∷ ws) .number < 2 ^ 8
       go (moved t) e ih = rw (steps-on j s w ws t e) (ih t)
       go (halted k) e ih = rw (steps-end j s w ws k e) (halted-low s w k e)
 
 -- ---- how many are ready
 
-ready-few : (j : Job) (made : List ℕ) (k : ℕ) → length (readyBelow j made k) ≤ k
+pub ready-few : (j : Job) (made : List ℕ) (k : ℕ) → length (readyBelow j made k) ≤ k
 unfolding readyBelow
 ready-few j made zero = omega arith
 ready-few j made (suc w) = go (eqb (refusal j made w) 0) (ready-few j made w)
@@ -78,16 +78,16 @@ few-ready j ok made = omega (arith, ready-few j made (workers j), facts j ok .fe
 -- .. and their bits are the low sixteen
 pub ready-low : (j : Job) → Accepted j → (made : List ℕ) → bits (ready j made) < 2 ^ 16
 unfolding ready
-ready-low j ok made = let most : 2 ^ workers j ≤ 2 ^ 16 = pow-le-pow-right (omega arith) (facts j ok .few) in omega (arith, bits-below j made (workers j))
+ready-low j ok made = let most : 2 ^ workers j ≤ 2 ^ 16 = pow-le-pow-right (omega arith) (facts j ok .few) in omega (arith, low-bits j made (workers j))
 
 -- ---- how many steps are taken
 
 module _ (j : Job) (ok : Accepted j) where
   -- how many accesses of the plan's workers are left
-  abbrev left : List ℕ → ℕ
+  abbrev pub left : List ℕ → ℕ
   left made = sumBelow (λ w. accesses j w - count made w) (workers j)
 
-  one-less : (made : List ℕ) (w : ℕ) → length made ≡ maxWorkers → w < workers j → count made w < accesses j w → left made ≡ left (onward made w) + 1
+  pub one-less : (made : List ℕ) (w : ℕ) → length made ≡ maxWorkers → w < workers j → count made w < accesses j w → left made ≡ left (onward made w) + 1
   unfolding onward
   one-less made w long h l =
       sum-below-more (λ v. accesses j v - count (set made w (suc (count made w))) v) (λ v. accesses j v - count made v) 1 (workers j) w h
@@ -100,7 +100,7 @@ module _ (j : Job) (ok : Accepted j) where
   taken-left s [] long = omega arith
   taken-left s (w ∷ ws) long = go (refusal j (s .made) w) refl (step j s w) refl (λ t. taken-left t ws)
     where
-      go : (k : ℕ) → refusal j (s .made) w ≡ k → (o : Outcome) → step j s w ≡ o → ((t : State) → length (t .made) ≡ maxWorkers → steps j t ws .taken ≤ left (t .made))
+      go : (k : ℕ) → refusal j (s .made) w ≡ k → (o : Outcome State) → step j s w ≡ o → ((t : State) → length (t .made) ≡ maxWorkers → steps j t ws .taken ≤ left (t .made))
           → steps j s (w ∷ ws) .taken ≤ left (s .made)
       go (suc k) e o f ih = rw (steps-end j s w ws (suc k) (step-end j s w k e)) (omega arith)
       go zero e (halted k) f ih = rw (steps-end j s w ws k f) (omega arith)
@@ -115,11 +115,9 @@ module _ (j : Job) (ok : Accepted j) where
   unfolding accesses updates
   accesses-few w l = omega (arith, room j ok w (j .matrix .n) (omega (arith, facts j ok .few)) (omega arith))
 
+  -- so few are left
+  pub left-few : (made : List ℕ) → left made < 2 ^ 31
+  left-few made = omega (arith, sum-below-bound (λ w. accesses j w - count made w) (workers j) (2 * maxUpdates) (λ w l. omega (arith, accesses-few w l)), facts j ok .few)
+
   pub taken-few : (s : State) (ws : List ℕ) → length (s .made) ≡ maxWorkers → steps j s ws .taken < 2 ^ 32
-  taken-few s ws long =
-      omega (
-        arith,
-        taken-left s ws long,
-        sum-below-bound (λ w. accesses j w - count (s .made) w) (workers j) (2 * maxUpdates) (λ w l. omega (arith, accesses-few w l)),
-        facts j ok .few,
-      )
+  taken-few s ws long = omega (arith, taken-left s ws long, left-few (s .made))

@@ -24,6 +24,11 @@ countBytes = 4 * maxWorkers
 abbrev pub stateBytes : ℕ
 stateBytes = countBytes + 8 * maxWorkers
 
+-- the bytes of a run's state, and of its sums
+pub record Bytes : Type 0 where
+  pub state : List ℕ
+  pub sums : List ℕ
+
 -- the state that bytes stand for, beside sums of eight bytes each
 abbrev pub stateIn : (state sums : List ℕ) → State
 stateIn state sums = record { made = unsigned 4 (take countBytes state); held = signed 8 (drop countBytes state); sums = signed 8 sums }

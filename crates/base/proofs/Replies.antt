@@ -5,7 +5,9 @@ use mathlib.Core.List.{List, [], _∷_, _++_}
 use Prim.Native.Nat.{ℕ}
 use native.Mathlib.Omega.{arith}
 use lib.ListN.{length, drop}
+use Rattle.base.specs.Lists.{all}
 use Rattle.base.specs.Replies.{Reply, accepted, refused, Check, inTurn, lent}
+use Rattle.base.proofs.Booleans.{and-left, and-right}
 use Rattle.base.proofs.Each.{Each}
 
 module _ {ℓ} {A : Type ℓ} (refuse : (number place : ℕ) → A) (c : Check) (cs : List Check) (a : A) where
@@ -17,6 +19,33 @@ module _ {ℓ} {A : Type ℓ} (refuse : (number place : ℕ) → A) (c : Check) 
   pub inTurn-fail : c .holds ≡ false → inTurn refuse (c ∷ cs) a ≡ refuse (c .number) (c .place)
   unfolding inTurn
   inTurn-fail h = rw h
+
+-- checks that all hold refuse nothing
+pub inTurn-all {ℓ} : {A : Type ℓ} (refuse : (number place : ℕ) → A) (cs : List Check) (a : A) → all (λ c. c .holds) cs ≡ true → inTurn refuse cs a ≡ a
+unfolding inTurn
+inTurn-all refuse [] a h = refl
+inTurn-all refuse (c ∷ cs) a h = rw (and-left (c .holds) (all (λ c. c .holds) cs) h) (inTurn-all refuse cs a (and-right (c .holds) (all (λ c. c .holds) cs) h))
+
+-- what is made of the answer is made of the refusals
+pub inTurn-map : {A B : Type 0} (f : A → B) (refuse : (number place : ℕ) → A) (cs : List Check) (a : A) → f (inTurn refuse cs a) ≡ inTurn (λ number place. f (refuse number place)) cs (f a)
+unfolding inTurn
+inTurn-map f refuse [] a = refl
+inTurn-map f refuse (c ∷ cs) a = go (c .holds) (inTurn-map f refuse cs a)
+  where
+    go : (t : Bool) → f (inTurn refuse cs a) ≡ inTurn (λ number place. f (refuse number place)) cs (f a)
+        → f (cond t (inTurn refuse cs a) (refuse (c .number) (c .place))) ≡ cond t (inTurn (λ number place. f (refuse number place)) cs (f a)) (f (refuse (c .number) (c .place)))
+    go true e = e
+    go false e = refl
+
+-- a call leaves one thing or the other
+pub inTurn-either : {A : Type 0} (P : A → Type 0) (a b : A) (cs : List Check) → P a → P b → P (inTurn (λ number place. a) cs b)
+unfolding inTurn
+inTurn-either P a b [] x y = y
+inTurn-either P a b (c ∷ cs) x y = go (c .holds) (inTurn-either P a b cs x y)
+  where
+    go : (t : Bool) → P (inTurn (λ number place. a) cs b) → P (cond t (inTurn (λ number place. a) cs b) a)
+    go true z = z
+    go false z = x
 
 -- the reply of a call that makes one check
 abbrev pub checked : Check → Reply

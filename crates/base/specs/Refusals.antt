@@ -69,3 +69,11 @@ badLayout = 16
 -- Q-6: "t outside its limits or no such freedom"
 abbrev pub badSurvey : ℕ
 badSurvey = 17
+
+-- Q-9: "pick names no crew"
+abbrev pub noCrew : ℕ
+noCrew = 18
+
+-- Q-9: "worker is inside the other crew's row"
+abbrev pub elsewhere : ℕ
+elsewhere = 19

@@ -45,3 +45,7 @@ pub const EARLY: u32 = 15;
 pub const LAYOUT: u32 = 16;
 
 pub const SURVEY: u32 = 17;
+
+pub const CREWLESS: u32 = 18;
+
+pub const ELSEWHERE: u32 = 19;

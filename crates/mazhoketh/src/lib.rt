@@ -1,4 +1,5 @@
 // The C interface: exported functions on numbers and byte lists.
+pub mod both;
 pub mod nets;
 pub mod preview;
 pub mod read_plan;

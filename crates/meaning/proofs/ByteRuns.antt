@@ -44,9 +44,9 @@ module _ (m : Matrix) (x : List ℤ) (order groups : List ℕ) (count : ℕ) (pa
   same = lent-runs .every m x order groups count pass
 
   -- a state that a run meets
-  record Met (s : State) : Type 0 where
-    inv : Inv job s
-    fits : Fits s
+  pub record Met (s : State) : Type 0 where
+    pub inv : Inv job s
+    pub fits : Fits s
 
   met-fresh : Met (fresh (m .n))
   unfolding jobOf
@@ -55,15 +55,15 @@ module _ (m : Matrix) (x : List ℤ) (order groups : List ℕ) (count : ℕ) (pa
   met-after : (s : State) → Met s → (c : Call) → Met (after job s c)
   met-after s k c = record { inv = call-model job (facts job (same .accepted)) s (k .inv) c .inv; fits = after-fits job s c (k .fits) }
 
-  sized : (s : State) → Met s → Sized s
+  pub sized : (s : State) → Met s → Sized s
   sized s k = record { made-length = k .inv .made-length; held-length = k .inv .held-length; counts = counts-fit job (same .accepted) s (k .inv); fits = k .fits }
 
-  is-state : (s : State) → Met s → isState job s ≡ true
+  pub is-state : (s : State) → Met s → isState job s ≡ true
   is-state s k = fine job (facts job (same .accepted)) s (k .inv)
 
   -- ---- one call
 
-  one-answer : (s : State) → Met s → (c : Call) → byteAnswer m x order groups count (inBytes s) c ≡ answer job s c
+  pub one-answer : (s : State) → Met s → (c : Call) → byteAnswer m x order groups count (inBytes s) c ≡ answer job s c
   unfolding byteAnswer answerIn
   one-answer s k c = rw (eq-eqb (length (bytesIn s)) stateBytes (state-length s (sized s k)), state-back s (sized s k)) (same .answered s c)
 
@@ -99,7 +99,7 @@ module _ (m : Matrix) (x : List ℤ) (order groups : List ℕ) (count : ℕ) (pa
   -- ---- a run, call by call
 
   module _ (cs : List Call) where
-    met : Met (runState job cs)
+    pub met : Met (runState job cs)
     unfolding runState jobOf
     met = all-met (answer job) (after job) (byteAnswer m x order groups count) (byteAfter m x order groups count) inBytes Met one-answer one-after met-after (fresh (m .n)) met-fresh cs
 

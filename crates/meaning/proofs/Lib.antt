@@ -1,8 +1,10 @@
 pub mod StateBack
 pub mod ByteRuns
 pub mod BytePreviews
+pub mod BothRuns
 pub mod EachIn
 pub mod SmallMatrix
 pub mod SmallPlan
 pub mod ByteLists
 pub mod Words
+pub mod BothWords

@@ -3,7 +3,6 @@ use mathlib.Core.Path.{_≡_, refl, ap}
 use mathlib.Core.Bool.{Bool, true, false, _&&_, not, cond}
 use mathlib.Core.List.{List, [], _∷_, _++_}
 use Prim.Native.Nat.{ℕ, zero, suc, _+_, _*_, _-_, _^_, _≤_, _<_}
-use native.Mathlib.Nat.{pow-le-pow-right}
 use native.Mathlib.Omega.{arith}
 use lib.Dec.{eqb, ltb, leb}
 use lib.IntN.{ℤ, pos, negsuc}
@@ -35,14 +34,13 @@ use Rattle.planfile.proofs.Sized as counts
 use Rattle.planfile.proofs.Files.{file-sized}
 use Rattle.race.specs.Planner.{plan, planReply}
 use Rattle.race.proofs.PlannedSound.{planned-sound}
-use Rattle.run.specs.Job.{Job, jobOf, Accepted, workers}
+use Rattle.run.specs.Job.{Job, jobOf, Accepted}
 use Rattle.run.specs.Machine.{steps, ready, bits, over}
 use Rattle.run.specs.State.{State}
 use Rattle.run.specs.Calls.{placeOf, pickedOf, readyOf, forcesOf, answerOf, stateCheck, answer, jobChecks, answerLent}
 use Rattle.run.specs.Answers.{Call, picks, readySet, forceList, preview, Answer, shown}
 use Rattle.run.specs.Answers as calls
 use Rattle.run.specs.LentRuns.{passed}
-use Rattle.run.proofs.Accepted.{facts}
 use Rattle.run.proofs.LentRuns.{lent-runs}
 use Rattle.words.specs.LittleEndian.{number}
 use Rattle.words.proofs.Blocks.{length-decoded}
@@ -54,16 +52,16 @@ use Rattle.meaning.proofs.SmallMatrix.{full-few}
 
 -- ---- one reply
 
-told-accepted : (k : ℕ) → k < 2 ^ 32 → Told (accepted k)
+pub told-accepted : (k : ℕ) → k < 2 ^ 32 → Told (accepted k)
 unfolding word numberIn placeIn
 told-accepted k l = record { high = omega arith; low = omega arith; some = λ q p e. absurd (let z : _≡_ {A = ℕ} 0 1 = cc in omega arith) }
 
-told-refused : (q p : ℕ) → 1 ≤ q → p < 2 ^ 32 → Told (refused q p)
+pub told-refused : (q p : ℕ) → 1 ≤ q → p < 2 ^ 32 → Told (refused q p)
 unfolding word numberIn placeIn
 told-refused q p h l = record { high = omega arith; low = omega arith; some = λ r s e. let f : q ≡ r = cc in omega arith }
 
 -- checks in turn: P holds of what the first refusal gives, or of the answer
-turn : {A : Type 0} (P : A → Type 0) (refuse : (number place : ℕ) → A) (c : Check) (cs : List Check) (a : A) → P (refuse (c .number) (c .place)) → (c .holds ≡ true → P (inTurn refuse cs a)) → P (inTurn refuse (c ∷ cs) a)
+pub turn : {A : Type 0} (P : A → Type 0) (refuse : (number place : ℕ) → A) (c : Check) (cs : List Check) (a : A) → P (refuse (c .number) (c .place)) → (c .holds ≡ true → P (inTurn refuse cs a)) → P (inTurn refuse (c ∷ cs) a)
 unfolding inTurn
 turn P refuse c cs a fails passes = go (c .holds) passes
   where
@@ -72,7 +70,7 @@ turn P refuse c cs a fails passes = go (c .holds) passes
     go false h = fails
 
 -- no check is left
-last : {A : Type 0} (P : A → Type 0) (refuse : (number place : ℕ) → A) (a : A) → P a → P (inTurn refuse [] a)
+pub last : {A : Type 0} (P : A → Type 0) (refuse : (number place : ℕ) → A) (a : A) → P a → P (inTurn refuse [] a)
 unfolding inTurn
 last P refuse a h = h
 
@@ -190,7 +188,7 @@ module _ (m : Matrix) where
       go true h = omega arith
       go false h = omega arith
 
-  place-low : (x : List ℤ) → m .n ≤ maxRows → displacementCheck (m .n) x .place ≤ maxRows
+  pub place-low : (x : List ℤ) → m .n ≤ maxRows → displacementCheck (m .n) x .place ≤ maxRows
   unfolding displacementCheck
   place-low x few = go (eqb (length x) (m .n)) refl
     where
@@ -246,7 +244,7 @@ unfolding replyTo
 tells-refused q p h l = told-refused q p h l
 
 module _ (j : Job) (ok : Accepted j) (s : State) (long : length (s .made) ≡ maxWorkers) where
-  picked-tells : (taken number : ℕ) → taken < 2 ^ 32 → Tells (pickedOf taken number)
+  pub picked-tells : (taken number : ℕ) → taken < 2 ^ 32 → Tells (pickedOf taken number)
   unfolding pickedOf placeOf replyTo
   picked-tells taken zero l = told-accepted taken l
   picked-tells taken (suc k) l = told-refused (suc k) taken (omega arith) l

@@ -16,12 +16,7 @@ use Rattle.run.specs.Sequence.{answersFrom, stateAfter}
 use Rattle.run.specs.EveryRun.{runState, runAnswers, finishedRun}
 use Rattle.run.specs.LentRuns.{passed}
 use Rattle.words.specs.LittleEndian.{signedBytes, stored}
-use Rattle.answers.specs.Runs.{stateBytes, stateIn, answerIn, ForcesAnswered, bytesIn, leftBy}
-
--- the bytes of a run's state, and of its sums
-pub record Bytes : Type 0 where
-  pub state : List ℕ
-  pub sums : List ℕ
+use Rattle.answers.specs.Runs.{stateBytes, Bytes, stateIn, answerIn, ForcesAnswered, bytesIn, leftBy}
 
 abbrev pub inBytes : State → Bytes
 inBytes s = record { state = bytesIn s; sums = signedBytes 8 (s .sums) }

@@ -1,3 +1,4 @@
 pub mod ByteRuns
+pub mod BothRuns
 pub mod ByteLists
 pub mod Words

@@ -14,7 +14,10 @@ use Rattle.lent.specs.Word.{word}
 use Rattle.texts.specs.Lent.{readIn}
 use Rattle.office.specs.Lent.{planIn}
 use Rattle.survey.specs.Survey.{surveyReply}
-use Rattle.answers.specs.Runs.{answerIn, replyTo, previewWord}
+use Rattle.answers.specs.Runs.{Bytes, answerIn, replyTo, previewWord}
+use Rattle.crews.specs.Crews.{Two}
+use Rattle.crews.specs.Calls.{picksBoth, readySets, ReadySet, BothAnswer, one, sets}
+use Rattle.stage.specs.Both.{answerBothIn, replyToBoth}
 
 -- "an accepted call has number 0"
 unfoldable pub numberIn : Reply → ℕ
@@ -54,3 +57,22 @@ pub record Words : Type 0 where
   pub preview : (m : Matrix) (x : List ℤ) (order groups : List ℕ) (count : ℕ) (state sums ws : List ℕ) → Foretold (answerIn m x order groups count state sums (preview ws))
   -- so two replies with the same word are the same
   pub one : (r s : Reply) → Told r → Told s → word r ≡ word s → r ≡ s
+
+-- ---- the calls for two crews
+
+-- the word of both ready sets has each crew's bits and each crew's count in bits of their own, and number 0
+pub record PartsTold (t : Two ReadySet) (returned : ℕ) : Type 0 where
+  pub bits0 : returned % 2 ^ 16 ≡ t .of0 .bits
+  pub bits1 : returned / 2 ^ 16 % 2 ^ 16 ≡ t .of1 .bits
+  pub number : returned / 2 ^ 32 % 2 ^ 8 ≡ 0
+  pub count0 : returned / 2 ^ 40 % 2 ^ 8 ≡ t .of0 .count
+  pub count1 : returned / 2 ^ 48 ≡ t .of1 .count
+
+-- a refusal's word is told as every other's
+abbrev pub SetsTold : BothAnswer → Type 0
+SetsTold (one a) = Told (replyTo a)
+SetsTold (sets t) = PartsTold t (word (replyToBoth (sets t)))
+
+pub record BothWords : Type 0 where
+  pub picks-both : (m : Matrix) (x : Two (List ℤ)) (order groups : List ℕ) (count : ℕ) (b : Two Bytes) (schedule : List ℕ) → Told (replyToBoth (answerBothIn m x order groups count b (picksBoth schedule)))
+  pub ready-both : (m : Matrix) (x : Two (List ℤ)) (order groups : List ℕ) (count : ℕ) (b : Two Bytes) → SetsTold (answerBothIn m x order groups count b readySets)

@@ -28,7 +28,8 @@ use Rattle.run.proofs.EveryRun.{inv, finished-over, answered, ready-is,
 
 -- ---- the model's numbers
 
-abbrev known : ℕ → Bool
+-- the only numbers that the model's answers have
+abbrev pub known : ℕ → Bool
 known = isIn (0 ∷ why.tooShort ∷ why.noWorker ∷ why.allDone ∷ why.mustWait ∷ why.tooEarly ∷ [])
 
 known-ending : (j : Job) (made : List ℕ) (w : ℕ) → known (ending j made w) ≡ true
@@ -75,6 +76,10 @@ unfolding readyBelow refusal reason
 none-ready j made zero l h = refl
 none-ready j made (suc k) l h = rw (lt-ltb k (workers j) (omega arith), le-leb (accesses j k) (count made k) (h k (omega arith))) (none-ready j made k (omega arith) h)
 
+pub over-none : (j : Job) (made : List ℕ) → over j made ≡ true → ready j made ≡ []
+unfolding ready
+over-none j made o = none-ready j made (workers j) (omega arith) (over-made j made o)
+
 module _ (j : Job) (ok : Accepted j) (cs : List Call) where
   abbrev made : List ℕ
   made = runState j cs .made
@@ -90,8 +95,8 @@ module _ (j : Job) (ok : Accepted j) (cs : List Call) where
       go false o = absurd (omega (arith, progress j made (tree-of j ok) o, none))
 
   finished-empty : finishedRun j cs ≡ true → answer j (runState j cs) readySet ≡ isReady 0 0
-  unfolding ready bits
-  finished-empty o = ready-is j ok cs ∙ ap (λ (ws : List ℕ). isReady (bits ws) (length ws)) (none-ready j made (workers j) (omega arith) (over-made j made (sym (finished-over j ok cs) ∙ o)))
+  unfolding bits
+  finished-empty o = ready-is j ok cs ∙ ap (λ (ws : List ℕ). isReady (bits ws) (length ws)) (over-none j made (sym (finished-over j ok cs) ∙ o))
 
   consequence : Consequence j cs
   consequence = record {

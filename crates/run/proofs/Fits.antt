@@ -58,7 +58,7 @@ unfolding fresh fits64
 fits-fresh n = record { held = each-replicate Fit maxWorkers (pos 0) refl; sums = each-replicate Fit n (pos 0) refl }
 
 -- the state that a step moves to
-abbrev FitsIn : Outcome → Type 0
+abbrev FitsIn : Outcome State → Type 0
 FitsIn (moved t) = Fits t
 FitsIn (halted k) = Unit {0}
 
@@ -83,7 +83,7 @@ module _ (j : Job) where
   steps-fit s [] f = f
   steps-fit s (w ∷ ws) f = go (step j s w) refl (step-fits s w f) (λ t. steps-fit t ws)
     where
-      go : (o : Outcome) → step j s w ≡ o → FitsIn o → ((t : State) → Fits t → Fits (steps j t ws .state)) → Fits (steps j s (w ∷ ws) .state)
+      go : (o : Outcome State) → step j s w ≡ o → FitsIn o → ((t : State) → Fits t → Fits (steps j t ws .state)) → Fits (steps j s (w ∷ ws) .state)
       go (moved t) e g ih = rw (steps-on j s w ws t e) (ih t g)
       go (halted k) e g ih = rw (steps-end j s w ws k e) f
 

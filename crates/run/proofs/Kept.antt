@@ -21,6 +21,7 @@ use Rattle.run.proofs.Amounts.{landed, share, landed-next}
 use Rattle.run.proofs.Facts.{Facts}
 use Rattle.run.proofs.Invariant.{soFar, Inv}
 use Rattle.run.proofs.Able.{Able}
+use Rattle.run.proofs.Onward.{onward-length, onward-other, onward-at, onward-grows}
 
 module _ (j : Job) (F : Facts j) (s : State) (I : Inv j s) (w : ℕ) (able : Able j (s .made) w) where
   abbrev m : ℕ
@@ -29,20 +30,17 @@ module _ (j : Job) (F : Facts j) (s : State) (I : Inv j s) (w : ℕ) (able : Abl
   abbrev new : List ℕ
   new = onward (s .made) w
 
+  counted : w < length (s .made)
+  counted = omega (arith, F .few, I .made-length, able .inPlan)
+
   new-at : count new w ≡ suc m
-  unfolding onward
-  new-at = getD-set-same (s .made) w (suc m) 0 (omega (arith, F .few, I .made-length, able .inPlan))
+  new-at = onward-at (s .made) w counted
 
   new-other : (v : ℕ) → v ≢ w → count new v ≡ count (s .made) v
-  unfolding onward
-  new-other v d = getD-set-other (s .made) w v (suc m) 0 d
+  new-other = onward-other (s .made) w
 
-  grows : (v : ℕ) → count (s .made) v ≤ count new v
-  grows v = go (same-or v w)
-    where
-      go : (v ≡ w) ⊎ (v ≢ w) → count (s .made) v ≤ count new v
-      go (inl e) = subst (λ (y : ℕ). count (s .made) y ≤ count new y) (sym e) (omega (arith, new-at))
-      go (inr d) = omega (arith, new-other v d)
+  lengthed : length new ≡ maxWorkers
+  lengthed = onward-length (s .made) w ∙ I .made-length
 
   -- counts stay within the accesses
   new-bounded : (v : ℕ) → count new v ≤ accesses j v
@@ -62,7 +60,7 @@ module _ (j : Job) (F : Facts j) (s : State) (I : Inv j s) (w : ℕ) (able : Abl
 
   -- a worker that is inside an update still does not wait
   still-free : (v : ℕ) → count (s .made) v / 2 ≡ count new v / 2 → waits j (s .made) v ≡ false → waits j new v ≡ false
-  still-free v e h = F .lasting (s .made) new v grows e h
+  still-free v e h = F .lasting (s .made) new v (onward-grows (s .made) w counted) e h
 
   -- ---- the load
   module _ (even : m % 2 ≡ 0) where
@@ -86,9 +84,6 @@ module _ (j : Job) (F : Facts j) (s : State) (I : Inv j s) (w : ℕ) (able : Abl
       right = λ t l. I .right t l ∙ sum-same (soFar j (s .made) t) (soFar j new t) (workers j) (λ v k. ap (λ (y : ℕ). landed t (take y (updates j v))) (same-half v));
     }
       where
-        lengthed : length new ≡ maxWorkers
-        lengthed = length-set (s .made) w _ ∙ I .made-length
-
         was-free : (v : ℕ) → (v ≡ w) ⊎ (v ≢ w) → count new v % 2 ≡ 1 → waits j (s .made) v ≡ false
         was-free v (inl e) o = subst (λ (y : ℕ). waits j (s .made) y ≡ false) (sym e) (able .going)
         was-free v (inr d) o = I .free v (omega (arith, new-other v d))
@@ -152,9 +147,6 @@ module _ (j : Job) (F : Facts j) (s : State) (I : Inv j s) (w : ℕ) (able : Abl
       right = λ t l. right t l (same-or t (u .target));
     }
       where
-        lengthed : length new ≡ maxWorkers
-        lengthed = length-set (s .made) w _ ∙ I .made-length
-
         now-even : (v : ℕ) → v ≡ w → count new v % 2 ≡ 1 → ⊥
         now-even v e o = let q : count new w % 2 ≡ 1 = subst (λ (y : ℕ). count new y % 2 ≡ 1) e o in omega (arith, new-at)
 

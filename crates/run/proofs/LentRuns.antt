@@ -1,5 +1,5 @@
 -- The calls on lent lists that pass their checks are the calls on the job in them.
-use mathlib.Core.Path.{_≡_, refl}
+use mathlib.Core.Path.{_≡_}
 use mathlib.Core.Bool.{true}
 use mathlib.Core.List.{List, [], _∷_}
 use Prim.Native.Nat.{ℕ, _*_}
@@ -7,9 +7,10 @@ use lib.Dec.{leb}
 use lib.IntN.{ℤ}
 use lib.ListN.{length}
 use Rattle.base.specs.Lists.{all}
-use Rattle.base.specs.Replies.{Check, inTurn}
+use Rattle.base.specs.Replies.{Check}
 use Rattle.base.proofs.Booleans.{and-left, and-right, conj-at}
 use Rattle.base.proofs.Each.{Each}
+use Rattle.base.proofs.Replies.{inTurn-all}
 use Rattle.matrix.specs.Matrix.{Matrix, matrixCheck, displacementCheck}
 use Rattle.plan.specs.Groups.{width, planOf}
 use Rattle.plan.specs.Sound.{maxGroups, isSound, isPlan, planCheck}
@@ -23,15 +24,9 @@ use Rattle.run.specs.LentRuns.{passed, LentRun, LentRuns}
 use Rattle.run.proofs.Sequence.{all-answered, all-left}
 
 -- checks that all hold, one by one
-each-holds : (cs : List Check) → all (λ c. c .holds) cs ≡ true → Each (λ c. c .holds ≡ true) cs
+pub each-holds : (cs : List Check) → all (λ c. c .holds) cs ≡ true → Each (λ c. c .holds ≡ true) cs
 each-holds [] h = tt
 each-holds (c ∷ cs) h = (and-left (c .holds) (all (λ c. c .holds) cs) h, each-holds cs (and-right (c .holds) (all (λ c. c .holds) cs) h))
-
--- .. refuse nothing
-none-refused : {A : Type 0} (refuse : (number place : ℕ) → A) (cs : List Check) (a : A) → Each (λ c. c .holds ≡ true) cs → inTurn refuse cs a ≡ a
-unfolding inTurn
-none-refused refuse [] a h = refl
-none-refused refuse (c ∷ cs) a h = rw (h .0) (none-refused refuse cs a (h .1))
 
 -- a plan in lent lists is sound
 plan-sound : (m : Matrix) (order groups : List ℕ) (count : ℕ) → isPlan m order groups count ≡ true → isSound m (planOf (m .n) order groups count) ≡ true
@@ -51,12 +46,12 @@ module _ (m : Matrix) (x : List ℤ) (order groups : List ℕ) (count : ℕ) (h 
   each = each-holds checks h
 
   answered : (s : State) (c : Call) → answerLent m x order groups count s c ≡ answer job s c
-  unfolding answerLent
-  answered s c = none-refused denied checks (answer job s c) each
+  unfolding passed answerLent
+  answered s c = inTurn-all denied checks (answer job s c) h
 
   left : (s : State) (c : Call) → afterLent m x order groups count s c ≡ after job s c
-  unfolding afterLent
-  left s c = none-refused (λ number place. s) checks (after job s c) each
+  unfolding passed afterLent
+  left s c = inTurn-all (λ number place. s) checks (after job s c) h
 
   -- one call after the other
   module _ (cs : List Call) where

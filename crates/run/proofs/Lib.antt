@@ -3,10 +3,13 @@ pub mod Amounts
 pub mod Facts
 pub mod Invariant
 pub mod Able
+pub mod Onward
+pub mod ReadySet
 pub mod Kept
 pub mod Schedule
 pub mod Stays
 pub mod OneAccess
+pub mod Passes
 pub mod Taken
 pub mod Finished
 pub mod AsModel

@@ -103,13 +103,15 @@ module _ (j : Job) where
     unfinished-less : (g : Group) → not (finished j new g) ≡ true → not (finished j made g) ≡ true
     unfinished-less g x = rw (is-false (λ y. clash (finished-more g y) (not-true (finished j new g) x))) refl
 
-    -- who does not wait does not wait later on in the same update
-    pub lasts : (w : ℕ) → count made w / 2 ≡ count new w / 2 → waits j made w ≡ false → waits j new w ≡ false
-    unfolding waits next
-    lasts w e h = rw (← e) (is-false (λ b. clash (blocked-mono (finished j made) (finished j new) unfinished-less q T T b) h))
+    -- who does not wait does not wait later on in the same row
+    pub lasts-row : (w : ℕ) → next j made w .row ≡ next j new w .row → waits j made w ≡ false → waits j new w ≡ false
+    unfolding waits
+    lasts-row w e h = rw (← e) (is-false (λ b. clash (blocked-mono (finished j made) (finished j new) unfinished-less (next j made w .row) T T b) h))
       where
-        q : ℕ
-        q = getD (updates j w) (count made w / 2) noUpdate .row
-
         T : Tree
         T = tree (j .plan .groups)
+
+    -- .. so not in the same update
+    pub lasts : (w : ℕ) → count made w / 2 ≡ count new w / 2 → waits j made w ≡ false → waits j new w ≡ false
+    unfolding next
+    lasts w e h = lasts-row w (ap (λ (k : ℕ). getD (updates j w) k noUpdate .row) e) h

@@ -1,21 +1,21 @@
 -- Until a run is finished some worker can move, and the ready set is not empty.
 use mathlib.Core.Path.{_≡_, refl, sym, ap, _∙_, subst}
-use mathlib.Core.Logic.{_⊎_, inl, inr, _≢_}
-use mathlib.Core.Bool.{Bool, true, false, _&&_, cond, true≢false}
-use mathlib.Core.List.{List, _∷_}
+use mathlib.Core.Bool.{Bool, true, false, _&&_, true≢false}
+use mathlib.Core.List.{List}
 use Prim.Native.Nat.{ℕ, zero, suc, _+_, _≤_, _<_}
 use native.Mathlib.Omega.{arith}
 use lib.ListN.{length}
-use lib.Dec.{eqb, leb}
-use borrow.Author.Tests.{eq-eqb, leb-false}
-use Rattle.base.proofs.Booleans.{same-or}
+use lib.Dec.{leb}
+use borrow.Author.Tests.{leb-false}
+use Rattle.base.proofs.Lists.{in-pos}
 use Rattle.matrix.specs.Matrix.{neighbours}
 use Rattle.plan.specs.Groups.{Group}
 use Rattle.run.specs.Job.{Job, workers}
 use Rattle.run.specs.Tree.{Tree, none, node, ownerIn, unfinished, blocked}
 use Rattle.run.specs.Updates.{count, accesses, updates, upTo, finished, waits}
-use Rattle.run.specs.Machine.{refusal, readyBelow, ready, allMade, over}
-use Rattle.run.proofs.Able.{Able, able-refusal}
+use Rattle.run.specs.Machine.{ready, allMade, over}
+use Rattle.run.proofs.Able.{Able}
+use Rattle.run.proofs.ReadySet.{ready-in}
 use Rattle.run.proofs.Holds.{holds-in}
 use Rattle.run.proofs.Blocked.{free-here}
 use Rattle.run.proofs.SoundTree.{Tiled}
@@ -103,20 +103,6 @@ module _ (j : Job) (made : List ℕ) (W : WholePlan j) where
   unfolding over
   some-able h = let (v, l) = undone (workers j) h in someone v l
 
-  ready-some : (w k : ℕ) → w < k → refusal j made w ≡ 0 → 1 ≤ length (readyBelow j made k)
-  unfolding readyBelow
-  ready-some w zero l e = absurd (omega arith)
-  ready-some w (suc k) l e = go (same-or w k) (λ m. ready-some w k m e)
-    where
-      go : (w ≡ k) ⊎ (w ≢ k) → (w < k → 1 ≤ length (readyBelow j made k)) → 1 ≤ length (cond (eqb (refusal j made k) 0) (k ∷ readyBelow j made k) (readyBelow j made k))
-      go (inl q) ih = rw (eq-eqb (refusal j made k) 0 (subst (λ (y : ℕ). refusal j made y ≡ 0) q e)) (omega arith)
-      go (inr q) ih = by (eqb (refusal j made k) 0)
-        where
-          by : (b : Bool) → 1 ≤ length (cond b (k ∷ readyBelow j made k) (readyBelow j made k))
-          by true = omega arith
-          by false = ih (omega arith)
-
   -- .. and the ready set is not empty
   pub progress : over j made ≡ false → 1 ≤ length (ready j made)
-  unfolding ready
-  progress h = let (w, a) = some-able h in ready-some w (workers j) (a .inPlan) (able-refusal j made w a)
+  progress h = let (w, a) = some-able h in in-pos (ready j made) w (ready-in j made w a)

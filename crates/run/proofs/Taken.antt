@@ -1,5 +1,5 @@
 -- From a state with the invariant the machine takes just the steps that the model takes: 14 is never met.
-use mathlib.Core.Path.{_≡_, refl, ap, _∙_, subst}
+use mathlib.Core.Path.{_≡_, refl, sym, ap, _∙_, subst}
 use mathlib.Core.Logic.{_≢_}
 use mathlib.Core.Bool.{Bool, true, false}
 use mathlib.Core.List.{List, [], _∷_}
@@ -84,3 +84,7 @@ module _ (j : Job) (F : Facts j) where
           let t = taken s I w e in
           rw (steps-on j s w ws (t .state) (t .is), note-on j (s .made) w ws (ending-is j (s .made) (I .bounded) w ∙ e)) (andThen (t .one) (subst (λ (m : List ℕ). Walk j (t .state) (take (note j m ws .taken) ws) (steps j (t .state) ws .state)) (t .made) (ih (t .state) (t .inv))))
       go (suc k) e ih = rw (steps-end j s w ws (suc k) (step-end j s w k e), note-end j (s .made) w ws k (ending-is j (s .made) (I .bounded) w ∙ e)) stay
+
+  -- .. which are those that the machine takes
+  pub walks-taken : (s : State) → Inv j s → (ws : List ℕ) → Walk j s (take (steps j s ws .taken) ws) (steps j s ws .state)
+  walks-taken s I ws = subst (λ (k : ℕ). Walk j s (take k ws) (steps j s ws .state)) (sym (steps-model s I ws .count)) (walks s I ws)

@@ -10,7 +10,7 @@ use std::time::{Duration, Instant};
 
 use mazhoketh_tests::given::{At, Given};
 use mazhoketh_tests::guarded::STACK;
-use mazhoketh_tests::lists::{MatrixLists, PlanLists, RunLists};
+use mazhoketh_tests::lists::{CrewLists, MatrixLists, PlanLists, RunLists};
 use mazhoketh_tests::oracle::leaves::leaves_of;
 use mazhoketh_tests::oracle::matrix::Matrix;
 use mazhoketh_tests::oracle::nets::{self, Roof};
@@ -35,6 +35,7 @@ struct Lent {
     forces: Vec<u8>,
     shift: Vec<u8>,
     at: At,
+    at1: At,
 }
 
 impl Lent {
@@ -51,14 +52,8 @@ impl Lent {
             forces: vec![0; 8 * given.n as usize],
             shift: vec![0; 4 * given.n as usize],
             at: At::fresh(given.n),
+            at1: At::fresh(given.n),
         }
-    }
-
-    /// The state and sums, fresh again.
-    fn fresh(&mut self) -> &mut At {
-        self.at.state.fill(0);
-        self.at.sums.fill(0);
-        &mut self.at
     }
 }
 
@@ -79,6 +74,8 @@ struct Implementation {
     preview: fn(RunLists, &[u8], &[u8], &[u8]) -> u64,
     ready: fn(RunLists, &[u8], &[u8]) -> u64,
     forces: fn(RunLists, &[u8], &[u8], Out) -> u64,
+    picks_both: fn(CrewLists, [Out; 2], [Out; 2], &[u8]) -> u64,
+    ready_both: fn(CrewLists, [&[u8]; 2], [&[u8]; 2]) -> u64,
 }
 
 const LIBRARY: Implementation = Implementation {
@@ -94,6 +91,8 @@ const LIBRARY: Implementation = Implementation {
     preview: library::preview,
     ready: library::ready,
     forces: library::forces,
+    picks_both: library::picks_both,
+    ready_both: library::ready_both,
 };
 
 const RUST: Implementation = Implementation {
@@ -109,6 +108,8 @@ const RUST: Implementation = Implementation {
     preview: calls::preview,
     ready: calls::ready,
     forces: calls::forces,
+    picks_both: calls::picks_both,
+    ready_both: calls::ready_both,
 };
 
 /// What is timed: a call, or all calls of a run.
@@ -134,21 +135,30 @@ const WORKS: &[(&str, Work)] = &[
     ("write_plan", |by, given, lent| (by.write_plan)(given.n, given.plan(), &mut lent.file)),
     ("read_plan", |by, given, lent| (by.read_plan)(&given.file, &mut lent.order, &mut lent.groups)),
     ("picks, a run in 1 list", |by, given, lent| {
-        let At { state, sums } = lent.fresh();
+        let At { state, sums } = lent.at.clear();
         (by.picks)(given.run(), state, sums, &given.schedule)
     }),
     ("picks, a run in 1,000 lists", |by, given, lent| {
-        let At { state, sums } = lent.fresh();
+        let At { state, sums } = lent.at.clear();
         given.lists().map(|picks| (by.picks)(given.run(), state, sums, picks)).sum()
     }),
     ("preview", |by, given, lent| {
-        let At { state, sums } = lent.fresh();
+        let At { state, sums } = lent.at.clear();
         (by.preview)(given.run(), state, sums, &given.schedule)
     }),
     ("ready", |by, given, _| (by.ready)(given.run(), &given.halfway.state, &given.halfway.sums)),
     ("forces", |by, given, lent| {
         let At { state, sums } = &given.finished;
         (by.forces)(given.run(), state, sums, &mut lent.forces)
+    }),
+    ("picks_both, two runs in 1 list", |by, given, lent| {
+        let (at0, at1) = (lent.at.clear(), lent.at1.clear());
+        let (states, sums) = ([&mut at0.state[..], &mut at1.state], [&mut at0.sums[..], &mut at1.sums]);
+        (by.picks_both)(given.crews(), states, sums, &given.schedule_both)
+    }),
+    ("ready_both", |by, given, _| {
+        let [at0, at1] = &given.halfway_both;
+        (by.ready_both)(given.crews(), [&at0.state, &at1.state], [&at0.sums, &at1.sums])
     }),
 ];
 

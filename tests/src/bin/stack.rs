@@ -55,6 +55,7 @@ fn make(call: &str, stack: usize, given: &Given) -> Option<u64> {
     let (mut order, mut groups, mut text) = (blank(&given.order), vec![0; GROUP_BYTES], blank(&given.text));
     let (mut starts, mut columns, mut values) = (blank(&given.row_starts), blank(&given.columns), blank(&given.values));
     let At { mut state, mut sums } = At::fresh(given.n);
+    let At { state: mut state1, sums: mut sums1 } = At::fresh(given.n);
     let (mut forces, mut shift, mut file) = (blank(&sums), blank(&given.movements), blank(&given.file));
     let end = &given.finished;
     Some(match call {
@@ -72,6 +73,13 @@ fn make(call: &str, stack: usize, given: &Given) -> Option<u64> {
         "preview" => on_stack(stack, || library::preview(given.run(), &state, &sums, &given.schedule)),
         "ready" => on_stack(stack, || library::ready(given.run(), &state, &sums)),
         "forces" => on_stack(stack, || library::forces(given.run(), &end.state, &end.sums, &mut forces)),
+        "picks_both" => on_stack(stack, || {
+            let (states, sums) = ([&mut state[..], &mut state1], [&mut sums[..], &mut sums1]);
+            library::picks_both(given.crews(), states, sums, &given.schedule_both)
+        }),
+        "ready_both" => on_stack(stack, || {
+            library::ready_both(given.crews(), [&state, &state1], [&sums, &sums1])
+        }),
         _ => return None,
     })
 }
@@ -94,8 +102,8 @@ fn run(call: &str, stack: usize) {
 /// Says how the program is called.
 fn usage() -> ! {
     eprintln!(
-        "usage: stack CALL BYTES (read, write, product, survey, plan, check, write_plan, read_plan, picks, \
-         preview, ready or forces)"
+        "usage: stack CALL BYTES (read, write, product, survey, plan, check, write_plan, read_plan, picks, preview, \
+         ready, forces, picks_both or ready_both)"
     );
     exit(2);
 }

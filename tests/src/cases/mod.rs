@@ -1,5 +1,6 @@
 //! Random cases of each call, made to the library and to the other implementation and compared.
 
+pub mod crews;
 pub mod matrix;
 pub mod plan;
 pub mod plan_file;
@@ -21,7 +22,7 @@ use crate::progress::Progress;
 
 /// How often each refusal's number was met; at 0, how many calls were accepted.
 #[derive(Default)]
-pub struct Seen([usize; 18]);
+pub struct Seen([usize; 20]);
 
 impl Seen {
     /// Counts an answer word.
@@ -182,7 +183,7 @@ pub fn matrix_twins(rng: &mut Prng, matrix: &Matrix) -> MatrixTwins {
 
 /// A case of any call.
 pub fn any(rng: &mut Prng, seen: &mut Seen) {
-    match rng.below(40) {
+    match rng.below(47) {
         0..8 => matrix::read(rng, seen),
         8..11 => matrix::write(rng, seen),
         11..14 => matrix::product(rng, seen),
@@ -195,6 +196,9 @@ pub fn any(rng: &mut Prng, seen: &mut Seen) {
         32 => plan_file::read(rng, seen),
         33..36 => survey::survey(rng, seen),
         36..39 => run::preview(rng, seen),
+        39..43 => crews::picks(rng, seen),
+        43..45 => crews::ready(rng, seen),
+        45 => crews::whole(rng, seen),
         _ => run::whole(rng, seen),
     }
 }

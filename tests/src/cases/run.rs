@@ -101,10 +101,7 @@ impl Run {
                 movements: with_stray(rng, movements, i32::to_le_bytes),
                 plan: plan_twins(rng, plan, 0),
             },
-            at: StateTwins {
-                state: Twin::new(state_bytes(&State::fresh())),
-                sums: with_stray(rng, &vec![0; movements.len()], i64::to_le_bytes),
-            },
+            at: fresh_twins(rng, matrix.n),
             workers: plan.groups[0][3] as usize,
             moves: states::moves(matrix, plan),
         }
@@ -156,8 +153,16 @@ impl Run {
     }
 }
 
+/// The lists of the fresh state of a run over n freedoms.
+pub fn fresh_twins(rng: &mut Prng, n: u32) -> StateTwins {
+    StateTwins {
+        state: Twin::new(state_bytes(&State::fresh())),
+        sums: with_stray(rng, &vec![0; n as usize], i64::to_le_bytes),
+    }
+}
+
 /// The lists of a state and sums; now and then a count is past its moves, or a list is too short or too long.
-fn perhaps_damaged_state(rng: &mut Prng, mut state: State, mut sums: Vec<i64>) -> StateTwins {
+pub fn perhaps_damaged_state(rng: &mut Prng, mut state: State, mut sums: Vec<i64>) -> StateTwins {
     let mut length = calls::STATE_BYTES;
     match rng.below(40) {
         0 => state.made[rng.below(WORKERS)] = rng.one_of(&[1 << 12, 1 << 20, u32::MAX]),
@@ -244,15 +249,14 @@ impl WholeRun {
     }
 }
 
-/// Runs a case for the fresh runs of a roof and of a public matrix, both large, by few and by many workers.
-pub fn each_large(seed: u64, case: impl Fn(&mut Prng, WholeRun) + Sync) {
+/// Runs a case for a roof and a public matrix, both large, and their plans for few and for many workers.
+pub fn each_large(seed: u64, case: impl Fn(&mut Prng, &Matrix, &Plan) + Sync) {
     let roof = nets::roof(&mut Prng::new(seed), Roof::default());
     let (_, bcsstk14) = files::read(&files::folder().join("bcsstk14.mtx"));
     let runs = [(&roof, 5), (&roof, 16), (&bcsstk14, 5), (&bcsstk14, 16)];
     numbered(seed, 0..runs.len() as u64, |number, rng, _| {
         let (matrix, workers) = runs[number as usize];
         let plan = planner::plan(matrix.rows(), workers, 60);
-        let run = WholeRun::new(rng, matrix, &plan);
-        case(rng, run);
+        case(rng, matrix, &plan);
     });
 }

@@ -12,6 +12,8 @@ pub struct Book {
     groups: Vec<Fields>,
     /// For each leaf, in plan order: its record, its worker, and its worker's moves up to its end.
     leaves: Vec<(usize, usize, u32)>,
+    /// For each row, in plan order: its worker, and its worker's moves up to its end.
+    row_ends: Vec<(usize, u32)>,
     /// The moves of each worker.
     moves: [u32; WORKERS],
     /// "It keeps a count for each worker, at first 0."
@@ -26,6 +28,7 @@ impl Book {
             movements: movements.to_vec(),
             groups: plan.groups.clone(),
             leaves: Vec::new(),
+            row_ends: Vec::new(),
             moves: [0; WORKERS],
             counts: [0; WORKERS],
         };
@@ -36,11 +39,12 @@ impl Book {
                 .skip(1)
                 .all(|group| group[5] as usize != index)
             {
-                let rows = start..start + length;
-                book.moves[worker as usize] +=
-                    rows.map(|row| row_moves(matrix, plan, row)).sum::<u32>();
-                let end = book.moves[worker as usize];
-                book.leaves.push((index, worker as usize, end));
+                let worker = worker as usize;
+                for row in start..start + length {
+                    book.moves[worker] += row_moves(matrix, plan, row);
+                    book.row_ends.push((worker, book.moves[worker]));
+                }
+                book.leaves.push((index, worker, book.moves[worker]));
             }
         }
         book
@@ -92,8 +96,14 @@ impl Book {
         self.counts == self.moves
     }
 
+    /// Whether a worker "has begun a row" and not finished it.
+    pub fn is_inside(&self, worker: usize) -> bool {
+        let count = self.counts[worker];
+        count > 0 && !self.row_ends.contains(&(worker, count))
+    }
+
     /// The ending that a worker's pick would get: 10, 12, 13 or none.
-    fn refuses(&self, worker: usize) -> Option<u32> {
+    pub fn refuses(&self, worker: usize) -> Option<u32> {
         if worker >= self.workers() {
             return Some(10);
         }

@@ -2,10 +2,11 @@
 //!
 //! The word has the refusal's number in its high half; its low half is the refusal's place or the call's count.
 
-use super::machine::{self, Lent, State};
+use super::crews::{self, LentBoth};
+use super::machine::{self, Lent, Picked, State};
 use super::matrix::Rows;
 use super::{plan_file, planner, soundness, survey, text, Refusal, FIELDS, WORKERS};
-use crate::lists::{MatrixLists, PlanLists, RunLists};
+use crate::lists::{CrewLists, MatrixLists, PlanLists, RunLists};
 
 /// The bytes of a state: sixteen counts of moves, then sixteen held numbers.
 pub const STATE_BYTES: usize = WORKERS * (4 + 8);
@@ -146,17 +147,65 @@ pub fn picks(run: RunLists, state: &mut [u8], sums: &mut [u8], picks: &[u8]) -> 
         let mut numbers = lists.state(state)?;
         let mut list = get(sums, usize::MAX, i64::from_le_bytes);
         let picked = machine::picks(&lists.lent(), &mut numbers, &mut list, picks);
-        let unchanged = [5, 6, 8, 11];
-        if !picked
-            .stopped
-            .is_some_and(|refusal| unchanged.contains(&refusal.number))
-        {
+        if has_begun(&picked) {
             put_state(state, &numbers);
             put(sums, &list, i64::to_le_bytes);
         }
         picked.stopped.map_or(Ok(picked.taken), Err)
     };
     word(take())
+}
+
+/// Whether a call came to its picks: 5, 6, 8 and 11 write nothing.
+fn has_begun(picked: &Picked) -> bool {
+    let unchanged = [5, 6, 8, 11];
+    !picked
+        .stopped
+        .is_some_and(|refusal| unchanged.contains(&refusal.number))
+}
+
+/// Picks of two crews; counts those taken.
+pub fn picks_both(
+    lists: CrewLists,
+    states: [&mut [u8]; 2],
+    sums: [&mut [u8]; 2],
+    picks: &[u8],
+) -> u64 {
+    let numbers = Lists::of_run(lists.run);
+    let movements1 = get(lists.movements1, usize::MAX, i32::from_le_bytes);
+    let take = || {
+        let mut at = numbers.both(
+            &movements1,
+            [&*states[0], &*states[1]],
+            [&*sums[0], &*sums[1]],
+        )?;
+        let picked = crews::picks(&numbers.lent_both(&movements1), &mut at, picks);
+        if has_begun(&picked) {
+            for ((at, state), sums) in at.iter().zip(states).zip(sums) {
+                put_state(state, &at.state);
+                put(sums, &at.sums, i64::to_le_bytes);
+            }
+        }
+        picked.stopped.map_or(Ok(picked.taken), Err)
+    };
+    word(take())
+}
+
+/// The ready sets of two crews: sixteen bits of each in the low half, their counts in bits 40 to 47 and 48 to 55.
+pub fn ready_both(lists: CrewLists, states: [&[u8]; 2], sums: [&[u8]; 2]) -> u64 {
+    let numbers = Lists::of_run(lists.run);
+    let movements1 = get(lists.movements1, usize::MAX, i32::from_le_bytes);
+    let ready = || {
+        let at = numbers.both(&movements1, states, sums)?;
+        crews::ready(&numbers.lent_both(&movements1), &at)
+    };
+    match ready() {
+        Ok([crew0, crew1]) => {
+            let sets = u64::from(crew0.set) | u64::from(crew1.set) << 16;
+            sets | u64::from(crew0.count) << 40 | u64::from(crew1.count) << 48
+        }
+        Err(refusal) => word(Err(refusal)),
+    }
 }
 
 /// The ready set of a run: sixteen bits, plus the count × 65,536.
@@ -314,5 +363,28 @@ impl Lists {
             Some(state) => Ok(state),
             None => Err(self.lent().judge().err().unwrap_or(Refusal::at(11, 0))),
         }
+    }
+
+    /// What a call for two crews is lent, with the movements of crew 1.
+    fn lent_both<'a>(&'a self, movements1: &'a [i32]) -> LentBoth<'a> {
+        LentBoth {
+            run: self.lent(),
+            movements1,
+        }
+    }
+
+    /// The states and sums of two crews; a state that is not 192 bytes long gives 11 after 5, 6 and 8.
+    fn both(
+        &self,
+        movements1: &[i32],
+        states: [&[u8]; 2],
+        sums: [&[u8]; 2],
+    ) -> Result<[crews::At; 2], Refusal> {
+        let [Some(state0), Some(state1)] = states.map(get_state) else {
+            let judged = self.lent_both(movements1).judge();
+            return Err(judged.err().unwrap_or(Refusal::at(11, 0)));
+        };
+        let [sums0, sums1] = sums.map(|list| get(list, usize::MAX, i64::from_le_bytes));
+        Ok([(state0, sums0), (state1, sums1)].map(|(state, sums)| crews::At { state, sums }))
     }
 }

@@ -115,6 +115,21 @@ impl Leaves {
         leaves.iter().position(next).map(|k| from + k)
     }
 
+    /// Whether a worker's next move is there, and the worker doesn't wait.
+    pub fn is_ready(&self, worker: usize, made: &[u32; WORKERS]) -> bool {
+        let next = self.next_leaf(worker, made[worker], 0);
+        next.is_some_and(|leaf| !self.leaves[leaf].waits(made))
+    }
+
+    /// The moves made in the row of a worker's next move, and those left in it; none if all its moves are made.
+    pub fn moves_in_row(&self, worker: usize, made: u32) -> (u32, u32) {
+        let Some(leaf) = self.next_leaf(worker, made, 0) else {
+            return (0, 0);
+        };
+        let (row, begun) = self.row_of_move(&self.leaves[leaf], made);
+        (begun, moves_between(&self.later, row, row + 1) - begun)
+    }
+
     /// The row, as plan position, of a leaf's worker's next move, and the moves made in it.
     pub fn row_of_move(&self, leaf: &Leaf, made: u32) -> (usize, u32) {
         let before = |place| leaf.moves_before + moves_between(&self.later, leaf.start, place);

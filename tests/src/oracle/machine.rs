@@ -58,8 +58,16 @@ impl<'a> Lent<'a> {
 
     /// Refusals 5, 6 and 8, else the matrix and its plan.
     pub fn judge(&self) -> Result<(Rows<'a>, SoundPlan<'a>), Refusal> {
+        self.judge_with(&[])
+    }
+
+    /// The same, where more movement lists are judged after the run's own.
+    pub fn judge_with(&self, more: &[&[i32]]) -> Result<(Rows<'a>, SoundPlan<'a>), Refusal> {
         let rows = Rows::lent(self.n, self.starts, self.columns, self.values)?;
         judge_movements(rows.n, self.movements)?;
+        for movements in more {
+            judge_movements(rows.n, movements)?;
+        }
         let plan = soundness::check(rows, self.order, self.groups, self.group_count)?;
         Ok((rows, plan))
     }
@@ -79,6 +87,32 @@ pub struct Ready {
     pub count: u32,
 }
 
+impl Picked {
+    /// A call that is refused before its first pick.
+    pub fn refused(refusal: Refusal) -> Picked {
+        Picked {
+            taken: 0,
+            stopped: Some(refusal),
+        }
+    }
+
+    /// Picks taken in turn until one is refused; a pick is taken by `take`, or it tells its number.
+    pub fn in_turn(picks: &[u8], mut take: impl FnMut(u8) -> Result<(), u32>) -> Picked {
+        for (index, &pick) in picks.iter().enumerate() {
+            if let Err(number) = take(pick) {
+                return Picked {
+                    taken: index as u32,
+                    stopped: Some(Refusal::at(number, index)),
+                };
+            }
+        }
+        Picked {
+            taken: picks.len() as u32,
+            stopped: None,
+        }
+    }
+}
+
 impl Ready {
     /// The ready set of the workers that a test accepts.
     pub fn of(workers: usize, is_ready: impl Fn(usize) -> bool) -> Ready {
@@ -91,18 +125,14 @@ impl Ready {
 
 /// Takes picks in turn, "each one move", until one is refused.
 pub fn picks(lent: &Lent, state: &mut State, sums: &mut [i64], picks: &[u8]) -> Picked {
-    let refused = |refusal| Picked {
-        taken: 0,
-        stopped: Some(refusal),
-    };
     let (rows, plan) = match lent.judge() {
         Ok(judged) => judged,
-        Err(refusal) => return refused(refusal),
+        Err(refusal) => return Picked::refused(refusal),
     };
-    let leaves = match judge_state(rows, &plan, state, sums) {
-        Ok(leaves) => leaves,
-        Err(refusal) => return refused(refusal),
-    };
+    let leaves = Leaves::of(rows, &plan);
+    if let Err(refusal) = judge_state(&leaves, rows.n, state, sums) {
+        return Picked::refused(refusal);
+    }
     let net = Net {
         rows,
         plan: &plan,
@@ -120,7 +150,8 @@ pub fn preview(
     picks: &[u8],
 ) -> Result<(Picked, Ready), Refusal> {
     let (rows, plan) = lent.judge()?;
-    let leaves = judge_state(rows, &plan, &state, &sums)?;
+    let leaves = Leaves::of(rows, &plan);
+    judge_state(&leaves, rows.n, &state, &sums)?;
     let net = Net {
         rows,
         plan: &plan,
@@ -134,40 +165,28 @@ pub fn preview(
 /// Picks in turn, up to the first that is refused.
 fn take_all(net: Net, state: &mut State, sums: &mut [i64], picks: &[u8]) -> Picked {
     let mut crew = Crew::new(net, state, sums);
-    for (index, &pick) in picks.iter().enumerate() {
-        if let Err(number) = crew.take(usize::from(pick)) {
-            return Picked {
-                taken: index as u32,
-                stopped: Some(Refusal::at(number, index)),
-            };
-        }
-    }
-    Picked {
-        taken: picks.len() as u32,
-        stopped: None,
-    }
+    Picked::in_turn(picks, |pick| crew.take(usize::from(pick), || false))
 }
 
 /// The workers whose pick neither 12 nor 13 would refuse.
 pub fn ready(lent: &Lent, state: &State, sums: &[i64]) -> Result<Ready, Refusal> {
     let (rows, plan) = lent.judge()?;
-    let leaves = judge_state(rows, &plan, state, sums)?;
+    let leaves = Leaves::of(rows, &plan);
+    judge_state(&leaves, rows.n, state, sums)?;
     Ok(ready_by(&leaves, state))
 }
 
 /// The ready set by the moves made.
 fn ready_by(leaves: &Leaves, state: &State) -> Ready {
-    let is_ready = |worker: usize| {
-        let next = leaves.next_leaf(worker, state.made[worker], 0);
-        next.is_some_and(|leaf| !leaves.leaves[leaf].waits(&state.made))
-    };
+    let is_ready = |worker| leaves.is_ready(worker, &state.made);
     Ready::of(leaves.workers, is_ready)
 }
 
 /// Writes "the sums in original order" of a finished run.
 pub fn forces(lent: &Lent, state: &State, sums: &[i64], forces: &mut [i64]) -> Result<(), Refusal> {
     let (rows, plan) = lent.judge()?;
-    let leaves = judge_state(rows, &plan, state, sums)?;
+    let leaves = Leaves::of(rows, &plan);
+    judge_state(&leaves, rows.n, state, sums)?;
     if state.made != leaves.moves {
         return Err(Refusal::at(15, 0));
     }
@@ -178,32 +197,22 @@ pub fn forces(lent: &Lent, state: &State, sums: &[i64], forces: &mut [i64]) -> R
     Ok(())
 }
 
-/// Refusal 11: "list of sums not n long, or a worker's count past its moves"; else the leaves.
-fn judge_state(
-    rows: Rows,
-    plan: &SoundPlan,
-    state: &State,
-    sums: &[i64],
-) -> Result<Leaves, Refusal> {
-    let refusal = Refusal::at(11, 0);
-    if sums.len() != rows.n {
-        return Err(refusal);
-    }
-    let leaves = Leaves::of(rows, plan);
+/// Refusal 11: "list of sums not n long, or a worker's count past its moves".
+pub fn judge_state(leaves: &Leaves, n: usize, state: &State, sums: &[i64]) -> Result<(), Refusal> {
     let past = |worker: usize| state.made[worker] > leaves.moves[worker];
-    if (0..WORKERS).any(past) {
-        return Err(refusal);
+    if sums.len() != n || (0..WORKERS).any(past) {
+        return Err(Refusal::at(11, 0));
     }
-    Ok(leaves)
+    Ok(())
 }
 
 /// What the workers run on.
 #[derive(Clone, Copy)]
-struct Net<'a> {
-    rows: Rows<'a>,
-    plan: &'a SoundPlan<'a>,
-    leaves: &'a Leaves,
-    movements: &'a [i32],
+pub struct Net<'a> {
+    pub rows: Rows<'a>,
+    pub plan: &'a SoundPlan<'a>,
+    pub leaves: &'a Leaves,
+    pub movements: &'a [i32],
 }
 
 /// Whether a worker may move: not known yet, yes until its leaf ends, or never again.
@@ -312,7 +321,7 @@ impl Walk {
 }
 
 /// The workers of one call of picks.
-struct Crew<'a> {
+pub struct Crew<'a> {
     net: Net<'a>,
     walks: Vec<Walk>,
     state: &'a mut State,
@@ -321,7 +330,7 @@ struct Crew<'a> {
 
 impl<'a> Crew<'a> {
     /// The plan's workers, each where its count says.
-    fn new(net: Net<'a>, state: &'a mut State, sums: &'a mut [i64]) -> Crew<'a> {
+    pub fn new(net: Net<'a>, state: &'a mut State, sums: &'a mut [i64]) -> Crew<'a> {
         let workers = 0..net.leaves.workers;
         let walks = workers.map(|worker| Walk::new(net, worker, state.made[worker]));
         Crew {
@@ -332,14 +341,18 @@ impl<'a> Crew<'a> {
         }
     }
 
-    /// Takes one pick: one load or one store, or the number of its refusal and no change.
+    /// Takes one pick: one load or one store, or the number of its refusal and no change. A worker that may move is
+    /// refused with 19 if it is away.
     #[inline]
-    fn take(&mut self, worker: usize) -> Result<(), u32> {
+    pub fn take(&mut self, worker: usize, is_away: impl FnOnce() -> bool) -> Result<(), u32> {
         let walk = self.walks.get_mut(worker).ok_or(10u32)?;
         if walk.gate != Gate::Open {
             let leaf = &self.net.leaves.leaves[walk.leaf];
             ask(walk.gate, leaf, self.state)?;
             walk.gate = Gate::Open;
+        }
+        if is_away() {
+            return Err(19);
         }
         let made = &mut self.state.made[worker];
         let held = &mut self.state.held[worker];
@@ -352,6 +365,13 @@ impl<'a> Crew<'a> {
             walk.go_on(self.net, worker, *made);
         }
         Ok(())
+    }
+
+    /// Whether a worker of the plan has begun a row and not finished it.
+    #[inline]
+    pub fn is_inside(&self, worker: usize) -> bool {
+        let walk = &self.walks[worker];
+        walk.gate != Gate::Ended && (walk.step > 0 || self.state.made[worker] % 2 == 1)
     }
 }
 

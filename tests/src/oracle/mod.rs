@@ -2,6 +2,7 @@
 
 pub mod book;
 pub mod calls;
+pub mod crews;
 pub mod damage;
 pub mod leaves;
 pub mod machine;

@@ -25,6 +25,15 @@ pub fn made_up(rng: &mut Prng, moves: [u32; WORKERS]) -> State {
     finished(rng, made)
 }
 
+/// A made-up state in which each worker stands between two of its rows, or at its end.
+pub fn between_rows(rng: &mut Prng, leaves: &Leaves) -> State {
+    let mut state = made_up(rng, leaves.moves);
+    for (worker, made) in state.made.iter_mut().enumerate() {
+        *made -= leaves.moves_in_row(worker, *made).0;
+    }
+    state
+}
+
 /// A made-up state in which each worker has made all its moves.
 pub fn finished(rng: &mut Prng, moves: [u32; WORKERS]) -> State {
     State {

@@ -1,0 +1,3 @@
+pub mod Crews
+pub mod Calls
+pub mod TwoCrews

@@ -1,0 +1,2 @@
+pub mod RoofChecked
+pub mod Sharing

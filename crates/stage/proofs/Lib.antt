@@ -1,0 +1,4 @@
+pub mod CutRoofs
+pub mod TurnsFew
+pub mod BothIn
+pub mod ReadyFew

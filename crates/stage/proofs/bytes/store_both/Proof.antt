@@ -1,0 +1,37 @@
+-- `store_both` meets its contract: each crew's state and sums over its own bytes.
+use borrow.Author.Needs.{needs}
+use mathlib.Core.List.{[]}
+use lib.ListN.{take}
+use Rattle.turns.specs.Records.{statesOf}
+use Rattle.stage.specs.Both.{replyToBoth}
+use Rattle.stage.proofs.BothIn.{stored-left}
+use Rattle.stage.proofs.bytes.store_both.Statement.{statement}
+use Rattle.stage.proofs.bytes.store_both.Tie as tie
+
+store-picks-requires : tie.Need-store-picks-requires
+store-picks-requires c κs = c .before .before .before .before .before .before .before .before .before .pre .fit0
+
+store-picks-requires-2 : tie.Need-store-picks-requires-2
+store-picks-requires-2 c κs = c .before .before .before .before .before .before .before .before .before .before .before .before .before .before .before .before .before .before .pre .fit1
+
+word-of-requires : tie.Need-word-of-requires
+word-of-requires c κs = c .before .before .before .before .before .before .before .before .before .before .before .before .before .before .before .before .before .before .before .before .before .before .before .pre .low
+
+returns : tie.Need-returns
+unfolding replyToBoth
+returns c =
+    let second = c .before .before .before .before .before in
+    let first = second .before .before .before .before .before .before .before .before .before in
+    let a = first .before .before .before .before .before .before .before .before .before .before .args in
+    let s = statesOf (a .done .crews) (take (a .n) (a .new0 .now)) (take (a .n) (a .new1 .now)) in
+    record {
+      returns = c .word-of .ensures [];
+      left0 = stored-left (a .done .answer) (a .new0 .now) (s .of0) (record { state = a .state0 .now; sums = a .sums0 .now }) (first .store-picks .ensures .0) (first .store-picks .ensures .1);
+      left1 = stored-left (a .done .answer) (a .new1 .now) (s .of1) (record { state = a .state1 .now; sums = a .sums1 .now }) (second .store-picks2 .ensures .0) (second .store-picks2 .ensures .1);
+    }
+
+pub store-both-spec : {M : Type 1} → statement M
+store-both-spec =
+    tie.close
+    (tie.spec store-picks-requires store-picks-requires-2 word-of-requires (search needs) (search needs) (search needs)
+    (search needs) returns)

@@ -1,0 +1,126 @@
+// The calls for two crews whose lists stand in bytes: numbers are decoded into arrays, the proved call is made (document
+// 02, Q-9).
+mod bytes;
+mod word;
+
+use bytes::load_crews;
+use bytes::load_sums;
+use bytes::store_both;
+use lent::lists::load_signed;
+use lent::lists::load_unsigned;
+use matrix::limits::MAX_CELLS;
+use matrix::limits::MAX_ROWS;
+use matrix::limits::MAX_STARTS;
+use plan::fields::MAX_FIELDS;
+use shared::picks_both;
+use shared::ready_both;
+use word::word_of_sets;
+ghost use mathlib.Core.Path.{_≡_};
+ghost use Rattle.crews.specs.Calls.{picksBoth, readySets, afterBothLent};
+ghost use Rattle.words.specs.LittleEndian.{unsigned, signed};
+ghost use Rattle.lent.specs.Bytes.{matrixIn};
+ghost use Rattle.lent.specs.Word.{word};
+ghost use Rattle.stage.specs.Both.{statesIn, answerBothIn, replyToBoth, PicksBothAnswered};
+
+// A list of picks for both. The lists are decoded as far as any roof can reach.
+pub fn picks_both_in(
+    n: u32,
+    row_starts: &[u8],
+    columns: &[u8],
+    values: &[u8],
+    movements0: &[u8],
+    movements1: &[u8],
+    order: &[u8],
+    groups: &[u8],
+    group_count: u32,
+    state0: &mut [u8],
+    sums0: &mut [u8],
+    state1: &mut [u8],
+    sums1: &mut [u8],
+    picks: &[u8],
+) -> u64
+    ensures { λ r. ⌜ PicksBothAnswered
+        (answerBothIn (matrixIn n (now («row_starts» .entry)) (now (columns .entry)) (now (values .entry))) (record { of0 = signed 4 (now (movements0 .entry)); of1 = signed 4 (now (movements1 .entry)) }) (unsigned 4 (now (order .entry))) (unsigned 4 (now (groups .entry))) «group_count»
+        (record { of0 = record { state = now (state0 .entry); sums = now (sums0 .entry) }; of1 = record { state = now (state1 .entry); sums = now (sums1 .entry) } }) (picksBoth (now (picks .entry))))
+        (afterBothLent (matrixIn n (now («row_starts» .entry)) (now (columns .entry)) (now (values .entry))) (record { of0 = signed 4 (now (movements0 .entry)); of1 = signed 4 (now (movements1 .entry)) }) (unsigned 4 (now (order .entry))) (unsigned 4 (now (groups .entry))) «group_count»
+        (statesIn (record { of0 = record { state = now (state0 .entry); sums = now (sums0 .entry) }; of1 = record { state = now (state1 .entry); sums = now (sums1 .entry) } })) (picksBoth (now (picks .entry))))
+        (record { of0 = record { state = now (state0 .entry); sums = now (sums0 .entry) }; of1 = record { state = now (state1 .entry); sums = now (sums1 .entry) } }) r
+        (record { of0 = record { state = now (state0 .exit); sums = now (sums0 .exit) }; of1 = record { state = now (state1 .exit); sums = now (sums1 .exit) } }) ⌝ }
+{
+    let mut starts = [0u32; MAX_STARTS];
+    let mut column_list = [0u32; MAX_CELLS];
+    let mut value_list = [0i32; MAX_CELLS];
+    let mut displacements0 = [0i32; MAX_STARTS];
+    let mut displacements1 = [0i32; MAX_STARTS];
+    let mut order_list = [0u32; MAX_ROWS];
+    let mut group_list = [0u32; MAX_FIELDS];
+    let mut new0 = [0i64; MAX_STARTS];
+    let mut new1 = [0i64; MAX_STARTS];
+    let kept0 = load_sums(state0, sums0, &mut new0);
+    let kept1 = load_sums(state1, sums1, &mut new1);
+    let crews = load_crews(state0, state1);
+    let done = picks_both(
+        n,
+        load_unsigned(row_starts, &mut starts),
+        load_unsigned(columns, &mut column_list),
+        load_signed(values, &mut value_list),
+        load_signed(movements0, &mut displacements0),
+        load_signed(movements1, &mut displacements1),
+        load_unsigned(order, &mut order_list),
+        load_unsigned(groups, &mut group_list),
+        group_count,
+        crews,
+        &mut new0[..kept0],
+        &mut new1[..kept1],
+        picks,
+    );
+    store_both(n, done, &new0, &new1, state0, sums0, state1, sums1)
+}
+
+// The ready sets of both.
+pub fn ready_both_in(
+    n: u32,
+    row_starts: &[u8],
+    columns: &[u8],
+    values: &[u8],
+    movements0: &[u8],
+    movements1: &[u8],
+    order: &[u8],
+    groups: &[u8],
+    group_count: u32,
+    state0: &[u8],
+    sums0: &[u8],
+    state1: &[u8],
+    sums1: &[u8],
+) -> u64
+    ensures { λ r. ⌜ r ≡ word (replyToBoth (answerBothIn (matrixIn n (now («row_starts» .entry)) (now (columns .entry)) (now (values .entry))) (record { of0 = signed 4 (now (movements0 .entry)); of1 = signed 4 (now (movements1 .entry)) }) (unsigned 4 (now (order .entry))) (unsigned 4 (now (groups .entry))) «group_count»
+        (record { of0 = record { state = now (state0 .entry); sums = now (sums0 .entry) }; of1 = record { state = now (state1 .entry); sums = now (sums1 .entry) } }) readySets)) ⌝ }
+{
+    let mut starts = [0u32; MAX_STARTS];
+    let mut column_list = [0u32; MAX_CELLS];
+    let mut value_list = [0i32; MAX_CELLS];
+    let mut displacements0 = [0i32; MAX_STARTS];
+    let mut displacements1 = [0i32; MAX_STARTS];
+    let mut order_list = [0u32; MAX_ROWS];
+    let mut group_list = [0u32; MAX_FIELDS];
+    let mut new0 = [0i64; MAX_STARTS];
+    let mut new1 = [0i64; MAX_STARTS];
+    let kept0 = load_sums(state0, sums0, &mut new0);
+    let kept1 = load_sums(state1, sums1, &mut new1);
+    let crews = load_crews(state0, state1);
+    let sets = ready_both(
+        n,
+        load_unsigned(row_starts, &mut starts),
+        load_unsigned(columns, &mut column_list),
+        load_signed(values, &mut value_list),
+        load_signed(movements0, &mut displacements0),
+        load_signed(movements1, &mut displacements1),
+        load_unsigned(order, &mut order_list),
+        load_unsigned(groups, &mut group_list),
+        group_count,
+        crews,
+        &new0[..kept0],
+        &new1[..kept1],
+    );
+    word_of_sets(sets)
+}

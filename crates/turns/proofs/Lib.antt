@@ -1,0 +1,2 @@
+pub mod CrewTurns
+pub mod SharedLoop

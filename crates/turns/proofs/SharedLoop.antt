@@ -1,0 +1,153 @@
+-- The loop over a schedule for both: what is left of it decides, and who is blocked, in each crew's run, is as before
+-- until a count reaches its stop.
+use mathlib.Core.Path.{_≡_, refl, sym, ap, _∙_, subst}
+use mathlib.Core.Logic.{_≢_}
+use mathlib.Core.List.{List}
+use Prim.Native.Nat.{ℕ, _+_, _/_, _%_, _≤_, _<_}
+use native.Mathlib.Numerals.{add-one}
+use native.Mathlib.Omega.{arith}
+use lib.IntN.{ℤ}
+use lib.ListN.{length, getD}
+use Rattle.plan.specs.Sound.{maxWorkers}
+use Rattle.plan.specs.Groups.{records}
+use Rattle.plan.specs.code.Checks.{recordAt}
+use Rattle.run.specs.Job.{workers}
+use Rattle.run.specs.State.{State}
+use Rattle.run.specs.Schedule.{nothing}
+use Rattle.run.proofs.Onward.{onward-length}
+use Rattle.run.proofs.Passes.{Left, left-start, left-step, left-halt, left-none}
+use Rattle.tables.specs.code.Laid.{Laid}
+use Rattle.waits.specs.code.Waits.{Recorded, Blocks, Ahead}
+use Rattle.steps.specs.code.Updates.{updateIn, Triangle}
+use Rattle.steps.specs.code.Steps.{rowNext, numberNext, reasonAt, outcomeOf, PickMade}
+use Rattle.machine.proofs.BlockedLeaves.{whole-crew, waits-of}
+use Rattle.machine.proofs.RunTurns.{blocks-kept, ahead-kept}
+use Rattle.crews.specs.Crews.{Crew, crew0, crew1, other, crewNumber, Two, ownOf, put, Roof, jobFor, unlessAway, crewStep, turn, turns}
+use Rattle.crews.specs.TwoCrews.{AcceptedRoof}
+use Rattle.turns.specs.code.Inside.{insideAt}
+use Rattle.turns.specs.code.Turned.{misnamed}
+use Rattle.turns.proofs.CrewTurns.{turn-answer, turn-halts, turn-moves, name-halts}
+
+-- the tables that the picks are taken by
+pub record Tables : Type 0 where
+  pub workers : ℕ
+  pub count : ℕ
+  pub groups : List ℕ
+  pub ends : List ℕ
+  pub first : List ℕ
+  pub row : List ℕ
+  pub begins : List ℕ
+  pub parts : List ℕ
+  pub leaves : List ℕ
+  pub displaced : Two (List ℤ)
+  pub at : List ℕ
+  pub beside : List ℤ
+
+put-own : (S : Two State) (c : Crew) → put S c (ownOf S c) ≡ S
+put-own S crew0 = refl
+put-own S crew1 = refl
+
+module _ (T : Tables) where
+  -- of every roof that they stand for
+  abbrev EachRoof : (Roof → Type 0) → Type 0
+  EachRoof P =
+      (q : Roof) → AcceptedRoof q → q .plan .groups ≡ records (T .count) (T .groups) → ((c : Crew) → Laid (jobFor q c) (T .first) (T .row) (T .begins) (T .leaves) (T .ends))
+      → Triangle (jobFor q crew0) (T .parts) (T .displaced .of0) (T .at) (T .beside) → Triangle (jobFor q crew1) (T .parts) (T .displaced .of1) (T .at) (T .beside) → P q
+
+  -- these groups are blocked by a crew's counts, and until a count reaches its stop
+  pub record Side (made blocks stops : List ℕ) : Type 0 where
+    pub long : length made ≡ maxWorkers
+    pub blocked : Blocks (T .count) (T .groups) (T .ends) made blocks
+    pub ahead : Ahead (T .count) (T .groups) (T .ends) made stops
+
+  -- k picks of the schedule, all taken, led from S₀ to S
+  pub record Sharing (S₀ : Two State) (schedule : List ℕ) (k : ℕ) (S : Two State) (blocks stops : Two (List ℕ)) : Type 0 where
+    pub crew : T .workers ≡ recordAt (T .groups) 0 .workers
+    pub side : (c : Crew) → Side (ownOf S c .made) (ownOf blocks c) (ownOf stops c)
+    pub left : EachRoof (λ q. Left nothing (turn q) S₀ schedule k k S)
+
+  -- a pick of worker w for crew c by the tables, with this answer, that leaves this state
+  abbrev pub Made : Two State → Crew → (blocks : List ℕ) (w number : ℕ) → State → Type 0
+  Made S c blocks w number new =
+      let made : List ℕ = ownOf S c .made in
+      PickMade (unlessAway (reasonAt maxWorkers (T .first) (T .row) (T .leaves) blocks made w) (insideAt (T .first) (T .row) (T .begins) (ownOf S (other c) .made) w)) (ownOf S c) w
+      (updateIn (T .parts) (ownOf (T .displaced) c) (T .at) (T .beside) (rowNext (T .first) (T .row) made w) (numberNext (T .first) (T .row) (T .begins) made w)) number new
+
+module _ {T : Tables} {S₀ : Two State} {schedule : List ℕ} where
+  -- at first
+  pub sharing-start : {blocks stops : Two (List ℕ)} → T .workers ≡ recordAt (T .groups) 0 .workers → Side T (S₀ .of0 .made) (blocks .of0) (stops .of0) → Side T (S₀ .of1 .made) (blocks .of1) (stops .of1) → Sharing T S₀ schedule 0 S₀ blocks stops
+  sharing-start {blocks} {stops} e a b = record { crew = e; side = each; left = λ q ok is laid t u. left-start nothing (turn q) S₀ schedule }
+    where
+      each : (c : Crew) → Side T (ownOf S₀ c .made) (ownOf blocks c) (ownOf stops c)
+      each crew0 = a
+      each crew1 = b
+
+  module _ {k : ℕ} {S : Two State} {blocks stops : Two (List ℕ)} (r : Sharing T S₀ schedule k S blocks stops) where
+    -- all picks are taken
+    pub sharing-none : k ≡ length schedule → EachRoof T (λ q. record { state = S; taken = k; met = k; number = 0 } ≡ turns q S₀ schedule)
+    sharing-none l q ok is laid t u = left-none nothing (turn q) S₀ schedule k k S (r .left q ok is laid t u) l
+
+    module _ (R : Recorded (T .count) (T .groups)) (l : k < length schedule) where
+      abbrev byte : ℕ
+      byte = getD schedule k 0
+
+      crew-is : (q : Roof) → q .plan .groups ≡ records (T .count) (T .groups) → (c : Crew) → T .workers ≡ workers (jobFor q c)
+      crew-is q is c = r .crew ∙ whole-crew (jobFor q c) (T .count) (T .groups) (R .some) is
+
+      -- the next one names no crew, or no worker of the plan
+      pub sharing-misnamed : misnamed byte (T .workers) ≢ 0 → EachRoof T (λ q. record { state = S; taken = k; met = k; number = misnamed byte (T .workers) } ≡ turns q S₀ schedule)
+      sharing-misnamed d q ok is laid t u =
+          left-halt nothing (turn q) S₀ schedule k k S (r .left q ok is laid t u) l (misnamed byte (T .workers)) (name-halts q S byte (T .workers) (crew-is q is) d) refl
+
+      -- .. or is one for crew c
+      module _ (few : T .workers ≤ maxWorkers) (c : Crew) (named : byte / maxWorkers ≡ crewNumber c) (low : byte % maxWorkers < T .workers) {number : ℕ} {new : State}
+          (h : Made T S c (ownOf blocks c) (byte % maxWorkers) number new) where
+        abbrev w : ℕ
+        w = byte % maxWorkers
+
+        is-step : EachRoof T (λ q. crewStep q S c w ≡ outcomeOf number new)
+        is-step q ok is laid t u = by c h
+          where
+            by : (d : Crew) → Made T S d (ownOf blocks d) w number new → crewStep q S d w ≡ outcomeOf number new
+            by crew0 h =
+                turn-answer q S crew0 laid t (omega (arith, few, crew-is q is crew0)) (waits-of (jobFor q crew0) (ok crew0) (T .count) (T .groups) is (laid crew0) (S .of0 .made) (blocks .of0) (r .side crew0 .blocked) R) w
+                (omega (arith, low, crew-is q is crew0)) h
+            by crew1 h =
+                turn-answer q S crew1 laid u (omega (arith, few, crew-is q is crew1)) (waits-of (jobFor q crew1) (ok crew1) (T .count) (T .groups) is (laid crew1) (S .of1 .made) (blocks .of1) (r .side crew1 .blocked) R) w
+                (omega (arith, low, crew-is q is crew1)) h
+
+        -- it is refused
+        pub sharing-halt : number ≢ 0 → EachRoof T (λ q. record { state = put S c new; taken = k; met = k; number = number } ≡ turns q S₀ schedule)
+        sharing-halt d q ok is laid t u =
+            ap (λ (s : Two State). record { state = s; taken = k; met = k; number = number }) (ap (put S c) (h .kept d) ∙ put-own S c)
+            ∙ left-halt nothing (turn q) S₀ schedule k k S (r .left q ok is laid t u) l number (turn-halts q S c byte named new (is-step q ok is laid t u) d) refl
+
+        module _ (z : number ≡ 0) where
+          next-long : length (new .made) ≡ maxWorkers
+          next-long = ap length (h .counted z) ∙ onward-length (ownOf S c .made) w ∙ r .side c .long
+
+          next-left : EachRoof T (λ q. Left nothing (turn q) S₀ schedule (k + 1) (k + 1) (put S c new))
+          next-left q ok is laid t u =
+              subst (λ (y : ℕ). Left nothing (turn q) S₀ schedule y y (put S c new)) (sym (add-one k))
+              (left-step nothing (turn q) S₀ schedule k k S (r .left q ok is laid t u) l (put S c new) (turn-moves q S c byte named new (is-step q ok is laid t u) z))
+
+          sides : (blocks′ stops′ : List ℕ) → Side T (new .made) blocks′ stops′ → (d : Crew) → Side T (ownOf (put S c new) d .made) (ownOf (put blocks c blocks′) d) (ownOf (put stops c stops′) d)
+          sides blocks′ stops′ s = by c s
+            where
+              by : (c : Crew) → Side T (new .made) blocks′ stops′ → (d : Crew) → Side T (ownOf (put S c new) d .made) (ownOf (put blocks c blocks′) d) (ownOf (put stops c stops′) d)
+              by crew0 s crew0 = s
+              by crew0 s crew1 = r .side crew1
+              by crew1 s crew0 = r .side crew0
+              by crew1 s crew1 = s
+
+          -- it is taken, and the blocked groups are found anew
+          pub sharing-renewed : {blocks′ stops′ : List ℕ} → Blocks (T .count) (T .groups) (T .ends) (new .made) blocks′ → Ahead (T .count) (T .groups) (T .ends) (new .made) stops′
+              → Sharing T S₀ schedule (k + 1) (put S c new) (put blocks c blocks′) (put stops c stops′)
+          sharing-renewed {blocks′} {stops′} b a = record { crew = r .crew; side = sides blocks′ stops′ (record { long = next-long; blocked = b; ahead = a }); left = next-left }
+
+          -- .. or are as they were
+          pub sharing-on : w < length (ownOf S c .made) → getD (new .made) w 0 < getD (ownOf stops c) w 0 → Sharing T S₀ schedule (k + 1) (put S c new) (put blocks c (ownOf blocks c)) (put stops c (ownOf stops c))
+          sharing-on inside below =
+              sharing-renewed
+              (blocks-kept (T .count) (T .groups) (T .ends) (ownOf S c .made) (new .made) (ownOf stops c) w inside (h .counted z) below (r .side c .ahead) (ownOf blocks c) (r .side c .blocked))
+              (ahead-kept (T .count) (T .groups) (T .ends) (ownOf S c .made) (new .made) (ownOf stops c) w inside (h .counted z) below (r .side c .ahead))
