@@ -69,3 +69,15 @@ badLayout = 16
 -- Q-6: "t outside its limits or no such freedom"
 abbrev pub badSurvey : ℕ
 badSurvey = 17
+
+-- Q-10: "the list lent is not n long or isn't the product of what came with it"
+abbrev pub notForces : ℕ
+notForces = 20
+
+-- Q-10: "no such entry or freedom"
+abbrev pub noEntry : ℕ
+noEntry = 21
+
+-- Q-10: "new movement or value beyond its limit"
+abbrev pub badChange : ℕ
+badChange = 22

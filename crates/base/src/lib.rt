@@ -45,3 +45,9 @@ pub const EARLY: u32 = 15;
 pub const LAYOUT: u32 = 16;
 
 pub const SURVEY: u32 = 17;
+
+pub const STALE: u32 = 20;
+
+pub const MISSING: u32 = 21;
+
+pub const BEYOND: u32 = 22;
