@@ -53,6 +53,7 @@ fn make(call: &str, stack: usize, given: &Given) -> Option<u64> {
     let (mut starts, mut columns, mut values) = (blank(&given.row_starts), blank(&given.columns), blank(&given.values));
     let At { mut state, mut sums } = At::fresh(given.n);
     let (mut forces, mut shift, mut file) = (blank(&sums), blank(&given.movements), blank(&given.file));
+    let (mut movements, mut own, mut kept) = (given.movements.clone(), given.values.clone(), given.product());
     let end = &given.finished;
     Some(match call {
         "read" => on_stack(stack, || library::read(&given.text, &mut starts, &mut columns, &mut values)),
@@ -60,6 +61,12 @@ fn make(call: &str, stack: usize, given: &Given) -> Option<u64> {
         "product" => on_stack(stack, || library::product(given.matrix(), &given.movements, &mut forces)),
         "survey" => on_stack(stack, || {
             library::survey(given.matrix(), &given.movements, 1, given.n / 2, &mut forces, &mut shift)
+        }),
+        "set_movement" => on_stack(stack, || {
+            library::set_movement(given.matrix(), &mut movements, &mut kept, given.n / 2, 1_000_000)
+        }),
+        "set_entry" => on_stack(stack, || {
+            library::set_entry(given.pattern(), &mut own, &given.movements, &mut kept, given.altered())
         }),
         "plan" => on_stack(stack, || library::plan(given.matrix(), 16, given.p, &mut order, &mut groups)),
         "check" => on_stack(stack, || library::check(given.matrix(), given.plan())),
@@ -90,8 +97,8 @@ fn run(call: &str, stack: usize) {
 /// Says how the program is called.
 fn usage() -> ! {
     eprintln!(
-        "usage: stack CALL BYTES (read, write, product, survey, plan, check, write_plan, read_plan, picks, ready or \
-         forces)"
+        "usage: stack CALL BYTES (read, write, product, survey, set_movement, set_entry, plan, check, write_plan, \
+         read_plan, picks, ready or forces)"
     );
     exit(2);
 }
