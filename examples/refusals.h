@@ -41,6 +41,9 @@ static const struct refusal {
     [MZK_SURVEY] = { NOWHERE, "a survey error above 1000000, or no such row" },
     [MZK_NO_CREW] = { INDEX, "the pick names no crew" },
     [MZK_ELSEWHERE] = { INDEX, "the worker is inside a row of the other crew" },
+    [MZK_STALE] = { NOWHERE, "the forces are not the product of the matrix and the movements" },
+    [MZK_NO_ENTRY] = { NOWHERE, "no such row, or an entry that is not stored" },
+    [MZK_BEYOND] = { NOWHERE, "the new movement or value is too large" },
 };
 
 /* Prints the refusal in a word, of a file or of a call: `FILE:LINE: SENTENCE (refusal NUMBER)`. */

@@ -16,8 +16,9 @@
  * No pointer is null, also of an empty list.
  *
  * Stack: mzk_read uses up to 2 MiB, mzk_picks_both and mzk_ready_both up to 1.5 MiB, mzk_picks and mzk_preview up to
- * 1.4 MiB, mzk_ready and mzk_forces up to 1.3 MiB, mzk_plan up to 1 MiB, mzk_write_plan and mzk_read_plan up to 8 KiB,
- * the others up to 0.6 MiB. A thread with MZK_STACK_BYTES and its own needs can make any call. */
+ * 1.4 MiB, mzk_ready and mzk_forces up to 1.3 MiB, mzk_plan up to 1 MiB, mzk_set_movement and mzk_set_entry up to 0.7
+ * MiB, mzk_write_plan and mzk_read_plan up to 8 KiB, the others up to 0.6 MiB. A thread with MZK_STACK_BYTES and its
+ * own needs can make any call. */
 #ifndef MAZHOKETH_H
 #define MAZHOKETH_H
 
@@ -74,7 +75,10 @@ enum {
     MZK_NO_FILE = 16,     /* no plan file; or a plan of other than 1 to 4,096 rows or 1 to 512 groups */
     MZK_SURVEY = 17,      /* a survey error above 1,000,000, or no such row */
     MZK_NO_CREW = 18,     /* the pick names no crew (its index) */
-    MZK_ELSEWHERE = 19    /* the pick's worker is inside a row of the other crew: pick it there first (index) */
+    MZK_ELSEWHERE = 19,   /* the pick's worker is inside a row of the other crew: pick it there first (index) */
+    MZK_STALE = 20,       /* forces that are not those of the matrix and the movements, in number or in value */
+    MZK_NO_ENTRY = 21,    /* no such row, or an entry that is not stored */
+    MZK_BEYOND = 22       /* a new movement or value beyond its limit */
 };
 
 /* The matrix of a text, in full rows, into row_starts, columns and values; returns its number of rows. It has one row
@@ -124,6 +128,32 @@ uint64_t mzk_survey(uint32_t n,
                     uint32_t row,
                     uint8_t *amounts, size_t amounts_bytes,
                     uint8_t *shift, size_t shift_bytes);
+
+/* Forces kept current. Forces are the n forces of the matrix and the movements, as mzk_product gives them or as these
+ * calls left them. A new movement is written for one row, and the forces of the row and of those adjacent to it are
+ * brought up to date; no other force changes. After any calls the forces are again the product.
+ * Refused: 5; 6; 20; 21; 22. */
+uint64_t mzk_set_movement(uint32_t n,
+                          const uint8_t *row_starts, size_t row_starts_bytes,
+                          const uint8_t *columns, size_t columns_bytes,
+                          const uint8_t *values, size_t values_bytes,
+                          uint8_t *movements, size_t movements_bytes,
+                          uint8_t *forces, size_t forces_bytes,
+                          uint32_t row,
+                          int32_t value);
+
+/* The same for a new value of a stored entry, named by either half: it is written there and in its mirror, and the
+ * forces of its two rows are brought up to date. Values past the last row's are unchanged.
+ * Refused: 5; 6; 20; 21; 22. */
+uint64_t mzk_set_entry(uint32_t n,
+                       const uint8_t *row_starts, size_t row_starts_bytes,
+                       const uint8_t *columns, size_t columns_bytes,
+                       uint8_t *values, size_t values_bytes,
+                       const uint8_t *movements, size_t movements_bytes,
+                       uint8_t *forces, size_t forces_bytes,
+                       uint32_t row,
+                       uint32_t column,
+                       int32_t value);
 
 /* The plan of a matrix at the distance k: its n rows into order, and for each group a record into groups (start,
  * length, first worker, workers, colour, parent, depth); returns the number of groups. Start and length are positions

@@ -1,7 +1,8 @@
 /* mazhoketh.h from C and from C++: its macros against real words, its sizes against what calls take and need.
  *
- * Document 01's chain of eight rows is planned, filed, surveyed and run, by one crew and by two; then the longest text
- * that is written is read. */
+ * Document 01's chain of eight rows is planned, filed, surveyed, changed and run, by one crew and by two; then the longest text
+ * that is
+ * written is read. */
 
 #include <stdio.h>
 #include <stdlib.h>
@@ -135,6 +136,35 @@ static void check_survey(void)
 #undef SURVEY
 }
 
+/* Changes of the chain whose movements are all 0: of one movement, and of the entry between two rows. */
+static void check_changes(void)
+{
+#define MOVE(row, value) \
+    mzk_set_movement(MATRIX(8), moved, 32, kept, kept_bytes, row, value)
+#define ALTER(row, column, value) \
+    mzk_set_entry(8, starts, sizeof starts, columns, sizeof columns, own, sizeof own, moved, 32, kept, kept_bytes, \
+                  row, column, value)
+    static uint8_t moved[32], kept[64], own[sizeof values];
+    const uint8_t after_moving[24] = { 6, 0, 0, 0, 0, 0, 0, 0, 0xfd, 0xff, 0xff, 0xff, 0xff, 0xff, 0xff, 0xff };
+    size_t kept_bytes = 64;
+    memcpy(own, values, sizeof own);
+    CHECK(is(MOVE(0, 3), MZK_ACCEPTED, 0));
+    CHECK(moved[0] == 3 && memcmp(kept, after_moving, sizeof after_moving) == 0);
+    CHECK(is(ALTER(1, 0, 5), MZK_ACCEPTED, 0));
+    CHECK(own[4] == 5 && own[8] == 5 && kept[0] == 6 && kept[8] == 15);
+    CHECK(is(MOVE(0, 3), MZK_STALE, 0));
+    CHECK(is(ALTER(0, 2, 5), MZK_NO_ENTRY, 0));
+    CHECK(is(ALTER(8, 8, 5), MZK_NO_ENTRY, 0));
+    CHECK(is(ALTER(0, 0, 1000000001), MZK_BEYOND, 0));
+    CHECK(is(ALTER(0, 1, -1), MZK_ACCEPTED, 0));
+    CHECK(is(MOVE(8, 3), MZK_NO_ENTRY, 0));
+    CHECK(is(MOVE(7, -1000001), MZK_BEYOND, 0));
+    kept_bytes = 56;
+    CHECK(is(MOVE(7, 0), MZK_STALE, 0));
+#undef MOVE
+#undef ALTER
+}
+
 /* A run ends after 2 picks a row and 4 a pair of joined rows: 44 of the chain. */
 static void check_run(void)
 {
@@ -221,6 +251,7 @@ int main(void)
     check_chain();
     check_files();
     check_survey();
+    check_changes();
     check_run();
     check_crews();
     check_longest();

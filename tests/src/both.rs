@@ -3,7 +3,7 @@
 
 use crate::guarded::Twin;
 use crate::library;
-use crate::lists::{CrewLists, MatrixLists, PlanLists, RunLists};
+use crate::lists::{Altered, CrewLists, MatrixLists, PatternLists, PlanLists, RunLists};
 use crate::oracle::calls;
 
 /// The lists of a matrix, twice.
@@ -221,6 +221,68 @@ pub fn survey(
         matrix.lists(),
         &[movements, amounts, shift],
     )
+}
+
+/// Sets one movement of a kept force list.
+pub fn set_movement(
+    matrix: &MatrixTwins,
+    movements: &mut Twin,
+    forces: &mut Twin,
+    freedom: u32,
+    value: i32,
+) -> u64 {
+    let ours = library::set_movement(
+        matrix.ours(),
+        movements.ours_mut(),
+        forces.ours_mut(),
+        freedom,
+        value,
+    );
+    let theirs = calls::set_movement(
+        matrix.theirs(),
+        &mut movements.theirs,
+        &mut forces.theirs,
+        freedom,
+        value,
+    );
+    let lists = matrix.lists();
+    alike("set_movement", ours, theirs, lists, &[movements, forces])
+}
+
+/// Sets one entry and its mirror, of a kept force list.
+pub fn set_entry(
+    matrix: &mut MatrixTwins,
+    movements: &Twin,
+    forces: &mut Twin,
+    entry: Altered,
+) -> u64 {
+    let MatrixTwins {
+        n,
+        row_starts,
+        columns,
+        values,
+    } = matrix;
+    let pattern = |row_starts, columns| PatternLists {
+        n: *n,
+        row_starts,
+        columns,
+    };
+    let ours = library::set_entry(
+        pattern(row_starts.ours(), columns.ours()),
+        values.ours_mut(),
+        movements.ours(),
+        forces.ours_mut(),
+        entry,
+    );
+    let theirs = calls::set_entry(
+        pattern(&row_starts.theirs, &columns.theirs),
+        &mut values.theirs,
+        &movements.theirs,
+        &mut forces.theirs,
+        entry,
+    );
+    let lists = matrix.lists();
+    alike("set_entry", ours, theirs, lists, &[movements, forces])
 }
 
 /// Plans a matrix at the distance k.

@@ -1,6 +1,6 @@
 //! A net, its plan and its run as the byte lists that calls read: what is timed, and what stacks are measured on.
 
-use crate::lists::{bytes, CrewLists, MatrixLists, PlanLists, RunLists};
+use crate::lists::{bytes, Altered, CrewLists, MatrixLists, PatternLists, PlanLists, RunLists};
 use crate::oracle::leaves::{leaves_of, Leaves};
 use crate::oracle::matrix::Matrix;
 use crate::oracle::planner::Plan;
@@ -125,6 +125,29 @@ impl Given {
             columns: &self.columns,
             values: &self.values,
         }
+    }
+
+    /// The lists of the matrix without its values.
+    pub fn pattern(&self) -> PatternLists<'_> {
+        PatternLists {
+            n: self.n,
+            row_starts: &self.row_starts,
+            columns: &self.columns,
+        }
+    }
+
+    /// The forces of the matrix and the movements.
+    pub fn product(&self) -> Vec<u8> {
+        let mut forces = vec![0; 8 * self.n as usize];
+        calls::product(self.matrix(), &self.movements, &mut forces);
+        forces
+    }
+
+    /// A new value for the diagonal's entry in the middle row.
+    pub fn altered(&self) -> Altered {
+        let (row, column) = (self.n / 2, self.n / 2);
+        let value = 1_000_000;
+        Altered { row, column, value }
     }
 
     /// The lists of the plan.

@@ -2,7 +2,7 @@
 //!
 //! Each function here is linked only where it is used, so that a test needs no more of the library than it tests.
 
-use crate::lists::{CrewLists, MatrixLists, PlanLists, RunLists};
+use crate::lists::{Altered, CrewLists, MatrixLists, PatternLists, PlanLists, RunLists};
 
 /// A list lent for reading, and one lent for writing; its length in bytes follows.
 type In = *const u8;
@@ -30,6 +30,16 @@ extern "C" {
         row_starts: In, row_starts_bytes: usize, columns: In, columns_bytes: usize, values: In, values_bytes: usize,
         movements: In, movements_bytes: usize, t: u32, row: u32,
         amounts: Out, amounts_bytes: usize, shift: Out, shift_bytes: usize,
+    ) -> u64;
+    fn mzk_set_movement(
+        n: u32,
+        row_starts: In, row_starts_bytes: usize, columns: In, columns_bytes: usize, values: In, values_bytes: usize,
+        movements: Out, movements_bytes: usize, forces: Out, forces_bytes: usize, row: u32, value: i32,
+    ) -> u64;
+    fn mzk_set_entry(
+        n: u32,
+        row_starts: In, row_starts_bytes: usize, columns: In, columns_bytes: usize, values: Out, values_bytes: usize,
+        movements: In, movements_bytes: usize, forces: Out, forces_bytes: usize, row: u32, column: u32, value: i32,
     ) -> u64;
     fn mzk_plan(
         n: u32,
@@ -139,6 +149,31 @@ pub fn survey(matrix: MatrixLists, movements: &[u8], t: u32, row: u32, amounts: 
             n, row_starts.as_ptr(), row_starts.len(), columns.as_ptr(), columns.len(), values.as_ptr(), values.len(),
             movements.as_ptr(), movements.len(), t, row,
             amounts.as_mut_ptr(), amounts.len(), shift.as_mut_ptr(), shift.len(),
+        )
+    }
+}
+
+/// A new movement for one row of a kept force list.
+#[rustfmt::skip]
+pub fn set_movement(matrix: MatrixLists, movements: &mut [u8], forces: &mut [u8], row: u32, value: i32) -> u64 {
+    let MatrixLists { n, row_starts, columns, values } = matrix;
+    unsafe {
+        mzk_set_movement(
+            n, row_starts.as_ptr(), row_starts.len(), columns.as_ptr(), columns.len(), values.as_ptr(), values.len(),
+            movements.as_mut_ptr(), movements.len(), forces.as_mut_ptr(), forces.len(), row, value,
+        )
+    }
+}
+
+/// A new value for an entry and its mirror, of a kept force list.
+#[rustfmt::skip]
+pub fn set_entry(pattern: PatternLists, values: &mut [u8], movements: &[u8], forces: &mut [u8], entry: Altered) -> u64 {
+    let PatternLists { n, row_starts, columns } = pattern;
+    unsafe {
+        mzk_set_entry(
+            n, row_starts.as_ptr(), row_starts.len(), columns.as_ptr(), columns.len(),
+            values.as_mut_ptr(), values.len(), movements.as_ptr(), movements.len(),
+            forces.as_mut_ptr(), forces.len(), entry.row, entry.column, entry.value,
         )
     }
 }

@@ -9,6 +9,22 @@ pub struct MatrixLists<'a> {
     pub values: &'a [u8],
 }
 
+/// The lists of a matrix whose values are lent to be changed, without them.
+#[derive(Clone, Copy, Debug)]
+pub struct PatternLists<'a> {
+    pub n: u32,
+    pub row_starts: &'a [u8],
+    pub columns: &'a [u8],
+}
+
+/// A new value for the entry at row and column.
+#[derive(Clone, Copy, Debug)]
+pub struct Altered {
+    pub row: u32,
+    pub column: u32,
+    pub value: i32,
+}
+
 /// The lists of a plan.
 #[derive(Clone, Copy, Debug)]
 pub struct PlanLists<'a> {

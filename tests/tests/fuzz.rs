@@ -4,6 +4,6 @@ use mazhoketh_tests::cases;
 
 #[test]
 fn every_refusal() {
-    let seen = cases::each(1, 0..200_000, cases::any);
-    seen.require(0..=19, 1_000);
+    let seen = cases::each(1, 0..240_000, cases::any);
+    seen.require(0..=22, 1_000);
 }

@@ -31,7 +31,7 @@ fn as_cpp() {
 fn sentences() {
     let printed = build_and_run("refusals", "gcc", &["-std=c99", "-pedantic"]);
     let mut sentences: Vec<&str> = printed.lines().collect();
-    assert_eq!(sentences.len(), 20);
+    assert_eq!(sentences.len(), 23);
     for (number, sentence) in (1..).zip(&sentences) {
         assert!(sentence.starts_with("FILE:"), "{sentence}");
         assert!(
@@ -40,7 +40,7 @@ fn sentences() {
         );
         assert_eq!(
             sentence.contains("does not know"),
-            number == 20,
+            number == 23,
             "{sentence}"
         );
     }
@@ -58,5 +58,5 @@ fn sentences() {
     let text = |sentence: &mut &str| sentence.rfind(" (").map(|end| sentence[..end].to_string());
     sentences.sort_unstable();
     sentences.dedup_by_key(text);
-    assert_eq!(sentences.len(), 20, "two sentences are the same");
+    assert_eq!(sentences.len(), 23, "two sentences are the same");
 }

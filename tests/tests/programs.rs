@@ -29,9 +29,9 @@ fn fuzz() {
 
 #[test]
 fn bench() {
-    let usage = "usage: bench [NAME ..] (read, write, product, survey, plan, check, write_plan, read_plan, picks, \
-                 preview, ready, forces, picks_both, ready_both, efficiency, roof, bcsstk14, gr_30_30, chain, \
-                 unjoined)";
+    let usage = "usage: bench [NAME ..] (read, write, product, survey, set_movement, set_entry, plan, check, \
+                 write_plan, read_plan, picks, preview, ready, forces, picks_both, ready_both, efficiency, roof, \
+                 bcsstk14, gr_30_30, chain, unjoined)";
     for arguments in [
         &["pick"][..],
         &["picks", "roofs"],

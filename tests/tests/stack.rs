@@ -6,7 +6,8 @@ use std::process::Command;
 /// The header's sentence, and its figures in tenths of a MiB; beside them, the calls that need next to nothing.
 const SENTENCE: &str = "mzk_read uses up to 2 MiB, mzk_picks_both and mzk_ready_both up to 1.5 MiB, mzk_picks and \
                         mzk_preview up to 1.4 MiB, mzk_ready and mzk_forces up to 1.3 MiB, mzk_plan up to 1 MiB, \
-                        mzk_write_plan and mzk_read_plan up to 8 KiB, the others up to 0.6 MiB.";
+                        mzk_set_movement and mzk_set_entry up to 0.7 MiB, mzk_write_plan and mzk_read_plan up to 8 \
+                        KiB, the others up to 0.6 MiB.";
 const SMALL: [&str; 2] = ["write_plan", "read_plan"];
 const TENTHS: &[(&str, usize)] = &[
     ("read", 20),
@@ -17,6 +18,8 @@ const TENTHS: &[(&str, usize)] = &[
     ("ready", 13),
     ("forces", 13),
     ("plan", 10),
+    ("set_movement", 7),
+    ("set_entry", 7),
     ("write", 6),
     ("product", 6),
     ("survey", 6),

@@ -18,7 +18,8 @@ use Rattle.base.proofs.Fill.{length-made}
 use Rattle.matrix.specs.Limits.{maxRows}
 use Rattle.matrix.specs.Matrix.{Matrix}
 use Rattle.run.specs.Job.{jobOf}
-use Rattle.run.specs.Machine.{positionOf, over, original}
+use Rattle.run.specs.Machine.{over, original}
+use Rattle.base.specs.Lists.{positionOf}
 use Rattle.run.specs.State.{State}
 use Rattle.run.specs.Calls.{pickedOf, readyOf, forcesOf, answerOf, stateCheck, answer, jobChecks, answerLent}
 use Rattle.run.specs.Answers.{Answer, forces, denied, shown}

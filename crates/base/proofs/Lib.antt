@@ -13,3 +13,5 @@ pub mod Found
 pub mod Replies
 pub mod Fill
 pub mod Stored
+pub mod Positions
+pub mod Pieces

@@ -1,14 +1,14 @@
 -- Laws of lists: members, filters, ranges and concatenations.
 use mathlib.Core.Path.{_≡_, refl, sym, ap, _∙_, subst}
 use mathlib.Core.Logic.{_⊎_, inl, inr, _≢_}
-use mathlib.Core.Bool.{Bool, true, false, not, _&&_, _||_, true≢false, and-comm}
+use mathlib.Core.Bool.{Bool, true, false, not, _&&_, _||_, true≢false, and-comm, and-assoc}
 use mathlib.Core.List.{List, [], _∷_, _++_, map, append-assoc}
 use Prim.Native.Nat.{ℕ, zero, suc, _+_, _-_, _≤_, _<_}
 use native.Mathlib.Omega.{arith}
-use lib.Dec.{eqb}
+use lib.Dec.{eqb, ltb}
 use lib.ListN.{length, take, drop, getD, set, replicate}
-use lib.Seq.{slice, take-nil, drop-nil, getD-set-same, getD-set-other}
-use borrow.Author.Tests.{eqb-true, eqb-false, eq-eqb}
+use lib.Seq.{slice, take-nil, drop-nil, getD-set-same, getD-set-other, take-set-le, take-set-lt, drop-set-lt, drop-set-add}
+use borrow.Author.Tests.{eqb-true, eqb-false, eq-eqb, ltb-true, ltb-false}
 use Rattle.base.specs.Lists.{filter, keep, any, all, isIn, concat, range, trim, trimCons}
 use Rattle.base.proofs.Booleans.{and-false, and-left, and-right, or-true, or-cases, both-ways}
 
@@ -58,6 +58,40 @@ module _ {ℓ} {A : Type ℓ} where
   pub get-all : (p : A → Bool) (xs : List A) (d : A) → ((i : ℕ) → i < length xs → p (getD xs i d) ≡ true) → all p xs ≡ true
   get-all p [] d h = refl
   get-all p (x ∷ xs) d h = rw (h 0 (omega arith)) (get-all p xs d (λ i l. h (suc i) (omega arith)))
+
+  pub all-append : (p : A → Bool) (xs ys : List A) → all p (xs ++ ys) ≡ all p xs && all p ys
+  all-append p [] ys = refl
+  all-append p (x ∷ xs) ys = rw (all-append p xs ys) (sym (and-assoc (p x) (all p xs) (all p ys)))
+
+  -- one element is set
+  pub all-set : (p : A → Bool) (xs : List A) (i : ℕ) (v : A) → all p xs ≡ true → p v ≡ true → all p (set xs i v) ≡ true
+  all-set p [] i v h e = refl
+  all-set p (x ∷ xs) zero v h e = rw e (and-right (p x) (all p xs) h)
+  all-set p (x ∷ xs) (suc i) v h e = rw (and-left (p x) (all p xs) h) (all-set p xs i v (and-right (p x) (all p xs) h) e)
+
+module _ {A B : Type 0} where
+  -- a test of what a function gives of each element
+  pub all-map : (p : B → Bool) (f : A → B) (xs : List A) → all p (map f xs) ≡ all (λ x. p (f x)) xs
+  all-map p f [] = refl
+  all-map p f (x ∷ xs) = rw (all-map p f xs)
+
+  -- element i of what a function gives of a list
+  pub map-get : (f : A → B) (xs : List A) (i : ℕ) (d : A) (e : B) → i < length xs → getD (map f xs) i e ≡ f (getD xs i d)
+  map-get f [] i d e l = absurd (omega arith)
+  map-get f (x ∷ xs) zero d e l = refl
+  map-get f (x ∷ xs) (suc i) d e l = map-get f xs i d e (omega arith)
+
+-- a test of pieces, one for each number of a list
+pub all-pieces : {A : Type 0} (p : A → Bool) (f : ℕ → List A) (xs : List ℕ) (i : ℕ) → all p (concat (map f xs)) ≡ true → isIn xs i ≡ true → all p (f i) ≡ true
+all-pieces p f [] i h m = absurd (true≢false (sym m))
+all-pieces p f (x ∷ xs) i h m = go (or-cases (eqb i x) (isIn xs i) m) (all-pieces p f xs i (and-right (all p (f x)) (all p (concat (map f xs))) both))
+  where
+    both : all p (f x) && all p (concat (map f xs)) ≡ true
+    both = sym (all-append p (f x) (concat (map f xs))) ∙ h
+
+    go : (eqb i x ≡ true) ⊎ (isIn xs i ≡ true) → (isIn xs i ≡ true → all p (f i) ≡ true) → all p (f i) ≡ true
+    go (inl e) ih = rw (eqb-true i x e) (and-left (all p (f x)) (all p (concat (map f xs))) both)
+    go (inr k) ih = ih k
 
 -- membership in a filtered list
 pub isIn-filter : (p : ℕ → Bool) (xs : List ℕ) (v : ℕ) → isIn (filter p xs) v ≡ isIn xs v && p v
@@ -336,3 +370,20 @@ pub getD-zeros : (n i : ℕ) → _≡_ {A = ℕ} (getD (replicate n 0) i 0) 0
 getD-zeros zero i = refl
 getD-zeros (suc n) zero = refl
 getD-zeros (suc n) (suc i) = getD-zeros n i
+
+-- a part of a list, one place of the list set: before the part, in it, after it
+module _ {A : Type 0} (a e p : ℕ) (xs : List A) (v : A) where
+  pub slice-set-after : e ≤ p → slice a e (set xs p v) ≡ slice a e xs
+  slice-set-after h = ap (drop a) (take-set-le e xs p v h)
+
+  pub slice-set-before : p < a → slice a e (set xs p v) ≡ slice a e xs
+  slice-set-before h = go (ltb p e) refl
+    where
+      go : (t : Bool) → ltb p e ≡ t → slice a e (set xs p v) ≡ slice a e xs
+      go true q = ap (drop a) (take-set-lt e xs p v (ltb-true p e q)) ∙ drop-set-lt a (take e xs) p v h
+      go false q = slice-set-after (ltb-false p e q)
+
+  pub slice-set-in : a ≤ p → p < e → slice a e (set xs p v) ≡ set (slice a e xs) (p - a) v
+  slice-set-in h k =
+      let q : p ≡ a + (p - a) = omega arith in
+      ap (drop a) (take-set-lt e xs p v k ∙ ap (λ (y : ℕ). set (take e xs) y v) q) ∙ drop-set-add a (take e xs) (p - a) v

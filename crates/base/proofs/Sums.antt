@@ -1,10 +1,13 @@
 -- Laws of sums over f 0 .. f (n - 1), of natural numbers and of integers.
 use mathlib.Core.Path.{_≡_, refl, sym, ap, _∙_, subst}
 use mathlib.Core.Logic.{_⊎_, inl, inr, _≢_}
+use mathlib.Core.Bool.{Bool, true, false, cond}
 use Prim.Native.Nat.{ℕ, zero, suc, _+_, _*_, _-_, _≤_, _<_}
 use native.Mathlib.Nat.{mul-zero, mul-add}
 use native.Mathlib.Omega.{arith}
-use lib.IntN.{ℤ, pos, natAbs, _+ℤ_, +ℤ-assoc, +ℤ-comm}
+use lib.Dec.{ltb}
+use lib.IntN.{ℤ, pos, natAbs, _+ℤ_, +ℤ-assoc, +ℤ-comm, +ℤ-idl, +ℤ-idr}
+use borrow.Author.Tests.{lt-ltb, le-ltb, ltb-true, ltb-false}
 use Rattle.base.specs.Lists.{sumBelow}
 use Rattle.base.specs.Integers.{sumℤ}
 use Rattle.base.proofs.Booleans.{same-or}
@@ -45,6 +48,37 @@ pub sum-add : (f g : ℕ → ℤ) (n : ℕ) → sumℤ (λ i. f i +ℤ g i) n �
 unfolding sumℤ
 sum-add f g zero = refl
 sum-add f g (suc n) = rw (sum-add f g n) (add-cross (sumℤ f n) (sumℤ g n) (f n) (g n))
+
+-- terms from k on that are 0
+pub sum-short : (f : ℕ → ℤ) (k m : ℕ) → k ≤ m → ((v : ℕ) → k ≤ v → f v ≡ pos 0) → sumℤ f m ≡ sumℤ f k
+unfolding sumℤ
+sum-short f k m l h = let e : k + (m - k) ≡ m = omega arith in subst (λ (y : ℕ). sumℤ f y ≡ sumℤ f k) e (go (m - k))
+  where
+    go : (j : ℕ) → sumℤ f (k + j) ≡ sumℤ f k
+    go zero = let e : k + 0 ≡ k = omega arith in rw e
+    go (suc j) = let e : k + suc j ≡ suc (k + j) = omega arith in rw (e, h (k + j) (omega arith), go j) (+ℤ-idr (sumℤ f k))
+
+-- m terms that stand at different numbers below n, each at its own: the sum over these numbers
+pub sum-moved : (f : ℕ → ℤ) (at from : ℕ → ℕ) (n m : ℕ) → ((l : ℕ) → l < m → at l < n) → ((l : ℕ) → l < m → from (at l) ≡ l) → ((v : ℕ) → from v < m → at (from v) ≡ v)
+    → sumℤ (λ l. f (at l)) m ≡ sumℤ (λ v. cond (ltb (from v) m) (f v) (pos 0)) n
+unfolding sumℤ
+sum-moved f at from n zero low back forth = sym (sum-zero (λ v. cond (ltb (from v) 0) (f v) (pos 0)) n (λ v. rw (le-ltb (from v) 0 (omega arith))))
+sum-moved f at from n (suc m) low back forth =
+    ap (λ (z : ℤ). z +ℤ f (at m)) (sum-moved f at from n m (λ l h. low l (omega arith)) (λ l h. back l (omega arith)) (λ v h. forth v (omega arith)))
+    ∙ sym (sum-more (λ v. cond (ltb (from v) m) (f v) (pos 0)) (λ v. cond (ltb (from v) (suc m)) (f v) (pos 0)) (f (at m)) n (at m) (low m (omega arith)) own other)
+  where
+    own : cond (ltb (from (at m)) (suc m)) (f (at m)) (pos 0) ≡ cond (ltb (from (at m)) m) (f (at m)) (pos 0) +ℤ f (at m)
+    own = let e = back m (omega arith) in rw (lt-ltb (from (at m)) (suc m) (omega arith), le-ltb (from (at m)) m (omega arith)) (sym (+ℤ-idl (f (at m))))
+
+    other : (v : ℕ) → v ≢ at m → cond (ltb (from v) (suc m)) (f v) (pos 0) ≡ cond (ltb (from v) m) (f v) (pos 0)
+    other v d = go (ltb (from v) m) refl
+      where
+        differs : from v ≢ m
+        differs q = d (sym (forth v (omega arith)) ∙ ap at q)
+
+        go : (b : Bool) → ltb (from v) m ≡ b → cond (ltb (from v) (suc m)) (f v) (pos 0) ≡ cond b (f v) (pos 0)
+        go true e = rw (lt-ltb (from v) (suc m) (omega (arith, ltb-true (from v) m e)))
+        go false e = rw (le-ltb (from v) (suc m) (let w : from v ≢ m = differs in omega (arith, ltb-false (from v) m e)))
 
 -- ---- natural numbers
 

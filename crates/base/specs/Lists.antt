@@ -89,3 +89,8 @@ distance x y = (x - y) + (y - x)
 abbrev pub bit : Bool → ℕ
 bit true = 1
 bit false = 0
+
+-- where v stands in a list; the list's length if it does not
+unfoldable pub positionOf : List ℕ → ℕ → ℕ
+positionOf [] v = 0
+positionOf (u ∷ us) v = cond (eqb u v) 0 (suc (positionOf us v))

@@ -77,3 +77,15 @@ noCrew = 18
 -- Q-9: "worker is inside the other crew's row"
 abbrev pub elsewhere : ℕ
 elsewhere = 19
+
+-- Q-10: "the list lent is not n long or isn't the product of what came with it"
+abbrev pub notForces : ℕ
+notForces = 20
+
+-- Q-10: "no such entry or freedom"
+abbrev pub noEntry : ℕ
+noEntry = 21
+
+-- Q-10: "new movement or value beyond its limit"
+abbrev pub badChange : ℕ
+badChange = 22

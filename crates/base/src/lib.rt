@@ -49,3 +49,9 @@ pub const SURVEY: u32 = 17;
 pub const CREWLESS: u32 = 18;
 
 pub const ELSEWHERE: u32 = 19;
+
+pub const STALE: u32 = 20;
+
+pub const MISSING: u32 = 21;
+
+pub const BEYOND: u32 = 22;

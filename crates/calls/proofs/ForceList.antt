@@ -12,7 +12,8 @@ use Rattle.base.proofs.Fill.{length-made}
 use Rattle.plan.specs.Sound.{eachOnce}
 use Rattle.plan.proofs.Once.{Once, once}
 use Rattle.run.specs.Job.{Job}
-use Rattle.run.specs.Machine.{positionOf, original}
+use Rattle.run.specs.Machine.{original}
+use Rattle.base.specs.Lists.{positionOf}
 use Rattle.run.specs.Answers as calls
 use Rattle.run.specs.Calls.{forcesOf, forcesLent}
 use Rattle.calls.specs.code.Listed.{Listed}

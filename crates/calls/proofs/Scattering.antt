@@ -13,11 +13,12 @@ use borrow.Author.Tests.{ltb-true, ltb-false}
 use Rattle.base.proofs.Booleans.{same-or}
 use Rattle.base.proofs.Lists.{map-range-zero}
 use Rattle.base.proofs.Fill.{length-made}
+use Rattle.base.proofs.Positions.{position-at}
 use Rattle.plan.proofs.Once.{Once, low-at, injective}
 use Rattle.run.specs.Job.{Job}
-use Rattle.run.specs.Machine.{positionOf, original}
+use Rattle.run.specs.Machine.{original}
+use Rattle.base.specs.Lists.{positionOf}
 use Rattle.calls.specs.code.Scatter.{Scattered}
-use Rattle.run.proofs.Positions.{position-at}
 
 module _ (n : ℕ) (order : List ℕ) (once : Once n order) (sums old : List ℤ) (room : n ≤ length old) where
   pub scattered-none : Scattered 0 n order sums old old

@@ -17,7 +17,8 @@ use Rattle.matrix.specs.Matrix.{Matrix, isMatrix, neighbours, matrixOf}
 use Rattle.matrix.specs.code.Room.{maxStarts, maxCells}
 use Rattle.market.specs.Parse.{Triplet, triplet, Parsed, matrixText, rejected, parse}
 use Rattle.market.specs.FullRows.{full, ofTriplets, readMatrix, readReply}
-use Rattle.market.specs.AcceptedText.{leftIn, SameRows}
+use Rattle.market.specs.AcceptedText.{leftIn}
+use Rattle.matrix.specs.SameRows.{SameRows}
 use Rattle.market.proofs.Accepted.{parse-accepted}
 use Rattle.market.proofs.AcceptedText.{accepted-text}
 use Rattle.race.specs.Planner.{plan, areParameters}

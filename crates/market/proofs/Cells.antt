@@ -19,11 +19,11 @@ use Rattle.market.proofs.Stored.{Fits, Stored, fits-inside, at-place}
 -- ---- one entry
 
 -- the value of an entry, at another place
-abbrev moved : ℕ → ℕ → Triplet → Triplet
+abbrev pub moved : ℕ → ℕ → Triplet → Triplet
 moved i j e = triplet i j (e .value)
 
 -- on or below the diagonal
-abbrev Low : Triplet → Type 0
+abbrev pub Low : Triplet → Type 0
 Low e = e .column ≤ e .row
 
 module _ (i j : ℕ) (e : Triplet) (low : Low e) where
@@ -73,11 +73,11 @@ module _ (i j : ℕ) where
   unfolding cell full
   cell-none = refl
 
-  cell-below : j ≤ i → (es : List Triplet) → Each Low es → cell es i j ≡ map (moved i j) (filter (isAt i j) es)
+  pub cell-below : j ≤ i → (es : List Triplet) → Each Low es → cell es i j ≡ map (moved i j) (filter (isAt i j) es)
   cell-below h [] l = cell-none
   cell-below h (e ∷ es) l = cell-more i j e es (both-below i j e (l .0) h) (cell-below h es (l .1))
 
-  cell-above : i < j → (es : List Triplet) → Each Low es → cell es i j ≡ map (moved i j) (filter (isAt j i) es)
+  pub cell-above : i < j → (es : List Triplet) → Each Low es → cell es i j ≡ map (moved i j) (filter (isAt j i) es)
   cell-above h [] l = cell-none
   cell-above h (e ∷ es) l = cell-more j i e es (both-above i j e (l .0) h) (cell-above h es (l .1))
 

@@ -14,7 +14,7 @@ use Rattle.base.proofs.Each.{Each, each-append}
 use Rattle.base.proofs.Sums.{sum-below-zero, sum-below-same, sum-below-more}
 use Rattle.market.specs.Parse.{Triplet, triplet, isAt}
 use Rattle.market.specs.FullRows.{both, full, cell, rowOf, rowsOf}
-use Rattle.market.proofs.Pieces.{length-pieces}
+use Rattle.base.proofs.Pieces.{length-pieces}
 use Rattle.market.proofs.Accepted.{Inner}
 
 -- how many of the entries are at (i, j)

@@ -1,11 +1,11 @@
 pub mod Inside
-pub mod Pieces
 pub mod Stored
 pub mod Cells
 pub mod Accepted
 pub mod Decimal
 pub mod Written
 pub mod FullRows
+pub mod Table
 pub mod Lower
 pub mod FullCount
 pub mod WriteThenRead

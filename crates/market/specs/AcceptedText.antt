@@ -6,7 +6,8 @@ use Prim.Native.Nat.{ℕ}
 use lib.IntN.{ℤ}
 use lib.ListN.{length}
 use Rattle.base.specs.Replies.{accepted, lent}
-use Rattle.matrix.specs.Matrix.{Matrix, columnsOf, valuesOf, isMatrix, matrixOf}
+use Rattle.matrix.specs.Matrix.{Matrix, isMatrix, matrixOf}
+use Rattle.matrix.specs.SameRows.{SameRows}
 use Rattle.market.specs.Parse.{Triplet, Parsed, matrixText, parse}
 use Rattle.market.specs.FullRows.{ofTriplets, readMatrix, readReply}
 
@@ -15,12 +16,6 @@ unfoldable pub leftIn : (n : ℕ) → Parsed → (starts columns : List ℕ) (va
 leftIn n t starts columns values =
     let reply = readReply t (length starts) (length columns) (length values) in
     matrixOf n (lent reply (readMatrix t .starts) starts) (lent reply (readMatrix t .columns) columns) (lent reply (readMatrix t .values) values)
-
--- m is a matrix, with the rows of the other
-pub record SameRows (m other : Matrix) : Type 0 where
-  pub matrix : isMatrix m ≡ true
-  pub columns : (i : ℕ) → columnsOf m i ≡ columnsOf other i
-  pub values : (i : ℕ) → valuesOf m i ≡ valuesOf other i
 
 pub record AcceptedText : Type 0 where
   -- the full rows of an accepted text are a matrix

@@ -1,7 +1,7 @@
 -- Ascending columns: the place of a column among them, and the value beside it.
 use mathlib.Core.Path.{_≡_, refl, sym, ap, _∙_, subst}
 use mathlib.Core.Logic.{_⊎_, inl, inr, _≢_}
-use mathlib.Core.Bool.{Bool, true, false, _||_, true≢false}
+use mathlib.Core.Bool.{Bool, true, false, _||_, cond, true≢false}
 use mathlib.Core.List.{List, [], _∷_}
 use Prim.Native.Nat.{ℕ, zero, suc, _+_, _≤_, _<_}
 use native.Mathlib.Omega.{arith}
@@ -9,8 +9,9 @@ use lib.Dec.{eqb, ltb}
 use lib.IntN.{ℤ, pos}
 use lib.ListN.{length, getD, take}
 use borrow.Author.Tests.{ltb-true, ltb-false, lt-ltb, le-ltb, eqb-true, eq-eqb, ne-eqb}
-use Rattle.base.specs.Lists.{filter, keep, isIn, bit}
+use Rattle.base.specs.Lists.{filter, keep, isIn, range, bit}
 use Rattle.base.proofs.Booleans.{and-left, and-right, or-true, or-cases, same-or}
+use Rattle.base.proofs.Lists.{filter-in, range-in}
 use Rattle.matrix.specs.Matrix.{ascending, lookup}
 use Rattle.matrix.specs.code.Checks.{placeIn}
 
@@ -41,6 +42,17 @@ unfolding ascending
 ascending-made [] h = refl
 ascending-made (c ∷ []) h = refl
 ascending-made (c ∷ d ∷ cs) h = rw (lt-ltb c d (h 0 (omega arith))) (ascending-made (d ∷ cs) (λ k l. h (suc k) (omega arith)))
+
+-- the numbers of a range that pass a test ascend
+pub ascending-passing : (p : ℕ → Bool) (k l : ℕ) → ascending (filter p (range k l)) ≡ true
+unfolding ascending
+ascending-passing p k zero = refl
+ascending-passing p k (suc l) = go (p k) (filter p (range (suc k) l)) refl (ascending-passing p (suc k) l)
+  where
+    go : (b : Bool) (xs : List ℕ) → filter p (range (suc k) l) ≡ xs → ascending xs ≡ true → ascending (keep b k xs) ≡ true
+    go true [] e ih = refl
+    go true (x ∷ xs) e ih = rw (lt-ltb k x (range-in x (suc k) l (filter-in p (range (suc k) l) x (rw (e, eq-eqb x x refl))) .0), ih)
+    go false xs e ih = ih
 
 -- ---- the place of a column
 
@@ -167,3 +179,19 @@ lookup-get (c ∷ cs) (v ∷ vs) zero h l = rw (eq-eqb c c refl)
 lookup-get (c ∷ cs) (v ∷ vs) (suc k) h l =
     let first = ascending-first c cs h k (omega arith) in
     rw (ne-eqb (getD cs k 0) c (λ q. omega arith)) (lookup-get cs vs k (ascending-tail c cs h) (omega arith))
+
+-- the values beside the columns up to place k
+pub lookup-next : (cs : List ℕ) (vs : List ℤ) (k r : ℕ) → ascending cs ≡ true → length cs ≡ length vs → k < length cs
+    → lookup r (take (suc k) cs) (take (suc k) vs) ≡ cond (eqb r (getD cs k 0)) (getD vs k (pos 0)) (lookup r (take k cs) (take k vs))
+unfolding lookup
+lookup-next [] vs k r h e l = absurd (omega arith)
+lookup-next (c ∷ cs) [] k r h e l = absurd (omega arith)
+lookup-next (c ∷ cs) (v ∷ vs) zero r h e l = refl
+lookup-next (c ∷ cs) (v ∷ vs) (suc k) r h e l = rw (lookup-next cs vs k r (ascending-tail c cs h) (omega arith) (omega arith)) (go (same-or r c))
+  where
+    go : (r ≡ c) ⊎ (r ≢ c) → cond (eqb r c) v (cond (eqb r (getD cs k 0)) (getD vs k (pos 0)) (lookup r (take k cs) (take k vs)))
+        ≡ cond (eqb r (getD cs k 0)) (getD vs k (pos 0)) (cond (eqb r c) v (lookup r (take k cs) (take k vs)))
+    go (inl q) =
+        let first = ascending-first c cs h k (omega arith) in
+        rw (eq-eqb r c q, ne-eqb r (getD cs k 0) (λ z. omega arith))
+    go (inr d) = rw (ne-eqb r c d)

@@ -118,3 +118,7 @@ shape m h = record {
 
     at : (k : ℕ) → getD (sizeTests m) k true ≡ true
     at k = conj-at (leb 1 (m .n)) (sizeTests m) sizes k
+
+-- lists of the right shape
+pub shape-made : (m : Matrix) → Shape m → shaped m ≡ true
+shape-made m s = sym (shape-rises m (s .some) (s .few) (s .starts-long) (s .starts-first) (s .columns-long) (s .values-long)) ∙ s .rising

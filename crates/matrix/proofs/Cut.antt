@@ -1,7 +1,7 @@
 -- Lent lists cut to what a matrix can need: 4,097 row starts, 65,536 columns and values. They are a matrix if the whole
 -- lists are, with the same rows.
 use mathlib.Core.Path.{_≡_, refl, sym, ap, ap₂, _∙_, fun-ext}
-use mathlib.Core.Bool.{Bool, true, false, not, _&&_}
+use mathlib.Core.Bool.{Bool, true, false, not}
 use mathlib.Core.List.{List, map}
 use Prim.Native.Nat.{ℕ, suc, _≤_, _<_}
 use native.Mathlib.Numerals.{add-one}
@@ -11,19 +11,20 @@ use lib.IntN.{ℤ, _*ℤ_}
 use lib.ListN.{length, getD, take, length-take}
 use lib.Seq.{getD-take, take-take, take-all, length-take-le}
 use borrow.Author.Tests.{ltb-true, leb-true, leb-false, ne-eqb}
-use Rattle.base.specs.Lists.{filter, all, isIn, range, sumBelow}
-use Rattle.base.specs.Integers.{sumℤ, same}
+use Rattle.base.specs.Lists.{filter, range}
+use Rattle.base.specs.Integers.{sumℤ}
 use Rattle.base.proofs.Booleans.{both-ways}
 use Rattle.base.proofs.Lists.{all-range, range-all}
-use Rattle.matrix.specs.Limits.{maxRows, maxEntries}
+use Rattle.matrix.specs.Limits.{maxRows}
 use Rattle.matrix.specs.code.Room.{maxStarts, maxCells}
-use Rattle.matrix.specs.Matrix.{Matrix, partOf, columnsOf, valuesOf, lookup, entry, neighbours, mirrored, lowerEntries, isMatrix, displacement, areDisplacements, displacementCheck, matrixOf}
-use Rattle.matrix.specs.code.Checks.{rises, shaped, isOrdered, symmetric}
+use Rattle.matrix.specs.Matrix.{Matrix, partOf, columnsOf, valuesOf, lookup, entry, neighbours, isMatrix, displacement, areDisplacements, displacementCheck, matrixOf}
+use Rattle.matrix.specs.code.Checks.{rises, shaped}
 use Rattle.matrix.specs.Product.{forceAt, product}
 use Rattle.matrix.proofs.Matrix.{displacements-many}
-use Rattle.matrix.proofs.Checks.{ordered, Shape, shape, shape-rises, matrix-parts, matrix-tidy}
+use Rattle.matrix.proofs.Checks.{Shape, shape, shape-made, matrix-tidy}
 use Rattle.matrix.proofs.Rows.{row-in}
 use Rattle.matrix.proofs.Entries.{few-entries}
+use Rattle.matrix.proofs.Alike.{alike}
 
 -- the first of them
 abbrev pub cut : Matrix → Matrix
@@ -36,10 +37,6 @@ start-same m few i l = getD-take maxStarts (m .starts) i 0 (omega arith)
 
 rises-same : (m : Matrix) → m .n ≤ maxRows → (i : ℕ) → i < m .n → rises (cut m .starts) i ≡ rises (m .starts) i
 rises-same m few i l = rw (start-same m few i (omega arith), start-same m few (suc i) l)
-
--- a list of the right shape
-shape-made : (m : Matrix) → Shape m → shaped m ≡ true
-shape-made m s = sym (shape-rises m (s .some) (s .few) (s .starts-long) (s .starts-first) (s .columns-long) (s .values-long)) ∙ s .rising
 
 module _ (m : Matrix) where
   -- cut, the lists keep their shape if the last row ends in what is left
@@ -95,14 +92,6 @@ part-same m xs h last i = go (ltb i (m .n)) refl
         rw (e, start-same m few i (omega arith), start-same m few (suc i) l, take-take (getD (m .starts) (suc i) 0) maxCells xs end)
     go false e = rw e
 
--- what a matrix is asked of its rows, besides its shape
-abbrev inOrder : ℕ → (ℕ → List ℕ) → (ℕ → List ℤ) → Bool
-inOrder n columns values = all (λ i. isOrdered n (columns i) (values i)) (range 0 n) && leb (sumBelow (λ i. length (filter (λ j. leb j i) (columns i))) n) maxEntries
-
-abbrev mirrors : ℕ → (ℕ → List ℕ) → (ℕ → List ℤ) → Bool
-mirrors n columns values =
-    all (λ i. all (λ j. isIn (columns j) i && same (lookup j (columns i) (values i)) (lookup i (columns j) (values j))) (columns i)) (range 0 n)
-
 module _ (m : Matrix) (h : shaped m ≡ true) (last : getD (m .starts) (m .n) 0 ≤ maxCells) where
   columns-kept : columnsOf (cut m) ≡ columnsOf m
   unfolding columnsOf
@@ -112,16 +101,8 @@ module _ (m : Matrix) (h : shaped m ≡ true) (last : getD (m .starts) (m .n) 0 
   unfolding valuesOf
   values-kept = fun-ext (part-same m (m .values) h last)
 
-  order-kept : ordered (cut m) && leb (lowerEntries (cut m)) maxEntries ≡ ordered m && leb (lowerEntries m) maxEntries
-  unfolding ordered lowerEntries
-  order-kept = ap₂ (inOrder (m .n)) columns-kept values-kept
-
-  symmetry-kept : symmetric (cut m) ≡ symmetric m
-  unfolding symmetric mirrored entry
-  symmetry-kept = ap₂ (mirrors (m .n)) columns-kept values-kept
-
   matrix-kept : isMatrix (cut m) ≡ isMatrix m
-  matrix-kept = matrix-parts (cut m) ∙ rw (cut-shaped m h last, order-kept, symmetry-kept) (sym (matrix-parts m ∙ rw h))
+  matrix-kept = alike m (cut m .starts) (cut m .columns) (cut m .values) columns-kept values-kept (cut-shaped m h last) h
 
 -- ---- all lists
 

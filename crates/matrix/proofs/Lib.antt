@@ -7,3 +7,6 @@ pub mod Symmetry
 pub mod Entries
 pub mod Cut
 pub mod SmallForces
+pub mod Alike
+pub mod Tabulated
+pub mod Product

@@ -1,19 +1,20 @@
 -- What it says that a matrix is one, and its laws: columns below n, adjacent rows both ways, symmetric and small
 -- entries.
-use mathlib.Core.Path.{_≡_, refl, sym, _∙_}
-use mathlib.Core.Logic.{_≢_}
-use mathlib.Core.Bool.{Bool, true, false, not, _&&_, cond, true≢false}
-use mathlib.Core.List.{List, [], _∷_}
+use mathlib.Core.Path.{_≡_, refl, sym, ap, _∙_}
+use mathlib.Core.Logic.{_⊎_, inl, inr, _≢_}
+use mathlib.Core.Bool.{Bool, true, false, not, _||_, _&&_, cond, true≢false}
+use mathlib.Core.List.{List, [], _∷_, map}
 use Prim.Native.Nat.{ℕ, zero, suc, _≤_, _<_}
+use native.Mathlib.Omega.{arith}
 use lib.Dec.{eqb, ltb, leb}
 use lib.IntN.{ℤ, pos, natAbs}
-use lib.ListN.{length, getD}
-use borrow.Author.Tests.{eqb-true, eqb-false, eq-eqb, ne-eqb, leb-true, ltb-true, not-true}
-use Rattle.base.specs.Lists.{all, isIn, range}
+use lib.ListN.{length, getD, set}
+use borrow.Author.Tests.{eqb-true, eqb-false, eq-eqb, ne-eqb, leb-true, le-leb, ltb-true, lt-ltb, not-true}
+use Rattle.base.specs.Lists.{all, isIn, range, positionOf}
 use Rattle.base.specs.Integers.{within, same}
-use Rattle.base.proofs.Booleans.{and-false, and-left, and-right, or-left-false, or-right-false, clash, conj-first, conj-at}
-use Rattle.base.proofs.Lists.{isIn-filter, all-of, all-range}
-use Rattle.base.proofs.Integers.{same-true}
+use Rattle.base.proofs.Booleans.{and-false, and-left, and-right, or-left-false, or-right-false, clash, same-or, conj-first, conj-at}
+use Rattle.base.proofs.Lists.{isIn-filter, all-of, of-all, all-range, range-all}
+use Rattle.base.proofs.Integers.{same-true, same-refl}
 use Rattle.base.proofs.Graph.{Graph}
 use Rattle.matrix.specs.Limits.{maxRows, maxEntries, maxValue, maxDisplacement}
 use Rattle.matrix.specs.Matrix.{Matrix, partOf, columnsOf, valuesOf, lookup, entry, neighbours, ascending, mirrored, isRow, lowerEntries, isMatrix, displacement, areDisplacements}
@@ -37,6 +38,48 @@ unfolding lookup
 lookup-none j [] vs h = refl
 lookup-none j (c ∷ cs) [] h = refl
 lookup-none j (c ∷ cs) (v ∷ vs) h = rw (or-left-false (eqb j c) (isIn cs j) h) (lookup-none j cs vs (or-right-false (eqb j c) (isIn cs j) h))
+
+-- the value beside a column stands at the column's position
+pub lookup-position : (j : ℕ) (cs : List ℕ) (vs : List ℤ) → length cs ≡ length vs → lookup j cs vs ≡ getD vs (positionOf cs j) (pos 0)
+unfolding lookup positionOf
+lookup-position j [] [] l = refl
+lookup-position j [] (v ∷ vs) l = absurd (omega arith)
+lookup-position j (c ∷ cs) [] l = absurd (omega arith)
+lookup-position j (c ∷ cs) (v ∷ vs) l = go (same-or j c) (lookup-position j cs vs (omega arith))
+  where
+    go : (j ≡ c) ⊎ (j ≢ c) → lookup j cs vs ≡ getD vs (positionOf cs j) (pos 0) → cond (eqb j c) v (lookup j cs vs) ≡ getD (v ∷ vs) (cond (eqb c j) 0 (suc (positionOf cs j))) (pos 0)
+    go (inl e) ih = rw (eq-eqb j c e, eq-eqb c j (sym e))
+    go (inr d) ih = rw (ne-eqb j c d, ne-eqb c j (λ e. d (sym e))) ih
+
+-- .. and changes as it does there
+pub lookup-set : (c j : ℕ) (cs : List ℕ) (vs : List ℤ) (v : ℤ) → length cs ≡ length vs → isIn cs j ≡ true → lookup c cs (set vs (positionOf cs j) v) ≡ cond (eqb c j) v (lookup c cs vs)
+unfolding lookup positionOf
+lookup-set c j [] vs v l h = absurd (true≢false (sym h))
+lookup-set c j (x ∷ xs) [] v l h = absurd (omega arith)
+lookup-set c j (x ∷ xs) (y ∷ ys) v l h = go (same-or j x) (same-or c j) (lookup-set c j xs ys v (omega arith))
+  where
+    go : (j ≡ x) ⊎ (j ≢ x) → (c ≡ j) ⊎ (c ≢ j) → (isIn xs j ≡ true → lookup c xs (set ys (positionOf xs j) v) ≡ cond (eqb c j) v (lookup c xs ys))
+        → lookup c (x ∷ xs) (set (y ∷ ys) (cond (eqb x j) 0 (suc (positionOf xs j))) v) ≡ cond (eqb c j) v (cond (eqb c x) y (lookup c xs ys))
+    go (inl e) (inl f) ih = rw (eq-eqb x j (sym e), eq-eqb c j f, eq-eqb c x (f ∙ e))
+    go (inl e) (inr f) ih = rw (eq-eqb x j (sym e), ne-eqb c j f, ne-eqb c x (λ q. f (q ∙ sym e)))
+    go (inr d) o ih =
+        let later : isIn xs j ≡ true = rw (ne-eqb j x d) at h in
+        rw (ne-eqb x j (λ e. d (sym e)), ih later) (swap o (same-or c x))
+      where
+        swap : (c ≡ j) ⊎ (c ≢ j) → (c ≡ x) ⊎ (c ≢ x) → cond (eqb c x) y (cond (eqb c j) v (lookup c xs ys)) ≡ cond (eqb c j) v (cond (eqb c x) y (lookup c xs ys))
+        swap (inl f) (inl g) = absurd (d (sym f ∙ g))
+        swap (inl f) (inr g) = rw (eq-eqb c j f, ne-eqb c x g)
+        swap (inr f) g = rw (ne-eqb c j f)
+
+-- the value beside a column, where a function gives the values
+pub lookup-map : (f : ℕ → ℤ) (cs : List ℕ) (j : ℕ) → isIn cs j ≡ true → lookup j cs (map f cs) ≡ f j
+unfolding lookup
+lookup-map f [] j h = absurd (true≢false (sym h))
+lookup-map f (c ∷ cs) j h = go (eqb j c) refl (lookup-map f cs j) h
+  where
+    go : (b : Bool) → eqb j c ≡ b → (isIn cs j ≡ true → lookup j cs (map f cs) ≡ f j) → b || isIn cs j ≡ true → cond b (f c) (lookup j cs (map f cs)) ≡ f j
+    go true e ih h = ap f (sym (eqb-true j c e))
+    go false e ih h = ih h
 
 -- so does what stands at a place
 pub getD-all : (p : ℤ → Bool) (i : ℕ) (vs : List ℤ) → p (pos 0) ≡ true → all p vs ≡ true → p (getD vs i (pos 0)) ≡ true
@@ -157,6 +200,38 @@ matrix-facts m h = record {
   where
     at : (k : ℕ) → getD (matrixTests m) k true ≡ true
     at k = conj-at (leb 1 (m .n)) (matrixTests m) h k
+
+-- ---- the other way
+
+mirrored-made : (m : Matrix) (i j : ℕ) → (isIn (columnsOf m j) i ≡ true) × (entry m i j ≡ entry m j i) → mirrored m i j ≡ true
+unfolding mirrored
+mirrored-made m i j h = rw (h .0, h .1) (same-refl (entry m j i))
+
+row-made : (m : Matrix) (i : ℕ) → RowFacts m i → isRow m i ≡ true
+unfolding isRow
+row-made m i f =
+    rw (
+      le-leb (getD (m .starts) i 0) (getD (m .starts) (suc i) 0) (f .rises),
+      f .ascends,
+      of-all (λ j. ltb j (m .n)) (columnsOf m i) (λ j h. lt-ltb j (m .n) (f .low j h)),
+      f .small,
+      of-all (mirrored m i) (columnsOf m i) (λ j h. mirrored-made m i j (f .mirror j h)),
+    )
+
+-- all of this is the test
+pub matrix-made : (m : Matrix) → MatrixFacts m → isMatrix m ≡ true
+unfolding isMatrix
+matrix-made m f =
+    rw (
+      le-leb 1 (m .n) (f .some),
+      le-leb (m .n) maxRows (f .few),
+      le-leb (suc (m .n)) (length (m .starts)) (f .startsLong),
+      eq-eqb (getD (m .starts) 0 0) 0 (f .startsFirst),
+      le-leb (getD (m .starts) (m .n) 0) (length (m .columns)) (f .columnsLong),
+      le-leb (getD (m .starts) (m .n) 0) (length (m .values)) (f .valuesLong),
+      range-all (isRow m) (m .n) (λ i l. row-made m i (f .row i l)),
+    )
+    (le-leb (lowerEntries m) maxEntries (f .lower))
 
 -- ---- its laws
 

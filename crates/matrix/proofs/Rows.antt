@@ -1,16 +1,16 @@
 -- The rows of lent lists: where each lies, and that together they are the lists.
-use mathlib.Core.Path.{_≡_, refl, sym, ap, _∙_}
-use mathlib.Core.Bool.{Bool, true, _&&_, and-true, and-assoc}
-use mathlib.Core.List.{List, [], _∷_, _++_}
+use mathlib.Core.Path.{_≡_, sym, ap, _∙_}
+use mathlib.Core.Bool.{Bool, true, _&&_, and-true}
+use mathlib.Core.List.{List, [], _∷_}
 use Prim.Native.Nat.{ℕ, zero, suc, _+_, _-_, _≤_, _<_}
 use native.Mathlib.Numerals.{add-one}
 use native.Mathlib.Omega.{arith}
-use lib.IntN.{ℤ}
+use lib.IntN.{ℤ, pos}
 use lib.ListN.{length, getD, take, take-append-drop}
 use lib.Seq.{slice, length-slice, take-take}
-use borrow.Author.Tests.{lt-ltb, leb-true}
+use borrow.Author.Tests.{lt-ltb, le-ltb, leb-true}
 use Rattle.base.specs.Lists.{all, range}
-use Rattle.base.proofs.Lists.{all-range, range-snoc}
+use Rattle.base.proofs.Lists.{all-append, all-range, range-snoc}
 use Rattle.matrix.specs.Matrix.{Matrix, partOf, columnsOf, valuesOf, lookup, entry}
 use Rattle.matrix.specs.code.Checks.{RowIn, rises, shaped}
 use Rattle.matrix.proofs.Checks.{shape}
@@ -36,8 +36,13 @@ pub entry-row : (m : Matrix) (i j : ℕ) {cs : List ℕ} {vs : List ℤ} → cs 
 unfolding entry
 entry-row m i j e f = rw (e, f)
 
+-- past the last row every entry is 0
+pub entry-past : (m : Matrix) (i j : ℕ) → m .n ≤ i → entry m i j ≡ pos 0
+unfolding entry columnsOf partOf lookup
+entry-past m i j h = rw (le-ltb i (m .n) h)
+
 -- row starts never fall
-starts-climb : (starts : List ℕ) (n : ℕ) → all (rises starts) (range 0 n) ≡ true → (i d : ℕ) → i + d ≤ n → getD starts i 0 ≤ getD starts (i + d) 0
+pub starts-climb : (starts : List ℕ) (n : ℕ) → all (rises starts) (range 0 n) ≡ true → (i d : ℕ) → i + d ≤ n → getD starts i 0 ≤ getD starts (i + d) 0
 starts-climb starts n h i zero l = let e : i + 0 ≡ i = omega arith in rw e (omega arith)
 starts-climb starts n h i (suc d) l =
     let e : i + suc d ≡ suc (i + d) = omega arith in
@@ -71,10 +76,6 @@ module _ (m : Matrix) (h : shaped m ≡ true) (i : ℕ) (l : i < m .n) where
   length-values = rw (values-part m i l) (length-slice (getD (m .starts) i 0) (getD (m .starts) (i + 1) 0) (m .values) (values-in .ends))
 
 -- ---- the values of all rows
-
-all-append : {A : Type 0} (p : A → Bool) (xs ys : List A) → all p (xs ++ ys) ≡ all p xs && all p ys
-all-append p [] ys = refl
-all-append p (x ∷ xs) ys = rw (all-append p xs ys) (sym (and-assoc (p x) (all p xs) (all p ys)))
 
 -- the rows lie one after the other: all values up to the last row's end are theirs
 pub values-tiled : (m : Matrix) → shaped m ≡ true → (p : ℤ → Bool) (i : ℕ) → i ≤ m .n → all p (take (getD (m .starts) i 0) (m .values)) ≡ all (λ k. all p (valuesOf m k)) (range 0 i)

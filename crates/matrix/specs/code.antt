@@ -2,3 +2,5 @@
 pub mod Checks
 pub mod Pattern
 pub mod Room
+pub mod Tabulated
+pub mod Left

@@ -1,5 +1,6 @@
 // The C interface: exported functions on numbers and byte lists.
 pub mod both;
+pub mod changes;
 pub mod nets;
 pub mod preview;
 pub mod read_plan;

@@ -1,26 +1,36 @@
 -- What the calls leave in bytes stands for what they made.
-use mathlib.Core.Path.{_≡_, refl, ap, _∙_}
+use mathlib.Core.Path.{_≡_, refl, sym, ap, _∙_, fun-ext}
 use mathlib.Core.Bool.{Bool, true, false, cond}
-use mathlib.Core.List.{List, [], _∷_, _++_}
-use Prim.Native.Nat.{ℕ, suc, _+_, _/_, _≤_, _<_}
+use mathlib.Core.List.{List, [], _∷_, _++_, append-nil}
+use Prim.Native.Nat.{ℕ, suc, _+_, _-_, _*_, _/_, _≤_, _<_}
 use native.Mathlib.Numerals.{add-one}
 use native.Mathlib.Omega.{arith}
-use lib.Dec.{ltb}
-use lib.IntN.{ℤ, pos}
-use lib.ListN.{length, getD, take, drop, length-append, length-map}
-use lib.Seq.{take-at, take-take, getD-take, drop-append-seam}
-use borrow.Author.Tests.{ltb-true, le-leb}
-use Rattle.base.specs.Lists.{bit}
+use lib.Dec.{eqb, ltb}
+use lib.IntN.{ℤ, pos, negsuc, natAbs}
+use lib.ListN.{length, getD, set, take, drop, length-append, length-map, length-set, length-drop}
+use lib.Seq.{take-at, take-take, getD-take, drop-append-seam, length-take-le}
+use borrow.Author.Tests.{ltb-true, le-leb, leb-true}
+use Rattle.base.specs.Lists.{all, bit}
+use Rattle.base.specs.Integers.{within}
 use Rattle.base.specs.Replies.{Reply, accepted, Check, roomFor, inTurn, lent}
+use Rattle.base.proofs.Booleans.{and-left, and-right}
 use Rattle.base.proofs.Each.{Each}
+use Rattle.base.proofs.Lists.{range-all}
 use Rattle.base.proofs.Replies.{accepted-all, lent-accepted}
-use Rattle.matrix.specs.Matrix.{Matrix, partOf, columnsOf, valuesOf, entry, isMatrix, matrixOf}
+use Rattle.matrix.specs.Limits.{maxValue, maxDisplacement}
+use Rattle.matrix.specs.Matrix.{Matrix, partOf, columnsOf, valuesOf, entry, isMatrix, areDisplacements, matrixOf}
+use Rattle.matrix.specs.Product.{forceAt, product}
+use Rattle.matrix.specs.SmallForces.{largestForce}
 use Rattle.matrix.proofs.Matrix.{matrix-facts}
-use Rattle.matrix.proofs.Checks.{matrix-tidy}
-use Rattle.matrix.proofs.Rows.{row-in}
+use Rattle.matrix.proofs.Checks.{Shape, shape, shape-made, matrix-tidy}
+use Rattle.matrix.proofs.Rows.{row-in, values-tiled}
+use Rattle.matrix.proofs.Alike.{alike}
+use Rattle.matrix.proofs.Product.{length-product}
+use Rattle.matrix.proofs.SmallForces.{small-forces}
 use Rattle.market.specs.Parse.{Triplet, Parsed, matrixText, rejected, parse}
 use Rattle.market.specs.FullRows.{full, rowsOf, rowStarts, columns, values, ofTriplets, readMatrix, readReply}
-use Rattle.market.specs.AcceptedText.{leftIn, SameRows}
+use Rattle.market.specs.AcceptedText.{leftIn}
+use Rattle.matrix.specs.SameRows.{SameRows}
 use Rattle.market.specs.Text.{written, writeReply}
 use Rattle.market.specs.WriteThenRead.{size, exactly}
 use Rattle.market.proofs.Accepted.{Accepted, parse-accepted}
@@ -35,16 +45,23 @@ use Rattle.race.specs.Planner.{plan, areParameters, planReply}
 use Rattle.race.specs.PlannedSound.{orderLeft, groupsLeft, PlanLeft}
 use Rattle.race.proofs.PlannedSound.{planned-sound}
 use Rattle.race.proofs.Rooms.{Planned, planned}
-use Rattle.words.specs.LittleEndian.{unsigned, signed, unsignedBytes, signedBytes}
+use Rattle.words.specs.LittleEndian.{signedNumber, signedBytesOf, unsigned, signed, unsignedBytes, signedBytes}
+use Rattle.words.proofs.Blocks.{length-decoded, length-encoded}
+use Rattle.words.proofs.Digits.{length-signedBytesOf}
 use Rattle.words.proofs.Codes.{Holds, HoldsSigned, unsigned-append, signed-append}
 use Rattle.lent.specs.Word.{word, Answered}
 use Rattle.survey.specs.Survey.{hasRoom, amount, amountsOf, withSign, farthest, writtenShift}
 use Rattle.survey.proofs.Shifts.{sign-small, farthest-long}
 use Rattle.survey.proofs.SurveyError.{survey-error}
+use Rattle.upkeep.specs.Upkeep.{KeptForces, Change, newDisplacement, newValue, put, matrixAfter, displacementsAfter, changed, changeReply, afterReply, afterChange, afterChanges}
+use Rattle.upkeep.specs.KeptCurrent.{Current}
+use Rattle.upkeep.proofs.KeptCurrent.{kept-current}
 use Rattle.texts.specs.Lent.{readIn}
 use Rattle.office.specs.Lent.{planIn, PlanAnswered}
+use Rattle.lent.specs.Bytes.{matrixIn}
 use Rattle.desk.specs.Lent.{surveyIn, SurveyAnswered}
 use Rattle.desk.proofs.Surveys.{Surveyed, survey-made, amounts-long}
+use Rattle.site.specs.Lent.{keptBytes, valueCount, MovementAnswered, EntryAnswered}
 use Rattle.meaning.specs.ByteLists.{Reading, leftBy, RoomFor, ByteLists}
 use Rattle.meaning.proofs.EachIn.{each-made}
 use Rattle.meaning.proofs.SmallMatrix.{small-value, starts-small, columns-small, values-small}
@@ -238,6 +255,135 @@ module _ (m : Matrix) (x : List ℤ) (t i : ℕ) (sums moves : List ℕ) (return
     λ e. rw (signed-left ok 4 (omega arith) (farthest m t i) shift-small moves (shift-left e)) (take-at (farthest m t i) _ (m .n) (farthest-long m t i)),
   )
 
+-- ---- a kept force list
+
+none : {A : Type 0} (xs : List A) → length xs ≡ 0 → xs ≡ []
+none [] e = refl
+none (x ∷ xs) e = absurd (omega arith)
+
+-- numbers that fill their bytes, a stray part apart
+filled-left : {r : Reply} {k : ℕ} → r ≡ accepted k → (width : ℕ) → 0 < width → (zs : List ℤ) → Each (HoldsSigned width) zs → (old : List ℕ) → (length old - length zs * width) / width ≡ 0
+    → {new : List ℕ} → new ≡ lent r (signedBytes width zs) old → signed width new ≡ zs
+filled-left ok width some zs h old e f =
+    let tail = drop (length (signedBytes width zs)) old in
+    let size : length (signedBytes width zs) ≡ length zs * width = length-encoded (signedBytesOf width) width (length-signedBytesOf width) zs in
+    let short : length (signed width tail) ≡ 0 = length-decoded (signedNumber width) width tail ∙ rw (length-drop (length (signedBytes width zs)) old, size) e in
+    signed-left ok width some zs h old f ∙ ap (λ (l : List ℤ). zs ++ l) (none (signed width tail) short) ∙ append-nil zs
+
+each-within : (limit : ℕ) → limit ≤ maxValue → (zs : List ℤ) → all (within limit) zs ≡ true → Each (HoldsSigned 4) zs
+unfolding within
+each-within limit l [] h = tt
+each-within limit l (z ∷ zs) h =
+    (small-value z (omega (arith, l, leb-true (natAbs z) limit (and-left (within limit z) (all (within limit) zs) h))), each-within limit l zs (and-right (within limit z) (all (within limit) zs) h))
+
+small-force : (z : ℤ) → within largestForce z ≡ true → HoldsSigned 8 z
+unfolding within
+small-force (pos v) h = omega (arith, leb-true v 4096000000000000000 h)
+small-force (negsuc v) h = omega (arith, leb-true (suc v) 4096000000000000000 h)
+
+module _ (k : KeptForces) (c : Change) (n : ℕ) (ok : changeReply k c ≡ accepted n) where
+  was : Current k
+  was = kept-current .before k c n ok
+
+  is : Current (changed k c)
+  unfolding afterChanges afterChange afterReply
+  is = rw ok at (kept-current .sequence k was (c ∷ []))
+
+  rows-same : changed k c .matrix .n ≡ k .matrix .n
+  unfolding changed matrixAfter put
+  rows-same = go c
+    where
+      go : (c : Change) → matrixAfter (k .matrix) c .n ≡ k .matrix .n
+      go (newDisplacement i v) = refl
+      go (newValue i j v) = refl
+
+  forces-back : (forces : List ℕ) → k .forces ≡ signed 8 forces → {newForces : List ℕ} → newForces ≡ lent (changeReply k c) (signedBytes 8 (changed k c .forces)) forces → signed 8 newForces ≡ changed k c .forces
+  unfolding product
+  forces-back forces e f =
+      let m = changed k c .matrix in
+      let x = changed k c .displacements in
+      let small : Each (HoldsSigned 8) (changed k c .forces) = rw (is .forces) (each-made (HoldsSigned 8) (forceAt m x) (λ i. small-force (forceAt m x i) (small-forces .small m x (is .matrix) (is .moved) i)) 0 (m .n)) in
+      let many : length (changed k c .forces) ≡ length forces / 8 = ap length (is .forces) ∙ length-product m x ∙ rows-same ∙ sym (length-product (k .matrix) (k .displacements)) ∙ ap length (sym (was .forces) ∙ e) ∙ length-decoded (signedNumber 8) 8 forces in
+      filled-left ok 8 (omega arith) (changed k c .forces) small forces (omega arith) f
+
+moved-left : (m : Matrix) (i : ℕ) (v : ℤ) (movements forces : List ℕ) (returned : ℕ) (newMovements newForces : List ℕ) → MovementAnswered m (newDisplacement i v) movements forces returned newMovements newForces
+    → (n : ℕ) → changeReply (keptBytes m movements forces) (newDisplacement i v) ≡ accepted n → keptBytes m newMovements newForces ≡ changed (keptBytes m movements forces) (newDisplacement i v)
+unfolding areDisplacements changed matrixAfter displacementsAfter
+moved-left m i v movements forces returned newMovements newForces a n ok =
+    let k = keptBytes m movements forces in
+    let c = newDisplacement i v in
+    let x : List ℤ = set (signed 4 movements) i v in
+    let moves : areDisplacements (m .n) x ≡ true = is k c n ok .moved in
+    let many : length x ≡ length movements / 4 = length-set (signed 4 movements) i v ∙ length-decoded (signedNumber 4) 4 movements in
+    let small = each-within maxDisplacement (omega arith) x (and-right (eqb (length x) (m .n)) (all (within maxDisplacement) x) moves) in
+    rw (filled-left ok 4 (omega arith) x small movements (omega arith) (a .movements-left), forces-back k c n ok forces refl (a .forces-left))
+
+module _ (n : ℕ) (starts columns values : List ℕ) (i j : ℕ) (v : ℤ) (movements forces : List ℕ) (returned : ℕ) (newValues newForces : List ℕ)
+    (a : EntryAnswered (matrixIn n starts columns values) (newValue i j v) values movements forces returned newValues newForces) (count : ℕ)
+    (ok : changeReply (keptBytes (matrixIn n starts columns values) movements forces) (newValue i j v) ≡ accepted count) where
+  abbrev kept : KeptForces
+  kept = keptBytes (matrixIn n starts columns values) movements forces
+
+  -- the matrix as changed, and as it stands in bytes
+  abbrev new : Matrix
+  new = changed kept (newValue i j v) .matrix
+
+  abbrev left : Matrix
+  left = matrixIn n starts columns newValues
+
+  current : Current (changed kept (newValue i j v))
+  current = is kept (newValue i j v) count ok
+
+  list-same : left ≡ record { n = new .n; starts = new .starts; columns = new .columns; values = signed 4 newValues }
+  unfolding changed matrixAfter put
+  list-same = refl
+
+  ends : valueCount (matrixIn n starts columns values) ≡ size new
+  unfolding changed matrixAfter put size
+  ends = refl
+
+  whole : Shape new
+  whole = shape new (matrix-tidy new (current .matrix) .shape)
+
+  -- the values of the rows are those of the changed matrix
+  values-long : length (take (size new) (new .values)) ≡ size new
+  unfolding size
+  values-long = length-take-le (size new) (new .values) (whole .values-long)
+
+  begins-same : signed 4 newValues ≡ take (size new) (new .values) ++ signed 4 (drop (length (signedBytes 4 (take (size new) (new .values)))) values)
+  unfolding size
+  begins-same =
+      let small = each-within maxValue (omega arith) (take (size new) (new .values)) (values-tiled new (matrix-tidy new (current .matrix) .shape) (within maxValue) (new .n) (omega arith) ∙ range-all (λ k. all (within maxValue) (valuesOf new k)) (new .n) (λ k l. matrix-facts new (current .matrix) .row k l .small)) in
+      signed-left ok 4 (omega arith) (take (size new) (new .values)) small values (a .values-left ∙ ap (λ (e : ℕ). lent (changeReply kept (newValue i j v)) (signedBytes 4 (take e (new .values))) values) ends)
+
+  values-same : (r : ℕ) → partOf new (signed 4 newValues) r ≡ partOf new (new .values) r
+  values-same r =
+      sym (part-exactly new (current .matrix) (signed 4 newValues) r)
+      ∙ ap (λ (l : List ℤ). partOf (exactly new) l r) (ap (take (size new)) begins-same ∙ take-at (take (size new) (new .values)) _ (size new) values-long)
+      ∙ part-exactly new (current .matrix) (new .values) r
+
+  long-enough : size new ≤ length (signed 4 newValues)
+  long-enough = rw (begins-same, length-append) (omega (arith, values-long))
+
+  altered-left : SameRows left new × (signed 8 newForces ≡ changed kept (newValue i j v) .forces)
+  unfolding columnsOf valuesOf partOf changed matrixAfter put size
+  altered-left = (
+    record {
+      matrix = alike new (new .starts) (new .columns) (signed 4 newValues) refl (fun-ext values-same) (shape-made left (record {
+        some = whole .some;
+        few = whole .few;
+        starts-long = whole .starts-long;
+        starts-first = whole .starts-first;
+        columns-long = whole .columns-long;
+        values-long = long-enough;
+        rising = whole .rising;
+      })) (matrix-tidy new (current .matrix) .shape) ∙ current .matrix;
+      columns = λ r. refl;
+      values = values-same;
+    },
+    forces-back kept (newValue i j v) count ok forces refl (a .forces-left),
+  )
+
 -- the theorem
 pub byte-lists : ByteLists
-byte-lists = record { read = reads; written-read = written-read; planned = planned-left; surveyed = surveyed-left }
+byte-lists = record { read = reads; written-read = written-read; planned = planned-left; surveyed = surveyed-left; moved = moved-left; altered = altered-left }

@@ -27,6 +27,7 @@ use Rattle.market.proofs.Accepted.{parse-accepted}
 use Rattle.market.proofs.WriteThenRead.{write-then-read}
 use Rattle.survey.specs.Survey.{hasRoom, writtenShift, surveyReply}
 use Rattle.desk.proofs.Surveys.{written-few}
+use Rattle.upkeep.specs.Upkeep.{KeptForces, Change, changeReply}
 use Rattle.plan.specs.Sound.{maxWorkers, planCheck, checkReply}
 use Rattle.planfile.specs.File.{fileSize, freedomsIn, groupsIn}
 use Rattle.planfile.specs.Calls.{writePlanReply, readPlanReply}
@@ -218,6 +219,15 @@ module _ (m : Matrix) where
       one-bit true = omega arith
       one-bit false = omega arith
 
+  set-told : (x fs : List ℤ) (c : Change) → Told (changeReply (record { matrix = m; displacements = x; forces = fs }) c)
+  unfolding changeReply matrixCheck displacementCheck
+  set-told x fs c =
+      turn Told refused (matrixCheck m) _ _ (told-refused why.notMatrix 0 (omega arith) (omega arith)) (λ ok.
+      turn Told refused (displacementCheck (m .n) x) _ _ (told-refused why.badDisplacement _ (omega arith) (omega (arith, place-low x (matrix-facts m ok .few)))) (λ e.
+      turn Told refused _ _ _ (told-refused why.notForces 0 (omega arith) (omega arith)) (λ e.
+      turn Told refused _ _ _ (told-refused why.noEntry 0 (omega arith) (omega arith)) (λ e.
+      turn Told refused _ [] _ (told-refused why.badChange 0 (omega arith) (omega arith)) (λ e. last Told refused _ (told-accepted 0 (omega arith)))))))
+
   plan-told : (w p k a b : ℕ) → Told (planReply m w p k a b)
   unfolding planReply matrixCheck
   plan-told w p k a b =
@@ -335,4 +345,4 @@ read-plan-told planFile order groups =
 
 -- the theorem
 pub words : Words
-words = record { read = λ text starts columns values. read-told text _ _ _; write = write-told; product = product-told; survey = survey-told; plan = λ m w p k order groups. plan-told m w p k _ _; check = check-told; write-plan = write-plan-told; read-plan = read-plan-told; run = run-tells; preview = preview-foretold; one = one }
+words = record { read = λ text starts columns values. read-told text _ _ _; write = write-told; product = product-told; survey = survey-told; set = λ k c. set-told (k .matrix) (k .displacements) (k .forces) c; plan = λ m w p k order groups. plan-told m w p k _ _; check = check-told; write-plan = write-plan-told; read-plan = read-plan-told; run = run-tells; preview = preview-foretold; one = one }

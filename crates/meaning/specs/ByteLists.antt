@@ -9,17 +9,19 @@ use Rattle.base.specs.Replies.{accepted}
 use Rattle.matrix.specs.Matrix.{Matrix, isMatrix}
 use Rattle.market.specs.Parse.{parse}
 use Rattle.market.specs.FullRows.{readMatrix}
-use Rattle.market.specs.AcceptedText.{SameRows}
+use Rattle.matrix.specs.SameRows.{SameRows}
 use Rattle.market.specs.Text.{written, writeReply}
 use Rattle.market.specs.WriteThenRead.{size}
 use Rattle.plan.specs.Sound.{isPlan, checkReply}
 use Rattle.words.specs.LittleEndian.{unsigned, signed}
 use Rattle.survey.specs.Survey.{amountsOf, farthest}
+use Rattle.upkeep.specs.Upkeep.{newDisplacement, newValue, changed, changeReply}
 use Rattle.lent.specs.Word.{Answered}
 use Rattle.lent.specs.Bytes.{matrixIn}
 use Rattle.texts.specs.Lent.{readIn, ReadAnswered}
 use Rattle.office.specs.Lent.{planIn, PlanAnswered}
 use Rattle.desk.specs.Lent.{surveyIn, SurveyAnswered}
+use Rattle.site.specs.Lent.{keptBytes, MovementAnswered, EntryAnswered}
 
 -- a call that reads a text: what it is given, returns and leaves
 pub record Reading (text : List ℕ) : Type 0 where
@@ -59,3 +61,12 @@ pub record ByteLists : Type 0 where
   -- them: no number is lost
   pub surveyed : (m : Matrix) (x : List ℤ) (t i : ℕ) (sums moves : List ℕ) (returned : ℕ) (newSums newMoves : List ℕ) → SurveyAnswered m x t i sums moves returned newSums newMoves
       → (count : ℕ) → surveyIn m x t i sums moves ≡ accepted count → (take (m .n) (signed 8 newSums) ≡ amountsOf m t) × (count ≡ 1 → take (m .n) (signed 4 newMoves) ≡ farthest m t i)
+  -- a new movement, as mzk_set_movement promises, leaves in bytes the lists as changed: the next call finds them current
+  pub moved : (m : Matrix) (i : ℕ) (v : ℤ) (movements forces : List ℕ) (returned : ℕ) (newMovements newForces : List ℕ) → MovementAnswered m (newDisplacement i v) movements forces returned newMovements newForces
+      → (count : ℕ) → changeReply (keptBytes m movements forces) (newDisplacement i v) ≡ accepted count → keptBytes m newMovements newForces ≡ changed (keptBytes m movements forces) (newDisplacement i v)
+  -- a new value, as mzk_set_entry promises, leaves the matrix as changed, whatever stands past it, and its forces
+  pub altered : (n : ℕ) (starts columns values : List ℕ) (i j : ℕ) (v : ℤ) (movements forces : List ℕ) (returned : ℕ) (newValues newForces : List ℕ)
+      → EntryAnswered (matrixIn n starts columns values) (newValue i j v) values movements forces returned newValues newForces
+      → (count : ℕ) → changeReply (keptBytes (matrixIn n starts columns values) movements forces) (newValue i j v) ≡ accepted count
+      → SameRows (matrixIn n starts columns newValues) (changed (keptBytes (matrixIn n starts columns values) movements forces) (newValue i j v) .matrix)
+      × (signed 8 newForces ≡ changed (keptBytes (matrixIn n starts columns values) movements forces) (newValue i j v) .forces)

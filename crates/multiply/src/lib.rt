@@ -1,5 +1,5 @@
 // The check of displacements, and the product of a matrix and displacements on one core.
-mod limits;
+pub mod limits;
 mod row;
 
 use base::DISPLACEMENT;

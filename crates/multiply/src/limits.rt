@@ -1,10 +1,10 @@
-// The first of some whole numbers that passes a limit.
+// Whole numbers against a limit.
 ghost use mathlib.Core.Path.{_≡_};
 ghost use Rattle.base.specs.Integers.{within};
 ghost use Rattle.matrix.specs.Matrix.{firstPast};
 
 // Whether z is at most the limit either side of 0.
-fn is_within(z: i32, limit: u32) -> bool
+pub fn is_within(z: i32, limit: u32) -> bool
     ensures { λ r. ⌜ r ≡ within limit z ⌝ }
 {
     let wide = z as i64;

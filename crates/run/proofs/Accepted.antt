@@ -5,6 +5,7 @@ use Prim.Native.Nat.{ℕ, _<_, _^_}
 use native.Mathlib.Omega.{arith}
 use Rattle.base.specs.Lists.{sumBelow}
 use Rattle.base.proofs.Booleans.{same-or}
+use Rattle.base.proofs.Positions.{position-at}
 use Rattle.matrix.specs.Matrix.{entry, displacement}
 use Rattle.matrix.specs.Product.{forceAt}
 use Rattle.matrix.proofs.Matrix.{matrix-facts, graph, small-entry, small-displacement}
@@ -12,14 +13,13 @@ use Rattle.plan.specs.Sound.{maxWorkers, isSound}
 use Rattle.plan.proofs.Once.{Once, once, low-at, injective}
 use Rattle.run.specs.Job.{Job, Accepted, rowAt, workers}
 use Rattle.run.specs.Updates.{updates, owner, accesses}
-use Rattle.run.specs.Machine.{positionOf}
+use Rattle.base.specs.Lists.{positionOf}
 use Rattle.run.specs.EveryRun.{wholeRun, Plain}
 use Rattle.run.proofs.Facts.{Facts}
 use Rattle.run.proofs.Forest.{WholePlan, whole-of}
 use Rattle.run.proofs.Owners.{owned}
 use Rattle.run.proofs.Next.{target-below, lasts}
 use Rattle.run.proofs.Exclusion.{exclusion}
-use Rattle.run.proofs.Positions.{position-at}
 use Rattle.run.proofs.Total.{total}
 use Rattle.run.proofs.Bound.{magnitude, fitting}
 use Rattle.run.proofs.Counting.{all-accesses}

@@ -14,7 +14,8 @@ use Rattle.base.proofs.Sums.{sum-below-same, sum-below-equal}
 use Rattle.matrix.specs.Product.{forceAt, product}
 use Rattle.run.specs.Job.{Job, Accepted, rowAt, workers}
 use Rattle.run.specs.Updates.{count, accesses}
-use Rattle.run.specs.Machine.{oneMore, steps, ready, bits, over, positionOf, original}
+use Rattle.run.specs.Machine.{oneMore, steps, ready, bits, over, original}
+use Rattle.base.specs.Lists.{positionOf}
 use Rattle.run.specs.State.{fresh}
 use Rattle.run.specs.Calls.{placeOf, pickedOf, readyOf, forcesOf, stateCheck, answerOf, answer}
 use Rattle.run.specs.Answers.{Call, picks, readySet, picked, isReady}

@@ -10,7 +10,7 @@ use Rattle.matrix.specs.Product.{forceAt}
 use Rattle.plan.specs.Sound.{maxWorkers}
 use Rattle.run.specs.Job.{Job, rowAt, workers}
 use Rattle.run.specs.Updates.{count, updates, accesses, noUpdate, next, waits}
-use Rattle.run.specs.Machine.{positionOf}
+use Rattle.base.specs.Lists.{positionOf}
 use Rattle.run.proofs.Amounts.{landed}
 
 -- the facts of a job j

@@ -16,7 +16,8 @@ use Rattle.base.proofs.Sums.{sum-same}
 use Rattle.matrix.specs.Product.{forceAt, product}
 use Rattle.run.specs.Job.{Job, rowAt, workers}
 use Rattle.run.specs.Updates.{count, updates, accesses}
-use Rattle.run.specs.Machine.{allMade, over, positionOf, original}
+use Rattle.run.specs.Machine.{allMade, over, original}
+use Rattle.base.specs.Lists.{positionOf}
 use Rattle.run.specs.State.{State}
 use Rattle.run.proofs.Amounts.{landed}
 use Rattle.run.proofs.Facts.{Facts}

@@ -26,7 +26,6 @@ pub mod Leaves
 pub mod Owners
 pub mod Next
 pub mod Exclusion
-pub mod Positions
 pub mod OrderSums
 pub mod RowShares
 pub mod Total

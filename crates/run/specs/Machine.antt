@@ -6,6 +6,7 @@ use lib.ListN.{length, getD, set}
 use lib.Dec.{eqb, ltb, leb}
 use lib.IntN.{ℤ, pos, _+ℤ_}
 use Rattle.base.specs.Lists.{range}
+use Rattle.base.specs.Lists.{positionOf}
 use Rattle.base.specs.Integers.{fits64}
 use Rattle.base.specs.Refusals as why
 use Rattle.plan.specs.Sound.{maxWorkers}
@@ -95,11 +96,6 @@ allMade j made (suc w) = leb (accesses j w) (count made w) && allMade j made w
 -- "The run is finished when all counts are all their workers' moves"
 unfoldable pub over : Job → (made : List ℕ) → Bool
 over j made = allMade j made (workers j)
-
--- where v stands in a list
-unfoldable pub positionOf : List ℕ → ℕ → ℕ
-positionOf [] v = 0
-positionOf (u ∷ us) v = cond (eqb u v) 0 (suc (positionOf us v))
 
 -- "the sums in original order"
 unfoldable pub original : Job → List ℤ → List ℤ

@@ -27,7 +27,8 @@ use Rattle.race.specs.Planner.{nothing, _then_, leaf, pairs, planPairs, splits,
 use Rattle.run.specs.Job.{Job, rowAt, workersOf, workers}
 use Rattle.run.specs.Tree.{forest, tree, leaves, holds, ownerIn, unfinished, redOpen, blocked}
 use Rattle.run.specs.Updates.{entryAt, displacementAt, later, withEach, rowUpdates, owner, when, upTo, updates, accesses, finished, noUpdate, next, waits}
-use Rattle.run.specs.Machine.{reason, refusal, onward, load as loadSum, total, store, access, move, stepIf, step, oneMore, steps, readyBelow, ready, bits, allMade, over, positionOf, original, countsFine, isState}
+use Rattle.run.specs.Machine.{reason, refusal, onward, load as loadSum, total, store, access, move, stepIf, step, oneMore, steps, readyBelow, ready, bits, allMade, over, original, countsFine, isState}
+use Rattle.base.specs.Lists.{positionOf}
 use Rattle.run.specs.State.{fresh}
 use Rattle.run.specs.Calls.{placeOf, pickedOf, readyOf, forcesOf, answerOf, afterOf, stateCheck, answer, after}
 use Rattle.run.specs.Answers.{Call, picks, readySet, forceList, preview, Answer, picked, isReady, forces, denied, previewed, bitsTold, countTold, shown}

@@ -16,6 +16,7 @@ use borrow.Author.Tests.{eq-eqb, ne-eqb, le-ltb, ltb-true, ltb-false}
 use Rattle.base.specs.Lists.{keep, isIn, bit}
 use Rattle.base.proofs.Booleans.{same-or, clash, is-false, and-false, or-true, or-false}
 use Rattle.base.proofs.Lists.{isIn-append}
+use Rattle.base.proofs.Positions.{position-at}
 use Rattle.matrix.specs.Matrix.{Matrix, columnsOf, valuesOf, entry, ascending, adjacent}
 use Rattle.matrix.proofs.Matrix.{matrix-facts, column-low, column-neighbour, neighbour-column, absent-column, adjacent-both, symmetric}
 use Rattle.matrix.proofs.Ascending.{ascending-first, ascending-tail, isIn-get, lookup-get}
@@ -23,8 +24,7 @@ use Rattle.matrix.specs.code.Checks.{shaped}
 use Rattle.matrix.proofs.Checks.{matrix-tidy}
 use Rattle.matrix.proofs.Rows.{entry-row, length-columns, length-values}
 use Rattle.plan.proofs.Once.{Once, once, injective}
-use Rattle.run.specs.Machine.{positionOf}
-use Rattle.run.proofs.Positions.{position-at}
+use Rattle.base.specs.Lists.{positionOf}
 use Rattle.tables.specs.code.Laid.{maxUpdates}
 use Rattle.matrix.specs.Limits.{maxRows}
 use Rattle.upper.specs.code.Upper.{Positions, Ordered, upperTo, upperOf, Parts, Placed, Upper}

@@ -10,7 +10,7 @@ use std::time::{Duration, Instant};
 
 use mazhoketh_tests::given::{At, Given};
 use mazhoketh_tests::guarded::STACK;
-use mazhoketh_tests::lists::{CrewLists, MatrixLists, PlanLists, RunLists};
+use mazhoketh_tests::lists::{Altered, CrewLists, MatrixLists, PatternLists, PlanLists, RunLists};
 use mazhoketh_tests::oracle::leaves::leaves_of;
 use mazhoketh_tests::oracle::matrix::Matrix;
 use mazhoketh_tests::oracle::nets::{self, Roof};
@@ -34,6 +34,8 @@ struct Lent {
     file: Vec<u8>,
     forces: Vec<u8>,
     shift: Vec<u8>,
+    movements: Vec<u8>,
+    kept: Vec<u8>,
     at: At,
     at1: At,
 }
@@ -51,6 +53,8 @@ impl Lent {
             file: given.file.clone(),
             forces: vec![0; 8 * given.n as usize],
             shift: vec![0; 4 * given.n as usize],
+            movements: given.movements.clone(),
+            kept: given.product(),
             at: At::fresh(given.n),
             at1: At::fresh(given.n),
         }
@@ -66,6 +70,8 @@ struct Implementation {
     write: fn(MatrixLists, Out) -> u64,
     product: fn(MatrixLists, &[u8], Out) -> u64,
     survey: fn(MatrixLists, &[u8], u32, u32, Out, Out) -> u64,
+    set_movement: fn(MatrixLists, Out, Out, u32, i32) -> u64,
+    set_entry: fn(PatternLists, Out, &[u8], Out, Altered) -> u64,
     plan: fn(MatrixLists, u32, u32, u32, Out, Out) -> u64,
     check: fn(MatrixLists, PlanLists, u32) -> u64,
     write_plan: fn(u32, PlanLists, Out) -> u64,
@@ -83,6 +89,8 @@ const LIBRARY: Implementation = Implementation {
     write: library::write,
     product: library::product,
     survey: library::survey,
+    set_movement: library::set_movement,
+    set_entry: library::set_entry,
     plan: library::plan,
     check: library::check,
     write_plan: library::write_plan,
@@ -100,6 +108,8 @@ const RUST: Implementation = Implementation {
     write: calls::write,
     product: calls::product,
     survey: calls::survey,
+    set_movement: calls::set_movement,
+    set_entry: calls::set_entry,
     plan: calls::plan,
     check: calls::check,
     write_plan: calls::write_plan,
@@ -123,6 +133,12 @@ const WORKS: &[(&str, Work)] = &[
     ("product", |by, given, lent| (by.product)(given.matrix(), &given.movements, &mut lent.forces)),
     ("survey", |by, given, lent| {
         (by.survey)(given.matrix(), &given.movements, 1, given.n / 2, &mut lent.forces, &mut lent.shift)
+    }),
+    ("set_movement", |by, given, lent| {
+        (by.set_movement)(given.matrix(), &mut lent.movements, &mut lent.kept, given.n / 2, 1_000_000)
+    }),
+    ("set_entry", |by, given, lent| {
+        (by.set_entry)(given.pattern(), &mut lent.values, &given.movements, &mut lent.kept, given.altered())
     }),
     ("plan", |by, given, lent| (by.plan)(given.matrix(), 16, given.p, 2, &mut lent.order, &mut lent.groups)),
     ("plan, at 1", |by, given, lent| (by.plan)(given.matrix(), 16, given.p, 1, &mut lent.order, &mut lent.groups)),

@@ -57,6 +57,7 @@ fn make(call: &str, stack: usize, given: &Given) -> Option<u64> {
     let At { mut state, mut sums } = At::fresh(given.n);
     let At { state: mut state1, sums: mut sums1 } = At::fresh(given.n);
     let (mut forces, mut shift, mut file) = (blank(&sums), blank(&given.movements), blank(&given.file));
+    let (mut movements, mut own, mut kept) = (given.movements.clone(), given.values.clone(), given.product());
     let end = &given.finished;
     Some(match call {
         "read" => on_stack(stack, || library::read(&given.text, &mut starts, &mut columns, &mut values)),
@@ -64,6 +65,12 @@ fn make(call: &str, stack: usize, given: &Given) -> Option<u64> {
         "product" => on_stack(stack, || library::product(given.matrix(), &given.movements, &mut forces)),
         "survey" => on_stack(stack, || {
             library::survey(given.matrix(), &given.movements, 1, given.n / 2, &mut forces, &mut shift)
+        }),
+        "set_movement" => on_stack(stack, || {
+            library::set_movement(given.matrix(), &mut movements, &mut kept, given.n / 2, 1_000_000)
+        }),
+        "set_entry" => on_stack(stack, || {
+            library::set_entry(given.pattern(), &mut own, &given.movements, &mut kept, given.altered())
         }),
         "plan" => on_stack(stack, || library::plan(given.matrix(), 16, given.p, 4, &mut order, &mut groups)),
         "check" => on_stack(stack, || library::check(given.matrix(), given.farther[1].lists(), 4)),
@@ -102,8 +109,8 @@ fn run(call: &str, stack: usize) {
 /// Says how the program is called.
 fn usage() -> ! {
     eprintln!(
-        "usage: stack CALL BYTES (read, write, product, survey, plan, check, write_plan, read_plan, picks, preview, \
-         ready, forces, picks_both or ready_both)"
+        "usage: stack CALL BYTES (read, write, product, survey, set_movement, set_entry, plan, check, write_plan, \
+         read_plan, picks, preview, ready, forces, picks_both or ready_both)"
     );
     exit(2);
 }

@@ -6,6 +6,7 @@ pub mod plan;
 pub mod plan_file;
 pub mod run;
 pub mod survey;
+pub mod upkeep;
 
 use std::fmt::{self, Display, Formatter};
 use std::ops::Range;
@@ -22,7 +23,7 @@ use crate::progress::Progress;
 
 /// How often each refusal's number was met; at 0, how many calls were accepted.
 #[derive(Default)]
-pub struct Seen([usize; 20]);
+pub struct Seen([usize; 23]);
 
 impl Seen {
     /// Counts an answer word.
@@ -183,7 +184,7 @@ pub fn matrix_twins(rng: &mut Prng, matrix: &Matrix) -> MatrixTwins {
 
 /// A case of any call.
 pub fn any(rng: &mut Prng, seen: &mut Seen) {
-    match rng.below(47) {
+    match rng.below(55) {
         0..8 => matrix::read(rng, seen),
         8..11 => matrix::write(rng, seen),
         11..14 => matrix::product(rng, seen),
@@ -199,6 +200,8 @@ pub fn any(rng: &mut Prng, seen: &mut Seen) {
         39..43 => crews::picks(rng, seen),
         43..45 => crews::ready(rng, seen),
         45 => crews::whole(rng, seen),
+        46..50 => upkeep::set_movement(rng, seen),
+        50..54 => upkeep::set_entry(rng, seen),
         _ => run::whole(rng, seen),
     }
 }

@@ -5,8 +5,8 @@
 use super::crews::{self, LentBoth};
 use super::machine::{self, Lent, Picked, State};
 use super::matrix::Rows;
-use super::{plan_file, planner, soundness, survey, text, Refusal, FIELDS, WORKERS};
-use crate::lists::{CrewLists, MatrixLists, PlanLists, RunLists};
+use super::{plan_file, planner, soundness, survey, text, upkeep, Refusal, FIELDS, WORKERS};
+use crate::lists::{Altered, CrewLists, MatrixLists, PatternLists, PlanLists, RunLists};
 
 /// The bytes of a state: sixteen counts of moves, then sixteen held numbers.
 pub const STATE_BYTES: usize = WORKERS * (4 + 8);
@@ -73,6 +73,64 @@ pub fn survey(
         Ok(u32::from(has_room))
     };
     word(tell())
+}
+
+/// A new movement for one freedom of a kept force list.
+pub fn set_movement(
+    matrix: MatrixLists,
+    movements: &mut [u8],
+    forces: &mut [u8],
+    freedom: u32,
+    value: i32,
+) -> u64 {
+    let lists = Lists::of(matrix);
+    let mut moved = get(movements, usize::MAX, i32::from_le_bytes);
+    let mut kept = get(forces, usize::MAX, i64::from_le_bytes);
+    let mut change = || {
+        let rows = lists.rows()?;
+        super::matrix::judge_movements(rows.n, &moved)?;
+        upkeep::judge(rows, &moved, &kept)?;
+        upkeep::set_movement(rows, &mut moved, &mut kept, freedom, value)?;
+        put(movements, &moved, i32::to_le_bytes);
+        put(forces, &kept, i64::to_le_bytes);
+        Ok(0)
+    };
+    word(change())
+}
+
+/// A new value for an entry and its mirror, of a kept force list.
+pub fn set_entry(
+    pattern: PatternLists,
+    values: &mut [u8],
+    movements: &[u8],
+    forces: &mut [u8],
+    entry: Altered,
+) -> u64 {
+    let PatternLists {
+        n,
+        row_starts,
+        columns,
+    } = pattern;
+    let lists = Lists::of(MatrixLists {
+        n,
+        row_starts,
+        columns,
+        values,
+    });
+    let moved = get(movements, usize::MAX, i32::from_le_bytes);
+    let mut kept = get(forces, usize::MAX, i64::from_le_bytes);
+    let mut change = || {
+        let rows = lists.rows()?;
+        super::matrix::judge_movements(rows.n, &moved)?;
+        upkeep::judge(rows, &moved, &kept)?;
+        let places = upkeep::set_entry(rows, &moved, &mut kept, entry)?;
+        for place in places {
+            put(&mut values[4 * place..], &[entry.value], i32::to_le_bytes);
+        }
+        put(forces, &kept, i64::to_le_bytes);
+        Ok(0)
+    };
+    word(change())
 }
 
 /// The plan of a matrix; counts its groups.

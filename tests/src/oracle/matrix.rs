@@ -191,7 +191,7 @@ impl<'a> Rows<'a> {
     }
 
     /// Where a row's entries begin and end in the lists.
-    fn span(&self, row: usize) -> (usize, usize) {
+    pub fn span(&self, row: usize) -> (usize, usize) {
         (self.starts[row] as usize, self.starts[row + 1] as usize)
     }
 

@@ -17,6 +17,7 @@ pub mod soundness;
 pub mod states;
 pub mod survey;
 pub mod text;
+pub mod upkeep;
 
 /// The most workers of a plan, and the workers that a state has room for.
 pub const WORKERS: usize = 16;

@@ -18,7 +18,7 @@ use Rattle.matrix.specs.Matrix.{Matrix, columnsOf, entry, isMatrix}
 use Rattle.matrix.proofs.Matrix.{small-entry}
 use Rattle.market.specs.Parse.{Triplet, triplet, isAt}
 use Rattle.market.specs.Text.{columnOf, lower}
-use Rattle.market.proofs.Pieces.{filter-map, filter-pieces, pieces-one}
+use Rattle.base.proofs.Pieces.{filter-map, filter-pieces, pieces-one}
 use Rattle.market.proofs.Stored.{Fits, Stored}
 
 -- ---- lists

@@ -21,7 +21,7 @@ use Rattle.market.specs.Parse.{Triplet, triplet}
 use Rattle.market.specs.FullRows.{rowOf, rowsOf, startsFrom, rowStarts, columns, values, ofTriplets}
 use Rattle.market.specs.Text.{lower}
 use Rattle.market.specs.WriteThenRead.{size, exactly}
-use Rattle.market.proofs.Pieces.{map-members, map-pieces, pieces-same, pieces-snoc}
+use Rattle.base.proofs.Pieces.{map-members, map-pieces, pieces-same, pieces-snoc}
 use Rattle.market.proofs.Lower.Columns.{first-below}
 use Rattle.market.proofs.Lower.Rows.{row-lower}
 

@@ -15,7 +15,7 @@ use Rattle.matrix.proofs.Matrix.{matrix-facts, column-low, column-row, symmetri
 use Rattle.matrix.proofs.Ascending.{ascending-tail, ascending-first}
 use Rattle.market.specs.Parse.{triplet}
 use Rattle.market.specs.Text.{columnOf}
-use Rattle.market.proofs.Pieces.{map-members}
+use Rattle.base.proofs.Pieces.{map-members}
 
 -- the first of ascending numbers is below the others
 pub first-below : (c : ℕ) (cs : List ℕ) (v : ℕ) → ascending (c ∷ cs) ≡ true → isIn cs v ≡ true → c < v

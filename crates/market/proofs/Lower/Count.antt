@@ -14,7 +14,7 @@ use Rattle.matrix.specs.Limits.{maxEntries}
 use Rattle.matrix.proofs.Matrix.{matrix-facts}
 use Rattle.market.specs.Parse.{Triplet, triplet}
 use Rattle.market.specs.Text.{lower}
-use Rattle.market.proofs.Pieces.{length-filter-range}
+use Rattle.base.proofs.Pieces.{length-filter-range}
 use Rattle.market.proofs.Accepted.{stored-inner}
 use Rattle.market.proofs.FullCount.{at, cells-count}
 use Rattle.market.proofs.Lower.Columns.{columns-among}

@@ -20,8 +20,8 @@ use Rattle.matrix.proofs.Rows.{columns-part, values-part, columns-in, values-in
 use Rattle.matrix.proofs.Symmetry.{row-lengths}
 use Rattle.market.specs.Parse.{Triplet, triplet}
 use Rattle.market.specs.Text.{columnOf, lower}
+use Rattle.base.proofs.Pieces.{map-members}
 use Rattle.writer.specs.code.Puts.{fromDiagonal, Row}
-use Rattle.market.proofs.Pieces.{map-members}
 use Rattle.market.proofs.Lower.Columns.{first-below, columns-among, column-is-row}
 use Rattle.writer.proofs.rows.Entries.{before-diagonal, from-diagonal}
 

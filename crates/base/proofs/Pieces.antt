@@ -2,15 +2,16 @@
 use mathlib.Core.Path.{_≡_, refl, sym, ap, _∙_}
 use mathlib.Core.Bool.{Bool, true, false, cond}
 use mathlib.Core.List.{List, [], _∷_, _++_, map, map-append, map-map, map-id, append-nil}
-use Prim.Native.Nat.{ℕ, zero, suc, _+_, _≤_, _<_}
+use Prim.Native.Nat.{ℕ, zero, suc, _+_, _-_, _≤_, _<_}
 use native.Mathlib.Omega.{arith}
 use lib.Dec.{eqb}
-use lib.ListN.{length, length-append}
+use lib.ListN.{length, drop, length-append}
+use lib.Seq.{slice, take-append-add, take-append-seam, drop-append-seam}
 use borrow.Author.Tests.{eqb-true, eqb-false, eq-eqb}
 use Rattle.base.specs.Lists.{filter, keep, concat, range, isIn, sumBelow, bit}
 use Rattle.base.proofs.Booleans.{or-true}
-use Rattle.base.proofs.Lists.{concat-append, concat-filter, range-snoc, map-range-same}
+use Rattle.base.proofs.Lists.{concat-append, concat-filter, range-snoc, range-append, map-range-same}
 use Rattle.base.proofs.Sums.{sum-below-same}
 
 -- ---- filters and maps
 
@@ -94,6 +95,22 @@ module _ {A : Type 0} where
         let z : 0 + n ≡ n = omega arith in
         let e : concat (map f (range 0 (suc n))) ≡ concat (map f (range 0 n)) ++ f n = pieces-snoc f 0 n ∙ ap (λ (i : ℕ). concat (map f (range 0 n)) ++ f i) z in
         ap length e ∙ length-append (concat (map f (range 0 n))) (f n) ∙ rw (length-pieces n)
+
+-- ---- one piece between the others
+
+module _ {A : Type 0} where
+  -- the list between two others
+  pub slice-between : (xs ys zs : List A) → slice (length xs) (length xs + length ys) (xs ++ (ys ++ zs)) ≡ ys
+  slice-between xs ys zs =
+      ap (drop (length xs)) (take-append-add xs (ys ++ zs) (length ys) ∙ ap (λ (l : List A). xs ++ l) (take-append-seam ys zs)) ∙ drop-append-seam xs ys
+
+  -- piece i between the others
+  pub pieces-between : (f : ℕ → List A) (n i : ℕ) → i < n → concat (map f (range 0 n)) ≡ concat (map f (range 0 i)) ++ (f i ++ concat (map f (range (suc i) (n - suc i))))
+  pieces-between f n i l =
+      let e : i + suc (n - suc i) ≡ n = omega arith in
+      let z : 0 + i ≡ i = omega arith in
+      ap (λ (k : ℕ). concat (map f (range 0 k))) (sym e) ∙ ap (λ (r : List ℕ). concat (map f r)) (range-append 0 i (suc (n - suc i)))
+      ∙ ap concat (map-append f (range 0 i) (range (0 + i) (suc (n - suc i)))) ∙ concat-append (map f (range 0 i)) (map f (range (0 + i) (suc (n - suc i)))) ∙ rw z
 
 -- how many numbers of a range pass a test
 pub length-filter-range : (p : ℕ → Bool) (n : ℕ) → length (filter p (range 0 n)) ≡ sumBelow (λ (i : ℕ). bit (p i)) n
