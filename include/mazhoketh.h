@@ -74,7 +74,9 @@ enum {
     MZK_SURVEY = 17,      /* a survey error above 1,000,000, or no such row */
     MZK_STALE = 20,       /* forces that are not those of the matrix and the movements, in number or in value */
     MZK_NO_ENTRY = 21,    /* no such row, or an entry that is not stored */
-    MZK_BEYOND = 22       /* a new movement or value beyond its limit */
+    MZK_BEYOND = 22,      /* a new movement or value beyond its limit */
+    MZK_PLACES = 23,      /* not one place for each row of the second matrix, or a place repeats or leaves a gap */
+    MZK_LIMITS = 24       /* the joined matrix has too many rows or entries, or a value too large */
 };
 
 /* The matrix of a text, in full rows, into row_starts, columns and values; returns its number of rows. It has one row
@@ -150,6 +152,24 @@ uint64_t mzk_set_entry(uint32_t n,
                        uint32_t row,
                        uint32_t column,
                        int32_t value);
+
+/* Two nets sewn together. For each row of the second matrix places has the number, of 32 bits, of a row of the joined
+ * one, where the first keeps its rows; places from n1 on leave no gap, and the joined matrix has as many rows as the
+ * first and those. Values that fall together are added; an entry is stored if either matrix stores it, also where the
+ * sum is 0. The joined matrix goes into row_starts, columns and values; returns its number of rows.
+ * Refused: 5 (the first, then the second); 23; 24; 9 (row_starts; columns; values). */
+uint64_t mzk_join(uint32_t n1,
+                  const uint8_t *row_starts1, size_t row_starts1_bytes,
+                  const uint8_t *columns1, size_t columns1_bytes,
+                  const uint8_t *values1, size_t values1_bytes,
+                  uint32_t n2,
+                  const uint8_t *row_starts2, size_t row_starts2_bytes,
+                  const uint8_t *columns2, size_t columns2_bytes,
+                  const uint8_t *values2, size_t values2_bytes,
+                  const uint8_t *places, size_t places_bytes,
+                  uint8_t *row_starts, size_t row_starts_bytes,
+                  uint8_t *columns, size_t columns_bytes,
+                  uint8_t *values, size_t values_bytes);
 
 /* The plan of a matrix: its n rows into order, and for each group a record into groups (start, length, first worker,
  * workers, colour, parent, depth); returns the number of groups. Start and length are positions in the order, the

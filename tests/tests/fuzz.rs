@@ -4,6 +4,6 @@ use mazhoketh_tests::cases;
 
 #[test]
 fn every_refusal() {
-    let seen = cases::each(1, 0..150_000, cases::any);
-    seen.require((0..=17).chain(20..=22), 1_000);
+    let seen = cases::each(1, 0..170_000, cases::any);
+    seen.require((0..=17).chain(20..=24), 1_000);
 }

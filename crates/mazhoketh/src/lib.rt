@@ -1,5 +1,6 @@
 // The C interface: exported functions on numbers and byte lists.
 pub mod changes;
+pub mod join;
 pub mod nets;
 pub mod read_plan;
 pub mod runs;

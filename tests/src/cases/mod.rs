@@ -1,5 +1,6 @@
 //! Random cases of each call, made to the library and to the other implementation and compared.
 
+pub mod join;
 pub mod matrix;
 pub mod plan;
 pub mod plan_file;
@@ -22,7 +23,7 @@ use crate::progress::Progress;
 
 /// How often each refusal's number was met; at 0, how many calls were accepted.
 #[derive(Default)]
-pub struct Seen([usize; 23]);
+pub struct Seen([usize; 25]);
 
 impl Seen {
     /// Counts an answer word.
@@ -183,7 +184,7 @@ pub fn matrix_twins(rng: &mut Prng, matrix: &Matrix) -> MatrixTwins {
 
 /// A case of any call.
 pub fn any(rng: &mut Prng, seen: &mut Seen) {
-    match rng.below(45) {
+    match rng.below(50) {
         0..8 => matrix::read(rng, seen),
         8..11 => matrix::write(rng, seen),
         11..14 => matrix::product(rng, seen),
@@ -197,6 +198,7 @@ pub fn any(rng: &mut Prng, seen: &mut Seen) {
         33..36 => survey::survey(rng, seen),
         36..40 => upkeep::set_movement(rng, seen),
         40..44 => upkeep::set_entry(rng, seen),
+        44..49 => join::join(rng, seen),
         _ => run::whole(rng, seen),
     }
 }

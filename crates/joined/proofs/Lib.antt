@@ -1,0 +1,15 @@
+pub mod Gaps
+pub mod Places
+pub mod Entries
+pub mod Forces
+pub mod SewnTogether
+pub mod Gathering
+pub mod Replied
+pub mod Part
+pub mod Emitting
+pub mod Cells
+pub mod Rows
+pub mod Tables
+pub mod Slotted
+pub mod Turns
+pub mod Joining
