@@ -15,9 +15,9 @@
  * list of another; lists that are only read may be shared. In a call, a list that is written overlaps no other list.
  * No pointer is null, also of an empty list.
  *
- * Stack: mzk_read uses up to 2 MiB, mzk_picks, mzk_ready and mzk_forces up to 1.3 MiB, mzk_plan up to 1 MiB,
- * mzk_set_movement and mzk_set_entry up to 0.7 MiB, mzk_write_plan and mzk_read_plan up to 8 KiB, the others up to
- * 0.6 MiB. A thread with MZK_STACK_BYTES and its own needs can make any call. */
+ * Stack: mzk_join uses up to 2.5 MiB, mzk_read up to 2 MiB, mzk_picks, mzk_ready and mzk_forces up to 1.3 MiB,
+ * mzk_plan up to 1 MiB, mzk_set_movement and mzk_set_entry up to 0.7 MiB, mzk_write_plan and mzk_read_plan up to
+ * 8 KiB, the others up to 0.6 MiB. A thread with MZK_STACK_BYTES and its own needs can make any call. */
 #ifndef MAZHOKETH_H
 #define MAZHOKETH_H
 
@@ -42,7 +42,7 @@ enum {
     MZK_TEXT_BYTES = 1048576,    /* a text that is read, at most */
     MZK_WRITTEN_BYTES = 720963,  /* a text that is written, at most: 51 + 16 + 32,768 x 22 */
     MZK_FILE_BYTES = 28 + 4 * MZK_ROWS + 4 * MZK_GROUP_FIELDS * MZK_GROUPS_LIMIT, /* a plan file, at most */
-    MZK_STACK_BYTES = 2097152    /* the stack of a call, at most */
+    MZK_STACK_BYTES = 2621440    /* the stack of a call, at most */
 };
 
 /* Every call returns one word: the refusal's number, 0 if it was accepted, and the refusal's place or the accepted

@@ -74,12 +74,12 @@ module _ (a b : Matrix) (places : List ℕ) where
   unfolding joined
   net-last = last-start (joinedRows a places) (storedIn a b places) (stiffness a b places) ∙ sym (columns-size (joinedRows a places) (storedIn a b places) (stiffness a b places))
 
-  net-values : length (net .values) ≡ length (net .columns)
+  pub net-values : length (net .values) ≡ length (net .columns)
   unfolding joined
   net-values = values-size (joinedRows a places) (storedIn a b places) (stiffness a b places) ∙ sym (columns-size (joinedRows a places) (storedIn a b places) (stiffness a b places))
 
   -- .. and no longer than a matrix can be
-  net-few : isMatrix net ≡ true → length (net .columns) ≤ maxCells
+  pub net-few : isMatrix net ≡ true → length (net .columns) ≤ maxCells
   net-few ok = omega (arith, sym net-last, ap (λ (k : ℕ). getD (net .starts) k 0) net-rows, few-entries net ok)
 
   -- ---- rooms

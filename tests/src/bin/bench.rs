@@ -77,6 +77,7 @@ struct Implementation {
     survey: fn(MatrixLists, &[u8], u32, u32, Out, Out) -> u64,
     set_movement: fn(MatrixLists, Out, Out, u32, i32) -> u64,
     set_entry: fn(PatternLists, Out, &[u8], Out, Altered) -> u64,
+    join: fn(MatrixLists, MatrixLists, &[u8], Out, Out, Out) -> u64,
     plan: fn(MatrixLists, u32, u32, Out, Out) -> u64,
     check: fn(MatrixLists, PlanLists) -> u64,
     write_plan: fn(u32, PlanLists, Out) -> u64,
@@ -93,6 +94,7 @@ const LIBRARY: Implementation = Implementation {
     survey: library::survey,
     set_movement: library::set_movement,
     set_entry: library::set_entry,
+    join: library::join,
     plan: library::plan,
     check: library::check,
     write_plan: library::write_plan,
@@ -109,6 +111,7 @@ const RUST: Implementation = Implementation {
     survey: calls::survey,
     set_movement: calls::set_movement,
     set_entry: calls::set_entry,
+    join: calls::join,
     plan: calls::plan,
     check: calls::check,
     write_plan: calls::write_plan,
@@ -123,7 +126,7 @@ type Work = fn(&Implementation, &Given, &mut Lent) -> u64;
 
 /// All that is timed, by name.
 #[rustfmt::skip]
-const WORKS: [(&str, Work); 14] = [
+const WORKS: [(&str, Work); 15] = [
     ("read", |by, given, lent| (by.read)(&given.text, &mut lent.row_starts, &mut lent.columns, &mut lent.values)),
     ("write", |by, given, lent| (by.write)(given.matrix(), &mut lent.text)),
     ("product", |by, given, lent| (by.product)(given.matrix(), &given.movements, &mut lent.forces)),
@@ -135,6 +138,10 @@ const WORKS: [(&str, Work); 14] = [
     }),
     ("set_entry", |by, given, lent| {
         (by.set_entry)(given.pattern(), &mut lent.values, &given.movements, &mut lent.kept, given.altered())
+    }),
+    ("join", |by, given, lent| {
+        let Lent { row_starts, columns, values, .. } = lent;
+        (by.join)(given.matrix(), given.opposite(), &given.places, row_starts, columns, values)
     }),
     ("plan", |by, given, lent| (by.plan)(given.matrix(), 16, given.p, &mut lent.order, &mut lent.groups)),
     ("check", |by, given, _| (by.check)(given.matrix(), given.plan())),

@@ -68,6 +68,10 @@ fn make(call: &str, stack: usize, given: &Given) -> Option<u64> {
         "set_entry" => on_stack(stack, || {
             library::set_entry(given.pattern(), &mut own, &given.movements, &mut kept, given.altered())
         }),
+        "join" => on_stack(stack, || {
+            let (first, second) = (given.matrix(), given.opposite());
+            library::join(first, second, &given.places, &mut starts, &mut columns, &mut values)
+        }),
         "plan" => on_stack(stack, || library::plan(given.matrix(), 16, given.p, &mut order, &mut groups)),
         "check" => on_stack(stack, || library::check(given.matrix(), given.plan())),
         "write_plan" => on_stack(stack, || library::write_plan(given.n, given.plan(), &mut file)),
@@ -97,8 +101,8 @@ fn run(call: &str, stack: usize) {
 /// Says how the program is called.
 fn usage() -> ! {
     eprintln!(
-        "usage: stack CALL BYTES (read, write, product, survey, set_movement, set_entry, plan, check, write_plan, \
-         read_plan, picks, ready or forces)"
+        "usage: stack CALL BYTES (read, write, product, survey, set_movement, set_entry, join, plan, check, \
+         write_plan, read_plan, picks, ready or forces)"
     );
     exit(2);
 }
