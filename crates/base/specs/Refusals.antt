@@ -69,3 +69,7 @@ badLayout = 16
 -- Q-6: "t outside its limits or no such freedom"
 abbrev pub badSurvey : ℕ
 badSurvey = 17
+
+-- Q-12: "address above 5"
+abbrev pub noRegister : ℕ
+noRegister = 25

@@ -45,3 +45,5 @@ pub const EARLY: u32 = 15;
 pub const LAYOUT: u32 = 16;
 
 pub const SURVEY: u32 = 17;
+
+pub const REGISTER: u32 = 25;
