@@ -140,7 +140,7 @@ step h u t (suc (suc (suc (suc (suc (suc n)))))) byte small l = absurd (omega ar
 
 -- ---- all writes
 
-tells : (ws : List Write) → Tells (history ws) (unitAfter ws)
+pub tells : (ws : List Write) → Tells (history ws) (unitAfter ws)
 unfolding unitAfter history isMember isNamed gatherings isReleased isEnabled gathering allNamed
 tells [] = record {
   sets = record { few = omega arith; come = omega arith; members = λ v i. bit-zero v; arrived = λ v i. bit-zero v; unmet = refl; count = refl };

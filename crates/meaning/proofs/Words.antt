@@ -320,6 +320,42 @@ read-plan-told planFile order groups =
     turn Told refused _ [] _ (told-refused why.tooShort (groupsIn planFile) (omega arith) (omega (arith, s .records))) (λ g.
     last Told refused _ (told-accepted (freedomsIn planFile + 65536 * groupsIn planFile) (omega (arith, s .few, s .records))))))
 
+-- ---- barrier units
+
+-- a number of bytes
+number-small : (bytes : List ℕ) → Each IsByte bytes → number bytes < 256 ^ length bytes
+unfolding number
+number-small [] e = omega arith
+number-small (b ∷ bs) e = ?
+
+module _ (unit : List ℕ) where
+  write-unit-told : (address : ℕ) → Told (writeUnitReply unit address)
+  unfolding writeUnitReply
+  write-unit-told address =
+      turn Told refused _ _ _ (told-refused why.noRegister 0 (omega arith) (omega arith)) (λ e.
+      turn Told refused _ [] _ (told-refused why.tooShort unitSize (omega arith) (omega arith)) (λ f.
+      last Told refused _ (told-accepted 0 (omega arith))))
+
+  line-told : Told (lineReply unit)
+  unfolding lineReply
+  line-told =
+      turn Told refused _ [] _ (told-refused why.tooShort unitSize (omega arith) (omega arith)) (λ f.
+      last Told refused _ (told-accepted (bit (isUp (unitIn unit))) (omega (arith, bit-small (isUp (unitIn unit))))))
+
+  module _ (bytes : areBytes unit ≡ true) where
+    read-unit-told : (address : ℕ) → Told (readUnitReply unit address)
+    unfolding readUnitReply
+    read-unit-told address =
+        turn Told refused _ _ _ (told-refused why.noRegister 0 (omega arith) (omega arith)) (λ e.
+        turn Told refused _ [] _ (told-refused why.tooShort unitSize (omega arith) (omega arith)) (λ f.
+        last Told refused _ (told-accepted (register (unitIn unit) address) ?)))
+
+    releases-told : Told (releasesReply unit)
+    unfolding releasesReply
+    releases-told =
+        turn Told refused _ [] _ (told-refused why.tooShort unitSize (omega arith) (omega arith)) (λ f.
+        last Told refused _ (told-accepted (unitIn unit .releases) ?))
+
 -- the theorem
 pub words : Words
-words = record { read = λ text starts columns values. read-told text _ _ _; write = write-told; product = product-told; survey = survey-told; plan = λ m w p order groups. plan-told m w p _ _; check = check-told; write-plan = write-plan-told; read-plan = read-plan-told; run = run-tells; one = one }
+words = record { read = λ text starts columns values. read-told text _ _ _; write = write-told; product = product-told; survey = survey-told; plan = λ m w p order groups. plan-told m w p _ _; check = check-told; write-plan = write-plan-told; read-plan = read-plan-told; write-unit = write-unit-told; read-unit = λ unit address bytes. read-unit-told unit bytes address; line = line-told; releases = releases-told; run = run-tells; one = one }

@@ -40,7 +40,7 @@ read-u32-requires c κs = search needs
 
 returns : tie.Need-returns
 unfolding unitIn
-returns c = rw (c .before .before .before .before .before .before .before .before .set-of .ensures, c .before .before .before .before .before .set-of2 .ensures, c .before .before .before .bit-0 .ensures, c .before .bit-02 .ensures, c .read-u32 .ensures, four-at (c .before .before .before .before .before .before .before .before .before .before .before .args .bytes .now) 6 (search needs))
+returns c = rw (c .before .before .before .before .before .before .before .before .set-of .ensures, c .before .before .before .before .before .set-of2 .ensures, c .before .before .before .bit-0 .ensures, c .before .bit-02 .ensures, c .read-u32 .ensures, four-at (c .before .before .before .before .before .before .before .before .before .before .before .before .args .bytes .now) 6 (search needs))
 
 pub load-spec : {M : Type 1} → statement M
 load-spec =
