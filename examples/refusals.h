@@ -39,6 +39,7 @@ static const struct refusal {
     [MZK_UNFINISHED] = { NOWHERE, "a worker has moves left" },
     [MZK_NO_FILE] = { NOWHERE, "no plan file, or a damaged or an older one" },
     [MZK_SURVEY] = { NOWHERE, "a survey error above 1000000, or no such row" },
+    [MZK_NO_REGISTER] = { NOWHERE, "no such register of a barrier unit" },
 };
 
 /* Prints the refusal in a word, of a file or of a call: `FILE:LINE: SENTENCE (refusal NUMBER)`. */

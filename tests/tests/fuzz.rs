@@ -5,5 +5,5 @@ use mazhoketh_tests::cases;
 #[test]
 fn every_refusal() {
     let seen = cases::each(1, 0..120_000, cases::any);
-    seen.require(0..=17, 1_000);
+    seen.require((0..=17).chain([25]), 1_000);
 }

@@ -31,7 +31,7 @@ fn as_cpp() {
 fn sentences() {
     let printed = build_and_run("refusals", "gcc", &["-std=c99", "-pedantic"]);
     let mut sentences: Vec<&str> = printed.lines().collect();
-    assert_eq!(sentences.len(), 18);
+    assert_eq!(sentences.len(), 26);
     for (number, sentence) in (1..).zip(&sentences) {
         assert!(sentence.starts_with("FILE:"), "{sentence}");
         assert!(
@@ -40,7 +40,7 @@ fn sentences() {
         );
         assert_eq!(
             sentence.contains("does not know"),
-            number == 18,
+            !(1..=17).contains(&number) && number != 25,
             "{sentence}"
         );
     }
@@ -56,6 +56,7 @@ fn sentences() {
         );
     }
     let text = |sentence: &mut &str| sentence.rfind(" (").map(|end| sentence[..end].to_string());
+    sentences.retain(|sentence| !sentence.contains("does not know"));
     sentences.sort_unstable();
     sentences.dedup_by_key(text);
     assert_eq!(sentences.len(), 18, "two sentences are the same");

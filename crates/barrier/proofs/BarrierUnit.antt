@@ -155,11 +155,11 @@ tells (w ∷ ws) = go (leb (w .address) 5) refl (tells ws)
 
 -- ---- what the registers read
 
-bit-small : (b : Bool) → bit b < 256
+pub bit-small : (b : Bool) → bit b < 256
 bit-small true = omega arith
 bit-small false = omega arith
 
-read-small : (u : Barrier) → u .members < 2 ^ 16 → u .arrived < 2 ^ 16 → (address : ℕ) → register u address < 256
+pub read-small : (u : Barrier) → u .members < 2 ^ 16 → u .arrived < 2 ^ 16 → (address : ℕ) → register u address < 256
 unfolding register
 read-small u m a zero = omega arith
 read-small u m a (suc zero) = omega arith

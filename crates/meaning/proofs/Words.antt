@@ -7,7 +7,7 @@ use native.Mathlib.Nat.{pow-le-pow-right}
 use native.Mathlib.Omega.{arith}
 use lib.Dec.{eqb, ltb, leb}
 use lib.IntN.{ℤ, pos, negsuc}
-use lib.ListN.{length, take, drop, length-drop}
+use lib.ListN.{length, getD, take, drop, length-drop, length-take}
 use lib.Seq.{length-take-le}
 use borrow.Author.Tests.{eqb-true, ltb-false, leb-true}
 use Rattle.base.specs.Lists.{isEmpty, begins, bit}
@@ -15,6 +15,7 @@ use Rattle.base.specs.Integers.{within}
 use Rattle.base.specs.Refusals as why
 use Rattle.base.specs.Replies.{Reply, accepted, refused, Check, inTurn}
 use Rattle.base.proofs.Booleans.{and-right}
+use Rattle.base.proofs.Each.{each-take, each-drop}
 use Rattle.matrix.specs.Limits.{maxRows, maxEntries, maxDisplacement, maxText}
 use Rattle.matrix.specs.Matrix.{Matrix, matrixCheck, firstPast, displacementCheck}
 use Rattle.matrix.specs.Product.{productReply}
@@ -30,8 +31,10 @@ use Rattle.survey.specs.Survey.{hasRoom, writtenShift, surveyReply}
 use Rattle.desk.proofs.Surveys.{written-few}
 use Rattle.plan.specs.Sound.{maxWorkers, planCheck, checkReply}
 use Rattle.planfile.specs.File.{fileSize, freedomsIn, groupsIn}
+use Rattle.planfile.specs.PlanFiles.{areBytes}
 use Rattle.planfile.specs.Calls.{writePlanReply, readPlanReply}
 use Rattle.planfile.proofs.Sized as counts
+use Rattle.planfile.proofs.PlanFiles.{each-byte}
 use Rattle.planfile.proofs.Files.{file-sized}
 use Rattle.race.specs.Planner.{plan, planReply}
 use Rattle.race.proofs.PlannedSound.{planned-sound}
@@ -43,11 +46,16 @@ use Rattle.run.specs.Answers.{Call, picks, readySet, forceList, Answer}
 use Rattle.run.specs.Answers as calls
 use Rattle.run.specs.LentRuns.{passed}
 use Rattle.run.proofs.Accepted.{facts}
+use Rattle.run.proofs.Fits.{each-get}
 use Rattle.run.proofs.LentRuns.{lent-runs}
 use Rattle.calls.proofs.ReadyBits.{bits-below}
 use Rattle.words.specs.LittleEndian.{number}
 use Rattle.words.proofs.Blocks.{length-decoded}
+use Rattle.words.proofs.Bytes.{IsByte, number-small}
 use Rattle.lent.specs.Word.{word}
+use Rattle.barrier.specs.Registers.{register, isUp}
+use Rattle.barrier.proofs.BarrierUnit.{bit-small, read-small}
+use Rattle.board.specs.Unit.{unitSize, unitIn, writeUnitReply, readUnitReply, lineReply, releasesReply}
 use Rattle.answers.specs.Runs.{stateBytes, countBytes, stateIn, answerIn, replyTo}
 use Rattle.answers.proofs.TakenFew.{taken-few}
 use Rattle.meaning.specs.Words.{numberIn, placeIn, Told, Words}
@@ -322,12 +330,6 @@ read-plan-told planFile order groups =
 
 -- ---- barrier units
 
--- a number of bytes
-number-small : (bytes : List ℕ) → Each IsByte bytes → number bytes < 256 ^ length bytes
-unfolding number
-number-small [] e = omega arith
-number-small (b ∷ bs) e = ?
-
 module _ (unit : List ℕ) where
   write-unit-told : (address : ℕ) → Told (writeUnitReply unit address)
   unfolding writeUnitReply
@@ -343,18 +345,28 @@ module _ (unit : List ℕ) where
       last Told refused _ (told-accepted (bit (isUp (unitIn unit))) (omega (arith, bit-small (isUp (unitIn unit))))))
 
   module _ (bytes : areBytes unit ≡ true) where
+    two-small : (high low : ℕ) → getD unit high 0 * 256 + getD unit low 0 < 2 ^ 16
+    two-small high low = omega (arith, byte-at high, byte-at low)
+      where
+        byte-at : (i : ℕ) → getD unit i 0 < 256
+        byte-at i = each-get IsByte unit 0 (each-byte unit bytes) (omega arith) i
+
+    count-small : unitIn unit .releases < 2 ^ 32
+    unfolding unitIn
+    count-small = number-small 4 (take 4 (drop 6 unit)) (rw (length-take 4 (drop 6 unit)) (omega arith)) (each-take IsByte 4 (drop 6 unit) (each-drop IsByte 6 unit (each-byte unit bytes)))
+
     read-unit-told : (address : ℕ) → Told (readUnitReply unit address)
-    unfolding readUnitReply
+    unfolding readUnitReply unitIn
     read-unit-told address =
         turn Told refused _ _ _ (told-refused why.noRegister 0 (omega arith) (omega arith)) (λ e.
         turn Told refused _ [] _ (told-refused why.tooShort unitSize (omega arith) (omega arith)) (λ f.
-        last Told refused _ (told-accepted (register (unitIn unit) address) ?)))
+        last Told refused _ (told-accepted (register (unitIn unit) address) (omega (arith, read-small (unitIn unit) (two-small 1 0) (two-small 3 2) address)))))
 
     releases-told : Told (releasesReply unit)
     unfolding releasesReply
     releases-told =
         turn Told refused _ [] _ (told-refused why.tooShort unitSize (omega arith) (omega arith)) (λ f.
-        last Told refused _ (told-accepted (unitIn unit .releases) ?))
+        last Told refused _ (told-accepted (unitIn unit .releases) count-small))
 
 -- the theorem
 pub words : Words

@@ -65,6 +65,10 @@ fn make(call: &str, stack: usize, given: &Given) -> Option<u64> {
         "check" => on_stack(stack, || library::check(given.matrix(), given.plan())),
         "write_plan" => on_stack(stack, || library::write_plan(given.n, given.plan(), &mut file)),
         "read_plan" => on_stack(stack, || library::read_plan(&given.file, &mut order, &mut groups)),
+        "barrier_write" => on_stack(stack, || library::barrier_write(&mut state, (2, 1))),
+        "barrier_read" => on_stack(stack, || library::barrier_read(&state, 2)),
+        "barrier_line" => on_stack(stack, || library::barrier_line(&state)),
+        "barrier_releases" => on_stack(stack, || library::barrier_releases(&state)),
         "picks" => on_stack(stack, || library::picks(given.run(), &mut state, &mut sums, &given.schedule)),
         "ready" => on_stack(stack, || library::ready(given.run(), &state, &sums)),
         "forces" => on_stack(stack, || library::forces(given.run(), &end.state, &end.sums, &mut forces)),
@@ -90,8 +94,8 @@ fn run(call: &str, stack: usize) {
 /// Says how the program is called.
 fn usage() -> ! {
     eprintln!(
-        "usage: stack CALL BYTES (read, write, product, survey, plan, check, write_plan, read_plan, picks, ready or \
-         forces)"
+        "usage: stack CALL BYTES (read, write, product, survey, plan, check, write_plan, read_plan, \
+         barrier_write, barrier_read, barrier_line, barrier_releases, picks, ready or forces)"
     );
     exit(2);
 }

@@ -1,5 +1,6 @@
 //! Random cases of each call, made to the library and to the other implementation and compared.
 
+pub mod barrier;
 pub mod matrix;
 pub mod plan;
 pub mod plan_file;
@@ -21,7 +22,7 @@ use crate::progress::Progress;
 
 /// How often each refusal's number was met; at 0, how many calls were accepted.
 #[derive(Default)]
-pub struct Seen([usize; 18]);
+pub struct Seen([usize; 26]);
 
 impl Seen {
     /// Counts an answer word.
@@ -182,7 +183,7 @@ pub fn matrix_twins(rng: &mut Prng, matrix: &Matrix) -> MatrixTwins {
 
 /// A case of any call.
 pub fn any(rng: &mut Prng, seen: &mut Seen) {
-    match rng.below(37) {
+    match rng.below(38) {
         0..8 => matrix::read(rng, seen),
         8..11 => matrix::write(rng, seen),
         11..14 => matrix::product(rng, seen),
@@ -194,6 +195,7 @@ pub fn any(rng: &mut Prng, seen: &mut Seen) {
         31 => plan_file::write(rng, seen),
         32 => plan_file::read(rng, seen),
         33..36 => survey::survey(rng, seen),
+        36 => barrier::unit(rng, seen),
         _ => run::whole(rng, seen),
     }
 }
