@@ -29,29 +29,21 @@ module _ (op : ℕ → ℕ → ℕ) (both : Bool → Bool → Bool) (shr : (a b 
   unfolding hasBit
   bit-op a b v = rw (shr a b v, left (a / 2 ^ v) (b / 2 ^ v) 1) (digit (a / 2 ^ v % 2) (b / 2 ^ v % 2) (omega arith) (omega arith))
 
+-- of two digits
+digits : (P : ℕ → ℕ → Type 0) → P 0 0 → P 0 1 → P 1 0 → P 1 1 → (p q : ℕ) → p < 2 → q < 2 → P p q
+digits P a b c d zero zero g h = a
+digits P a b c d zero (suc zero) g h = b
+digits P a b c d zero (suc (suc q)) g h = absurd (omega arith)
+digits P a b c d (suc zero) zero g h = c
+digits P a b c d (suc zero) (suc zero) g h = d
+digits P a b c d (suc zero) (suc (suc q)) g h = absurd (omega arith)
+digits P a b c d (suc (suc p)) q g h = absurd (omega arith)
+
 pub bit-or : (a b v : ℕ) → hasBit (bitOr a b) v ≡ hasBit a v || hasBit b v
-bit-or = bit-op bitOr (λ x y. x || y) or-shr or-mod digit
-  where
-    digit : (p q : ℕ) → p < 2 → q < 2 → eqb (bitOr p q) 1 ≡ eqb p 1 || eqb q 1
-    digit zero zero g h = refl
-    digit zero (suc zero) g h = refl
-    digit zero (suc (suc q)) g h = absurd (omega arith)
-    digit (suc zero) zero g h = refl
-    digit (suc zero) (suc zero) g h = refl
-    digit (suc zero) (suc (suc q)) g h = absurd (omega arith)
-    digit (suc (suc p)) q g h = absurd (omega arith)
+bit-or = bit-op bitOr (λ x y. x || y) or-shr or-mod (digits (λ (p q : ℕ). eqb (bitOr p q) 1 ≡ eqb p 1 || eqb q 1) refl refl refl refl)
 
 pub bit-and : (a b v : ℕ) → hasBit (bitAnd a b) v ≡ hasBit a v && hasBit b v
-bit-and = bit-op bitAnd (λ x y. x && y) and-shr and-mod digit
-  where
-    digit : (p q : ℕ) → p < 2 → q < 2 → eqb (bitAnd p q) 1 ≡ eqb p 1 && eqb q 1
-    digit zero zero g h = refl
-    digit zero (suc zero) g h = refl
-    digit zero (suc (suc q)) g h = absurd (omega arith)
-    digit (suc zero) zero g h = refl
-    digit (suc zero) (suc zero) g h = refl
-    digit (suc zero) (suc (suc q)) g h = absurd (omega arith)
-    digit (suc (suc p)) q g h = absurd (omega arith)
+bit-and = bit-op bitAnd (λ x y. x && y) and-shr and-mod (digits (λ (p q : ℕ). eqb (bitAnd p q) 1 ≡ eqb p 1 && eqb q 1) refl refl refl refl)
 
 -- a flag as a byte
 pub byte-bit : (b : Bool) → boolByte b ≡ bit b
@@ -61,13 +53,7 @@ byte-bit false = refl
 -- ---- the bits tell the number
 
 digit-same : (p q : ℕ) → p < 2 → q < 2 → eqb p 1 ≡ eqb q 1 → p ≡ q
-digit-same zero zero g h e = refl
-digit-same zero (suc zero) g h e = absurd (true≢false (sym e))
-digit-same zero (suc (suc q)) g h e = absurd (omega arith)
-digit-same (suc zero) zero g h e = absurd (true≢false e)
-digit-same (suc zero) (suc zero) g h e = refl
-digit-same (suc zero) (suc (suc q)) g h e = absurd (omega arith)
-digit-same (suc (suc p)) q g h e = absurd (omega arith)
+digit-same = digits (λ (p q : ℕ). eqb p 1 ≡ eqb q 1 → p ≡ q) (λ e. refl) (λ e. absurd (true≢false (sym e))) (λ e. absurd (true≢false e)) (λ e. refl)
 
 bit-half : (a v : ℕ) → hasBit (a / 2) v ≡ hasBit a (suc v)
 unfolding hasBit
