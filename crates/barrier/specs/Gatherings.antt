@@ -24,6 +24,7 @@ statusByte = 4
 abbrev pub enableByte : ℕ
 enableByte = 5
 
+-- a write to byte 0 or 1
 abbrev pub isMemberWrite : Write → Bool
 isMemberWrite w = ltb (w .address) arrivedBytes
 
