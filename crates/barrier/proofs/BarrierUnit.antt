@@ -16,7 +16,7 @@ use Rattle.barrier.specs.Registers.{joined, isGathered, released, stillO
 use Rattle.barrier.specs.Gatherings.{Write, arrivedBytes, statusByte, enableByte, isMemberWrite, isTo, hasWorker, isMember, isNamed, allNamed, gathering, isComplete, gatherings, isReleased, isEnabled}
 use Rattle.barrier.specs.BarrierUnit.{unitAfter, history, BarrierUnit}
 use Rattle.barrier.proofs.Bits.{bit-zero, bit-or, bit-and, place, whole, set-low, set-high, low-alone, high-alone}
-use Rattle.barrier.proofs.Histories.{underWay, Keeping, Kept, join, join-begins, settle, settle-tells}
+use Rattle.barrier.proofs.Histories.{underWay, Kept, join, join-begins, settle, settle-tells}
 
 -- a write that is refused changes nothing
 pub refused-same : (u : Barrier) (address byte : ℕ) → 5 < address → written u address byte ≡ u

@@ -2,7 +2,7 @@
 use mathlib.Core.Path.{_≡_, refl, sym, ap, _∙_}
 use mathlib.Core.Bool.{Bool, true, false}
 use mathlib.Core.List.{List, [], _∷_, _++_}
-use Prim.Native.Nat.{ℕ, _+_, _%_, _^_, _≤_, _<_}
+use Prim.Native.Nat.{ℕ, _+_, _%_, _^_, _≤_}
 use native.Mathlib.Omega.{arith}
 use lib.Dec.{leb}
 use lib.ListN.{length, drop, length-append}
@@ -16,7 +16,7 @@ use Rattle.barrier.specs.declared.Barrier.{Barrier}
 use Rattle.barrier.specs.Registers.{written, register, lastAddress, isUp}
 use Rattle.barrier.specs.Gatherings.{Write, gatherings}
 use Rattle.barrier.specs.BarrierUnit.{unitAfter, history}
-use Rattle.barrier.proofs.BarrierUnit.{Tells, tells, refused-same, barrier-unit}
+use Rattle.barrier.proofs.BarrierUnit.{tells, refused-same, barrier-unit}
 use Rattle.board.specs.Unit.{unitSize, unitIn, unitBytes, writeUnitReply, readUnitReply, lineReply, releasesReply}
 use Rattle.board.specs.KeptUnit.{unitLeft, bytesAfter, KeptUnit}
 use Rattle.board.proofs.Stored.{unit-back}

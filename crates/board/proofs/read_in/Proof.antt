@@ -4,7 +4,7 @@ use mathlib.Core.Path.{ap, sym, _∙_}
 use Rattle.base.specs.Replies.{accepted}
 use Rattle.lent.specs.Word.{word}
 use Rattle.barrier.specs.declared.Barrier.{Barrier}
-use Rattle.barrier.specs.Registers.{register, addressed}
+use Rattle.barrier.specs.Registers.{register}
 use Rattle.board.specs.Unit.{unitIn, readUnitReply}
 use Rattle.board.proofs.Judged.{no-register, cut-short, in-reach, addressed-in}
 use Rattle.board.proofs.read_in.Statement.{statement}

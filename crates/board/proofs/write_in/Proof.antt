@@ -1,6 +1,6 @@
 -- `write_in` meets its contract.
 use borrow.Author.Needs.{needs}
-use mathlib.Core.Path.{ap, sym, refl, _∙_}
+use mathlib.Core.Path.{ap, sym, _∙_}
 use Rattle.base.specs.Replies.{accepted, lent}
 use Rattle.lent.specs.Word.{word}
 use Rattle.board.specs.Unit.{writeUnitReply}
