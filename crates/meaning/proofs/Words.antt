@@ -49,9 +49,11 @@ use Rattle.run.proofs.Accepted.{facts}
 use Rattle.run.proofs.Fits.{each-get}
 use Rattle.run.proofs.LentRuns.{lent-runs}
 use Rattle.calls.proofs.ReadyBits.{bits-below}
-use Rattle.words.specs.LittleEndian.{number}
+use Rattle.words.specs.LittleEndian.{number, signed}
 use Rattle.words.proofs.Blocks.{length-decoded}
 use Rattle.words.proofs.Bytes.{IsByte, number-small}
+use Rattle.control.specs.ControlNumber.{controlNumber}
+use Rattle.control.proofs.ControlNumbers.{control-numbers}
 use Rattle.lent.specs.Word.{word}
 use Rattle.barrier.specs.Registers.{register, isUp}
 use Rattle.barrier.proofs.BarrierUnit.{bit-small, read-small}
@@ -370,4 +372,4 @@ module _ (unit : List ℕ) where
 
 -- the theorem
 pub words : Words
-words = record { read = λ text starts columns values. read-told text _ _ _; write = write-told; product = product-told; survey = survey-told; plan = λ m w p order groups. plan-told m w p _ _; check = check-told; write-plan = write-plan-told; read-plan = read-plan-told; write-unit = write-unit-told; read-unit = λ unit address bytes. read-unit-told unit bytes address; line = line-told; releases = releases-told; run = run-tells; one = one }
+words = record { read = λ text starts columns values. read-told text _ _ _; write = write-told; product = product-told; survey = survey-told; plan = λ m w p order groups. plan-told m w p _ _; check = check-told; write-plan = write-plan-told; read-plan = read-plan-told; write-unit = write-unit-told; read-unit = λ unit address bytes. read-unit-told unit bytes address; line = line-told; releases = releases-told; control = λ forces. told-accepted (controlNumber (signed 8 forces)) (control-numbers .small (signed 8 forces)); run = run-tells; one = one }

@@ -12,6 +12,8 @@ use Rattle.plan.specs.Sound.{checkReply}
 use Rattle.planfile.specs.PlanFiles.{areBytes}
 use Rattle.planfile.specs.Calls.{writePlanReply, readPlanReply}
 use Rattle.run.specs.Answers.{Call}
+use Rattle.words.specs.LittleEndian.{signed}
+use Rattle.control.specs.ControlNumber.{controlNumber}
 use Rattle.lent.specs.Word.{word}
 use Rattle.texts.specs.Lent.{readIn}
 use Rattle.office.specs.Lent.{planIn}
@@ -49,6 +51,7 @@ pub record Words : Type 0 where
   pub read-unit : (unit : List ℕ) (address : ℕ) → areBytes unit ≡ true → Told (readUnitReply unit address)
   pub line : (unit : List ℕ) → Told (lineReply unit)
   pub releases : (unit : List ℕ) → areBytes unit ≡ true → Told (releasesReply unit)
+  pub control : (forces : List ℕ) → Told (accepted (controlNumber (signed 8 forces)))
   pub run : (m : Matrix) (x : List ℤ) (order groups : List ℕ) (count : ℕ) (state sums : List ℕ) (c : Call) → Told (replyTo (answerIn m x order groups count state sums c))
   -- so two replies with the same word are the same
   pub one : (r s : Reply) → Told r → Told s → word r ≡ word s → r ≡ s
