@@ -80,6 +80,21 @@ static inline void read_movements(struct net *net, const char *path)
     }
 }
 
+/* Whether the last argument asks for the control number; it is taken off. */
+static inline bool asks_control(int *argc, char **argv)
+{
+    bool asked = *argc > 1 && strcmp(argv[*argc - 1], "--control") == 0;
+    *argc -= asked;
+    return asked;
+}
+
+/* Prints the control number of the forces of n rows, to be read out, and ends the output. */
+static inline void print_control(const uint8_t *forces, uint32_t n)
+{
+    printf("%u\n", accepted("control", mzk_control(forces, 8 * (size_t)n)));
+    end_output();
+}
+
 /* Prints the forces of n rows, one a line, in millinewtons, and ends the output. */
 static inline void print_forces(const uint8_t *forces, uint32_t n)
 {

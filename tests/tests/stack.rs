@@ -6,10 +6,11 @@ use std::process::Command;
 /// The header's sentence, and its figures in tenths of a MiB; beside them, the calls that need next to nothing.
 const SENTENCE: &str =
     "mzk_read uses up to 2 MiB, mzk_picks, mzk_ready and mzk_forces up to 1.3 MiB, mzk_plan up to \
-                        1 MiB, mzk_write_plan, mzk_read_plan and the calls on a barrier unit up to 8 KiB, the others up to 0.6 MiB.";
-const SMALL: [&str; 6] = [
+                        1 MiB, mzk_write_plan, mzk_read_plan, mzk_control and the calls on a barrier unit up to 8 KiB, the others up to 0.6 MiB.";
+const SMALL: [&str; 7] = [
     "write_plan",
     "read_plan",
+    "control",
     "barrier_write",
     "barrier_read",
     "barrier_line",

@@ -65,6 +65,7 @@ fn make(call: &str, stack: usize, given: &Given) -> Option<u64> {
         "check" => on_stack(stack, || library::check(given.matrix(), given.plan())),
         "write_plan" => on_stack(stack, || library::write_plan(given.n, given.plan(), &mut file)),
         "read_plan" => on_stack(stack, || library::read_plan(&given.file, &mut order, &mut groups)),
+        "control" => on_stack(stack, || library::control(&end.sums)),
         "barrier_write" => on_stack(stack, || library::barrier_write(&mut state, (2, 1))),
         "barrier_read" => on_stack(stack, || library::barrier_read(&state, 2)),
         "barrier_line" => on_stack(stack, || library::barrier_line(&state)),
@@ -95,7 +96,7 @@ fn run(call: &str, stack: usize) {
 fn usage() -> ! {
     eprintln!(
         "usage: stack CALL BYTES (read, write, product, survey, plan, check, write_plan, read_plan, \
-         barrier_write, barrier_read, barrier_line, barrier_releases, picks, ready or forces)"
+         control, barrier_write, barrier_read, barrier_line, barrier_releases, picks, ready or forces)"
     );
     exit(2);
 }

@@ -1,6 +1,7 @@
 //! Random cases of each call, made to the library and to the other implementation and compared.
 
 pub mod barrier;
+pub mod control;
 pub mod matrix;
 pub mod plan;
 pub mod plan_file;
@@ -183,7 +184,7 @@ pub fn matrix_twins(rng: &mut Prng, matrix: &Matrix) -> MatrixTwins {
 
 /// A case of any call.
 pub fn any(rng: &mut Prng, seen: &mut Seen) {
-    match rng.below(38) {
+    match rng.below(39) {
         0..8 => matrix::read(rng, seen),
         8..11 => matrix::write(rng, seen),
         11..14 => matrix::product(rng, seen),
@@ -196,6 +197,7 @@ pub fn any(rng: &mut Prng, seen: &mut Seen) {
         32 => plan_file::read(rng, seen),
         33..36 => survey::survey(rng, seen),
         36 => barrier::unit(rng, seen),
+        37 => control::control(rng, seen),
         _ => run::whole(rng, seen),
     }
 }

@@ -5,7 +5,7 @@
 use super::barrier::{self, Unit, Write, UNIT_BYTES};
 use super::machine::{self, Lent, State};
 use super::matrix::Rows;
-use super::{plan_file, planner, soundness, survey, text, Refusal, FIELDS, WORKERS};
+use super::{control, plan_file, planner, soundness, survey, text, Refusal, FIELDS, WORKERS};
 use crate::lists::{MatrixLists, PlanLists, RunLists};
 
 /// The bytes of a state: sixteen counts of moves, then sixteen held numbers.
@@ -168,6 +168,12 @@ fn kept(unit: &[u8]) -> Result<Unit, Refusal> {
     let mut registers = [0; UNIT_BYTES];
     registers.copy_from_slice(&unit[..UNIT_BYTES]);
     Ok(registers)
+}
+
+/// The control number of a list of forces.
+pub fn control(forces: &[u8]) -> u64 {
+    let forces = forces.as_chunks().0.iter();
+    control::number(forces.map(|&word| i64::from_le_bytes(word))).into()
 }
 
 /// Picks of a run; counts those taken.
