@@ -72,7 +72,7 @@ module _ (m : Matrix) (ok : isMatrix m ≡ true) (x : List ℤ) (p : Plan) where
   steps-same s [] = refl
   steps-same s (w ∷ ws) = go (step whole s w) refl (λ t. steps-same t ws)
     where
-      go : (o : Outcome) → step whole s w ≡ o → ((t : State) → steps part t ws ≡ steps whole t ws) → steps part s (w ∷ ws) ≡ steps whole s (w ∷ ws)
+      go : (o : Outcome State) → step whole s w ≡ o → ((t : State) → steps part t ws ≡ steps whole t ws) → steps part s (w ∷ ws) ≡ steps whole s (w ∷ ws)
       go (moved t) e ih = steps-on part s w ws t (step-same s w ∙ e) ∙ ap oneMore (ih t) ∙ sym (steps-on whole s w ws t e)
       go (halted k) e ih = steps-end part s w ws k (step-same s w ∙ e) ∙ sym (steps-end whole s w ws k e)
 

@@ -56,7 +56,7 @@ module _ (j : Job) where
   number-low s [] = omega arith
   number-low s (w ∷ ws) = go (step j s w) refl (λ t. number-low t ws)
     where
-      go : (o : Outcome) → step j s w ≡ o → ((t : State) → steps j t ws .number < 2 ^ 8) → steps j s (w ∷ ws) .number < 2 ^ 8
+      go : (o : Outcome State) → step j s w ≡ o → ((t : State) → steps j t ws .number < 2 ^ 8) → steps j s (w ∷ ws) .number < 2 ^ 8
       go (moved t) e ih = rw (steps-on j s w ws t e) (ih t)
       go (halted k) e ih = rw (steps-end j s w ws k e) (halted-low s w k e)
 
@@ -100,7 +100,7 @@ module _ (j : Job) (ok : Accepted j) where
   taken-left s [] long = omega arith
   taken-left s (w ∷ ws) long = go (refusal j (s .made) w) refl (step j s w) refl (λ t. taken-left t ws)
     where
-      go : (k : ℕ) → refusal j (s .made) w ≡ k → (o : Outcome) → step j s w ≡ o → ((t : State) → length (t .made) ≡ maxWorkers → steps j t ws .taken ≤ left (t .made))
+      go : (k : ℕ) → refusal j (s .made) w ≡ k → (o : Outcome State) → step j s w ≡ o → ((t : State) → length (t .made) ≡ maxWorkers → steps j t ws .taken ≤ left (t .made))
           → steps j s (w ∷ ws) .taken ≤ left (s .made)
       go (suc k) e o f ih = rw (steps-end j s w ws (suc k) (step-end j s w k e)) (omega arith)
       go zero e (halted k) f ih = rw (steps-end j s w ws k f) (omega arith)

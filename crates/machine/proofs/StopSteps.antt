@@ -23,6 +23,6 @@ unfolding walk steps passesOver
 stop-steps j s [] = refl
 stop-steps j s (w ∷ ws) = go (step j s w) refl (λ t. stop-steps j t ws)
   where
-    go : (o : Outcome) → step j s w ≡ o → ((t : State) → walk Stop j t ws ≡ stopped (steps j t ws)) → walk Stop j s (w ∷ ws) ≡ stopped (steps j s (w ∷ ws))
+    go : (o : Outcome State) → step j s w ≡ o → ((t : State) → walk Stop j t ws ≡ stopped (steps j t ws)) → walk Stop j s (w ∷ ws) ≡ stopped (steps j s (w ∷ ws))
     go (moved t) e ih = walk-on Stop j s w ws t e ∙ ap (further 1) (ih t) ∙ one-further (steps j t ws) ∙ ap stopped (sym (steps-on j s w ws t e))
     go (halted k) e ih = walk-end Stop j s w ws k e refl ∙ ap stopped (sym (steps-end j s w ws k e))

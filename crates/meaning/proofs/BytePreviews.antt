@@ -82,7 +82,7 @@ module _ (j : Job) where
       one : (t : State) → step j s w ≡ moved t → (length (t .made) ≡ length (s .made)) × (length (t .held) ≡ length (s .held))
       one t m = ⊎-elim (λ e. rw (← e) (length-set (s .made) w _, length-set (s .held) w _)) (λ e. rw (← e) (length-set (s .made) w _, refl)) (step-moved j s w t m .one)
 
-      go : (o : Outcome) → step j s w ≡ o → ((t : State) → (length (steps j t ws .state .made) ≡ length (t .made)) × (length (steps j t ws .state .held) ≡ length (t .held)))
+      go : (o : Outcome State) → step j s w ≡ o → ((t : State) → (length (steps j t ws .state .made) ≡ length (t .made)) × (length (steps j t ws .state .held) ≡ length (t .held)))
           → (length (steps j s (w ∷ ws) .state .made) ≡ length (s .made)) × (length (steps j s (w ∷ ws) .state .held) ≡ length (s .held))
       go (moved t) m ih = rw (steps-on j s w ws t m) (ih t .0 ∙ one t m .0, ih t .1 ∙ one t m .1)
       go (halted k) m ih = rw (steps-end j s w ws k m) (refl, refl)

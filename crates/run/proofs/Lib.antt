@@ -7,7 +7,9 @@ pub mod Kept
 pub mod Schedule
 pub mod Stays
 pub mod OneAccess
+pub mod Passes
 pub mod Taken
+pub mod Rounds
 pub mod Finished
 pub mod AsModel
 pub mod Holds

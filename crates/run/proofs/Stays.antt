@@ -53,6 +53,6 @@ module _ (j : Job) where
   steps-stay s [] e = e
   steps-stay s (w ∷ ws) e = go (step j s w) refl (λ t. steps-stay t ws)
     where
-      go : (o : Outcome) → step j s w ≡ o → ((t : State) → isState j t ≡ true → isState j (steps j t ws .state) ≡ true) → isState j (steps j s (w ∷ ws) .state) ≡ true
+      go : (o : Outcome State) → step j s w ≡ o → ((t : State) → isState j t ≡ true → isState j (steps j t ws .state) ≡ true) → isState j (steps j s (w ∷ ws) .state) ≡ true
       go (moved t) m ih = rw (steps-on j s w ws t m) (ih t (step-stays s w t m e))
       go (halted k) m ih = rw (steps-end j s w ws k m) e

@@ -6,6 +6,8 @@ pub mod Model
 pub mod State
 pub mod OneAccess
 pub mod Machine
+pub mod Schedule
+pub mod Rounds
 pub mod InOrder
 pub mod Calls
 pub mod Sequence

@@ -23,9 +23,10 @@ reason true false false = 0
 unfoldable pub refusal : Job → (made : List ℕ) → ℕ → ℕ
 refusal j made w = reason (ltb w (workers j)) (leb (accesses j w) (count made w)) (waits j made w)
 
-pub data Outcome : Type 0 where
-  moved : State → Outcome
-  halted : (number : ℕ) → Outcome
+-- what a step comes to, on a machine with states of this kind
+pub data Outcome (S : Type 0) : Type 0 where
+  moved : S → Outcome S
+  halted : (number : ℕ) → Outcome S
 
 unfoldable pub onward : (made : List ℕ) → ℕ → List ℕ
 onward made w = set made w (suc (count made w))
@@ -42,20 +43,20 @@ unfoldable pub store : State → ℕ → Update → State
 store s w u = record { made = onward (s .made) w; held = s .held; sums = set (s .sums) (u .target) (total s w u) }
 
 -- a load at an even count, a store at an odd one; "14: the sum to store passes 64 bits"
-unfoldable pub access : (even fitting : Bool) → State → ℕ → Update → Outcome
+unfoldable pub access : (even fitting : Bool) → State → ℕ → Update → Outcome State
 access true fitting s w u = moved (load s w u)
 access false true s w u = moved (store s w u)
 access false false s w u = halted why.overflow
 
-unfoldable pub move : State → ℕ → Update → Outcome
+unfoldable pub move : State → ℕ → Update → Outcome State
 move s w u = access (eqb (count (s .made) w % 2) 0) (fits64 (total s w u)) s w u
 
-unfoldable pub stepIf : (reason : ℕ) → State → ℕ → Update → Outcome
+unfoldable pub stepIf : (reason : ℕ) → State → ℕ → Update → Outcome State
 stepIf zero s w u = move s w u
 stepIf (suc k) s w u = halted (suc k)
 
 -- one step of worker w: "pick by pick 10, 12, 13, 14"
-unfoldable pub step : Job → State → ℕ → Outcome
+unfoldable pub step : Job → State → ℕ → Outcome State
 step j s w = stepIf (refusal j (s .made) w) s w (next j (s .made) w)
 
 -- what a schedule (document 01's list of picks) comes to: the state, how many steps were taken, and the number that

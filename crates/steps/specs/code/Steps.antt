@@ -49,7 +49,7 @@ pub record StepTables (n : ℕ) (first row begins parts leaves at : List ℕ) : 
 -- ---- what it makes of one
 
 -- a pick's answer, 0 or why it is refused, and the state after it, as the machine's
-unfoldable pub outcomeOf : (number : ℕ) → State → Outcome
+unfoldable pub outcomeOf : (number : ℕ) → State → Outcome State
 outcomeOf zero t = moved t
 outcomeOf (suc k) t = halted (suc k)
 
