@@ -6,8 +6,10 @@
  * `stage MATRIX WORKERS MOVEMENTS` plans the net for the workers and starts a thread for each; in place of WORKERS,
  * `--plan FILE` takes the plan of a file that `plan` wrote (plan.c), and a thread for each of its workers. A thread
  * picks itself, in bursts of any length, whenever it comes to the lock; where its pick waits it sleeps until another
- * has moved. The forces are printed one a line, if they are those of one core; progress goes to standard error. In place
- * of the file MOVEMENTS, `--seed NUMBER` draws movements. refusals.h has the exit statuses. */
+ * has moved. With `--rounds` at the end one thread takes their place, a scheduler that picks all workers in turn and
+ * passes over those that cannot move. The forces are printed one a line, if they are those of one core; progress goes
+ * to standard error. In place of the file MOVEMENTS, `--seed NUMBER` draws movements. refusals.h has the exit
+ * statuses. */
 
 #include <pthread.h>
 #include <sched.h>
@@ -94,33 +96,65 @@ static void *work(void *argument)
     return NULL;
 }
 
-/* Runs the plan with a thread a worker. */
-static void run_threads(uint8_t workers)
+/* The scheduler: it picks all workers in turn until no move is made. Each of its lists names every worker, so that a
+ * list which makes no move finds the run finished. */
+static void *schedule(void *argument)
+{
+    uint8_t workers = *(uint8_t *)argument;
+    uint8_t picks[BURST];
+    uint32_t lists = 0, moves;
+    for (size_t k = 0; k < sizeof picks; k++)
+        picks[k] = k % workers;
+    pthread_mutex_lock(&run.lock);
+    do {
+        uint64_t word = mzk_rounds(JOB, AT, picks, sizeof picks);
+        accepted("rounds", word);
+        moves = MZK_MOVES(word);
+        tell_progress(moves);
+        lists++;
+    } while (moves > 0);
+    fprintf(stderr, "all workers are done: %u lists of rounds\n", lists);
+    pthread_mutex_unlock(&run.lock);
+    return NULL;
+}
+
+/* Runs so many threads to their end, each with its number. */
+static void run_threads(uint8_t count, void *(*thread)(void *), uint8_t *numbers)
 {
     pthread_t threads[MZK_WORKERS];
-    uint8_t names[MZK_WORKERS];
     pthread_attr_t attributes;
     pthread_attr_init(&attributes);
     pthread_attr_setstacksize(&attributes, STACK);
-    for (uint8_t worker = 0; worker < workers; worker++) {
-        names[worker] = worker;
-        if (pthread_create(&threads[worker], &attributes, work, &names[worker]) != 0) {
-            fprintf(stderr, "no thread for worker %u\n", worker);
+    for (uint8_t k = 0; k < count; k++) {
+        if (pthread_create(&threads[k], &attributes, thread, &numbers[k]) != 0) {
+            fprintf(stderr, "no thread %u\n", k);
             exit(FAILED);
         }
     }
-    for (uint8_t worker = 0; worker < workers; worker++)
-        pthread_join(threads[worker], NULL);
+    for (uint8_t k = 0; k < count; k++)
+        pthread_join(threads[k], NULL);
     pthread_attr_destroy(&attributes);
 }
 
+/* Runs the plan with a thread a worker, or with a scheduler. */
+static void run_plan(uint8_t workers, bool rounds)
+{
+    uint8_t names[MZK_WORKERS];
+    for (uint8_t worker = 0; worker < workers; worker++)
+        names[worker] = worker;
+    if (rounds)
+        run_threads(1, schedule, &workers);
+    else
+        run_threads(workers, work, names);
+}
+
 /* Runs the plan, and prints its forces if they are those of one core; the exit status. */
-static int run_stage(uint8_t workers)
+static int run_stage(uint8_t workers, bool rounds)
 {
     static uint8_t forces[8 * MZK_ROWS], product[8 * MZK_ROWS];
     size_t length = 8 * (size_t)net.n;
     fprintf(stderr, "%u rows, %u workers, %u groups\n", net.n, workers, plan.count);
-    run_threads(workers);
+    run_plan(workers, rounds);
     accepted("forces", mzk_forces(JOB, AT, forces, length));
     accepted("product", mzk_product(MATRIX(&net), MOVEMENTS(&net), product, length));
     if (memcmp(forces, product, length) != 0) {
@@ -134,11 +168,13 @@ static int run_stage(uint8_t workers)
 
 int main(int argc, char **argv)
 {
+    bool rounds = argc > 3 && strcmp(argv[argc - 1], "--rounds") == 0;
+    argc -= rounds;
     bool carried = argc > 2 && strcmp(argv[2], "--plan") == 0;
     int at = carried ? 4 : 3; /* where the movements stand */
     bool drawn = argc == at + 2 && strcmp(argv[at], "--seed") == 0;
     if (!drawn && (argc != at + 1 || strcmp(argv[at], "--seed") == 0)) {
-        fprintf(stderr, "usage: stage MATRIX (WORKERS | --plan FILE) (MOVEMENTS | --seed NUMBER)\n");
+        fprintf(stderr, "usage: stage MATRIX (WORKERS | --plan FILE) (MOVEMENTS | --seed NUMBER) [--rounds]\n");
         return REFUSED;
     }
     uint8_t workers = carried ? 0 : argument_number("WORKERS", argv[2], 1, MZK_WORKERS);
@@ -152,5 +188,5 @@ int main(int argc, char **argv)
         draw_movements(seed);
     else
         read_movements(&net, argv[at]);
-    return run_stage(workers);
+    return run_stage(workers, rounds);
 }

@@ -30,7 +30,7 @@ fn fuzz() {
 #[test]
 fn bench() {
     let usage = "usage: bench [NAME ..] (read, write, product, survey, plan, check, write_plan, read_plan, picks, \
-                 preview, ready, forces, efficiency, roof, bcsstk14, gr_30_30, chain, unjoined)";
+                 rounds, preview, ready, forces, efficiency, roof, bcsstk14, gr_30_30, chain, unjoined)";
     for arguments in [
         &["pick"][..],
         &["picks", "roofs"],

@@ -4,13 +4,14 @@ use std::os::unix::process::ExitStatusExt;
 use std::process::Command;
 
 /// The header's sentence, and its figures in tenths of a MiB; beside them, the calls that need next to nothing.
-const SENTENCE: &str = "mzk_read uses up to 2 MiB, mzk_picks and mzk_preview up to 1.4 MiB, mzk_ready and \
-                        mzk_forces up to 1.3 MiB, mzk_plan up to 1 MiB, mzk_write_plan and mzk_read_plan up to 8 \
-                        KiB, the others up to 0.6 MiB.";
+const SENTENCE: &str = "mzk_read uses up to 2 MiB, mzk_picks, mzk_rounds and mzk_preview up to 1.4 MiB, mzk_ready \
+                        and mzk_forces up to 1.3 MiB, mzk_plan up to 1 MiB, mzk_write_plan and mzk_read_plan up to \
+                        8 KiB, the others up to 0.6 MiB.";
 const SMALL: [&str; 2] = ["write_plan", "read_plan"];
-const TENTHS: [(&str, usize); 10] = [
+const TENTHS: [(&str, usize); 11] = [
     ("read", 20),
     ("picks", 14),
+    ("rounds", 14),
     ("preview", 14),
     ("ready", 13),
     ("forces", 13),

@@ -29,6 +29,7 @@ use Rattle.run.proofs.Rounds.{allTaken}
 use Rattle.run.proofs.Stays.{step-stays}
 use Rattle.run.specs.Answers.{Call, picks, readySet, forceList, preview, rounds, shown}
 use Rattle.machine.specs.code.Stepped.{passesOver, walk}
+use Rattle.machine.specs.declared.state.Rule.{Rule}
 use Rattle.machine.specs.declared.state.Rule.the-variants.{Stop}
 use Rattle.machine.proofs.ReadyBits.{ready-bits}
 use Rattle.machine.proofs.UnderRules.{stop-steps, skip-round}
@@ -154,10 +155,11 @@ module _ (j : Job) (s : State) where
       }
 
   -- there is one: the steps that are taken, why they end, and who is ready then
-  pub taken-picks : (call : code.Call) (ws : List ℕ) → isState j s ≡ true → (r : Passed State) → r ≡ walk (ruleOf call) j s ws → (set : ℕ) → set ≡ bits (ready j (r .state .made))
+  pub taken-picks : (call : code.Call) (ws : List ℕ) → isState j s ≡ true → {rule : Rule} → rule ≡ ruleOf call → (r : Passed State) → r ≡ walk rule j s ws → (set : ℕ) → set ≡ bits (ready j (r .state .made))
       → {a : answers.Answer} → a ≡ toldBy call (answers.picked (r .taken) (r .number) (placeOf (r .number) (r .met))) (answers.isReady set (ones set)) → Taken j s call ws a (r .state)
   unfolding calls.answer calls.after stateCheck inTurn
-  taken-picks call ws is r f set b e =
+  taken-picks call ws is {rule} same r f₀ set b e =
+      let f : r ≡ walk (ruleOf call) j s ws = f₀ ∙ ap (λ (k : Rule). walk k j s ws) same in
       let g = gone call ws in
       let c : Call = taking call ws in
       let state : r .state ≡ afterOf j s c = ap (λ (y : Passed State). y .state) f ∙ g .left in

@@ -1,4 +1,5 @@
 -- The word of every call's reply tells it.
+use mathlib.Core.Logic.{_≢_}
 use mathlib.Core.Path.{_≡_, refl, ap}
 use mathlib.Core.Bool.{Bool, true, false, _&&_, not, cond}
 use mathlib.Core.List.{List, [], _∷_, _++_}
@@ -37,9 +38,11 @@ use Rattle.race.specs.Planner.{plan, planReply}
 use Rattle.race.proofs.PlannedSound.{planned-sound}
 use Rattle.run.specs.Job.{Job, jobOf, Accepted, workers}
 use Rattle.run.specs.Machine.{steps, ready, bits, over}
+use Rattle.run.specs.Rounds.{round}
 use Rattle.run.specs.State.{State}
-use Rattle.run.specs.Calls.{placeOf, pickedOf, readyOf, forcesOf, answerOf, stateCheck, answer, jobChecks, answerLent}
-use Rattle.run.specs.Answers.{Call, picks, readySet, forceList, preview, Answer, shown}
+use Rattle.run.specs.EveryRun.{takenOf}
+use Rattle.run.specs.Calls.{placeOf, pickedOf, passedOf, readyOf, forcesOf, answerOf, stateCheck, answer, jobChecks, answerLent}
+use Rattle.run.specs.Answers.{Call, picks, readySet, forceList, preview, rounds, Answer, shown}
 use Rattle.run.specs.Answers as calls
 use Rattle.run.specs.LentRuns.{passed}
 use Rattle.run.proofs.Accepted.{facts}
@@ -47,9 +50,9 @@ use Rattle.run.proofs.LentRuns.{lent-runs}
 use Rattle.words.specs.LittleEndian.{number}
 use Rattle.words.proofs.Blocks.{length-decoded}
 use Rattle.lent.specs.Word.{word}
-use Rattle.answers.specs.Runs.{stateBytes, countBytes, stateIn, answerIn, replyTo, setIn}
-use Rattle.answers.proofs.TakenFew.{number-low, few-ready, ready-low, taken-few}
-use Rattle.meaning.specs.Words.{numberIn, placeIn, Told, Foretold, Words}
+use Rattle.answers.specs.Runs.{stateBytes, countBytes, stateIn, answerIn, replyTo, setIn, roundWord}
+use Rattle.answers.proofs.TakenFew.{number-low, round-number-low, few-ready, ready-low, taken-few, moves-few}
+use Rattle.meaning.specs.Words.{numberIn, placeIn, Told, Foretold, Passed, Words}
 use Rattle.meaning.proofs.SmallMatrix.{full-few}
 
 -- ---- one reply
@@ -265,12 +268,13 @@ module _ (j : Job) (ok : Accepted j) (s : State) (long : length (s .made) ≡ ma
   unfolding readyOf replyTo
   ready-tells = told-accepted _ (omega (arith, ready-low j ok (s .made), few-ready j ok (s .made)))
 
-  answer-tells : (c : Call) → Tells (answer j s c)
+  answer-tells : (c : Call) → ((ws : List ℕ) → c ≢ calls.rounds ws) → Tells (answer j s c)
   unfolding answer stateCheck answerOf
-  answer-tells (picks ws) = turn Tells calls.denied _ [] _ (tells-refused why.notState 0 (omega arith) (omega arith)) (λ e. last Tells calls.denied _ (picked-tells (steps j s ws .taken) (steps j s ws .number) (taken-few j ok s ws long)))
-  answer-tells readySet = turn Tells calls.denied _ [] _ (tells-refused why.notState 0 (omega arith) (omega arith)) (λ e. last Tells calls.denied _ ready-tells)
-  answer-tells (preview ws) = turn Tells calls.denied _ [] _ (tells-refused why.notState 0 (omega arith) (omega arith)) (λ e. last Tells calls.denied _ (preview-tells (steps j s ws .taken) (steps j s ws .number) _ (taken-few j ok s ws long)))
-  answer-tells (forceList room) = turn Tells calls.denied _ [] _ (tells-refused why.notState 0 (omega arith) (omega arith)) (λ e. last Tells calls.denied _ (forces-tell (over j (s .made)) (leb (j .matrix .n) room) _ (matrix-facts (j .matrix) (ok .matrix) .few)))
+  answer-tells (picks ws) no = turn Tells calls.denied _ [] _ (tells-refused why.notState 0 (omega arith) (omega arith)) (λ e. last Tells calls.denied _ (picked-tells (steps j s ws .taken) (steps j s ws .number) (taken-few j ok s ws long)))
+  answer-tells readySet no = turn Tells calls.denied _ [] _ (tells-refused why.notState 0 (omega arith) (omega arith)) (λ e. last Tells calls.denied _ ready-tells)
+  answer-tells (preview ws) no = turn Tells calls.denied _ [] _ (tells-refused why.notState 0 (omega arith) (omega arith)) (λ e. last Tells calls.denied _ (preview-tells (steps j s ws .taken) (steps j s ws .number) _ (taken-few j ok s ws long)))
+  answer-tells (forceList room) no = turn Tells calls.denied _ [] _ (tells-refused why.notState 0 (omega arith) (omega arith)) (λ e. last Tells calls.denied _ (forces-tell (over j (s .made)) (leb (j .matrix .n) room) _ (matrix-facts (j .matrix) (ok .matrix) .few)))
+  answer-tells (rounds ws) no = absurd (no ws refl)
 
 -- what holds of refusals, and of the answers on accepted jobs, holds of all answers in bytes
 module _ (P : Answer → Type 0) (refuses : (q p : ℕ) → 1 ≤ q → q < 2 ^ 8 → p < 2 ^ 32 → P (calls.denied q p)) (m : Matrix) (x : List ℤ) (order groups : List ℕ) (count : ℕ) where
@@ -294,8 +298,8 @@ module _ (P : Answer → Type 0) (refuses : (q p : ℕ) → 1 ≤ q → q < 2 ^ 
           (rw (length-decoded number 4 (take countBytes state), length-take-le countBytes state (omega arith))))
       go false e = checks-hold _ (λ pass. refuses why.notState 0 (omega arith) (omega arith) (omega arith))
 
-run-tells : (m : Matrix) (x : List ℤ) (order groups : List ℕ) (count : ℕ) (state sums : List ℕ) (c : Call) → Tells (answerIn m x order groups count state sums c)
-run-tells m x order groups count state sums c = in-bytes Tells (λ q p h k l. tells-refused q p h l) m x order groups count c (λ j ok s long. answer-tells j ok s long c) state sums
+run-tells : (m : Matrix) (x : List ℤ) (order groups : List ℕ) (count : ℕ) (state sums : List ℕ) (c : Call) → ((ws : List ℕ) → c ≢ calls.rounds ws) → Tells (answerIn m x order groups count state sums c)
+run-tells m x order groups count state sums c no = in-bytes Tells (λ q p h k l. tells-refused q p h l) m x order groups count c (λ j ok s long. answer-tells j ok s long c no) state sums
 
 -- ---- a preview's word
 
@@ -313,6 +317,23 @@ unfolding answer stateCheck answerOf readyOf
 preview-foretold m x order groups count state sums ws = in-bytes Foretold foretold-refused m x order groups count (calls.preview ws) (λ j ok s long.
     turn Foretold calls.denied _ [] _ (foretold-refused why.notState 0 (omega arith) (omega arith) (omega arith)) (λ e. last Foretold calls.denied _
     (let made = steps j s ws .state .made in foretold (steps j s ws .taken) (steps j s ws .number) (bits (ready j made)) (length (ready j made)) (taken-few j ok s ws long) (number-low j s ws) (omega (arith, few-ready j ok made)) (ready-low j ok made)))) state sums
+
+-- ---- the word of rounds
+
+passed-refused : (q p : ℕ) → 1 ≤ q → q < 2 ^ 8 → p < 2 ^ 32 → Passed (calls.denied q p)
+unfolding roundWord replyTo word numberIn placeIn takenOf
+passed-refused q p h k l = record { low = omega arith; number = omega arith; moves = omega arith }
+
+round-passed : (taken number place : ℕ) → taken < 2 ^ 24 → number < 2 ^ 8 → Passed (calls.picked taken number (placeOf number place))
+unfolding placeOf roundWord replyTo numberIn placeIn takenOf
+round-passed taken zero place l q = record { low = omega arith; number = omega arith; moves = omega arith }
+round-passed taken (suc n) place l q = record { low = omega arith; number = omega arith; moves = omega arith }
+
+rounds-passed : (m : Matrix) (x : List ℤ) (order groups : List ℕ) (count : ℕ) (state sums ws : List ℕ) → Passed (answerIn m x order groups count state sums (calls.rounds ws))
+unfolding answer stateCheck answerOf passedOf
+rounds-passed m x order groups count state sums ws = in-bytes Passed passed-refused m x order groups count (calls.rounds ws) (λ j ok s long.
+    turn Passed calls.denied _ [] _ (passed-refused why.notState 0 (omega arith) (omega arith) (omega arith)) (λ e. last Passed calls.denied _
+    (round-passed (round j s ws .taken) (round j s ws .number) (round j s ws .met) (moves-few j ok s ws long) (round-number-low j s ws)))) state sums
 
 -- ---- plan files
 
@@ -336,4 +357,4 @@ read-plan-told planFile order groups =
 
 -- the theorem
 pub words : Words
-words = record { read = λ text starts columns values. read-told text _ _ _; write = write-told; product = product-told; survey = survey-told; plan = λ m w p order groups. plan-told m w p _ _; check = check-told; write-plan = write-plan-told; read-plan = read-plan-told; run = run-tells; preview = preview-foretold; one = one }
+words = record { read = λ text starts columns values. read-told text _ _ _; write = write-told; product = product-told; survey = survey-told; plan = λ m w p order groups. plan-told m w p _ _; check = check-told; write-plan = write-plan-told; read-plan = read-plan-told; run = run-tells; preview = preview-foretold; rounds = rounds-passed; one = one }

@@ -1,5 +1,6 @@
 -- What the word that a call returns tells: every count and every place has 32 bits, and no refusal has number 0.
 use mathlib.Core.Path.{_≡_}
+use mathlib.Core.Logic.{_≢_}
 use mathlib.Core.List.{List}
 use Prim.Native.Nat.{ℕ, _/_, _%_, _^_, _≤_}
 use lib.IntN.{ℤ}
@@ -9,12 +10,13 @@ use Rattle.matrix.specs.Product.{productReply}
 use Rattle.market.specs.Text.{writeReply}
 use Rattle.plan.specs.Sound.{checkReply}
 use Rattle.planfile.specs.Calls.{writePlanReply, readPlanReply}
-use Rattle.run.specs.Answers.{Call, preview, Answer, bitsTold, countTold}
+use Rattle.run.specs.Answers.{Call, preview, rounds, Answer, bitsTold, countTold}
+use Rattle.run.specs.EveryRun.{takenOf}
 use Rattle.lent.specs.Word.{word}
 use Rattle.texts.specs.Lent.{readIn}
 use Rattle.office.specs.Lent.{planIn}
 use Rattle.survey.specs.Survey.{surveyReply}
-use Rattle.answers.specs.Runs.{answerIn, replyTo, previewWord}
+use Rattle.answers.specs.Runs.{answerIn, replyTo, previewWord, roundWord}
 
 -- "an accepted call has number 0"
 unfoldable pub numberIn : Reply → ℕ
@@ -40,6 +42,13 @@ pub record Foretold (a : Answer) : Type 0 where
   pub count : previewWord a / 2 ^ 40 % 2 ^ 8 ≡ countTold a
   pub bits : previewWord a / 2 ^ 48 ≡ bitsTold a
 
+-- Q-14: the word of rounds has the moves made, or the place, in bits 0 to 31, the number in bits 32 to 39, and in bits 40
+-- to 63 the moves made, always: none where 5, 6, 8 or 11 refused the call
+pub record Passed (a : Answer) : Type 0 where
+  pub low : roundWord a % 2 ^ 32 ≡ placeIn (replyTo a) % 2 ^ 32
+  pub number : roundWord a / 2 ^ 32 % 2 ^ 8 ≡ numberIn (replyTo a)
+  pub moves : roundWord a / 2 ^ 40 ≡ takenOf a
+
 -- of every reply of every call; picks, ready set, force list and preview are calls of a run
 pub record Words : Type 0 where
   pub read : (text starts columns values : List ℕ) → Told (readIn text starts columns values)
@@ -50,7 +59,8 @@ pub record Words : Type 0 where
   pub check : (m : Matrix) (order groups : List ℕ) (count : ℕ) → Told (checkReply m order groups count)
   pub write-plan : (n : ℕ) (order groups : List ℕ) (count room : ℕ) → Told (writePlanReply n order groups count room)
   pub read-plan : (planFile order groups : List ℕ) → Told (readPlanReply planFile order groups)
-  pub run : (m : Matrix) (x : List ℤ) (order groups : List ℕ) (count : ℕ) (state sums : List ℕ) (c : Call) → Told (replyTo (answerIn m x order groups count state sums c))
+  pub run : (m : Matrix) (x : List ℤ) (order groups : List ℕ) (count : ℕ) (state sums : List ℕ) (c : Call) → ((ws : List ℕ) → c ≢ rounds ws) → Told (replyTo (answerIn m x order groups count state sums c))
   pub preview : (m : Matrix) (x : List ℤ) (order groups : List ℕ) (count : ℕ) (state sums ws : List ℕ) → Foretold (answerIn m x order groups count state sums (preview ws))
+  pub rounds : (m : Matrix) (x : List ℤ) (order groups : List ℕ) (count : ℕ) (state sums ws : List ℕ) → Passed (answerIn m x order groups count state sums (rounds ws))
   -- so two replies with the same word are the same
   pub one : (r s : Reply) → Told r → Told s → word r ≡ word s → r ≡ s

@@ -89,7 +89,6 @@ module _ (j : Job) (F : Facts j) where
   call-model s I readySet = record { inv = rw (fine s I) I; made = rw (fine s I) refl; same = rw (fine s I) (ready-model s I); walked = rw (fine s I) stay }
   call-model s I (forceList room) = record { inv = rw (fine s I) I; made = rw (fine s I) refl; same = rw (fine s I) (forces-model s I room); walked = rw (fine s I) stay }
   call-model s I (preview ws) = record { inv = rw (fine s I) I; made = rw (fine s I) refl; same = rw (fine s I) (preview-model s I ws); walked = rw (fine s I) stay }
-
   call-model s I (rounds ws) =
       let a = round-model j F s I ws in
       let b = noteRound j (s .made) ws in

@@ -76,6 +76,7 @@ struct Implementation {
     write_plan: fn(u32, PlanLists, Out) -> u64,
     read_plan: fn(&[u8], Out, Out) -> u64,
     picks: fn(RunLists, Out, Out, &[u8]) -> u64,
+    rounds: fn(RunLists, Out, Out, &[u8]) -> u64,
     preview: fn(RunLists, &[u8], &[u8], &[u8]) -> u64,
     ready: fn(RunLists, &[u8], &[u8]) -> u64,
     forces: fn(RunLists, &[u8], &[u8], Out) -> u64,
@@ -91,6 +92,7 @@ const LIBRARY: Implementation = Implementation {
     write_plan: library::write_plan,
     read_plan: library::read_plan,
     picks: library::picks,
+    rounds: library::rounds,
     preview: library::preview,
     ready: library::ready,
     forces: library::forces,
@@ -106,6 +108,7 @@ const RUST: Implementation = Implementation {
     write_plan: calls::write_plan,
     read_plan: calls::read_plan,
     picks: calls::picks,
+    rounds: calls::rounds,
     preview: calls::preview,
     ready: calls::ready,
     forces: calls::forces,
@@ -116,7 +119,7 @@ type Work = fn(&Implementation, &Given, &mut Lent) -> u64;
 
 /// All that is timed, by name.
 #[rustfmt::skip]
-const WORKS: [(&str, Work); 13] = [
+const WORKS: [(&str, Work); 14] = [
     ("read", |by, given, lent| (by.read)(&given.text, &mut lent.row_starts, &mut lent.columns, &mut lent.values)),
     ("write", |by, given, lent| (by.write)(given.matrix(), &mut lent.text)),
     ("product", |by, given, lent| (by.product)(given.matrix(), &given.movements, &mut lent.forces)),
@@ -134,6 +137,12 @@ const WORKS: [(&str, Work); 13] = [
     ("picks, a run in 1,000 lists", |by, given, lent| {
         let At { state, sums } = lent.fresh();
         given.lists().map(|picks| (by.picks)(given.run(), state, sums, picks)).sum()
+    }),
+    ("rounds", |by, given, lent| {
+        let At { state, sums } = lent.fresh();
+        let everyone: Vec<u8> = (0..16).collect();
+        let picks = everyone.repeat(given.schedule.len() / 16);
+        (by.rounds)(given.run(), state, sums, &picks)
     }),
     ("preview", |by, given, lent| {
         let At { state, sums } = lent.fresh();

@@ -66,6 +66,7 @@ fn make(call: &str, stack: usize, given: &Given) -> Option<u64> {
         "write_plan" => on_stack(stack, || library::write_plan(given.n, given.plan(), &mut file)),
         "read_plan" => on_stack(stack, || library::read_plan(&given.file, &mut order, &mut groups)),
         "picks" => on_stack(stack, || library::picks(given.run(), &mut state, &mut sums, &given.schedule)),
+        "rounds" => on_stack(stack, || library::rounds(given.run(), &mut state, &mut sums, &given.schedule)),
         "preview" => on_stack(stack, || library::preview(given.run(), &state, &sums, &given.schedule)),
         "ready" => on_stack(stack, || library::ready(given.run(), &state, &sums)),
         "forces" => on_stack(stack, || library::forces(given.run(), &end.state, &end.sums, &mut forces)),
@@ -92,7 +93,7 @@ fn run(call: &str, stack: usize) {
 fn usage() -> ! {
     eprintln!(
         "usage: stack CALL BYTES (read, write, product, survey, plan, check, write_plan, read_plan, picks, \
-         preview, ready or forces)"
+         rounds, preview, ready or forces)"
     );
     exit(2);
 }

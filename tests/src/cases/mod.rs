@@ -182,7 +182,7 @@ pub fn matrix_twins(rng: &mut Prng, matrix: &Matrix) -> MatrixTwins {
 
 /// A case of any call.
 pub fn any(rng: &mut Prng, seen: &mut Seen) {
-    match rng.below(40) {
+    match rng.below(43) {
         0..8 => matrix::read(rng, seen),
         8..11 => matrix::write(rng, seen),
         11..14 => matrix::product(rng, seen),
@@ -195,6 +195,7 @@ pub fn any(rng: &mut Prng, seen: &mut Seen) {
         32 => plan_file::read(rng, seen),
         33..36 => survey::survey(rng, seen),
         36..39 => run::preview(rng, seen),
+        39..42 => run::rounds(rng, seen),
         _ => run::whole(rng, seen),
     }
 }

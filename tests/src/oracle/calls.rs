@@ -2,7 +2,7 @@
 //!
 //! The word has the refusal's number in its high half; its low half is the refusal's place or the call's count.
 
-use super::machine::{self, Lent, State};
+use super::machine::{self, Lent, Picked, State};
 use super::matrix::Rows;
 use super::{plan_file, planner, soundness, survey, text, Refusal, FIELDS, WORKERS};
 use crate::lists::{MatrixLists, PlanLists, RunLists};
@@ -133,22 +133,42 @@ pub fn read_plan(file: &[u8], order: &mut [u8], groups: &mut [u8]) -> u64 {
 
 /// Picks of a run; counts those taken.
 pub fn picks(run: RunLists, state: &mut [u8], sums: &mut [u8], picks: &[u8]) -> u64 {
+    match take(run, state, sums, picks, &[]) {
+        Ok(picked) => word(picked.stopped.map_or(Ok(picked.taken), Err)),
+        Err(refusal) => word(Err(refusal)),
+    }
+}
+
+/// Picks of a run, of which 12 and 13 skip those that they refuse; the word also has the moves made × 2^40.
+pub fn rounds(run: RunLists, state: &mut [u8], sums: &mut [u8], picks: &[u8]) -> u64 {
+    match take(run, state, sums, picks, &[12, 13]) {
+        Ok(picked) => {
+            word(picked.stopped.map_or(Ok(picked.taken), Err)) | u64::from(picked.taken) << 40
+        }
+        Err(refusal) => word(Err(refusal)),
+    }
+}
+
+/// Takes picks and leaves state and sums as they are then; 5, 6, 8 and 11 leave them as they were.
+fn take(
+    run: RunLists,
+    state: &mut [u8],
+    sums: &mut [u8],
+    picks: &[u8],
+    skips: &[u32],
+) -> Result<Picked, Refusal> {
     let lists = Lists::of_run(run);
-    let mut take = || {
-        let mut numbers = lists.state(state)?;
-        let mut list = get(sums, usize::MAX, i64::from_le_bytes);
-        let picked = machine::picks(&lists.lent(), &mut numbers, &mut list, picks);
-        let unchanged = [5, 6, 8, 11];
-        if !picked
-            .stopped
-            .is_some_and(|refusal| unchanged.contains(&refusal.number))
-        {
+    let mut numbers = lists.state(state)?;
+    let mut list = get(sums, usize::MAX, i64::from_le_bytes);
+    let picked = machine::picks(&lists.lent(), &mut numbers, &mut list, picks, skips);
+    match picked.stopped {
+        Some(refusal) if [5, 6, 8, 11].contains(&refusal.number) => Err(refusal),
+        _ => {
             put_state(state, &numbers);
             put(sums, &list, i64::to_le_bytes);
+            Ok(picked)
         }
-        picked.stopped.map_or(Ok(picked.taken), Err)
-    };
-    word(take())
+    }
 }
 
 /// The ready set of a run: sixteen bits, plus the count × 65,536.

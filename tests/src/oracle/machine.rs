@@ -89,8 +89,14 @@ impl Ready {
     }
 }
 
-/// Takes picks in turn, "each one move", until one is refused.
-pub fn picks(lent: &Lent, state: &mut State, sums: &mut [i64], picks: &[u8]) -> Picked {
+/// Takes picks in turn, "each one move", until one is refused; the refusals that skip a pick do not stop it.
+pub fn picks(
+    lent: &Lent,
+    state: &mut State,
+    sums: &mut [i64],
+    picks: &[u8],
+    skips: &[u32],
+) -> Picked {
     let refused = |refusal| Picked {
         taken: 0,
         stopped: Some(refusal),
@@ -109,7 +115,7 @@ pub fn picks(lent: &Lent, state: &mut State, sums: &mut [i64], picks: &[u8]) -> 
         leaves: &leaves,
         movements: lent.movements,
     };
-    take_all(net, state, sums, picks)
+    take_all(net, state, sums, picks, skips)
 }
 
 /// "what a list of picks would do", Q-7: what they come to on a copy, and the ready set there.
@@ -127,23 +133,26 @@ pub fn preview(
         leaves: &leaves,
         movements: lent.movements,
     };
-    let picked = take_all(net, &mut state, &mut sums, picks);
+    let picked = take_all(net, &mut state, &mut sums, picks, &[]);
     Ok((picked, ready_by(&leaves, &state)))
 }
 
-/// Picks in turn, up to the first that is refused.
-fn take_all(net: Net, state: &mut State, sums: &mut [i64], picks: &[u8]) -> Picked {
+/// Picks in turn, up to the first that is refused and not skipped.
+fn take_all(net: Net, state: &mut State, sums: &mut [i64], picks: &[u8], skips: &[u32]) -> Picked {
     let mut crew = Crew::new(net, state, sums);
+    let mut taken = 0;
     for (index, &pick) in picks.iter().enumerate() {
-        if let Err(number) = crew.take(usize::from(pick)) {
-            return Picked {
-                taken: index as u32,
-                stopped: Some(Refusal::at(number, index)),
-            };
+        match crew.take(usize::from(pick)) {
+            Ok(()) => taken += 1,
+            Err(number) if skips.contains(&number) => (),
+            Err(number) => {
+                let stopped = Some(Refusal::at(number, index));
+                return Picked { taken, stopped };
+            }
         }
     }
     Picked {
-        taken: picks.len() as u32,
+        taken,
         stopped: None,
     }
 }
