@@ -160,7 +160,7 @@ fn take(
     let lists = Lists::of_run(run);
     let mut numbers = lists.state(state)?;
     let mut list = get(sums, usize::MAX, i64::from_le_bytes);
-    let picked = machine::picks(&lists.lent(), &mut numbers, &mut list, picks, skips);
+    let picked = machine::skipping(&lists.lent(), &mut numbers, &mut list, picks, skips);
     match picked.stopped {
         Some(refusal) if [5, 6, 8, 11].contains(&refusal.number) => Err(refusal),
         _ => {

@@ -89,8 +89,13 @@ impl Ready {
     }
 }
 
-/// Takes picks in turn, "each one move", until one is refused; the refusals that skip a pick do not stop it.
-pub fn picks(
+/// Takes picks in turn, "each one move", until one is refused.
+pub fn picks(lent: &Lent, state: &mut State, sums: &mut [i64], picks: &[u8]) -> Picked {
+    skipping(lent, state, sums, picks, &[])
+}
+
+/// The same; but some refusals skip a pick and do not stop it, Q-14.
+pub fn skipping(
     lent: &Lent,
     state: &mut State,
     sums: &mut [i64],
