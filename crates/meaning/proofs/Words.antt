@@ -1,9 +1,9 @@
 -- The word of every call's reply tells it.
 use mathlib.Core.Logic.{_≢_}
-use mathlib.Core.Path.{_≡_, refl, ap}
+use mathlib.Core.Path.{_≡_, refl, ap, _∙_}
 use mathlib.Core.Bool.{Bool, true, false, _&&_, not, cond}
 use mathlib.Core.List.{List, [], _∷_, _++_}
-use Prim.Native.Nat.{ℕ, zero, suc, _+_, _*_, _-_, _^_, _≤_, _<_}
+use Prim.Native.Nat.{ℕ, zero, suc, _+_, _*_, _-_, _/_, _%_, _^_, _≤_, _<_}
 use native.Mathlib.Nat.{pow-le-pow-right}
 use native.Mathlib.Omega.{arith}
 use lib.Dec.{eqb, ltb, leb}
@@ -270,11 +270,11 @@ module _ (j : Job) (ok : Accepted j) (s : State) (long : length (s .made) ≡ ma
 
   answer-tells : (c : Call) → ((ws : List ℕ) → c ≢ calls.rounds ws) → Tells (answer j s c)
   unfolding answer stateCheck answerOf
-  answer-tells (picks ws) no = turn Tells calls.denied _ [] _ (tells-refused why.notState 0 (omega arith) (omega arith)) (λ e. last Tells calls.denied _ (picked-tells (steps j s ws .taken) (steps j s ws .number) (taken-few j ok s ws long)))
-  answer-tells readySet no = turn Tells calls.denied _ [] _ (tells-refused why.notState 0 (omega arith) (omega arith)) (λ e. last Tells calls.denied _ ready-tells)
-  answer-tells (preview ws) no = turn Tells calls.denied _ [] _ (tells-refused why.notState 0 (omega arith) (omega arith)) (λ e. last Tells calls.denied _ (preview-tells (steps j s ws .taken) (steps j s ws .number) _ (taken-few j ok s ws long)))
-  answer-tells (forceList room) no = turn Tells calls.denied _ [] _ (tells-refused why.notState 0 (omega arith) (omega arith)) (λ e. last Tells calls.denied _ (forces-tell (over j (s .made)) (leb (j .matrix .n) room) _ (matrix-facts (j .matrix) (ok .matrix) .few)))
-  answer-tells (rounds ws) no = absurd (no ws refl)
+  answer-tells (picks ws) d = turn Tells calls.denied _ [] _ (tells-refused why.notState 0 (omega arith) (omega arith)) (λ e. last Tells calls.denied _ (picked-tells (steps j s ws .taken) (steps j s ws .number) (omega (arith, taken-few j ok s ws long))))
+  answer-tells readySet d = turn Tells calls.denied _ [] _ (tells-refused why.notState 0 (omega arith) (omega arith)) (λ e. last Tells calls.denied _ ready-tells)
+  answer-tells (preview ws) d = turn Tells calls.denied _ [] _ (tells-refused why.notState 0 (omega arith) (omega arith)) (λ e. last Tells calls.denied _ (preview-tells (steps j s ws .taken) (steps j s ws .number) _ (omega (arith, taken-few j ok s ws long))))
+  answer-tells (forceList room) d = turn Tells calls.denied _ [] _ (tells-refused why.notState 0 (omega arith) (omega arith)) (λ e. last Tells calls.denied _ (forces-tell (over j (s .made)) (leb (j .matrix .n) room) _ (matrix-facts (j .matrix) (ok .matrix) .few)))
+  answer-tells (rounds ws) d = absurd (d ws refl)
 
 -- what holds of refusals, and of the answers on accepted jobs, holds of all answers in bytes
 module _ (P : Answer → Type 0) (refuses : (q p : ℕ) → 1 ≤ q → q < 2 ^ 8 → p < 2 ^ 32 → P (calls.denied q p)) (m : Matrix) (x : List ℤ) (order groups : List ℕ) (count : ℕ) where
@@ -299,7 +299,7 @@ module _ (P : Answer → Type 0) (refuses : (q p : ℕ) → 1 ≤ q → q < 2 ^ 
       go false e = checks-hold _ (λ pass. refuses why.notState 0 (omega arith) (omega arith) (omega arith))
 
 run-tells : (m : Matrix) (x : List ℤ) (order groups : List ℕ) (count : ℕ) (state sums : List ℕ) (c : Call) → ((ws : List ℕ) → c ≢ calls.rounds ws) → Tells (answerIn m x order groups count state sums c)
-run-tells m x order groups count state sums c no = in-bytes Tells (λ q p h k l. tells-refused q p h l) m x order groups count c (λ j ok s long. answer-tells j ok s long c no) state sums
+run-tells m x order groups count state sums c d = in-bytes Tells (λ q p h k l. tells-refused q p h l) m x order groups count c (λ j ok s long. answer-tells j ok s long c d) state sums
 
 -- ---- a preview's word
 
@@ -316,7 +316,7 @@ preview-foretold : (m : Matrix) (x : List ℤ) (order groups : List ℕ) (count 
 unfolding answer stateCheck answerOf readyOf
 preview-foretold m x order groups count state sums ws = in-bytes Foretold foretold-refused m x order groups count (calls.preview ws) (λ j ok s long.
     turn Foretold calls.denied _ [] _ (foretold-refused why.notState 0 (omega arith) (omega arith) (omega arith)) (λ e. last Foretold calls.denied _
-    (let made = steps j s ws .state .made in foretold (steps j s ws .taken) (steps j s ws .number) (bits (ready j made)) (length (ready j made)) (taken-few j ok s ws long) (number-low j s ws) (omega (arith, few-ready j ok made)) (ready-low j ok made)))) state sums
+    (let made = steps j s ws .state .made in foretold (steps j s ws .taken) (steps j s ws .number) (bits (ready j made)) (length (ready j made)) (omega (arith, taken-few j ok s ws long)) (number-low j s ws) (omega (arith, few-ready j ok made)) (ready-low j ok made)))) state sums
 
 -- ---- the word of rounds
 
@@ -324,10 +324,18 @@ passed-refused : (q p : ℕ) → 1 ≤ q → q < 2 ^ 8 → p < 2 ^ 32 → Passed
 unfolding roundWord replyTo word numberIn placeIn takenOf
 passed-refused q p h k l = record { low = omega arith; number = omega arith; moves = omega arith }
 
+parts : (r q t : ℕ) → r < 2 ^ 32 → q < 2 ^ 8
+    → ((r + q * 2 ^ 32 + t * 2 ^ 40) % 2 ^ 32 ≡ r) × ((r + q * 2 ^ 32 + t * 2 ^ 40) / 2 ^ 32 % 2 ^ 8 ≡ q) × ((r + q * 2 ^ 32 + t * 2 ^ 40) / 2 ^ 40 ≡ t)
+parts r q t h k = (omega arith, omega arith, omega arith)
+
 round-passed : (taken number place : ℕ) → taken < 2 ^ 24 → number < 2 ^ 8 → Passed (calls.picked taken number (placeOf number place))
 unfolding placeOf roundWord replyTo numberIn placeIn takenOf
-round-passed taken zero place l q = record { low = omega arith; number = omega arith; moves = omega arith }
-round-passed taken (suc n) place l q = record { low = omega arith; number = omega arith; moves = omega arith }
+round-passed taken zero place l q =
+    let p = parts taken 0 taken (omega arith) (omega arith) in
+    let e : taken + taken * 2 ^ 40 ≡ taken + 0 * 2 ^ 32 + taken * 2 ^ 40 = omega arith in
+    let low : taken ≡ taken % 2 ^ 32 = omega arith in
+    record { low = ap (λ (w : ℕ). w % 2 ^ 32) e ∙ p .0 ∙ low; number = ap (λ (w : ℕ). w / 2 ^ 32 % 2 ^ 8) e ∙ p .1; moves = ap (λ (w : ℕ). w / 2 ^ 40) e ∙ p .2 }
+round-passed taken (suc n) place l q = let p = parts (place % 2 ^ 32) (suc n) taken (omega arith) q in record { low = p .0; number = p .1; moves = p .2 }
 
 rounds-passed : (m : Matrix) (x : List ℤ) (order groups : List ℕ) (count : ℕ) (state sums ws : List ℕ) → Passed (answerIn m x order groups count state sums (calls.rounds ws))
 unfolding answer stateCheck answerOf passedOf
