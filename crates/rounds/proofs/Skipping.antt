@@ -11,14 +11,14 @@ use Rattle.run.specs.Schedule.{oneTaken, oneSkipped, pass}
 use Rattle.run.specs.Rounds.{skips, round, takenBy}
 use Rattle.run.specs.State.{State}
 use Rattle.run.proofs.Passes.{pass-on, pass-skip, pass-end}
-use Rattle.run.proofs.Rounds.{taken-on, taken-skip, taken-end}
+use Rattle.run.proofs.Rounds.{no-skips, taken-on, taken-skip, taken-end}
 use Rattle.run.proofs.Schedule.{steps-on}
 use Rattle.rounds.specs.Rounds.{Skipping}
 
 module _ (j : Job) where
   pub skipping : (s : State) (ws : List ℕ) → Skipping j s ws
   unfolding pass oneTaken oneSkipped steps oneMore takenBy
-  skipping s [] = record { as-picks = refl; all-taken = refl; stopped = λ k e. absurd (omega arith) }
+  skipping s [] = record { no-skips = no-skips j s []; as-picks = refl; all-taken = refl; stopped = λ k e. absurd (omega arith) }
   skipping s (w ∷ ws) = go (step j s w) refl (λ t. skipping t ws)
     where
       go : (o : Outcome State) → step j s w ≡ o → ((t : State) → Skipping j t ws) → Skipping j s (w ∷ ws)
@@ -27,6 +27,7 @@ module _ (j : Job) where
           let on = pass-on skips (step j) s w ws t e in
           let by = taken-on (step j) s w ws t e in
           record {
+            no-skips = no-skips j s (w ∷ ws);
             as-picks = rw (on, by, steps-on j s w (takenBy (step j) t ws) t e) (ap oneMore (a .as-picks));
             all-taken = rw (on, by) (ap suc (a .all-taken));
             stopped = rw on (λ k n. let r = a .stopped k n in (omega (arith, r .0), r .1, r .2));
@@ -39,6 +40,7 @@ module _ (j : Job) where
               let on = pass-skip skips (step j) s w ws i e h in
               let by = taken-skip (step j) s w ws i e h in
               record {
+                no-skips = no-skips j s (w ∷ ws);
                 as-picks = rw (on, by) (a .as-picks);
                 all-taken = rw (on, by) (a .all-taken);
                 stopped = rw on (λ k n. let r = a .stopped k n in (omega (arith, r .0), r .1, r .2));
@@ -46,4 +48,4 @@ module _ (j : Job) where
           by false h =
               let on = pass-end skips (step j) s w ws i e h in
               let by = taken-end (step j) s w ws i e h in
-              record { as-picks = rw (on, by) refl; all-taken = rw (on, by) refl; stopped = rw on (λ k n. (omega arith, e ∙ ap halted n, rw (← n) h)) }
+              record { no-skips = no-skips j s (w ∷ ws); as-picks = rw (on, by) refl; all-taken = rw (on, by) refl; stopped = rw on (λ k n. (omega arith, e ∙ ap halted n, rw (← n) h)) }
