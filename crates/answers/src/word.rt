@@ -60,12 +60,12 @@ pub fn word_of_round(answer: Response) -> u64
     requires { ⌜ LowMoves answer ⌝ }
     ensures { λ r. ⌜ ((forces : List ℤ) → r ≡ roundWord (asAnswer answer forces)) ⌝ }
 {
-    let Response::Picked(taken, number, place) = answer else {
+    let Response::Picked(taken, why, place) = answer else {
         return word_of(answer);
     };
     let moves = taken as u64 * 1099511627776;
-    if number == 0 {
+    if why == 0 {
         return taken as u64 + moves;
     }
-    (place % 4294967296) as u64 + number as u64 * 4294967296 + moves
+    (place % 4294967296) as u64 + why as u64 * 4294967296 + moves
 }
