@@ -38,46 +38,54 @@ static inline void read_matrix(struct net *net, const char *path)
     net->entries = number_in(net->starts + 4 * net->n, 4);
 }
 
-/* Puts a row's movement, low byte first. */
-static inline void put_movement(struct net *net, uint32_t row, int64_t movement)
+/* Puts a number of 32 bits at an index of a list, low byte first. */
+static inline void put_number(uint8_t *list, uint32_t index, int64_t number)
 {
     for (int byte = 0; byte < 4; byte++)
-        net->movements[4 * row + byte] = (uint32_t)movement >> 8 * byte;
+        list[4 * index + byte] = (uint32_t)number >> 8 * byte;
 }
 
-/* Takes the movement that stands in a line; past the last row a number is counted by its line, and no more. */
-static inline void take_line(struct net *net, struct field *field, bool is_ended)
+/* Takes the number that stands in a line; past those that are needed it is counted by its line, and no more. */
+static inline void take_line(uint8_t *list, uint32_t needed, struct field *field, bool is_ended)
 {
-    if (field->line > net->n)
+    if (field->line > needed)
         field->wanted = "the end of the file";
-    int64_t movement = whole_number(field);
+    int64_t number = whole_number(field);
     if (!is_ended) {
         field->wanted = "a line feed after it";
         refuse_field(field);
     }
-    if (field->line <= net->n)
-        put_movement(net, field->line - 1, movement);
+    if (field->line <= needed)
+        put_number(list, field->line - 1, number);
 }
 
-/* Reads movements from a file: one whole number of micrometres a line, as many as the matrix has rows. */
-static inline void read_movements(struct net *net, const char *path)
+/* Reads whole numbers from least to most from a file into a list, one a line, just as many as are needed; what they are
+ * is told where that is not so. */
+static inline void read_numbers(uint8_t *list, uint32_t needed, const char *path, int64_t least, int64_t most,
+                                const char *what)
 {
     size_t length = read_file(path, text, sizeof text);
-    struct field field = { path, 0, text, 0, -LARGEST, LARGEST, NULL };
+    struct field field = { path, 0, text, 0, least, most, NULL };
     if (length > MZK_TEXT_BYTES) {
-        fprintf(stderr, "%s: longer than %d bytes, %u movements needed\n", path, MZK_TEXT_BYTES, net->n);
+        fprintf(stderr, "%s: longer than %d bytes, %u %s needed\n", path, MZK_TEXT_BYTES, needed, what);
         exit(REFUSED);
     }
     for (const char *end = text + length; field.text < end; field.text += field.length + 1) {
         const char *feed = memchr(field.text, '\n', end - field.text);
         field.line++;
         field.length = (feed != NULL ? feed : end) - field.text;
-        take_line(net, &field, feed != NULL);
+        take_line(list, needed, &field, feed != NULL);
     }
-    if (field.line != net->n) {
-        fprintf(stderr, "%s: %u movements found, %u needed\n", path, field.line, net->n);
+    if (field.line != needed) {
+        fprintf(stderr, "%s: %u %s found, %u needed\n", path, field.line, what, needed);
         exit(REFUSED);
     }
+}
+
+/* Reads movements from a file: one whole number of micrometres a line, as many as the matrix has rows. */
+static inline void read_movements(struct net *net, const char *path)
+{
+    read_numbers(net->movements, net->n, path, -LARGEST, LARGEST, "movements");
 }
 
 /* A row's force in a list of forces, in millinewtons. */

@@ -18,12 +18,7 @@ static void write_plan(const char *path)
 {
     static uint8_t bytes[MZK_FILE_BYTES];
     uint32_t length = accepted("plan file", mzk_write_plan(plan.n, PLAN(&plan), bytes, sizeof bytes));
-    FILE *file = fopen(path, "wb");
-    if (file == NULL)
-        fail(path, "written");
-    bool failed = fwrite(bytes, 1, length, file) != length;
-    if (fclose(file) != 0 || failed)
-        fail(path, "written");
+    write_file(path, bytes, length);
 }
 
 /* Prints the plan, and ends the output. */

@@ -44,6 +44,8 @@ static const struct refusal {
     [MZK_STALE] = { NOWHERE, "the forces are not the product of the matrix and the movements" },
     [MZK_NO_ENTRY] = { NOWHERE, "no such row, or an entry that is not stored" },
     [MZK_BEYOND] = { NOWHERE, "the new movement or value is too large" },
+    [MZK_PLACES] = { NOWHERE, "not one place for each row of the second matrix, or a place repeats or leaves a gap" },
+    [MZK_LIMITS] = { NOWHERE, "the joined matrix has too many rows or entries, or a value too large" },
 };
 
 /* Prints the refusal in a word, of a file or of a call: `FILE:LINE: SENTENCE (refusal NUMBER)`. */

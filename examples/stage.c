@@ -31,7 +31,7 @@ static void draw_movements(uint64_t bits)
 {
     for (uint32_t row = 0; row < net.n; row++) {
         bits = bits * 6364136223846793005u + 1442695040888963407u;
-        put_movement(&net, row, (int64_t)((bits >> 33) % (2 * LARGEST + 1)) - LARGEST);
+        put_number(net.movements, row, (int64_t)((bits >> 33) % (2 * LARGEST + 1)) - LARGEST);
     }
 }
 

@@ -28,6 +28,17 @@ static inline size_t read_file(const char *path, char *text, size_t room)
     return length;
 }
 
+/* Writes a file of so many bytes. */
+static inline void write_file(const char *path, const uint8_t *bytes, size_t length)
+{
+    FILE *file = fopen(path, "wb");
+    if (file == NULL)
+        fail(path, "written");
+    bool failed = fwrite(bytes, 1, length, file) != length;
+    if (fclose(file) != 0 || failed)
+        fail(path, "written");
+}
+
 /* Ends the output; a program that has not written all of it has failed. */
 static inline void end_output(void)
 {

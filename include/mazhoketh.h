@@ -15,10 +15,10 @@
  * list of another; lists that are only read may be shared. In a call, a list that is written overlaps no other list.
  * No pointer is null, also of an empty list.
  *
- * Stack: mzk_read uses up to 2 MiB, mzk_picks_both and mzk_ready_both up to 1.5 MiB, mzk_picks and mzk_preview up to
- * 1.4 MiB, mzk_ready and mzk_forces up to 1.3 MiB, mzk_plan up to 1 MiB, mzk_set_movement and mzk_set_entry up to 0.7
- * MiB, mzk_write_plan and mzk_read_plan up to 8 KiB, the others up to 0.6 MiB. A thread with MZK_STACK_BYTES and its
- * own needs can make any call. */
+ * Stack: mzk_join uses up to 2.5 MiB, mzk_read up to 2.2 MiB, mzk_picks_both and mzk_ready_both up to 1.5 MiB,
+ * mzk_picks and mzk_preview up to 1.4 MiB, mzk_ready and mzk_forces up to 1.3 MiB, mzk_plan up to 1 MiB,
+ * mzk_set_movement and mzk_set_entry up to 0.7 MiB, mzk_write_plan and mzk_read_plan up to 8 KiB, the others up to 0.6
+ * MiB. A thread with MZK_STACK_BYTES and its own needs can make any call. */
 #ifndef MAZHOKETH_H
 #define MAZHOKETH_H
 
@@ -44,7 +44,7 @@ enum {
     MZK_TEXT_BYTES = 1048576,    /* a text that is read, at most */
     MZK_WRITTEN_BYTES = 720963,  /* a text that is written, at most: 51 + 16 + 32,768 x 22 */
     MZK_FILE_BYTES = 28 + 4 * MZK_ROWS + 4 * MZK_GROUP_FIELDS * MZK_GROUPS_LIMIT, /* a plan file, at most */
-    MZK_STACK_BYTES = 2097152    /* the stack of a call, at most */
+    MZK_STACK_BYTES = 2621440    /* the stack of a call, at most */
 };
 
 /* Every call returns one word: the refusal's number, 0 if it was accepted, and the refusal's place or the accepted
@@ -78,7 +78,9 @@ enum {
     MZK_ELSEWHERE = 19,   /* the pick's worker is inside a row of the other crew: pick it there first (index) */
     MZK_STALE = 20,       /* forces that are not those of the matrix and the movements, in number or in value */
     MZK_NO_ENTRY = 21,    /* no such row, or an entry that is not stored */
-    MZK_BEYOND = 22       /* a new movement or value beyond its limit */
+    MZK_BEYOND = 22,      /* a new movement or value beyond its limit */
+    MZK_PLACES = 23,      /* not one place for each row of the second matrix, or a place repeats or leaves a gap */
+    MZK_LIMITS = 24       /* the joined matrix has too many rows or entries, or a value too large */
 };
 
 /* The matrix of a text, in full rows, into row_starts, columns and values; returns its number of rows. It has one row
@@ -154,6 +156,24 @@ uint64_t mzk_set_entry(uint32_t n,
                        uint32_t row,
                        uint32_t column,
                        int32_t value);
+
+/* Two nets sewn together. For each row of the second matrix places has the number, of 32 bits, of a row of the joined
+ * one, where the first keeps its rows; places from n1 on leave no gap, and the joined matrix has as many rows as the
+ * first and those. Values that fall together are added; an entry is stored if either matrix stores it, also where the
+ * sum is 0. The joined matrix goes into row_starts, columns and values; returns its number of rows.
+ * Refused: 5 (the first, then the second); 23; 24; 9 (row_starts; columns; values). */
+uint64_t mzk_join(uint32_t n1,
+                  const uint8_t *row_starts1, size_t row_starts1_bytes,
+                  const uint8_t *columns1, size_t columns1_bytes,
+                  const uint8_t *values1, size_t values1_bytes,
+                  uint32_t n2,
+                  const uint8_t *row_starts2, size_t row_starts2_bytes,
+                  const uint8_t *columns2, size_t columns2_bytes,
+                  const uint8_t *values2, size_t values2_bytes,
+                  const uint8_t *places, size_t places_bytes,
+                  uint8_t *row_starts, size_t row_starts_bytes,
+                  uint8_t *columns, size_t columns_bytes,
+                  uint8_t *values, size_t values_bytes);
 
 /* The plan of a matrix at the distance k: its n rows into order, and for each group a record into groups (start,
  * length, first worker, workers, colour, parent, depth); returns the number of groups. Start and length are positions

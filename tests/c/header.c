@@ -1,8 +1,7 @@
 /* mazhoketh.h from C and from C++: its macros against real words, its sizes against what calls take and need.
  *
- * Document 01's chain of eight rows is planned, filed, surveyed, changed and run, by one crew and by two; then the longest text
- * that is
- * written is read. */
+ * Document 01's chain of eight rows is planned, filed, surveyed, changed, sewn to another and run, by one crew and by
+ * two; then the longest text that is written is read. */
 
 #include <stdio.h>
 #include <stdlib.h>
@@ -165,6 +164,34 @@ static void check_changes(void)
 #undef ALTER
 }
 
+/* The chain and a net of two rows, of which the second falls on the chain's last. */
+static void check_join(void)
+{
+#define JOIN(n2, places_bytes, starts_bytes) \
+    mzk_join(MATRIX(8), n2, own_starts, 12, own_columns, 16, own_values, 16, places, places_bytes, \
+             new_starts, starts_bytes, new_columns, sizeof new_columns, new_values, sizeof new_values)
+    static uint8_t new_starts[40], new_columns[4 * 25], new_values[4 * 25];
+    const uint8_t own_starts[12] = { 0, 0, 0, 0, 2, 0, 0, 0, 4 };
+    const uint8_t own_columns[16] = { 0, 0, 0, 0, 1, 0, 0, 0, 0, 0, 0, 0, 1 };
+    uint8_t own_values[16] = { 5, 0, 0, 0, 1, 0, 0, 0, 1, 0, 0, 0, 7 };
+    const uint8_t largest[4] = { 0x00, 0xca, 0x9a, 0x3b };
+    uint8_t places[8] = { 8, 0, 0, 0, 7 };
+    CHECK(is(JOIN(2, 8, 40), MZK_ACCEPTED, 9));
+    CHECK(new_starts[28] == 20 && new_starts[32] == 23 && new_starts[36] == 25);
+    CHECK(new_values[84] == 9 && new_columns[88] == 8 && new_values[88] == 1 && new_values[96] == 5);
+    CHECK(is(JOIN(2, 8, 39), MZK_TOO_SHORT, 10));
+    CHECK(is(JOIN(3, 8, 40), MZK_NO_MATRIX, 0));
+    CHECK(is(JOIN(2, 7, 40), MZK_PLACES, 0));
+    places[4] = 8;
+    CHECK(is(JOIN(2, 8, 40), MZK_PLACES, 0));
+    places[4] = 10;
+    CHECK(is(JOIN(2, 8, 40), MZK_PLACES, 0));
+    places[4] = 7;
+    memcpy(own_values + 12, largest, sizeof largest);
+    CHECK(is(JOIN(2, 8, 40), MZK_LIMITS, 0));
+#undef JOIN
+}
+
 /* A run ends after 2 picks a row and 4 a pair of joined rows: 44 of the chain. */
 static void check_run(void)
 {
@@ -252,6 +279,7 @@ int main(void)
     check_files();
     check_survey();
     check_changes();
+    check_join();
     check_run();
     check_crews();
     check_longest();

@@ -285,6 +285,40 @@ pub fn set_entry(
     alike("set_entry", ours, theirs, lists, &[movements, forces])
 }
 
+/// Sews two nets together into row starts, columns and values.
+pub fn join(
+    first: &MatrixTwins,
+    second: &MatrixTwins,
+    places: &Twin,
+    lists: &mut [Twin; 3],
+) -> u64 {
+    let [starts, columns, values] = lists;
+    let ours = library::join(
+        first.ours(),
+        second.ours(),
+        places.ours(),
+        starts.ours_mut(),
+        columns.ours_mut(),
+        values.ours_mut(),
+    );
+    let theirs = calls::join(
+        first.theirs(),
+        second.theirs(),
+        &places.theirs,
+        &mut starts.theirs,
+        &mut columns.theirs,
+        &mut values.theirs,
+    );
+    let read = first.lists().into_iter().chain(second.lists()).collect();
+    alike(
+        "join",
+        ours,
+        theirs,
+        read,
+        &[places, starts, columns, values],
+    )
+}
+
 /// Plans a matrix at the distance k.
 pub fn plan(matrix: &MatrixTwins, workers: u32, p: u32, k: u32, lists: &mut [Twin; 2]) -> u64 {
     let [order, groups] = lists;

@@ -65,6 +65,9 @@ pub struct Given {
     pub row_starts: Vec<u8>,
     pub columns: Vec<u8>,
     pub values: Vec<u8>,
+    /// The values with their signs turned, and for each row its own number as its place.
+    pub opposite_values: Vec<u8>,
+    pub places: Vec<u8>,
     pub movements: Vec<u8>,
     pub p: u32,
     pub order: Vec<u8>,
@@ -89,12 +92,16 @@ impl Given {
     pub fn new(matrix: &Matrix, p: u32) -> Given {
         let plan = planner::plan(matrix.rows(), 16, p);
         let movements = vec![-999_999; matrix.n as usize];
+        let opposite: Vec<i32> = matrix.values.iter().map(|value| -value).collect();
+        let places: Vec<u32> = (0..matrix.n).collect();
         let mut given = Given {
             text: text::write(matrix),
             n: matrix.n,
             row_starts: bytes(&matrix.starts, u32::to_le_bytes),
             columns: bytes(&matrix.columns, u32::to_le_bytes),
             values: bytes(&matrix.values, i32::to_le_bytes),
+            opposite_values: bytes(&opposite, i32::to_le_bytes),
+            places: bytes(&places, u32::to_le_bytes),
             movements: bytes(&movements, i32::to_le_bytes),
             p,
             order: bytes(&plan.order, u32::to_le_bytes),
@@ -124,6 +131,14 @@ impl Given {
             row_starts: &self.row_starts,
             columns: &self.columns,
             values: &self.values,
+        }
+    }
+
+    /// The lists of the matrix that is its opposite: sewn on at the same rows, every sum cancels.
+    pub fn opposite(&self) -> MatrixLists<'_> {
+        MatrixLists {
+            values: &self.opposite_values,
+            ..self.matrix()
         }
     }
 

@@ -41,6 +41,16 @@ extern "C" {
         row_starts: In, row_starts_bytes: usize, columns: In, columns_bytes: usize, values: Out, values_bytes: usize,
         movements: In, movements_bytes: usize, forces: Out, forces_bytes: usize, row: u32, column: u32, value: i32,
     ) -> u64;
+    fn mzk_join(
+        n1: u32,
+        row_starts1: In, row_starts1_bytes: usize, columns1: In, columns1_bytes: usize,
+        values1: In, values1_bytes: usize,
+        n2: u32,
+        row_starts2: In, row_starts2_bytes: usize, columns2: In, columns2_bytes: usize,
+        values2: In, values2_bytes: usize,
+        places: In, places_bytes: usize, row_starts: Out, row_starts_bytes: usize,
+        columns: Out, columns_bytes: usize, values: Out, values_bytes: usize,
+    ) -> u64;
     fn mzk_plan(
         n: u32,
         row_starts: In, row_starts_bytes: usize, columns: In, columns_bytes: usize, values: In, values_bytes: usize,
@@ -174,6 +184,24 @@ pub fn set_entry(pattern: PatternLists, values: &mut [u8], movements: &[u8], for
             n, row_starts.as_ptr(), row_starts.len(), columns.as_ptr(), columns.len(),
             values.as_mut_ptr(), values.len(), movements.as_ptr(), movements.len(),
             forces.as_mut_ptr(), forces.len(), entry.row, entry.column, entry.value,
+        )
+    }
+}
+
+/// Two nets sewn together; counts the joined net's rows.
+#[rustfmt::skip]
+pub fn join(
+    first: MatrixLists, second: MatrixLists, places: &[u8],
+    row_starts: &mut [u8], columns: &mut [u8], values: &mut [u8],
+) -> u64 {
+    unsafe {
+        mzk_join(
+            first.n, first.row_starts.as_ptr(), first.row_starts.len(),
+            first.columns.as_ptr(), first.columns.len(), first.values.as_ptr(), first.values.len(),
+            second.n, second.row_starts.as_ptr(), second.row_starts.len(),
+            second.columns.as_ptr(), second.columns.len(), second.values.as_ptr(), second.values.len(),
+            places.as_ptr(), places.len(), row_starts.as_mut_ptr(), row_starts.len(),
+            columns.as_mut_ptr(), columns.len(), values.as_mut_ptr(), values.len(),
         )
     }
 }

@@ -4,8 +4,8 @@ use std::path::{Path, PathBuf};
 use std::process::{Command, Output};
 
 use mazhoketh_tests::built::{check_ended, run, run_full};
-use mazhoketh_tests::oracle::nets;
 use mazhoketh_tests::oracle::prng::Prng;
+use mazhoketh_tests::oracle::{self, nets};
 use mazhoketh_tests::{built, files};
 
 /// A folder to build in.
@@ -93,6 +93,28 @@ fn stage() {
             assert!(drawn.status.success(), "{workers} workers on {name}");
         }
     }
+}
+
+/// A net sewn to itself turned round: the last row on the first, all others past it; the file is the joined matrix.
+#[test]
+fn join() {
+    let join = build("join", "joined nets");
+    let (_, matrix) = files::read(Path::new(SMALL));
+    let n = matrix.n;
+    let places: Vec<u32> = (n..2 * n - 1).rev().chain([0]).collect();
+    let places_path = file("places", lines(&places));
+    let joined = built::path_in(BUILT, "joined.mtx");
+    let output = run(&join, &[SMALL, SMALL, &places_path, &joined]);
+    let told = String::from_utf8_lossy(&output.stderr);
+    assert_eq!(output.status.code(), Some(0), "{told}");
+    let (_, found) = files::read(Path::new(&joined));
+    let wanted = oracle::join::join(matrix.rows(), matrix.rows(), &places);
+    assert!(wanted.is_ok_and(|wanted| wanted.entries() == found.entries()));
+    check_ended(
+        run(&join, &[SMALL]),
+        2,
+        "usage: join FIRST SECOND PLACES FILE",
+    );
 }
 
 /// Two crews: a column each, the product of its own movements.

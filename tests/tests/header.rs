@@ -4,6 +4,7 @@ use std::path::Path;
 use std::process::Command;
 
 use mazhoketh_tests::built;
+use mazhoketh_tests::lists::REFUSALS;
 
 /// Builds a C file of the tests by a compiler with these arguments, and runs it; what it printed.
 fn build_and_run(name: &str, compiler: &str, arguments: &[&str]) -> String {
@@ -31,7 +32,7 @@ fn as_cpp() {
 fn sentences() {
     let printed = build_and_run("refusals", "gcc", &["-std=c99", "-pedantic"]);
     let mut sentences: Vec<&str> = printed.lines().collect();
-    assert_eq!(sentences.len(), 23);
+    assert_eq!(sentences.len(), REFUSALS + 1);
     for (number, sentence) in (1..).zip(&sentences) {
         assert!(sentence.starts_with("FILE:"), "{sentence}");
         assert!(
@@ -40,7 +41,7 @@ fn sentences() {
         );
         assert_eq!(
             sentence.contains("does not know"),
-            number == 23,
+            number == REFUSALS + 1,
             "{sentence}"
         );
     }
@@ -58,5 +59,5 @@ fn sentences() {
     let text = |sentence: &mut &str| sentence.rfind(" (").map(|end| sentence[..end].to_string());
     sentences.sort_unstable();
     sentences.dedup_by_key(text);
-    assert_eq!(sentences.len(), 23, "two sentences are the same");
+    assert_eq!(sentences.len(), REFUSALS + 1, "two sentences are the same");
 }

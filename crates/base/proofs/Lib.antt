@@ -14,4 +14,5 @@ pub mod Replies
 pub mod Fill
 pub mod Stored
 pub mod Positions
+pub mod Distinct
 pub mod Pieces

@@ -1,5 +1,5 @@
 -- Lists and tests that compute.
-use mathlib.Core.Bool.{Bool, true, false, _||_, _&&_, cond}
+use mathlib.Core.Bool.{Bool, true, false, not, _||_, _&&_, cond}
 use mathlib.Core.List.{List, [], _∷_, _++_}
 use Prim.Native.Nat.{ℕ, zero, suc, _+_, _-_}
 use lib.Dec.{eqb, ltb}
@@ -89,6 +89,11 @@ distance x y = (x - y) + (y - x)
 abbrev pub bit : Bool → ℕ
 bit true = 1
 bit false = 0
+
+-- no number stands twice
+abbrev pub distinct : List ℕ → Bool
+distinct [] = true
+distinct (x ∷ xs) = not (isIn xs x) && distinct xs
 
 -- where v stands in a list; the list's length if it does not
 unfoldable pub positionOf : List ℕ → ℕ → ℕ

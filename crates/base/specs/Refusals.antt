@@ -89,3 +89,11 @@ noEntry = 21
 -- Q-10: "new movement or value beyond its limit"
 abbrev pub badChange : ℕ
 badChange = 22
+
+-- Q-11: "the list has not one place for each freedom of the second net, or a place repeats or leaves a gap"
+abbrev pub badPlaces : ℕ
+badPlaces = 23
+
+-- Q-11: "the joined matrix breaks a limit of document 01"
+abbrev pub pastLimits : ℕ
+pastLimits = 24

@@ -55,3 +55,7 @@ pub const STALE: u32 = 20;
 pub const MISSING: u32 = 21;
 
 pub const BEYOND: u32 = 22;
+
+pub const PLACES: u32 = 23;
+
+pub const LIMITS: u32 = 24;

@@ -7,7 +7,7 @@ use lib.ListN.{length}
 use Rattle.base.specs.Replies.{accepted}
 use Rattle.base.proofs.Replies.{accepted-count}
 use Rattle.matrix.specs.SameRows.{SameRows}
-use Rattle.matrix.specs.code.Left.{matrixLeft}
+use Rattle.matrix.specs.Left.{matrixLeft}
 use Rattle.matrix.proofs.Alike.{left-rows}
 use Rattle.market.specs.Parse.{Triplet, matrixText, parse}
 use Rattle.market.specs.FullRows.{ofTriplets, readMatrix, readReply}

@@ -12,7 +12,7 @@ use Rattle.base.specs.Lists.{concat, range, sumBelow}
 use Rattle.base.proofs.Lists.{length-range, map-range-zero}
 use Rattle.base.proofs.Pieces.{map-pieces, pieces-same, length-pieces}
 use Rattle.base.proofs.Sums.{sum-below-same}
-use Rattle.matrix.specs.code.Tabulated.{columnsIn, tabulated}
+use Rattle.matrix.specs.Tabulated.{columnsIn, tabulated}
 use Rattle.market.specs.Parse.{Triplet, triplet}
 use Rattle.market.specs.FullRows.{cell, rowOf, rowsOf, rowStarts, columns, values, ofTriplets}
 use Rattle.market.proofs.FullRows.{length-row-starts, row-of-cells, starts-at}

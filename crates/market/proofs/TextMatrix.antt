@@ -15,7 +15,7 @@ use Rattle.base.proofs.Each.{each-map}
 use Rattle.base.proofs.Sums.{sum-below-le}
 use Rattle.matrix.specs.Limits.{maxEntries, maxValue}
 use Rattle.matrix.specs.Matrix.{lowerEntries, isMatrix}
-use Rattle.matrix.specs.code.Tabulated.{tabulated}
+use Rattle.matrix.specs.Tabulated.{tabulated}
 use Rattle.matrix.proofs.Tabulated.{tab-lower, tab-matrix}
 use Rattle.market.specs.Parse.{Triplet, isAt}
 use Rattle.market.specs.FullRows.{ofTriplets}

@@ -19,7 +19,7 @@ use Rattle.matrix.specs.Limits.{maxEntries}
 use Rattle.matrix.specs.Matrix.{Matrix, partOf, columnsOf, valuesOf, lookup, entry, mirrored, lowerEntries, isMatrix, matrixOf}
 use Rattle.matrix.specs.code.Checks.{rises, shaped, isOrdered, symmetric}
 use Rattle.matrix.specs.SameRows.{SameRows}
-use Rattle.matrix.specs.code.Left.{matrixLeft}
+use Rattle.matrix.specs.Left.{matrixLeft}
 use Rattle.matrix.proofs.Checks.{ordered, Shape, shape, shape-made, matrix-parts, matrix-tidy}
 use Rattle.matrix.proofs.Rows.{row-in}
 

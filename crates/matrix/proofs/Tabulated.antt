@@ -15,7 +15,7 @@ use Rattle.base.proofs.Sums.{sum-below-same}
 use Rattle.base.proofs.Pieces.{length-pieces, length-filter-range, pieces-between, slice-between}
 use Rattle.matrix.specs.Limits.{maxRows, maxEntries, maxValue}
 use Rattle.matrix.specs.Matrix.{Matrix, partOf, columnsOf, valuesOf, entry, ascending, lowerEntries, isMatrix}
-use Rattle.matrix.specs.code.Tabulated.{columnsIn, tabulated}
+use Rattle.matrix.specs.Tabulated.{columnsIn, tabulated}
 use Rattle.matrix.proofs.Matrix.{lookup-map, matrix-made}
 use Rattle.matrix.proofs.Ascending.{ascending-passing}
 

@@ -2,5 +2,3 @@
 pub mod Checks
 pub mod Pattern
 pub mod Room
-pub mod Tabulated
-pub mod Left

@@ -1,6 +1,7 @@
 // The C interface: exported functions on numbers and byte lists.
 pub mod both;
 pub mod changes;
+pub mod join;
 pub mod nets;
 pub mod preview;
 pub mod read_plan;

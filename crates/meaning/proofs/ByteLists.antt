@@ -1,11 +1,11 @@
 -- What the calls leave in bytes stands for what they made.
 use mathlib.Core.Path.{_≡_, refl, sym, ap, _∙_, fun-ext}
-use mathlib.Core.Bool.{Bool, true, false, cond}
+use mathlib.Core.Bool.{Bool, true, false, _&&_, cond}
 use mathlib.Core.List.{List, [], _∷_, _++_, append-nil}
 use Prim.Native.Nat.{ℕ, suc, _+_, _-_, _*_, _/_, _≤_, _<_}
 use native.Mathlib.Numerals.{add-one}
 use native.Mathlib.Omega.{arith}
-use lib.Dec.{eqb, ltb}
+use lib.Dec.{eqb, ltb, leb}
 use lib.IntN.{ℤ, pos, negsuc, natAbs}
 use lib.ListN.{length, getD, set, take, drop, length-append, length-map, length-set, length-drop}
 use lib.Seq.{take-at, take-take, getD-take, drop-append-seam, length-take-le}
@@ -16,15 +16,15 @@ use Rattle.base.specs.Replies.{Reply, accepted, Check, roomFor, inTurn, lent}
 use Rattle.base.proofs.Booleans.{and-left, and-right}
 use Rattle.base.proofs.Each.{Each}
 use Rattle.base.proofs.Lists.{range-all}
-use Rattle.base.proofs.Replies.{accepted-all, lent-accepted}
-use Rattle.matrix.specs.Limits.{maxValue, maxDisplacement}
-use Rattle.matrix.specs.Matrix.{Matrix, partOf, columnsOf, valuesOf, entry, isMatrix, areDisplacements, matrixOf}
+use Rattle.base.proofs.Replies.{accepted-all, accepted-count, lent-accepted}
+use Rattle.matrix.specs.Limits.{maxRows, maxEntries, maxValue, maxDisplacement}
+use Rattle.matrix.specs.Matrix.{Matrix, partOf, columnsOf, valuesOf, entry, lowerEntries, isMatrix, matrixCheck, areDisplacements, matrixOf}
 use Rattle.matrix.specs.Product.{forceAt, product}
 use Rattle.matrix.specs.SmallForces.{largestForce}
 use Rattle.matrix.proofs.Matrix.{matrix-facts}
 use Rattle.matrix.proofs.Checks.{Shape, shape, shape-made, matrix-tidy}
 use Rattle.matrix.proofs.Rows.{row-in, values-tiled}
-use Rattle.matrix.proofs.Alike.{alike}
+use Rattle.matrix.proofs.Alike.{alike, followed-rows}
 use Rattle.matrix.proofs.Product.{length-product}
 use Rattle.matrix.proofs.SmallForces.{small-forces}
 use Rattle.market.specs.Parse.{Triplet, Parsed, matrixText, rejected, parse}
@@ -56,15 +56,19 @@ use Rattle.survey.proofs.SurveyError.{survey-error}
 use Rattle.upkeep.specs.Upkeep.{KeptForces, Change, newDisplacement, newValue, put, matrixAfter, displacementsAfter, changed, changeReply, afterReply, afterChange, afterChanges}
 use Rattle.upkeep.specs.KeptCurrent.{Current}
 use Rattle.upkeep.proofs.KeptCurrent.{kept-current}
+use Rattle.joined.specs.Joined.{joinedRows, storedIn, stiffness, joined, inLimits, joinReply}
+use Rattle.joined.proofs.Entries.{joined-matrix}
 use Rattle.texts.specs.Lent.{readIn}
 use Rattle.office.specs.Lent.{planIn, PlanAnswered}
 use Rattle.lent.specs.Bytes.{matrixIn}
 use Rattle.desk.specs.Lent.{surveyIn, SurveyAnswered}
 use Rattle.desk.proofs.Surveys.{Surveyed, survey-made, amounts-long}
 use Rattle.site.specs.Lent.{keptBytes, valueCount, MovementAnswered, EntryAnswered}
+use Rattle.shop.specs.Lent.{joinIn, JoinAnswered}
 use Rattle.meaning.specs.ByteLists.{Reading, leftBy, RoomFor, ByteLists}
 use Rattle.meaning.proofs.EachIn.{each-made}
 use Rattle.meaning.proofs.SmallMatrix.{small-value, starts-small, columns-small, values-small}
+use Rattle.meaning.proofs.SmallNet.{net-starts-small, net-columns-small}
 use Rattle.meaning.proofs.SmallPlan.{Small, sound-small}
 
 -- a list that is lent to itself
@@ -384,6 +388,40 @@ module _ (n : ℕ) (starts columns values : List ℕ) (i j : ℕ) (v : ℤ) (mov
     forces-back kept (newValue i j v) count ok forces refl (a .forces-left),
   )
 
+-- ---- two nets sewn together
+
+module _ (a b : Matrix) (places starts columns values : List ℕ) (returned : ℕ) (newStarts newColumns newValues : List ℕ) (g : JoinAnswered a b places starts columns values returned newStarts newColumns newValues) (n : ℕ)
+    (ok : joinIn a b places starts columns values ≡ accepted n) where
+  abbrev net : Matrix
+  net = joined a b places
+
+  fit : inLimits net ≡ true
+  unfolding joinReply
+  fit = accepted-all _ _ n ok .1 .1 .1 .0
+
+  net-matrix : isMatrix net ≡ true
+  unfolding joinReply matrixCheck
+  net-matrix = let held = accepted-all _ _ n ok in joined-matrix a b places (held .0) (held .1 .0) (held .1 .1 .0) fit
+
+  told : net .n ≡ n
+  unfolding joinReply
+  told = accepted-count _ (net .n) n ok
+
+  net-values-small : Each (HoldsSigned 4) (net .values)
+  unfolding inLimits
+  net-values-small =
+      let both = and-left (leb (net .n) maxRows && all (within maxValue) (net .values)) (leb (lowerEntries net) maxEntries) fit in
+      each-within maxValue (omega arith) (net .values) (and-right (leb (net .n) maxRows) (all (within maxValue) (net .values)) both)
+
+  joined-left : SameRows (matrixIn n newStarts newColumns newValues) net
+  unfolding joined
+  joined-left =
+      let rows = joinedRows a places in
+      let ss = unsigned-left ok (net .starts) (net-starts-small rows (storedIn a b places) (stiffness a b places) net-matrix) starts (g .starts-left) in
+      let cs = unsigned-left ok (net .columns) (net-columns-small rows (storedIn a b places) (stiffness a b places) net-matrix) columns (g .columns-left) in
+      let vs = signed-left ok 4 (omega arith) (net .values) net-values-small values (g .values-left) in
+      rw (← told, ss, cs, vs) (followed-rows net net-matrix _ _ _)
+
 -- the theorem
 pub byte-lists : ByteLists
-byte-lists = record { read = reads; written-read = written-read; planned = planned-left; surveyed = surveyed-left; moved = moved-left; altered = altered-left }
+byte-lists = record { read = reads; written-read = written-read; planned = planned-left; surveyed = surveyed-left; moved = moved-left; altered = altered-left; joined = joined-left }

@@ -4,6 +4,7 @@ pub mod BytePreviews
 pub mod BothRuns
 pub mod EachIn
 pub mod SmallMatrix
+pub mod SmallNet
 pub mod SmallPlan
 pub mod ByteLists
 pub mod Words

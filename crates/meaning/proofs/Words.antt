@@ -28,6 +28,9 @@ use Rattle.market.proofs.WriteThenRead.{write-then-read}
 use Rattle.survey.specs.Survey.{hasRoom, writtenShift, surveyReply}
 use Rattle.desk.proofs.Surveys.{written-few}
 use Rattle.upkeep.specs.Upkeep.{KeptForces, Change, changeReply}
+use Rattle.joined.specs.Joined.{joined, joinReply}
+use Rattle.joined.proofs.Entries.{joined-matrix}
+use Rattle.joined.proofs.Sizes.{net-values, net-few}
 use Rattle.plan.specs.Sound.{maxWorkers, planCheck, checkReply}
 use Rattle.planfile.specs.File.{fileSize, freedomsIn, groupsIn}
 use Rattle.planfile.specs.Calls.{writePlanReply, readPlanReply}
@@ -343,6 +346,22 @@ read-plan-told planFile order groups =
     turn Told refused _ [] _ (told-refused why.tooShort (groupsIn planFile) (omega arith) (omega (arith, s .records))) (λ g.
     last Told refused _ (told-accepted (freedomsIn planFile + 65536 * groupsIn planFile) (omega (arith, s .few, s .records))))))
 
+join-told : (a b : Matrix) (places : List ℕ) (s c v : ℕ) → Told (joinReply a b places s c v)
+unfolding joinReply matrixCheck
+join-told a b places s c v =
+    let net = joined a b places in
+    turn Told refused (matrixCheck a) _ _ (told-refused why.notMatrix 0 (omega arith) (omega arith)) (λ ha.
+    turn Told refused (matrixCheck b) _ _ (told-refused why.notMatrix 0 (omega arith) (omega arith)) (λ hb.
+    turn Told refused _ _ _ (told-refused why.badPlaces 0 (omega arith) (omega arith)) (λ hp.
+    turn Told refused _ _ _ (told-refused why.pastLimits 0 (omega arith) (omega arith)) (λ hf.
+    let ok = joined-matrix a b places ha hb hp hf in
+    let few = matrix-facts net ok .few in
+    let cells = net-few a b places ok in
+    turn Told refused _ _ _ (told-refused why.tooShort (suc (net .n)) (omega arith) (omega (arith, few))) (λ e.
+    turn Told refused _ _ _ (told-refused why.tooShort (length (net .columns)) (omega arith) (omega (arith, cells))) (λ e.
+    turn Told refused _ [] _ (told-refused why.tooShort (length (net .values)) (omega arith) (omega (arith, cells, net-values a b places))) (λ e.
+    last Told refused _ (told-accepted (net .n) (omega (arith, few))))))))))
+
 -- the theorem
 pub words : Words
-words = record { read = λ text starts columns values. read-told text _ _ _; write = write-told; product = product-told; survey = survey-told; set = λ k c. set-told (k .matrix) (k .displacements) (k .forces) c; plan = λ m w p k order groups. plan-told m w p k _ _; check = check-told; write-plan = write-plan-told; read-plan = read-plan-told; run = run-tells; preview = preview-foretold; one = one }
+words = record { read = λ text starts columns values. read-told text _ _ _; write = write-told; product = product-told; survey = survey-told; set = λ k c. set-told (k .matrix) (k .displacements) (k .forces) c; join = join-told; plan = λ m w p k order groups. plan-told m w p k _ _; check = check-told; write-plan = write-plan-told; read-plan = read-plan-told; run = run-tells; preview = preview-foretold; one = one }

@@ -16,12 +16,14 @@ use Rattle.plan.specs.Sound.{isPlan, checkReply}
 use Rattle.words.specs.LittleEndian.{unsigned, signed}
 use Rattle.survey.specs.Survey.{amountsOf, farthest}
 use Rattle.upkeep.specs.Upkeep.{newDisplacement, newValue, changed, changeReply}
+use Rattle.joined.specs.Joined as sewing
 use Rattle.lent.specs.Word.{Answered}
 use Rattle.lent.specs.Bytes.{matrixIn}
 use Rattle.texts.specs.Lent.{readIn, ReadAnswered}
 use Rattle.office.specs.Lent.{planIn, PlanAnswered}
 use Rattle.desk.specs.Lent.{surveyIn, SurveyAnswered}
 use Rattle.site.specs.Lent.{keptBytes, MovementAnswered, EntryAnswered}
+use Rattle.shop.specs.Lent.{joinIn, JoinAnswered}
 
 -- a call that reads a text: what it is given, returns and leaves
 pub record Reading (text : List ℕ) : Type 0 where
@@ -70,3 +72,7 @@ pub record ByteLists : Type 0 where
       → (count : ℕ) → changeReply (keptBytes (matrixIn n starts columns values) movements forces) (newValue i j v) ≡ accepted count
       → SameRows (matrixIn n starts columns newValues) (changed (keptBytes (matrixIn n starts columns values) movements forces) (newValue i j v) .matrix)
       × (signed 8 newForces ≡ changed (keptBytes (matrixIn n starts columns values) movements forces) (newValue i j v) .forces)
+  -- two nets sewn together, as mzk_join promises, leave in bytes the joined net, whatever stands past it: no later call
+  -- refuses them with 5
+  pub joined : (a b : Matrix) (places starts columns values : List ℕ) (returned : ℕ) (newStarts newColumns newValues : List ℕ) → JoinAnswered a b places starts columns values returned newStarts newColumns newValues
+      → (n : ℕ) → joinIn a b places starts columns values ≡ accepted n → SameRows (matrixIn n newStarts newColumns newValues) (sewing.joined a b places)

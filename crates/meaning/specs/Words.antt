@@ -15,6 +15,7 @@ use Rattle.texts.specs.Lent.{readIn}
 use Rattle.office.specs.Lent.{planIn}
 use Rattle.survey.specs.Survey.{surveyReply}
 use Rattle.upkeep.specs.Upkeep.{KeptForces, Change, changeReply}
+use Rattle.joined.specs.Joined.{joinReply}
 use Rattle.answers.specs.Runs.{Bytes, answerIn, replyTo, previewWord}
 use Rattle.crews.specs.Crews.{Two}
 use Rattle.crews.specs.Calls.{picksBoth, readySets, ReadySet, BothAnswer, one, sets}
@@ -51,6 +52,7 @@ pub record Words : Type 0 where
   pub product : (m : Matrix) (x : List ℤ) (room : ℕ) → Told (productReply m x room)
   pub survey : (m : Matrix) (x : List ℤ) (t i amountsRoom shiftRoom : ℕ) → Told (surveyReply m x t i amountsRoom shiftRoom)
   pub set : (k : KeptForces) (c : Change) → Told (changeReply k c)
+  pub join : (a b : Matrix) (places : List ℕ) (startsRoom columnsRoom valuesRoom : ℕ) → Told (joinReply a b places startsRoom columnsRoom valuesRoom)
   pub plan : (m : Matrix) (workers p k : ℕ) (order groups : List ℕ) → Told (planIn m workers p k order groups)
   pub check : (m : Matrix) (order groups : List ℕ) (count k : ℕ) → Told (checkReply m order groups count k)
   pub write-plan : (n : ℕ) (order groups : List ℕ) (count room : ℕ) → Told (writePlanReply n order groups count room)

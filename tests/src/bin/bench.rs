@@ -72,6 +72,7 @@ struct Implementation {
     survey: fn(MatrixLists, &[u8], u32, u32, Out, Out) -> u64,
     set_movement: fn(MatrixLists, Out, Out, u32, i32) -> u64,
     set_entry: fn(PatternLists, Out, &[u8], Out, Altered) -> u64,
+    join: fn(MatrixLists, MatrixLists, &[u8], Out, Out, Out) -> u64,
     plan: fn(MatrixLists, u32, u32, u32, Out, Out) -> u64,
     check: fn(MatrixLists, PlanLists, u32) -> u64,
     write_plan: fn(u32, PlanLists, Out) -> u64,
@@ -91,6 +92,7 @@ const LIBRARY: Implementation = Implementation {
     survey: library::survey,
     set_movement: library::set_movement,
     set_entry: library::set_entry,
+    join: library::join,
     plan: library::plan,
     check: library::check,
     write_plan: library::write_plan,
@@ -110,6 +112,7 @@ const RUST: Implementation = Implementation {
     survey: calls::survey,
     set_movement: calls::set_movement,
     set_entry: calls::set_entry,
+    join: calls::join,
     plan: calls::plan,
     check: calls::check,
     write_plan: calls::write_plan,
@@ -139,6 +142,10 @@ const WORKS: &[(&str, Work)] = &[
     }),
     ("set_entry", |by, given, lent| {
         (by.set_entry)(given.pattern(), &mut lent.values, &given.movements, &mut lent.kept, given.altered())
+    }),
+    ("join, a net and its opposite", |by, given, lent| {
+        let Lent { row_starts, columns, values, .. } = lent;
+        (by.join)(given.matrix(), given.opposite(), &given.places, row_starts, columns, values)
     }),
     ("plan", |by, given, lent| (by.plan)(given.matrix(), 16, given.p, 2, &mut lent.order, &mut lent.groups)),
     ("plan, at 1", |by, given, lent| (by.plan)(given.matrix(), 16, given.p, 1, &mut lent.order, &mut lent.groups)),

@@ -72,6 +72,10 @@ fn make(call: &str, stack: usize, given: &Given) -> Option<u64> {
         "set_entry" => on_stack(stack, || {
             library::set_entry(given.pattern(), &mut own, &given.movements, &mut kept, given.altered())
         }),
+        "join" => on_stack(stack, || {
+            let (first, second) = (given.matrix(), given.opposite());
+            library::join(first, second, &given.places, &mut starts, &mut columns, &mut values)
+        }),
         "plan" => on_stack(stack, || library::plan(given.matrix(), 16, given.p, 4, &mut order, &mut groups)),
         "check" => on_stack(stack, || library::check(given.matrix(), given.farther[1].lists(), 4)),
         "write_plan" => on_stack(stack, || library::write_plan(given.n, given.plan(), &mut file)),
@@ -109,8 +113,8 @@ fn run(call: &str, stack: usize) {
 /// Says how the program is called.
 fn usage() -> ! {
     eprintln!(
-        "usage: stack CALL BYTES (read, write, product, survey, set_movement, set_entry, plan, check, write_plan, \
-         read_plan, picks, preview, ready, forces, picks_both or ready_both)"
+        "usage: stack CALL BYTES (read, write, product, survey, set_movement, set_entry, join, plan, check, \
+         write_plan, read_plan, picks, preview, ready, forces, picks_both or ready_both)"
     );
     exit(2);
 }

@@ -1,6 +1,7 @@
 //! Random cases of each call, made to the library and to the other implementation and compared.
 
 pub mod crews;
+pub mod join;
 pub mod matrix;
 pub mod plan;
 pub mod plan_file;
@@ -16,14 +17,14 @@ use std::thread::{self, Builder, ScopedJoinHandle};
 use crate::both::MatrixTwins;
 use crate::files;
 use crate::guarded::{Twin, STACK};
-use crate::lists::{bytes, refusal_number};
+use crate::lists::{bytes, refusal_number, REFUSALS};
 use crate::oracle::matrix::Matrix;
 use crate::oracle::prng::Prng;
 use crate::progress::Progress;
 
 /// How often each refusal's number was met; at 0, how many calls were accepted.
 #[derive(Default)]
-pub struct Seen([usize; 23]);
+pub struct Seen([usize; REFUSALS + 1]);
 
 impl Seen {
     /// Counts an answer word.
@@ -182,26 +183,42 @@ pub fn matrix_twins(rng: &mut Prng, matrix: &Matrix) -> MatrixTwins {
     }
 }
 
+/// The cases of every call, and how many of them there are among so many of all.
+#[rustfmt::skip]
+const WEIGHTS: &[(u64, fn(&mut Prng, &mut Seen))] = &[
+    (8, matrix::read),
+    (3, matrix::write),
+    (3, matrix::product),
+    (3, survey::survey),
+    (4, upkeep::set_movement),
+    (4, upkeep::set_entry),
+    (7, join::join),
+    (3, plan::plan),
+    (3, plan::check),
+    (1, plan_file::write),
+    (1, plan_file::read),
+    (5, run::picks),
+    (3, run::preview),
+    (3, run::ready),
+    (3, run::forces),
+    (1, run::whole),
+    (4, crews::picks),
+    (2, crews::ready),
+    (1, crews::whole),
+];
+
+/// How many cases there are when each call has as many as its weight.
+pub fn all_weights() -> u64 {
+    WEIGHTS.iter().map(|(weight, _)| weight).sum()
+}
+
 /// A case of any call.
 pub fn any(rng: &mut Prng, seen: &mut Seen) {
-    match rng.below(55) {
-        0..8 => matrix::read(rng, seen),
-        8..11 => matrix::write(rng, seen),
-        11..14 => matrix::product(rng, seen),
-        14..17 => plan::plan(rng, seen),
-        17..20 => plan::check(rng, seen),
-        20..25 => run::picks(rng, seen),
-        25..28 => run::ready(rng, seen),
-        28..31 => run::forces(rng, seen),
-        31 => plan_file::write(rng, seen),
-        32 => plan_file::read(rng, seen),
-        33..36 => survey::survey(rng, seen),
-        36..39 => run::preview(rng, seen),
-        39..43 => crews::picks(rng, seen),
-        43..45 => crews::ready(rng, seen),
-        45 => crews::whole(rng, seen),
-        46..50 => upkeep::set_movement(rng, seen),
-        50..54 => upkeep::set_entry(rng, seen),
-        _ => run::whole(rng, seen),
+    let mut left = rng.below(all_weights() as usize) as u64;
+    for (weight, case) in WEIGHTS {
+        if left < *weight {
+            return case(rng, seen);
+        }
+        left -= weight;
     }
 }

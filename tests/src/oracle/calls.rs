@@ -4,8 +4,8 @@
 
 use super::crews::{self, LentBoth};
 use super::machine::{self, Lent, Picked, State};
-use super::matrix::Rows;
-use super::{plan_file, planner, soundness, survey, text, upkeep, Refusal, FIELDS, WORKERS};
+use super::matrix::{Matrix, Rows};
+use super::{join, plan_file, planner, soundness, survey, text, upkeep, Refusal, FIELDS, WORKERS};
 use crate::lists::{Altered, CrewLists, MatrixLists, PatternLists, PlanLists, RunLists};
 
 /// The bytes of a state: sixteen counts of moves, then sixteen held numbers.
@@ -15,17 +15,23 @@ const MOST_READ: usize = 1 << 17;
 
 /// A matrix text into row starts, columns and values; counts n.
 pub fn read(text: &[u8], row_starts: &mut [u8], columns: &mut [u8], values: &mut [u8]) -> u64 {
-    let mut read = || {
-        let matrix = text::read(text)?;
-        super::room(row_starts.len() / 4, matrix.starts.len())?;
-        super::room(columns.len() / 4, matrix.columns.len())?;
-        super::room(values.len() / 4, matrix.values.len())?;
-        put(row_starts, &matrix.starts, u32::to_le_bytes);
-        put(columns, &matrix.columns, u32::to_le_bytes);
-        put(values, &matrix.values, i32::to_le_bytes);
-        Ok(matrix.n)
-    };
-    word(read())
+    word(text::read(text).and_then(|matrix| put_matrix(&matrix, row_starts, columns, values)))
+}
+
+/// A matrix into row starts, columns and values; counts n.
+fn put_matrix(
+    matrix: &Matrix,
+    row_starts: &mut [u8],
+    columns: &mut [u8],
+    values: &mut [u8],
+) -> Result<u32, Refusal> {
+    super::room(row_starts.len() / 4, matrix.starts.len())?;
+    super::room(columns.len() / 4, matrix.columns.len())?;
+    super::room(values.len() / 4, matrix.values.len())?;
+    put(row_starts, &matrix.starts, u32::to_le_bytes);
+    put(columns, &matrix.columns, u32::to_le_bytes);
+    put(values, &matrix.values, i32::to_le_bytes);
+    Ok(matrix.n)
 }
 
 /// The text of a matrix; counts the bytes written.
@@ -131,6 +137,24 @@ pub fn set_entry(
         Ok(0)
     };
     word(change())
+}
+
+/// Two nets sewn together; counts the joined net's freedoms.
+pub fn join(
+    first: MatrixLists,
+    second: MatrixLists,
+    places: &[u8],
+    row_starts: &mut [u8],
+    columns: &mut [u8],
+    values: &mut [u8],
+) -> u64 {
+    let (first, second) = (Lists::of(first), Lists::of(second));
+    let places = get(places, usize::MAX, u32::from_le_bytes);
+    let mut sew = || {
+        let matrix = join::join(first.rows()?, second.rows()?, &places)?;
+        put_matrix(&matrix, row_starts, columns, values)
+    };
+    word(sew())
 }
 
 /// The plan of a matrix; counts its groups.

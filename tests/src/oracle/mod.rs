@@ -4,6 +4,7 @@ pub mod book;
 pub mod calls;
 pub mod crews;
 pub mod damage;
+pub mod join;
 pub mod leaves;
 pub mod machine;
 pub mod matrix;

@@ -1,0 +1,16 @@
+pub mod Gaps
+pub mod Places
+pub mod Entries
+pub mod Sizes
+pub mod Forces
+pub mod SewnTogether
+pub mod Gathering
+pub mod Replied
+pub mod Part
+pub mod Emitting
+pub mod Cells
+pub mod Rows
+pub mod Tables
+pub mod Settled
+pub mod Turns
+pub mod Joining
