@@ -46,6 +46,7 @@ static const struct refusal {
     [MZK_BEYOND] = { NOWHERE, "the new movement or value is too large" },
     [MZK_PLACES] = { NOWHERE, "not one place for each row of the second matrix, or a place repeats or leaves a gap" },
     [MZK_LIMITS] = { NOWHERE, "the joined matrix has too many rows or entries, or a value too large" },
+    [MZK_NO_REGISTER] = { NOWHERE, "no such register of a barrier unit" },
 };
 
 /* Prints the refusal in a word, of a file or of a call: `FILE:LINE: SENTENCE (refusal NUMBER)`. */

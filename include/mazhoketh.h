@@ -17,8 +17,8 @@
  *
  * Stack: mzk_join uses up to 2.5 MiB, mzk_read up to 2.2 MiB, mzk_picks_both and mzk_ready_both up to 1.5 MiB,
  * mzk_picks and mzk_preview up to 1.4 MiB, mzk_ready and mzk_forces up to 1.3 MiB, mzk_plan up to 1 MiB,
- * mzk_set_movement and mzk_set_entry up to 0.7 MiB, mzk_write_plan and mzk_read_plan up to 8 KiB, the others up to 0.6
- * MiB. A thread with MZK_STACK_BYTES and its own needs can make any call. */
+ * mzk_set_movement and mzk_set_entry up to 0.7 MiB, mzk_write_plan, mzk_read_plan and the calls on a barrier unit up
+ * to 8 KiB, the others up to 0.6 MiB. A thread with MZK_STACK_BYTES and its own needs can make any call. */
 #ifndef MAZHOKETH_H
 #define MAZHOKETH_H
 
@@ -44,6 +44,7 @@ enum {
     MZK_TEXT_BYTES = 1048576,    /* a text that is read, at most */
     MZK_WRITTEN_BYTES = 720963,  /* a text that is written, at most: 51 + 16 + 32,768 x 22 */
     MZK_FILE_BYTES = 28 + 4 * MZK_ROWS + 4 * MZK_GROUP_FIELDS * MZK_GROUPS_LIMIT, /* a plan file, at most */
+    MZK_UNIT_BYTES = 10,         /* a barrier unit */
     MZK_STACK_BYTES = 2621440    /* the stack of a call, at most */
 };
 
@@ -80,7 +81,8 @@ enum {
     MZK_NO_ENTRY = 21,    /* no such row, or an entry that is not stored */
     MZK_BEYOND = 22,      /* a new movement or value beyond its limit */
     MZK_PLACES = 23,      /* not one place for each row of the second matrix, or a place repeats or leaves a gap */
-    MZK_LIMITS = 24       /* the joined matrix has too many rows or entries, or a value too large */
+    MZK_LIMITS = 24,      /* the joined matrix has too many rows or entries, or a value too large */
+    MZK_NO_REGISTER = 25  /* a barrier unit has no register above 5 */
 };
 
 /* The matrix of a text, in full rows, into row_starts, columns and values; returns its number of rows. It has one row
@@ -229,6 +231,31 @@ uint64_t mzk_write_plan(uint32_t n,
 uint64_t mzk_read_plan(const uint8_t *file, size_t file_bytes,
                        uint8_t *order, size_t order_bytes,
                        uint8_t *groups, size_t groups_bytes);
+
+/* A model of the cabinet's barrier unit, to try a driver on. The caller keeps a unit in ten bytes, at first all 0: its
+ * registers 0 to 5, and the count of its releases in 32 bits without sign, low byte first. Bytes past the ten are not
+ * touched. Calls on one unit are made one at a time.
+ *
+ * Registers 0 and 1 are the member set and 2 and 3 the arrived set, low byte first, bit 0 for worker 0; of register 4,
+ * status, and 5, enable, bit 0 alone counts, and the others read 0. */
+
+/* A byte is written to a register. A member byte is set, and the arrived set clears. Of a byte written to the arrived
+ * set the bits of members are added; when all members have arrived, and there is one, the arrived set clears, bit 0 of
+ * status is set and a release is counted. Bit 0 written to status clears bit 0 of status. Enable keeps bit 0.
+ * Refused: 25; 9 (unit). */
+uint64_t mzk_barrier_write(uint8_t *unit, size_t unit_bytes, uint32_t address, uint8_t byte);
+
+/* What a register reads; returns its byte.
+ * Refused: 25; 9 (unit). */
+uint64_t mzk_barrier_read(const uint8_t *unit, size_t unit_bytes, uint32_t address);
+
+/* The interrupt line; returns 1 while it is up, which is while bit 0 of status and of enable are both set, else 0.
+ * Refused: 9 (unit). */
+uint64_t mzk_barrier_line(const uint8_t *unit, size_t unit_bytes);
+
+/* How often all members have come since the unit was all 0, modulo 4,294,967,296.
+ * Refused: 9 (unit). */
+uint64_t mzk_barrier_releases(const uint8_t *unit, size_t unit_bytes);
 
 /* A run of a matrix of n rows, n movements and a sound plan is kept by the caller: a state of 192 bytes, and n sums in
  * plan order. The state has 16 counts of 32 bits without sign, the moves that each worker has made, and then the 16

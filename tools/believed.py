@@ -63,7 +63,7 @@ wanted = set()
 for name, path in promises:
     if only and name not in only:
         continue
-    contract, theorem = r"fn %s\(.*?\n\{" % name, r"^(?:pub )?%s : .*" % name
+    contract, theorem = r"fn %s\(.*?\n *\{" % name, r"^(?:pub )?%s : .*" % name
     said = re.search(contract, read(path), re.S) if path.endswith(".rt") else re.search(theorem, read(path), re.M)
     if said:  # else a link to a file of definitions
         wanted |= set(named(said.group(0), imports(read(path)), (path.split("/")[1], path.split("/")[-1][:-5])))

@@ -1,7 +1,7 @@
 /* mazhoketh.h from C and from C++: its macros against real words, its sizes against what calls take and need.
  *
  * Document 01's chain of eight rows is planned, filed, surveyed, changed, sewn to another and run, by one crew and by
- * two; then the longest text that is written is read. */
+ * two; a barrier unit is written and read; then the longest text that is written is read. */
 
 #include <stdio.h>
 #include <stdlib.h>
@@ -240,6 +240,22 @@ static void check_crews(void)
 #undef PICK
 }
 
+/* A barrier unit of two members, from all zeros to a release. */
+static void check_unit(void)
+{
+    uint8_t unit[MZK_UNIT_BYTES] = { 0 };
+    CHECK(is(mzk_barrier_write(unit, sizeof unit, 0, 3), MZK_ACCEPTED, 0));
+    CHECK(is(mzk_barrier_write(unit, sizeof unit, 5, 1), MZK_ACCEPTED, 0));
+    CHECK(is(mzk_barrier_write(unit, sizeof unit, 2, 5), MZK_ACCEPTED, 0));
+    CHECK(is(mzk_barrier_read(unit, sizeof unit, 2), MZK_ACCEPTED, 1));
+    CHECK(is(mzk_barrier_line(unit, sizeof unit), MZK_ACCEPTED, 0));
+    CHECK(is(mzk_barrier_write(unit, sizeof unit, 2, 2), MZK_ACCEPTED, 0));
+    CHECK(is(mzk_barrier_line(unit, sizeof unit), MZK_ACCEPTED, 1));
+    CHECK(is(mzk_barrier_releases(unit, sizeof unit), MZK_ACCEPTED, 1));
+    CHECK(is(mzk_barrier_write(unit, sizeof unit - 1, 6, 1), MZK_NO_REGISTER, 0));
+    CHECK(is(mzk_barrier_read(unit, sizeof unit - 1, 0), MZK_TOO_SHORT, MZK_UNIT_BYTES));
+}
+
 /* The longest text that is written: the most entries, off the diagonal, each with its longest line. */
 static void check_longest(void)
 {
@@ -282,6 +298,7 @@ int main(void)
     check_join();
     check_run();
     check_crews();
+    check_unit();
     check_longest();
     check_text_bytes();
     return 0;

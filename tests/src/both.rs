@@ -4,6 +4,7 @@
 use crate::guarded::Twin;
 use crate::library;
 use crate::lists::{Altered, CrewLists, MatrixLists, PatternLists, PlanLists, RunLists};
+use crate::oracle::barrier::Write;
 use crate::oracle::calls;
 
 /// The lists of a matrix, twice.
@@ -364,6 +365,34 @@ pub fn read_plan(file: &Twin, lists: &mut [Twin; 2]) -> u64 {
     let ours = library::read_plan(file.ours(), order.ours_mut(), groups.ours_mut());
     let theirs = calls::read_plan(&file.theirs, &mut order.theirs, &mut groups.theirs);
     alike("read_plan", ours, theirs, vec![file], &[order, groups])
+}
+
+/// Writes to a register of a barrier unit.
+pub fn barrier_write(unit: &mut Twin, write: Write) -> u64 {
+    let ours = library::barrier_write(unit.ours_mut(), write);
+    let theirs = calls::barrier_write(&mut unit.theirs, write);
+    alike("barrier_write", ours, theirs, vec![], &[unit])
+}
+
+/// Reads a register of a barrier unit.
+pub fn barrier_read(unit: &Twin, address: u32) -> u64 {
+    let ours = library::barrier_read(unit.ours(), address);
+    let theirs = calls::barrier_read(&unit.theirs, address);
+    alike("barrier_read", ours, theirs, vec![], &[unit])
+}
+
+/// Asks for the line of a barrier unit.
+pub fn barrier_line(unit: &Twin) -> u64 {
+    let ours = library::barrier_line(unit.ours());
+    let theirs = calls::barrier_line(&unit.theirs);
+    alike("barrier_line", ours, theirs, vec![], &[unit])
+}
+
+/// Asks for the releases of a barrier unit.
+pub fn barrier_releases(unit: &Twin) -> u64 {
+    let ours = library::barrier_releases(unit.ours());
+    let theirs = calls::barrier_releases(&unit.theirs);
+    alike("barrier_releases", ours, theirs, vec![], &[unit])
 }
 
 /// Takes picks.

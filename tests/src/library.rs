@@ -3,6 +3,7 @@
 //! Each function here is linked only where it is used, so that a test needs no more of the library than it tests.
 
 use crate::lists::{Altered, CrewLists, MatrixLists, PatternLists, PlanLists, RunLists};
+use crate::oracle::barrier::Write;
 
 /// A list lent for reading, and one lent for writing; its length in bytes follows.
 type In = *const u8;
@@ -68,6 +69,10 @@ extern "C" {
     fn mzk_read_plan(
         file: In, file_bytes: usize, order: Out, order_bytes: usize, groups: Out, groups_bytes: usize,
     ) -> u64;
+    fn mzk_barrier_write(unit: Out, unit_bytes: usize, address: u32, byte: u8) -> u64;
+    fn mzk_barrier_read(unit: In, unit_bytes: usize, address: u32) -> u64;
+    fn mzk_barrier_line(unit: In, unit_bytes: usize) -> u64;
+    fn mzk_barrier_releases(unit: In, unit_bytes: usize) -> u64;
     fn mzk_picks(
         n: u32,
         row_starts: In, row_starts_bytes: usize, columns: In, columns_bytes: usize, values: In, values_bytes: usize,
@@ -251,6 +256,26 @@ pub fn read_plan(file: &[u8], order: &mut [u8], groups: &mut [u8]) -> u64 {
             file.as_ptr(), file.len(), order.as_mut_ptr(), order.len(), groups.as_mut_ptr(), groups.len(),
         )
     }
+}
+
+/// A byte written to a register of a barrier unit.
+pub fn barrier_write(unit: &mut [u8], (address, byte): Write) -> u64 {
+    unsafe { mzk_barrier_write(unit.as_mut_ptr(), unit.len(), address, byte) }
+}
+
+/// A register of a barrier unit; counts its byte.
+pub fn barrier_read(unit: &[u8], address: u32) -> u64 {
+    unsafe { mzk_barrier_read(unit.as_ptr(), unit.len(), address) }
+}
+
+/// The interrupt line of a barrier unit: 1 while it is up.
+pub fn barrier_line(unit: &[u8]) -> u64 {
+    unsafe { mzk_barrier_line(unit.as_ptr(), unit.len()) }
+}
+
+/// The releases of a barrier unit.
+pub fn barrier_releases(unit: &[u8]) -> u64 {
+    unsafe { mzk_barrier_releases(unit.as_ptr(), unit.len()) }
 }
 
 /// Picks of a run; counts those taken.

@@ -97,3 +97,7 @@ badPlaces = 23
 -- Q-11: "the joined matrix breaks a limit of document 01"
 abbrev pub pastLimits : ℕ
 pastLimits = 24
+
+-- Q-12: "address above 5"
+abbrev pub noRegister : ℕ
+noRegister = 25

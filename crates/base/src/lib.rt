@@ -59,3 +59,5 @@ pub const BEYOND: u32 = 22;
 pub const PLACES: u32 = 23;
 
 pub const LIMITS: u32 = 24;
+
+pub const REGISTER: u32 = 25;

@@ -1,4 +1,5 @@
 // The C interface: exported functions on numbers and byte lists.
+pub mod barrier_unit;
 pub mod both;
 pub mod changes;
 pub mod join;

@@ -6,7 +6,7 @@ use Prim.Native.Nat.{ℕ, zero, suc, _+_, _*_, _-_, _^_, _≤_, _<_}
 use native.Mathlib.Omega.{arith}
 use lib.Dec.{eqb, ltb, leb}
 use lib.IntN.{ℤ, pos, negsuc}
-use lib.ListN.{length, take, drop, length-drop}
+use lib.ListN.{length, getD, take, drop, length-drop, length-take}
 use lib.Seq.{length-take-le}
 use borrow.Author.Tests.{eqb-true, ltb-false, leb-true}
 use Rattle.base.specs.Lists.{isEmpty, begins, bit}
@@ -14,6 +14,7 @@ use Rattle.base.specs.Integers.{within}
 use Rattle.base.specs.Refusals as why
 use Rattle.base.specs.Replies.{Reply, accepted, refused, Check, inTurn}
 use Rattle.base.proofs.Booleans.{and-right}
+use Rattle.base.proofs.Each.{each-take, each-drop}
 use Rattle.matrix.specs.Limits.{maxRows, maxEntries, maxDisplacement, maxText}
 use Rattle.matrix.specs.Matrix.{Matrix, matrixCheck, firstPast, displacementCheck}
 use Rattle.matrix.specs.Product.{productReply}
@@ -33,8 +34,10 @@ use Rattle.joined.proofs.Entries.{joined-matrix}
 use Rattle.joined.proofs.Sizes.{net-values, net-few}
 use Rattle.plan.specs.Sound.{maxWorkers, planCheck, checkReply}
 use Rattle.planfile.specs.File.{fileSize, freedomsIn, groupsIn}
+use Rattle.planfile.specs.PlanFiles.{areBytes}
 use Rattle.planfile.specs.Calls.{writePlanReply, readPlanReply}
 use Rattle.planfile.proofs.Sized as counts
+use Rattle.planfile.proofs.PlanFiles.{each-byte}
 use Rattle.planfile.proofs.Files.{file-sized}
 use Rattle.race.specs.Planner.{plan, planReply}
 use Rattle.race.proofs.PlannedSound.{planned-sound}
@@ -45,10 +48,15 @@ use Rattle.run.specs.Calls.{placeOf, pickedOf, readyOf, forcesOf, answerOf, sta
 use Rattle.run.specs.Answers.{Call, picks, readySet, forceList, preview, Answer, shown}
 use Rattle.run.specs.Answers as calls
 use Rattle.run.specs.LentRuns.{passed}
+use Rattle.run.proofs.Fits.{each-get}
 use Rattle.run.proofs.LentRuns.{lent-runs}
 use Rattle.words.specs.LittleEndian.{number}
 use Rattle.words.proofs.Blocks.{length-decoded}
+use Rattle.words.proofs.Bytes.{IsByte, number-small}
 use Rattle.lent.specs.Word.{word}
+use Rattle.barrier.specs.Registers.{register, isUp}
+use Rattle.barrier.proofs.BarrierUnit.{bit-small, read-small}
+use Rattle.board.specs.Unit.{unitSize, unitIn, writeUnitReply, readUnitReply, lineReply, releasesReply}
 use Rattle.answers.specs.Runs.{stateBytes, countBytes, stateIn, answerIn, replyTo, setIn}
 use Rattle.answers.proofs.TakenFew.{number-low, few-ready, ready-low, taken-few}
 use Rattle.meaning.specs.Words.{numberIn, placeIn, Told, Foretold, Words}
@@ -362,6 +370,46 @@ join-told a b places s c v =
     turn Told refused _ [] _ (told-refused why.tooShort (length (net .values)) (omega arith) (omega (arith, cells, net-values a b places))) (λ e.
     last Told refused _ (told-accepted (net .n) (omega (arith, few))))))))))
 
+-- ---- barrier units
+
+module _ (unit : List ℕ) where
+  write-unit-told : (address : ℕ) → Told (writeUnitReply unit address)
+  unfolding writeUnitReply
+  write-unit-told address =
+      turn Told refused _ _ _ (told-refused why.noRegister 0 (omega arith) (omega arith)) (λ e.
+      turn Told refused _ [] _ (told-refused why.tooShort unitSize (omega arith) (omega arith)) (λ f.
+      last Told refused _ (told-accepted 0 (omega arith))))
+
+  line-told : Told (lineReply unit)
+  unfolding lineReply
+  line-told =
+      turn Told refused _ [] _ (told-refused why.tooShort unitSize (omega arith) (omega arith)) (λ f.
+      last Told refused _ (told-accepted (bit (isUp (unitIn unit))) (omega (arith, bit-small (isUp (unitIn unit))))))
+
+  module _ (bytes : areBytes unit ≡ true) where
+    two-small : (high low : ℕ) → getD unit high 0 * 256 + getD unit low 0 < 2 ^ 16
+    two-small high low = omega (arith, byte-at high, byte-at low)
+      where
+        byte-at : (i : ℕ) → getD unit i 0 < 256
+        byte-at i = each-get IsByte unit 0 (each-byte unit bytes) (omega arith) i
+
+    count-small : unitIn unit .releases < 2 ^ 32
+    unfolding unitIn
+    count-small = number-small 4 (take 4 (drop 6 unit)) (rw (length-take 4 (drop 6 unit)) (omega arith)) (each-take IsByte 4 (drop 6 unit) (each-drop IsByte 6 unit (each-byte unit bytes)))
+
+    read-unit-told : (address : ℕ) → Told (readUnitReply unit address)
+    unfolding readUnitReply unitIn
+    read-unit-told address =
+        turn Told refused _ _ _ (told-refused why.noRegister 0 (omega arith) (omega arith)) (λ e.
+        turn Told refused _ [] _ (told-refused why.tooShort unitSize (omega arith) (omega arith)) (λ f.
+        last Told refused _ (told-accepted (register (unitIn unit) address) (omega (arith, read-small (unitIn unit) (two-small 1 0) (two-small 3 2) address)))))
+
+    releases-told : Told (releasesReply unit)
+    unfolding releasesReply
+    releases-told =
+        turn Told refused _ [] _ (told-refused why.tooShort unitSize (omega arith) (omega arith)) (λ f.
+        last Told refused _ (told-accepted (unitIn unit .releases) count-small))
+
 -- the theorem
 pub words : Words
-words = record { read = λ text starts columns values. read-told text _ _ _; write = write-told; product = product-told; survey = survey-told; set = λ k c. set-told (k .matrix) (k .displacements) (k .forces) c; join = join-told; plan = λ m w p k order groups. plan-told m w p k _ _; check = check-told; write-plan = write-plan-told; read-plan = read-plan-told; run = run-tells; preview = preview-foretold; one = one }
+words = record { read = λ text starts columns values. read-told text _ _ _; write = write-told; product = product-told; survey = survey-told; set = λ k c. set-told (k .matrix) (k .displacements) (k .forces) c; join = join-told; plan = λ m w p k order groups. plan-told m w p k _ _; check = check-told; write-plan = write-plan-told; read-plan = read-plan-told; write-unit = write-unit-told; read-unit = λ unit address bytes. read-unit-told unit bytes address; line = line-told; releases = releases-told; run = run-tells; preview = preview-foretold; one = one }

@@ -1,5 +1,6 @@
 -- What the word that a call returns tells: every count and every place has 32 bits, and no refusal has number 0.
 use mathlib.Core.Path.{_≡_}
+use mathlib.Core.Bool.{true}
 use mathlib.Core.List.{List}
 use Prim.Native.Nat.{ℕ, _/_, _%_, _^_, _≤_}
 use lib.IntN.{ℤ}
@@ -8,12 +9,14 @@ use Rattle.matrix.specs.Matrix.{Matrix}
 use Rattle.matrix.specs.Product.{productReply}
 use Rattle.market.specs.Text.{writeReply}
 use Rattle.plan.specs.Sound.{checkReply}
+use Rattle.planfile.specs.PlanFiles.{areBytes}
 use Rattle.planfile.specs.Calls.{writePlanReply, readPlanReply}
 use Rattle.run.specs.Answers.{Call, preview, Answer, bitsTold, countTold}
 use Rattle.lent.specs.Word.{word}
 use Rattle.texts.specs.Lent.{readIn}
 use Rattle.office.specs.Lent.{planIn}
 use Rattle.survey.specs.Survey.{surveyReply}
+use Rattle.board.specs.Unit.{writeUnitReply, readUnitReply, lineReply, releasesReply}
 use Rattle.upkeep.specs.Upkeep.{KeptForces, Change, changeReply}
 use Rattle.joined.specs.Joined.{joinReply}
 use Rattle.answers.specs.Runs.{Bytes, answerIn, replyTo, previewWord}
@@ -57,6 +60,10 @@ pub record Words : Type 0 where
   pub check : (m : Matrix) (order groups : List ℕ) (count k : ℕ) → Told (checkReply m order groups count k)
   pub write-plan : (n : ℕ) (order groups : List ℕ) (count room : ℕ) → Told (writePlanReply n order groups count room)
   pub read-plan : (planFile order groups : List ℕ) → Told (readPlanReply planFile order groups)
+  pub write-unit : (unit : List ℕ) (address : ℕ) → Told (writeUnitReply unit address)
+  pub read-unit : (unit : List ℕ) (address : ℕ) → areBytes unit ≡ true → Told (readUnitReply unit address)
+  pub line : (unit : List ℕ) → Told (lineReply unit)
+  pub releases : (unit : List ℕ) → areBytes unit ≡ true → Told (releasesReply unit)
   pub run : (m : Matrix) (x : List ℤ) (order groups : List ℕ) (count : ℕ) (state sums : List ℕ) (c : Call) → Told (replyTo (answerIn m x order groups count state sums c))
   pub preview : (m : Matrix) (x : List ℤ) (order groups : List ℕ) (count : ℕ) (state sums ws : List ℕ) → Foretold (answerIn m x order groups count state sums (preview ws))
   -- so two replies with the same word are the same

@@ -24,7 +24,7 @@ use Rattle.planfile.specs.PlanFiles.{areBytes, fileWritten, orderRead, g
 use Rattle.planfile.proofs.Files.{Small, file-size, file-made, plan-back, file-read, file-back, plan-carried}
 use Rattle.planfile.proofs.Parts.{write-accepted}
 
-each-byte : (bytes : List ℕ) → areBytes bytes ≡ true → Each IsByte bytes
+pub each-byte : (bytes : List ℕ) → areBytes bytes ≡ true → Each IsByte bytes
 unfolding areBytes
 each-byte bytes h = all-each IsByte (λ b. ltb b 256) (λ b t. ltb-true b 256 t) bytes h
 

@@ -24,7 +24,7 @@ use Rattle.run.proofs.Accepted.{accesses-small}
 -- ---- a property of each element
 
 module _ {A : Type 0} (P : A → Type 0) where
-  each-get : (xs : List A) (d : A) → Each P xs → P d → (i : ℕ) → P (getD xs i d)
+  pub each-get : (xs : List A) (d : A) → Each P xs → P d → (i : ℕ) → P (getD xs i d)
   each-get [] d h p i = p
   each-get (x ∷ xs) d h p zero = h .0
   each-get (x ∷ xs) d h p (suc i) = each-get xs d (h .1) p i

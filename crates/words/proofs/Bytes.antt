@@ -36,7 +36,7 @@ bytesOf-number (b ∷ bs) h =
     rw (first, rest, bytesOf-number bs (h .1))
 
 -- it is small
-number-small : (k : ℕ) (bs : List ℕ) → length bs ≤ k → Each IsByte bs → number bs < 256 ^ k
+pub number-small : (k : ℕ) (bs : List ℕ) → length bs ≤ k → Each IsByte bs → number bs < 256 ^ k
 unfolding number
 number-small zero [] l h = omega arith
 number-small zero (b ∷ bs) l h = absurd (omega arith)

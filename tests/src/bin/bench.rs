@@ -11,6 +11,7 @@ use std::time::{Duration, Instant};
 use mazhoketh_tests::given::{At, Given};
 use mazhoketh_tests::guarded::STACK;
 use mazhoketh_tests::lists::{Altered, CrewLists, MatrixLists, PatternLists, PlanLists, RunLists};
+use mazhoketh_tests::oracle::barrier::Write;
 use mazhoketh_tests::oracle::leaves::leaves_of;
 use mazhoketh_tests::oracle::matrix::Matrix;
 use mazhoketh_tests::oracle::nets::{self, Roof};
@@ -77,6 +78,8 @@ struct Implementation {
     check: fn(MatrixLists, PlanLists, u32) -> u64,
     write_plan: fn(u32, PlanLists, Out) -> u64,
     read_plan: fn(&[u8], Out, Out) -> u64,
+    barrier_write: fn(Out, Write) -> u64,
+    barrier_releases: fn(&[u8]) -> u64,
     picks: fn(RunLists, Out, Out, &[u8]) -> u64,
     preview: fn(RunLists, &[u8], &[u8], &[u8]) -> u64,
     ready: fn(RunLists, &[u8], &[u8]) -> u64,
@@ -97,6 +100,8 @@ const LIBRARY: Implementation = Implementation {
     check: library::check,
     write_plan: library::write_plan,
     read_plan: library::read_plan,
+    barrier_write: library::barrier_write,
+    barrier_releases: library::barrier_releases,
     picks: library::picks,
     preview: library::preview,
     ready: library::ready,
@@ -117,6 +122,8 @@ const RUST: Implementation = Implementation {
     check: calls::check,
     write_plan: calls::write_plan,
     read_plan: calls::read_plan,
+    barrier_write: calls::barrier_write,
+    barrier_releases: calls::barrier_releases,
     picks: calls::picks,
     preview: calls::preview,
     ready: calls::ready,
@@ -157,6 +164,13 @@ const WORKS: &[(&str, Work)] = &[
     ("check, at 4", |by, given, _| (by.check)(given.matrix(), given.farther[1].lists(), 4)),
     ("write_plan", |by, given, lent| (by.write_plan)(given.n, given.plan(), &mut lent.file)),
     ("read_plan", |by, given, lent| (by.read_plan)(&given.file, &mut lent.order, &mut lent.groups)),
+    ("barrier, an arrival a pick", |by, given, _| {
+        let mut unit = [0xff, 0xff, 0, 0, 0, 0, 0, 0, 0, 0];
+        for &worker in &given.schedule {
+            (by.barrier_write)(&mut unit, (2 + u32::from(worker) / 8, 1 << (worker % 8)));
+        }
+        (by.barrier_releases)(&unit)
+    }),
     ("picks, a run in 1 list", |by, given, lent| {
         let At { state, sums } = lent.at.clear();
         (by.picks)(given.run(), state, sums, &given.schedule)

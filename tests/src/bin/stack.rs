@@ -80,6 +80,10 @@ fn make(call: &str, stack: usize, given: &Given) -> Option<u64> {
         "check" => on_stack(stack, || library::check(given.matrix(), given.farther[1].lists(), 4)),
         "write_plan" => on_stack(stack, || library::write_plan(given.n, given.plan(), &mut file)),
         "read_plan" => on_stack(stack, || library::read_plan(&given.file, &mut order, &mut groups)),
+        "barrier_write" => on_stack(stack, || library::barrier_write(&mut state, (2, 1))),
+        "barrier_read" => on_stack(stack, || library::barrier_read(&state, 2)),
+        "barrier_line" => on_stack(stack, || library::barrier_line(&state)),
+        "barrier_releases" => on_stack(stack, || library::barrier_releases(&state)),
         "picks" => on_stack(stack, || library::picks(given.run(), &mut state, &mut sums, &given.schedule)),
         "preview" => on_stack(stack, || library::preview(given.run(), &state, &sums, &given.schedule)),
         "ready" => on_stack(stack, || library::ready(given.run(), &state, &sums)),
@@ -114,7 +118,8 @@ fn run(call: &str, stack: usize) {
 fn usage() -> ! {
     eprintln!(
         "usage: stack CALL BYTES (read, write, product, survey, set_movement, set_entry, join, plan, check, \
-         write_plan, read_plan, picks, preview, ready, forces, picks_both or ready_both)"
+         write_plan, read_plan, picks, preview, ready, forces, picks_both, ready_both, barrier_write, barrier_read, \
+         barrier_line or barrier_releases)"
     );
     exit(2);
 }

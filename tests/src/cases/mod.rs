@@ -1,5 +1,6 @@
 //! Random cases of each call, made to the library and to the other implementation and compared.
 
+pub mod barrier;
 pub mod crews;
 pub mod join;
 pub mod matrix;
@@ -205,6 +206,7 @@ const WEIGHTS: &[(u64, fn(&mut Prng, &mut Seen))] = &[
     (4, crews::picks),
     (2, crews::ready),
     (1, crews::whole),
+    (1, barrier::unit),
 ];
 
 /// How many cases there are when each call has as many as its weight.

@@ -2,6 +2,7 @@
 //!
 //! The word has the refusal's number in its high half; its low half is the refusal's place or the call's count.
 
+use super::barrier::{self, Unit, Write, UNIT_BYTES};
 use super::crews::{self, LentBoth};
 use super::machine::{self, Lent, Picked, State};
 use super::matrix::{Matrix, Rows};
@@ -220,6 +221,44 @@ pub fn read_plan(file: &[u8], order: &mut [u8], groups: &mut [u8]) -> u64 {
         Ok(rows.len() as u32 + ((group_count as u32) << 16))
     };
     word(read())
+}
+
+/// A byte written to a register of a barrier unit.
+pub fn barrier_write(unit: &mut [u8], write: Write) -> u64 {
+    let mut written = || {
+        barrier::judge(write.0)?;
+        let after = barrier::write(kept(unit)?, write);
+        unit[..UNIT_BYTES].copy_from_slice(&after);
+        Ok(0)
+    };
+    word(written())
+}
+
+/// A register of a barrier unit; counts its byte.
+pub fn barrier_read(unit: &[u8], address: u32) -> u64 {
+    let read = || {
+        barrier::judge(address)?;
+        Ok(barrier::read(&kept(unit)?, address).into())
+    };
+    word(read())
+}
+
+/// The interrupt line of a barrier unit: 1 while it is up.
+pub fn barrier_line(unit: &[u8]) -> u64 {
+    word(kept(unit).map(|unit| barrier::is_up(&unit).into()))
+}
+
+/// The releases of a barrier unit.
+pub fn barrier_releases(unit: &[u8]) -> u64 {
+    word(kept(unit).map(|unit| barrier::releases(&unit)))
+}
+
+/// The barrier unit in a list of bytes, or 9.
+fn kept(unit: &[u8]) -> Result<Unit, Refusal> {
+    super::room(unit.len(), UNIT_BYTES)?;
+    let mut registers = [0; UNIT_BYTES];
+    registers.copy_from_slice(&unit[..UNIT_BYTES]);
+    Ok(registers)
 }
 
 /// Picks of a run; counts those taken.

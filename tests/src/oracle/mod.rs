@@ -1,5 +1,6 @@
 //! Documents 01 and 02 a second time, in plain Rust with lists on the heap.
 
+pub mod barrier;
 pub mod book;
 pub mod calls;
 pub mod crews;

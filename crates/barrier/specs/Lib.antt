@@ -1,0 +1,4 @@
+pub mod Bits
+pub mod Registers
+pub mod Gatherings
+pub mod BarrierUnit
