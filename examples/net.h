@@ -82,6 +82,21 @@ static inline void read_numbers(uint8_t *list, uint32_t needed, const char *path
     }
 }
 
+/* Whether the last argument asks for the control number; it is taken off. */
+static inline bool asks_control(int *argc, char **argv)
+{
+    bool asked = *argc > 1 && strcmp(argv[*argc - 1], "--control") == 0;
+    *argc -= asked;
+    return asked;
+}
+
+/* Prints the control number of the forces of n rows, to be read out, and ends the output. */
+static inline void print_control(const uint8_t *forces, uint32_t n)
+{
+    printf("%u\n", accepted("control", mzk_control(forces, 8 * (size_t)n)));
+    end_output();
+}
+
 /* Reads movements from a file: one whole number of micrometres a line, as many as the matrix has rows. */
 static inline void read_movements(struct net *net, const char *path)
 {

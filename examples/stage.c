@@ -7,7 +7,8 @@
  * `--plan FILE` takes the plan of a file that `plan` wrote (plan.c), and a thread for each of its workers. A thread
  * picks itself, in bursts of any length, whenever it comes to the lock; where its pick waits it sleeps until another
  * has moved. The forces are printed one a line, if they are those of one core; progress goes to standard error. In place
- * of the file MOVEMENTS, `--seed NUMBER` draws movements. refusals.h has the exit statuses. */
+ * of the file MOVEMENTS, `--seed NUMBER` draws movements. With `--control` as the last argument the forces' control
+ * number is printed in their place. refusals.h has the exit statuses. */
 
 #include "threads.h"
 
@@ -85,8 +86,8 @@ static void *work(void *argument)
     return NULL;
 }
 
-/* Runs the plan, and prints its forces if they are those of one core; the exit status. */
-static int run_stage(uint8_t workers)
+/* Runs the plan, and prints its forces, or their control number, if they are those of one core; the exit status. */
+static int run_stage(uint8_t workers, bool control)
 {
     static uint8_t forces[8 * MZK_ROWS], product[8 * MZK_ROWS];
     size_t length = 8 * (size_t)net.n;
@@ -95,18 +96,23 @@ static int run_stage(uint8_t workers)
     accepted("forces", mzk_forces(JOB, AT, forces, length));
     accepted("product", mzk_product(MATRIX(&net), MOVEMENTS(&net), product, length));
     int status = tell_compared(memcmp(forces, product, length) == 0);
-    if (status == 0)
+    if (status != 0)
+        return status;
+    if (control)
+        print_control(forces, net.n);
+    else
         print_forces(forces, net.n);
-    return status;
+    return 0;
 }
 
 int main(int argc, char **argv)
 {
+    bool control = asks_control(&argc, argv);
     bool carried = argc > 2 && strcmp(argv[2], "--plan") == 0;
     int at = carried ? 4 : 3; /* where the movements stand */
     bool drawn = argc == at + 2 && strcmp(argv[at], "--seed") == 0;
     if (!drawn && (argc != at + 1 || strcmp(argv[at], "--seed") == 0)) {
-        fprintf(stderr, "usage: stage MATRIX (WORKERS | --plan FILE) (MOVEMENTS | --seed NUMBER)\n");
+        fprintf(stderr, "usage: stage MATRIX (WORKERS | --plan FILE) (MOVEMENTS | --seed NUMBER) [--control]\n");
         return REFUSED;
     }
     uint8_t workers = carried ? 0 : argument_number("WORKERS", argv[2], 1, MZK_WORKERS);
@@ -120,5 +126,5 @@ int main(int argc, char **argv)
         draw_movements(seed);
     else
         read_movements(&net, argv[at]);
-    return run_stage(workers);
+    return run_stage(workers, control);
 }

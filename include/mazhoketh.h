@@ -17,8 +17,9 @@
  *
  * Stack: mzk_join uses up to 2.5 MiB, mzk_read up to 2.2 MiB, mzk_picks_both and mzk_ready_both up to 1.5 MiB,
  * mzk_picks and mzk_preview up to 1.4 MiB, mzk_ready and mzk_forces up to 1.3 MiB, mzk_plan up to 1 MiB,
- * mzk_set_movement and mzk_set_entry up to 0.7 MiB, mzk_write_plan, mzk_read_plan and the calls on a barrier unit up
- * to 8 KiB, the others up to 0.6 MiB. A thread with MZK_STACK_BYTES and its own needs can make any call. */
+ * mzk_set_movement and mzk_set_entry up to 0.7 MiB, mzk_write_plan, mzk_read_plan, mzk_control and the calls on a
+ * barrier unit up to 8 KiB, the others up to 0.6 MiB. A thread with MZK_STACK_BYTES and its own needs can make any
+ * call. */
 #ifndef MAZHOKETH_H
 #define MAZHOKETH_H
 
@@ -231,6 +232,12 @@ uint64_t mzk_write_plan(uint32_t n,
 uint64_t mzk_read_plan(const uint8_t *file, size_t file_bytes,
                        uint8_t *order, size_t order_bytes,
                        uint8_t *groups, size_t groups_bytes);
+
+/* The control number of a list of forces, of any length, to be read out before lists are compared: the sum over the
+ * rows of (row + 1) times its force, modulo 4,294,967,296, a negative one counted as its remainder. Returns it, and
+ * refuses nothing; an empty list's is 0. One changed force changes it, unless (row + 1) times the change is a multiple
+ * of 4,294,967,296; lists added row by row have the sum of their control numbers, modulo the same. */
+uint64_t mzk_control(const uint8_t *forces, size_t forces_bytes);
 
 /* A model of the cabinet's barrier unit, to try a driver on. The caller keeps a unit in ten bytes, at first all 0: its
  * registers 0 to 5, and the count of its releases in 32 bits without sign, low byte first. Bytes past the ten are not

@@ -1,7 +1,7 @@
 /* mazhoketh.h from C and from C++: its macros against real words, its sizes against what calls take and need.
  *
  * Document 01's chain of eight rows is planned, filed, surveyed, changed, sewn to another and run, by one crew and by
- * two; a barrier unit is written and read; then the longest text that is written is read. */
+ * two; a control number is asked for, a barrier unit written and read; then the longest text that is written is read. */
 
 #include <stdio.h>
 #include <stdlib.h>
@@ -240,6 +240,15 @@ static void check_crews(void)
 #undef PICK
 }
 
+/* A control number of three forces and a trailing part, and of none. */
+static void check_control(void)
+{
+    const uint8_t list[27] = { 5, 0, 0, 0, 0, 0, 0, 0, 0xfd, 0xff, 0xff, 0xff, 0xff, 0xff, 0xff, 0xff, 1, 0, 0, 0, 1 };
+    CHECK(is(mzk_control(list, sizeof list), MZK_ACCEPTED, 5 - 2 * 3 + 3));
+    CHECK(is(mzk_control(list, 16), MZK_ACCEPTED, 0xffffffff));
+    CHECK(is(mzk_control(list, 7), MZK_ACCEPTED, 0));
+}
+
 /* A barrier unit of two members, from all zeros to a release. */
 static void check_unit(void)
 {
@@ -298,6 +307,7 @@ int main(void)
     check_join();
     check_run();
     check_crews();
+    check_control();
     check_unit();
     check_longest();
     check_text_bytes();

@@ -395,6 +395,13 @@ pub fn barrier_releases(unit: &Twin) -> u64 {
     alike("barrier_releases", ours, theirs, vec![], &[unit])
 }
 
+/// Asks for the control number of forces.
+pub fn control(forces: &Twin) -> u64 {
+    let ours = library::control(forces.ours());
+    let theirs = calls::control(&forces.theirs);
+    alike("control", ours, theirs, vec![], &[forces])
+}
+
 /// Takes picks.
 pub fn picks(run: &RunTwins, at: &mut StateTwins, picks: &Twin) -> u64 {
     let StateTwins { state, sums } = at;

@@ -73,6 +73,7 @@ extern "C" {
     fn mzk_barrier_read(unit: In, unit_bytes: usize, address: u32) -> u64;
     fn mzk_barrier_line(unit: In, unit_bytes: usize) -> u64;
     fn mzk_barrier_releases(unit: In, unit_bytes: usize) -> u64;
+    fn mzk_control(forces: In, forces_bytes: usize) -> u64;
     fn mzk_picks(
         n: u32,
         row_starts: In, row_starts_bytes: usize, columns: In, columns_bytes: usize, values: In, values_bytes: usize,
@@ -276,6 +277,11 @@ pub fn barrier_line(unit: &[u8]) -> u64 {
 /// The releases of a barrier unit.
 pub fn barrier_releases(unit: &[u8]) -> u64 {
     unsafe { mzk_barrier_releases(unit.as_ptr(), unit.len()) }
+}
+
+/// The control number of a list of forces.
+pub fn control(forces: &[u8]) -> u64 {
+    unsafe { mzk_control(forces.as_ptr(), forces.len()) }
 }
 
 /// Picks of a run; counts those taken.

@@ -5,7 +5,7 @@ use std::process::{Command, Output};
 
 use mazhoketh_tests::built::{check_ended, run, run_full};
 use mazhoketh_tests::oracle::prng::Prng;
-use mazhoketh_tests::oracle::{self, nets};
+use mazhoketh_tests::oracle::{self, control, nets};
 use mazhoketh_tests::{built, files};
 
 /// A folder to build in.
@@ -165,6 +165,23 @@ fn crews_refused() {
     );
     let full = "standard output: cannot be written: No space left on device";
     check_ended(run_full(&crews, &[SMALL, "5", &right, &right]), 3, full);
+}
+
+/// The control number is printed in place of the forces, alike by both programs.
+#[test]
+fn control() {
+    let (force, stage) = (build("force", "control"), build("stage", "control"));
+    let (_, matrix) = files::read(Path::new(SMALL));
+    let movements: Vec<i32> = (-67..68).collect();
+    let expected = control::number(matrix.rows().product(&movements));
+    let movements = file("movements of control", &lines(&movements));
+    for output in [
+        run(&force, &[SMALL, &movements, "--control"]),
+        run(&stage, &[SMALL, "5", &movements, "--control"]),
+    ] {
+        assert_eq!(output.status.code(), Some(0));
+        assert_eq!(String::from_utf8_lossy(&output.stdout), lines([expected]));
+    }
 }
 
 /// The forces that `seq` makes movements for, and a movement at each limit.
@@ -350,11 +367,13 @@ fn arguments_refused() {
         let sentence = format!("NUMBER: found '{seed}', wanted a whole number of 0 to 4294967295");
         check_ended(run(&stage, &[SMALL, "2", "--seed", seed]), 2, &sentence);
     }
-    let usage = "usage: stage MATRIX (WORKERS | --plan FILE) (MOVEMENTS | --seed NUMBER)";
+    let usage =
+        "usage: stage MATRIX (WORKERS | --plan FILE) (MOVEMENTS | --seed NUMBER) [--control]";
     for arguments in [
         &[][..],
         &[SMALL],
         &[SMALL, "2"],
+        &[SMALL, "2", "--control"],
         &[SMALL, "2", "--seed"],
         &[SMALL, "2", &movements, "7"],
         &[SMALL, "--plan"],
@@ -364,8 +383,17 @@ fn arguments_refused() {
     ] {
         check_ended(run(&stage, arguments), 2, usage);
     }
-    for arguments in [&[][..], &[SMALL], &[SMALL, &movements, "7"]] {
-        check_ended(run(&force, arguments), 2, "usage: force MATRIX MOVEMENTS");
+    for arguments in [
+        &[][..],
+        &[SMALL],
+        &[SMALL, "--control"],
+        &[SMALL, &movements, "7"],
+    ] {
+        check_ended(
+            run(&force, arguments),
+            2,
+            "usage: force MATRIX MOVEMENTS [--control]",
+        );
     }
 }
 

@@ -2,6 +2,7 @@
 pub mod barrier_unit;
 pub mod both;
 pub mod changes;
+pub mod control_number;
 pub mod join;
 pub mod nets;
 pub mod preview;

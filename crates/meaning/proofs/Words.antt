@@ -50,9 +50,11 @@ use Rattle.run.specs.Answers as calls
 use Rattle.run.specs.LentRuns.{passed}
 use Rattle.run.proofs.Fits.{each-get}
 use Rattle.run.proofs.LentRuns.{lent-runs}
-use Rattle.words.specs.LittleEndian.{number}
+use Rattle.words.specs.LittleEndian.{number, signed}
 use Rattle.words.proofs.Blocks.{length-decoded}
 use Rattle.words.proofs.Bytes.{IsByte, number-small}
+use Rattle.control.specs.ControlNumber.{controlNumber}
+use Rattle.control.proofs.ControlNumbers.{control-numbers}
 use Rattle.lent.specs.Word.{word}
 use Rattle.barrier.specs.Registers.{register, isUp}
 use Rattle.barrier.proofs.BarrierUnit.{bit-small, read-small}
@@ -412,4 +414,4 @@ module _ (unit : List ℕ) where
 
 -- the theorem
 pub words : Words
-words = record { read = λ text starts columns values. read-told text _ _ _; write = write-told; product = product-told; survey = survey-told; set = λ k c. set-told (k .matrix) (k .displacements) (k .forces) c; join = join-told; plan = λ m w p k order groups. plan-told m w p k _ _; check = check-told; write-plan = write-plan-told; read-plan = read-plan-told; write-unit = write-unit-told; read-unit = λ unit address bytes. read-unit-told unit bytes address; line = line-told; releases = releases-told; run = run-tells; preview = preview-foretold; one = one }
+words = record { read = λ text starts columns values. read-told text _ _ _; write = write-told; product = product-told; survey = survey-told; set = λ k c. set-told (k .matrix) (k .displacements) (k .forces) c; join = join-told; plan = λ m w p k order groups. plan-told m w p k _ _; check = check-told; write-plan = write-plan-told; read-plan = read-plan-told; write-unit = write-unit-told; read-unit = λ unit address bytes. read-unit-told unit bytes address; line = line-told; releases = releases-told; control = λ forces. told-accepted (controlNumber (signed 8 forces)) (control-numbers .small (signed 8 forces)); run = run-tells; preview = preview-foretold; one = one }

@@ -12,6 +12,8 @@ use Rattle.plan.specs.Sound.{checkReply}
 use Rattle.planfile.specs.PlanFiles.{areBytes}
 use Rattle.planfile.specs.Calls.{writePlanReply, readPlanReply}
 use Rattle.run.specs.Answers.{Call, preview, Answer, bitsTold, countTold}
+use Rattle.words.specs.LittleEndian.{signed}
+use Rattle.control.specs.ControlNumber.{controlNumber}
 use Rattle.lent.specs.Word.{word}
 use Rattle.texts.specs.Lent.{readIn}
 use Rattle.office.specs.Lent.{planIn}
@@ -64,6 +66,7 @@ pub record Words : Type 0 where
   pub read-unit : (unit : List ℕ) (address : ℕ) → areBytes unit ≡ true → Told (readUnitReply unit address)
   pub line : (unit : List ℕ) → Told (lineReply unit)
   pub releases : (unit : List ℕ) → areBytes unit ≡ true → Told (releasesReply unit)
+  pub control : (forces : List ℕ) → Told (accepted (controlNumber (signed 8 forces)))
   pub run : (m : Matrix) (x : List ℤ) (order groups : List ℕ) (count : ℕ) (state sums : List ℕ) (c : Call) → Told (replyTo (answerIn m x order groups count state sums c))
   pub preview : (m : Matrix) (x : List ℤ) (order groups : List ℕ) (count : ℕ) (state sums ws : List ℕ) → Foretold (answerIn m x order groups count state sums (preview ws))
   -- so two replies with the same word are the same

@@ -78,6 +78,7 @@ struct Implementation {
     check: fn(MatrixLists, PlanLists, u32) -> u64,
     write_plan: fn(u32, PlanLists, Out) -> u64,
     read_plan: fn(&[u8], Out, Out) -> u64,
+    control: fn(&[u8]) -> u64,
     barrier_write: fn(Out, Write) -> u64,
     barrier_releases: fn(&[u8]) -> u64,
     picks: fn(RunLists, Out, Out, &[u8]) -> u64,
@@ -100,6 +101,7 @@ const LIBRARY: Implementation = Implementation {
     check: library::check,
     write_plan: library::write_plan,
     read_plan: library::read_plan,
+    control: library::control,
     barrier_write: library::barrier_write,
     barrier_releases: library::barrier_releases,
     picks: library::picks,
@@ -122,6 +124,7 @@ const RUST: Implementation = Implementation {
     check: calls::check,
     write_plan: calls::write_plan,
     read_plan: calls::read_plan,
+    control: calls::control,
     barrier_write: calls::barrier_write,
     barrier_releases: calls::barrier_releases,
     picks: calls::picks,
@@ -164,6 +167,7 @@ const WORKS: &[(&str, Work)] = &[
     ("check, at 4", |by, given, _| (by.check)(given.matrix(), given.farther[1].lists(), 4)),
     ("write_plan", |by, given, lent| (by.write_plan)(given.n, given.plan(), &mut lent.file)),
     ("read_plan", |by, given, lent| (by.read_plan)(&given.file, &mut lent.order, &mut lent.groups)),
+    ("control", |by, given, _| (by.control)(&given.finished.sums)),
     ("barrier, an arrival a pick", |by, given, _| {
         let mut unit = [0xff, 0xff, 0, 0, 0, 0, 0, 0, 0, 0];
         for &worker in &given.schedule {

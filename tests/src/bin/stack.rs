@@ -80,6 +80,7 @@ fn make(call: &str, stack: usize, given: &Given) -> Option<u64> {
         "check" => on_stack(stack, || library::check(given.matrix(), given.farther[1].lists(), 4)),
         "write_plan" => on_stack(stack, || library::write_plan(given.n, given.plan(), &mut file)),
         "read_plan" => on_stack(stack, || library::read_plan(&given.file, &mut order, &mut groups)),
+        "control" => on_stack(stack, || library::control(&end.sums)),
         "barrier_write" => on_stack(stack, || library::barrier_write(&mut state, (2, 1))),
         "barrier_read" => on_stack(stack, || library::barrier_read(&state, 2)),
         "barrier_line" => on_stack(stack, || library::barrier_line(&state)),
@@ -119,7 +120,7 @@ fn usage() -> ! {
     eprintln!(
         "usage: stack CALL BYTES (read, write, product, survey, set_movement, set_entry, join, plan, check, \
          write_plan, read_plan, picks, preview, ready, forces, picks_both, ready_both, barrier_write, barrier_read, \
-         barrier_line or barrier_releases)"
+         barrier_line, barrier_releases or control)"
     );
     exit(2);
 }

@@ -1,6 +1,7 @@
 //! Random cases of each call, made to the library and to the other implementation and compared.
 
 pub mod barrier;
+pub mod control;
 pub mod crews;
 pub mod join;
 pub mod matrix;
@@ -207,6 +208,7 @@ const WEIGHTS: &[(u64, fn(&mut Prng, &mut Seen))] = &[
     (2, crews::ready),
     (1, crews::whole),
     (1, barrier::unit),
+    (1, control::control),
 ];
 
 /// How many cases there are when each call has as many as its weight.

@@ -6,7 +6,9 @@ use super::barrier::{self, Unit, Write, UNIT_BYTES};
 use super::crews::{self, LentBoth};
 use super::machine::{self, Lent, Picked, State};
 use super::matrix::{Matrix, Rows};
-use super::{join, plan_file, planner, soundness, survey, text, upkeep, Refusal, FIELDS, WORKERS};
+use super::{
+    control, join, plan_file, planner, soundness, survey, text, upkeep, Refusal, FIELDS, WORKERS,
+};
 use crate::lists::{Altered, CrewLists, MatrixLists, PatternLists, PlanLists, RunLists};
 
 /// The bytes of a state: sixteen counts of moves, then sixteen held numbers.
@@ -259,6 +261,12 @@ fn kept(unit: &[u8]) -> Result<Unit, Refusal> {
     let mut registers = [0; UNIT_BYTES];
     registers.copy_from_slice(&unit[..UNIT_BYTES]);
     Ok(registers)
+}
+
+/// The control number of a list of forces.
+pub fn control(forces: &[u8]) -> u64 {
+    let forces = forces.as_chunks().0.iter();
+    control::number(forces.map(|&word| i64::from_le_bytes(word))).into()
 }
 
 /// Picks of a run; counts those taken.

@@ -3,6 +3,7 @@
 pub mod barrier;
 pub mod book;
 pub mod calls;
+pub mod control;
 pub mod crews;
 pub mod damage;
 pub mod join;

@@ -1,0 +1,71 @@
+-- `control` meets its contract: a turn weighs one force more.
+use borrow.Author.Needs.{needs}
+use mathlib.Core.Path.{_∙_}
+use Prim.Native.Nat.{_-_}
+use native.Mathlib.Omega.{arith}
+use Rattle.words.specs.LittleEndian.{signedNumber, signed}
+use Rattle.words.proofs.Blocks.{length-decoded}
+use Rattle.control.proofs.Weighing.{Weighing, force-left, weigh-none, weigh-more, weigh-all}
+use Rattle.control.proofs.control.Statement.{statement}
+use Rattle.control.proofs.control.Tie as tie
+
+abbrev Inv-loop : tie.InvT-loop
+Inv-loop forces count sum₀ weight₀ i₀ sum weight i = Weighing (signed 8 forces) sum weight i
+
+abbrev μ-loop : tie.MeasureT-loop
+μ-loop forces count sum₀ weight₀ i₀ sum weight i = count - i
+
+loop-holds : tie.Need-loop-holds Inv-loop μ-loop
+loop-holds c = weigh-none (signed 8 (c .before .args .forces .now))
+
+wrapping-add-u32-requires : tie.Need-wrapping-add-u32-requires Inv-loop μ-loop
+wrapping-add-u32-requires c κs = search needs
+
+mul-read-u32 : tie.Need-mul-read-u32 Inv-loop μ-loop
+mul-read-u32 c = search needs
+
+read-u32-requires : tie.Need-read-u32-requires Inv-loop μ-loop
+read-u32-requires c κs = search needs
+
+product-requires : tie.Need-product-requires Inv-loop μ-loop
+product-requires c κs = search needs
+
+wrapping-add-u32-requires-2 : tie.Need-wrapping-add-u32-requires-2 Inv-loop μ-loop
+wrapping-add-u32-requires-2 c κs = search needs
+
+add-i : tie.Need-add-i Inv-loop μ-loop
+add-i c = search needs
+
+loop-less : tie.Need-loop-less Inv-loop μ-loop
+loop-less c = search needs
+
+loop-again : tie.Need-loop-again Inv-loop μ-loop
+loop-again c =
+    let p = c .before in
+    let w = p .before .before in
+    let l = w .before .before in
+    let b = l .before .before .args .forces .now in
+    weigh-more (signed 8 b) (omega (arith, length-decoded (signedNumber 8) 8 b)) (w .wrapping-add-u32 .ensures)
+    (p .before .read-u32 .ensures ∙ force-left b (l .loop .i) (omega arith) (λ i. l .before .shared-slice-known .given i .fits))
+    (c .wrapping-add-u322 .ensures ∙ rw (p .product .ensures))
+    (l .loop .inv)
+
+returns : tie.Need-returns Inv-loop μ-loop
+returns c = let b = c .before .before .before .args .forces .now in weigh-all (signed 8 b) (omega (arith, length-decoded (signedNumber 8) 8 b)) (c .before .loop .inv)
+
+pub control-spec : {M : Type 1} → statement M
+control-spec =
+    tie.close
+    (tie.spec
+    Inv-loop
+    μ-loop
+    loop-holds
+    wrapping-add-u32-requires
+    mul-read-u32
+    read-u32-requires
+    product-requires
+    wrapping-add-u32-requires-2
+    add-i
+    loop-less
+    loop-again
+    returns)

@@ -1,0 +1,2 @@
+pub mod ControlNumber
+pub mod ControlNumbers
