@@ -6,9 +6,10 @@
  * `stage MATRIX WORKERS MOVEMENTS` plans the net for the workers and starts a thread for each; in place of WORKERS,
  * `--plan FILE` takes the plan of a file that `plan` wrote (plan.c), and a thread for each of its workers. A thread
  * picks itself, in bursts of any length, whenever it comes to the lock; where its pick waits it sleeps until another
- * has moved. The forces are printed one a line, if they are those of one core; progress goes to standard error. In place
- * of the file MOVEMENTS, `--seed NUMBER` draws movements. With `--control` as the last argument the forces' control
- * number is printed in their place. refusals.h has the exit statuses. */
+ * has moved. With `--rounds` at the end one thread takes their place, a scheduler that picks all workers in turn and
+ * passes over those that cannot move. The forces are printed one a line, if they are those of one core; progress goes
+ * to standard error. In place of the file MOVEMENTS, `--seed NUMBER` draws movements. With `--control` as the last
+ * argument the forces' control number is printed in their place. refusals.h has the exit statuses. */
 
 #include "threads.h"
 
@@ -86,13 +87,39 @@ static void *work(void *argument)
     return NULL;
 }
 
+/* The scheduler: it picks all workers in turn until no move is made. Each of its lists names every worker, so that a
+ * list which makes no move finds the run finished. */
+static void *schedule(void *argument)
+{
+    uint8_t workers = group_field(&plan, 0, 3);
+    uint8_t picks[BURST];
+    uint32_t lists = 0, moves;
+    (void)argument;
+    for (size_t k = 0; k < sizeof picks; k++)
+        picks[k] = k % workers;
+    pthread_mutex_lock(&run.lock);
+    do {
+        uint64_t word = mzk_rounds(JOB, AT, picks, sizeof picks);
+        accepted("rounds", word);
+        moves = MZK_MOVES(word);
+        tell_progress(moves);
+        lists++;
+    } while (moves > 0);
+    fprintf(stderr, "all workers are done: %u lists of rounds\n", lists);
+    pthread_mutex_unlock(&run.lock);
+    return NULL;
+}
+
 /* Runs the plan, and prints its forces, or their control number, if they are those of one core; the exit status. */
-static int run_stage(uint8_t workers, bool control)
+static int run_stage(uint8_t workers, bool rounds, bool control)
 {
     static uint8_t forces[8 * MZK_ROWS], product[8 * MZK_ROWS];
     size_t length = 8 * (size_t)net.n;
     fprintf(stderr, "%u rows, %u workers, %u groups\n", net.n, workers, plan.count);
-    run_threads(workers, work);
+    if (rounds)
+        run_threads(1, schedule);
+    else
+        run_threads(workers, work);
     accepted("forces", mzk_forces(JOB, AT, forces, length));
     accepted("product", mzk_product(MATRIX(&net), MOVEMENTS(&net), product, length));
     int status = tell_compared(memcmp(forces, product, length) == 0);
@@ -108,11 +135,14 @@ static int run_stage(uint8_t workers, bool control)
 int main(int argc, char **argv)
 {
     bool control = asks_control(&argc, argv);
+    bool rounds = argc > 3 && strcmp(argv[argc - 1], "--rounds") == 0;
+    argc -= rounds;
     bool carried = argc > 2 && strcmp(argv[2], "--plan") == 0;
     int at = carried ? 4 : 3; /* where the movements stand */
     bool drawn = argc == at + 2 && strcmp(argv[at], "--seed") == 0;
     if (!drawn && (argc != at + 1 || strcmp(argv[at], "--seed") == 0)) {
-        fprintf(stderr, "usage: stage MATRIX (WORKERS | --plan FILE) (MOVEMENTS | --seed NUMBER) [--control]\n");
+        fprintf(stderr, "usage: stage MATRIX (WORKERS | --plan FILE) (MOVEMENTS | --seed NUMBER) [--rounds] "
+                        "[--control]\n");
         return REFUSED;
     }
     uint8_t workers = carried ? 0 : argument_number("WORKERS", argv[2], 1, MZK_WORKERS);
@@ -126,5 +156,5 @@ int main(int argc, char **argv)
         draw_movements(seed);
     else
         read_movements(&net, argv[at]);
-    return run_stage(workers, control);
+    return run_stage(workers, rounds, control);
 }

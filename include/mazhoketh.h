@@ -16,7 +16,7 @@
  * No pointer is null, also of an empty list.
  *
  * Stack: mzk_join uses up to 2.5 MiB, mzk_read up to 2.2 MiB, mzk_picks_both and mzk_ready_both up to 1.5 MiB,
- * mzk_picks and mzk_preview up to 1.4 MiB, mzk_ready and mzk_forces up to 1.3 MiB, mzk_plan up to 1 MiB,
+ * mzk_picks, mzk_rounds and mzk_preview up to 1.4 MiB, mzk_ready and mzk_forces up to 1.3 MiB, mzk_plan up to 1 MiB,
  * mzk_set_movement and mzk_set_entry up to 0.7 MiB, mzk_write_plan, mzk_read_plan, mzk_control and the calls on a
  * barrier unit up to 8 KiB, the others up to 0.6 MiB. A thread with MZK_STACK_BYTES and its own needs can make any
  * call. */
@@ -50,7 +50,8 @@ enum {
 };
 
 /* Every call returns one word: the refusal's number, 0 if it was accepted, and the refusal's place or the accepted
- * call's count, 0 where none is named. The number is bits 32 to 39 alone; mzk_preview carries more above it. */
+ * call's count, 0 where none is named. The number is bits 32 to 39 alone; mzk_rounds and mzk_preview carry more above
+ * it. */
 #define MZK_NUMBER(word) ((uint32_t)((uint64_t)(word) >> 32 & 0xff))
 #define MZK_PLACE(word) ((uint32_t)((uint64_t)(word) & 0xffffffff))
 #define MZK_COUNT(word) ((uint32_t)((uint64_t)(word) & 0xffffffff))
@@ -285,6 +286,25 @@ uint64_t mzk_picks(uint32_t n,
                    uint8_t *state, size_t state_bytes,
                    uint8_t *sums, size_t sums_bytes,
                    const uint8_t *picks, size_t picks_bytes);
+
+/* Rounds: as mzk_picks, but a pick that would be refused with 12 or 13 is passed over. Returns the moves made, also
+ * above the number, where they stand if the call is refused, too (0 for 5, 6, 8 and 11); a refusal's place is the
+ * pick's index, of which a list of 4 GiB and more leaves the low 32 bits.
+ * In a run that began with zeros a list that names each worker of the plan, and nobody else, in any order, makes at
+ * least one move until the run is finished: call again until it makes none.
+ * Refused: 5; 6; 8; 11; then pick by pick 10, 14. */
+#define MZK_MOVES(word) ((uint32_t)((uint64_t)(word) >> 40))
+uint64_t mzk_rounds(uint32_t n,
+                    const uint8_t *row_starts, size_t row_starts_bytes,
+                    const uint8_t *columns, size_t columns_bytes,
+                    const uint8_t *values, size_t values_bytes,
+                    const uint8_t *movements, size_t movements_bytes,
+                    const uint8_t *order, size_t order_bytes,
+                    const uint8_t *groups, size_t groups_bytes,
+                    uint32_t group_count,
+                    uint8_t *state, size_t state_bytes,
+                    uint8_t *sums, size_t sums_bytes,
+                    const uint8_t *picks, size_t picks_bytes);
 
 /* What picks would do in a run, which stays as it is: just what mzk_picks would return for a copy of state and sums,
  * and above that the ready set that mzk_ready would tell of the copy then: a bit for each worker, and the count of

@@ -86,6 +86,12 @@ static void check_chain(void)
     CHECK(is(preview, MZK_ACCEPTED, 0) && MZK_PREVIEW_SET(preview) == 3 && MZK_PREVIEW_COUNT(preview) == 2);
     preview = mzk_preview(JOB, state, sizeof state - 1, sums, 64, picks, 13);
     CHECK(is(preview, MZK_NO_STATE, 0) && MZK_PREVIEW_SET(preview) == 0 && MZK_PREVIEW_COUNT(preview) == 0);
+    static uint8_t begun[MZK_STATE_BYTES], begun_sums[64];
+    const uint8_t round[4] = { 1, 0, 1, 2 };
+    uint64_t word = mzk_rounds(JOB, begun, sizeof begun, begun_sums, 64, picks, 13);
+    CHECK(is(word, MZK_ACCEPTED, 12) && MZK_MOVES(word) == 12);
+    word = mzk_rounds(JOB, begun, sizeof begun, begun_sums, 64, round, 4);
+    CHECK(is(word, MZK_NO_WORKER, 3) && MZK_MOVES(word) == 2);
     CHECK(is(mzk_picks(JOB, state, sizeof state, sums, 64, picks, 13), MZK_WAITS, 12));
     ready = mzk_ready(JOB, state, sizeof state, sums, 64);
     CHECK(MZK_READY_SET(ready) == 2 && MZK_READY_COUNT(ready) == 1);

@@ -423,6 +423,19 @@ pub fn ready(run: &RunTwins, at: &StateTwins) -> u64 {
     alike("ready", ours, theirs, run.lists(), &[state, sums])
 }
 
+/// Takes picks, and passes over those whose workers cannot move.
+pub fn rounds(run: &RunTwins, at: &mut StateTwins, picks: &Twin) -> u64 {
+    let StateTwins { state, sums } = at;
+    let ours = library::rounds(run.ours(), state.ours_mut(), sums.ours_mut(), picks.ours());
+    let theirs = calls::rounds(
+        run.theirs(),
+        &mut state.theirs,
+        &mut sums.theirs,
+        &picks.theirs,
+    );
+    alike("rounds", ours, theirs, run.lists(), &[state, sums, picks])
+}
+
 /// Asks what picks would do.
 pub fn preview(run: &RunTwins, at: &StateTwins, picks: &Twin) -> u64 {
     let StateTwins { state, sums } = at;

@@ -81,6 +81,13 @@ extern "C" {
         order: In, order_bytes: usize, groups: In, groups_bytes: usize, group_count: u32,
         state: Out, state_bytes: usize, sums: Out, sums_bytes: usize, picks: In, picks_bytes: usize,
     ) -> u64;
+    fn mzk_rounds(
+        n: u32,
+        row_starts: In, row_starts_bytes: usize, columns: In, columns_bytes: usize, values: In, values_bytes: usize,
+        movements: In, movements_bytes: usize,
+        order: In, order_bytes: usize, groups: In, groups_bytes: usize, group_count: u32,
+        state: Out, state_bytes: usize, sums: Out, sums_bytes: usize, picks: In, picks_bytes: usize,
+    ) -> u64;
     fn mzk_ready(
         n: u32,
         row_starts: In, row_starts_bytes: usize, columns: In, columns_bytes: usize, values: In, values_bytes: usize,
@@ -291,6 +298,21 @@ pub fn picks(run: RunLists, state: &mut [u8], sums: &mut [u8], picks: &[u8]) -> 
     let PlanLists { order, groups, group_count } = plan;
     unsafe {
         mzk_picks(
+            n, row_starts.as_ptr(), row_starts.len(), columns.as_ptr(), columns.len(), values.as_ptr(), values.len(),
+            movements.as_ptr(), movements.len(),
+            order.as_ptr(), order.len(), groups.as_ptr(), groups.len(), group_count,
+            state.as_mut_ptr(), state.len(), sums.as_mut_ptr(), sums.len(), picks.as_ptr(), picks.len(),
+        )
+    }
+}
+
+/// Picks of a run, of which those are passed over whose workers cannot move; the word also has the moves made × 2^40.
+#[rustfmt::skip]
+pub fn rounds(run: RunLists, state: &mut [u8], sums: &mut [u8], picks: &[u8]) -> u64 {
+    let RunLists { matrix: MatrixLists { n, row_starts, columns, values }, movements, plan } = run;
+    let PlanLists { order, groups, group_count } = plan;
+    unsafe {
+        mzk_rounds(
             n, row_starts.as_ptr(), row_starts.len(), columns.as_ptr(), columns.len(), values.as_ptr(), values.len(),
             movements.as_ptr(), movements.len(),
             order.as_ptr(), order.len(), groups.as_ptr(), groups.len(), group_count,

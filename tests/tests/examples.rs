@@ -89,6 +89,8 @@ fn stage() {
         let net = Net::new(name, "stage");
         for workers in ["2", "5", "16"] {
             net.check(run(&stage, &[&net.path, workers, &net.movements_path]));
+            let rounds = [&net.path, workers, &net.movements_path, "--rounds"];
+            net.check(run(&stage, &rounds));
             let drawn = run(&stage, &[&net.path, workers, "--seed", "181"]);
             assert!(drawn.status.success(), "{workers} workers on {name}");
         }
@@ -367,8 +369,7 @@ fn arguments_refused() {
         let sentence = format!("NUMBER: found '{seed}', wanted a whole number of 0 to 4294967295");
         check_ended(run(&stage, &[SMALL, "2", "--seed", seed]), 2, &sentence);
     }
-    let usage =
-        "usage: stage MATRIX (WORKERS | --plan FILE) (MOVEMENTS | --seed NUMBER) [--control]";
+    let usage = "usage: stage MATRIX (WORKERS | --plan FILE) (MOVEMENTS | --seed NUMBER) [--rounds] [--control]";
     for arguments in [
         &[][..],
         &[SMALL],

@@ -5,10 +5,10 @@ use std::process::Command;
 
 /// The header's sentence, and its figures in tenths of a MiB; beside them, the calls that need next to nothing.
 const SENTENCE: &str = "mzk_join uses up to 2.5 MiB, mzk_read up to 2.2 MiB, mzk_picks_both and mzk_ready_both up to \
-                        1.5 MiB, mzk_picks and mzk_preview up to 1.4 MiB, mzk_ready and mzk_forces up to 1.3 MiB, \
-                        mzk_plan up to 1 MiB, mzk_set_movement and mzk_set_entry up to 0.7 MiB, mzk_write_plan, \
-                        mzk_read_plan, mzk_control and the calls on a barrier unit up to 8 KiB, the others up to 0.6 \
-                        MiB.";
+                        1.5 MiB, mzk_picks, mzk_rounds and mzk_preview up to 1.4 MiB, mzk_ready and mzk_forces up to \
+                        1.3 MiB, mzk_plan up to 1 MiB, mzk_set_movement and mzk_set_entry up to 0.7 MiB, \
+                        mzk_write_plan, mzk_read_plan, mzk_control and the calls on a barrier unit up to 8 KiB, the \
+                        others up to 0.6 MiB.";
 const SMALL: &[&str] = &[
     "write_plan",
     "read_plan",
@@ -24,6 +24,7 @@ const TENTHS: &[(&str, usize)] = &[
     ("picks_both", 15),
     ("ready_both", 15),
     ("picks", 14),
+    ("rounds", 14),
     ("preview", 14),
     ("ready", 13),
     ("forces", 13),

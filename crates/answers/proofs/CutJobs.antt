@@ -11,8 +11,10 @@ use Rattle.run.specs.Job.{Job, rowAt, workers}
 use Rattle.run.specs.Updates.{entryAt, displacementAt, later, withEach, rowUpdates, owner, upTo, updates, accesses, finished, next, waits}
 use Rattle.run.specs.Machine.{refusal, Outcome, moved, halted, step, Stepped, oneMore, steps, readyBelow, ready, allMade, over, original, countsFine, isState}
 use Rattle.run.specs.State.{State}
+use Rattle.run.specs.Schedule.{Passed, pass}
+use Rattle.run.specs.Rounds.{skips, round}
 use Rattle.run.specs.Calls.{readyOf, answerOf, afterOf, stateCheck, answer, after}
-use Rattle.run.specs.Answers.{Call, picks, readySet, forceList, preview}
+use Rattle.run.specs.Answers.{Call, picks, readySet, forceList, preview, rounds}
 use Rattle.run.proofs.Schedule.{steps-on, steps-end}
 
 module _ (m : Matrix) (ok : isMatrix m ≡ true) (x : List ℤ) (p : Plan) where
@@ -76,6 +78,10 @@ module _ (m : Matrix) (ok : isMatrix m ≡ true) (x : List ℤ) (p : Plan) where
       go (moved t) e ih = steps-on part s w ws t (step-same s w ∙ e) ∙ ap oneMore (ih t) ∙ sym (steps-on whole s w ws t e)
       go (halted k) e ih = steps-end part s w ws k (step-same s w ∙ e) ∙ sym (steps-end whole s w ws k e)
 
+  -- a round
+  round-same : (s : State) (ws : List ℕ) → round part s ws ≡ round whole s ws
+  round-same s ws = ap (λ (f : State → ℕ → Outcome State). pass skips f s ws) (fun-ext (λ t. fun-ext (step-same t)))
+
   -- ---- the other calls
 
   pub ready-same : (made : List ℕ) (k : ℕ) → readyBelow part made k ≡ readyBelow whole made k
@@ -102,6 +108,7 @@ module _ (m : Matrix) (ok : isMatrix m ≡ true) (x : List ℤ) (p : Plan) where
   call-same s (picks ws) = rw (steps-same s ws)
   call-same s readySet = rw (ready-same (s .made))
   call-same s (forceList room) = rw (over-same (s .made))
+  call-same s (rounds ws) = rw (round-same s ws)
   call-same s (preview ws) = rw (steps-same s ws, ready-same (steps whole s ws .state .made))
 
   left-same : (s : State) (c : Call) → afterOf part s c ≡ afterOf whole s c
@@ -110,6 +117,7 @@ module _ (m : Matrix) (ok : isMatrix m ≡ true) (x : List ℤ) (p : Plan) where
   left-same s readySet = refl
   left-same s (forceList room) = refl
   left-same s (preview ws) = refl
+  left-same s (rounds ws) = ap (λ (r : Passed State). r .state) (round-same s ws)
 
   pub answer-same : (s : State) (c : Call) → answer part s c ≡ answer whole s c
   unfolding answer stateCheck

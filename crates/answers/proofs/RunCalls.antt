@@ -32,7 +32,7 @@ use Rattle.run.specs.Calls.{answerOf, afterOf, stateCheck, answer, after, jobCh
 use Rattle.run.specs.Answers.{Call, Answer, denied}
 use Rattle.calls.specs.Performed.{asCall, Performed}
 use Rattle.calls.specs.declared.Call as asked
-use Rattle.calls.specs.declared.Call.the-variants.{Picks, ReadySet, ForceList, Preview}
+use Rattle.calls.specs.declared.Call.the-variants.{Picks, ReadySet, ForceList, Preview, Rounds}
 use Rattle.machine.specs.Record.{stateOf}
 use Rattle.machine.specs.declared.state.State as code
 use Rattle.answers.specs.Runs.{stateBytes, countBytes, stateIn, answerIn}
@@ -96,6 +96,7 @@ module _ (m : Matrix) (x : List ℤ) (order groups : List ℕ) (count : ℕ) (s 
   room-cut Picks ws = refl
   room-cut ReadySet ws = refl
   room-cut Preview ws = refl
+  room-cut Rounds ws = refl
   room-cut ForceList ws = inTurn-same denied (matrixCheck m) _ _ _ _ (λ ok. rw (min-comm room maxRows, leb-min (m .n) maxRows room (matrix-facts m ok .few)))
 
   left-room : (call : asked.Call) (ws : List ℕ) → afterLent m x order groups count s (asCall call ws (min room maxRows)) ≡ afterLent m x order groups count s (asCall call ws room)
@@ -103,6 +104,7 @@ module _ (m : Matrix) (x : List ℤ) (order groups : List ℕ) (count : ℕ) (s 
   left-room Picks ws = refl
   left-room ReadySet ws = refl
   left-room Preview ws = refl
+  left-room Rounds ws = refl
   left-room ForceList ws = refl
 
 -- a call on the lists that are decoded, and with the room that is lent on, is the call on the whole ones

@@ -21,11 +21,11 @@ use Rattle.run.specs.Job.{jobOf}
 use Rattle.run.specs.Machine.{over, original}
 use Rattle.base.specs.Lists.{positionOf}
 use Rattle.run.specs.State.{State}
-use Rattle.run.specs.Calls.{pickedOf, readyOf, forcesOf, answerOf, stateCheck, answer, jobChecks, answerLent}
+use Rattle.run.specs.Calls.{pickedOf, passedOf, readyOf, forcesOf, answerOf, stateCheck, answer, jobChecks, answerLent}
 use Rattle.run.specs.Answers.{Answer, forces, denied, shown}
 use Rattle.calls.specs.Performed.{asCall, asAnswer, Performed}
 use Rattle.calls.specs.declared.Call as asked
-use Rattle.calls.specs.declared.Call.the-variants.{Picks, ReadySet, ForceList, Preview}
+use Rattle.calls.specs.declared.Call.the-variants.{Picks, ReadySet, ForceList, Preview, Rounds}
 use Rattle.calls.proofs.Response.{the-type}
 use Rattle.calls.specs.declared.Response.{Response}
 use Rattle.calls.specs.declared.Response.the-variants.{Picked, Ready, Forces, Refused, Previewed}
@@ -48,7 +48,7 @@ given-turn n room (c ∷ cs) a g = go (c .holds) (given-turn n room cs a g)
     go false h = λ zs e. absurd (let z : _≡_ {A = ℕ} 0 1 = cc in omega arith)
 
 given : (m : Matrix) (x : List ℤ) (order groups : List ℕ) (count : ℕ) (s : State) (call : asked.Call) (ws : List ℕ) (room : ℕ) → Given (m .n) room (answerLent m x order groups count s (asCall call ws room))
-unfolding answerLent answer answerOf pickedOf readyOf jobOf forcesOf original shown
+unfolding answerLent answer answerOf pickedOf passedOf readyOf jobOf forcesOf original shown
 given m x order groups count s call ws room =
     let j = jobOf m x order groups count in
     given-turn (m .n) room (jobChecks m x order groups count) _ (given-turn (m .n) room (stateCheck j s) _ (of call))
@@ -65,6 +65,7 @@ given m x order groups count s call ws room =
     of Picks zs f = absurd (let z : _≡_ {A = ℕ} 0 1 = cc in omega arith)
     of ReadySet zs f = absurd (let z : _≡_ {A = ℕ} 0 1 = cc in omega arith)
     of Preview zs f = absurd (let z : _≡_ {A = ℕ} 0 1 = cc in omega arith)
+    of Rounds zs f = absurd (let z : _≡_ {A = ℕ} 0 1 = cc in omega arith)
     of ForceList zs f = go (over (jobOf m x order groups count) (s .made)) (leb (m .n) room) refl zs f
 
 -- a call that has the first part of an array for its forces

@@ -3,7 +3,7 @@ use mathlib.Core.Path.{_≡_, refl, sym, ap, _∙_}
 use mathlib.Core.Logic.{_⊎_, inl, inr, _≢_, ⊎-elim}
 use mathlib.Core.Bool.{Bool, true, false, cond}
 use mathlib.Core.List.{List, [], _∷_, _++_}
-use Prim.Native.Nat.{ℕ, zero, suc, _+_, _/_, _^_, _≤_, _<_}
+use Prim.Native.Nat.{ℕ, zero, suc, _+_, _*_, _/_, _%_, _^_, _≤_, _<_}
 use native.Mathlib.Omega.{arith}
 use lib.Dec.{eqb, leb}
 use lib.IntN.{ℤ}
@@ -23,9 +23,10 @@ use Rattle.matrix.proofs.Matrix.{matrix-facts}
 use Rattle.plan.specs.Sound.{maxWorkers}
 use Rattle.run.specs.Job.{Job, jobOf, Accepted}
 use Rattle.run.specs.Machine.{steps, ready, bits, over, original, isState, countsFine}
+use Rattle.run.specs.Rounds.{round}
 use Rattle.run.specs.State.{State}
-use Rattle.run.specs.Calls.{placeOf, pickedOf, readyOf, forcesOf, answerOf, stateCheck, answer, jobChecks, answerLent, afterLent}
-use Rattle.run.specs.Answers.{Call, picks, readySet, forceList, preview, Answer, picked, denied, previewed, shown, bitsTold, countTold}
+use Rattle.run.specs.Calls.{placeOf, pickedOf, passedOf, readyOf, forcesOf, answerOf, stateCheck, answer, jobChecks, answerLent, afterLent}
+use Rattle.run.specs.Answers.{Call, picks, readySet, forceList, preview, rounds, Answer, picked, denied, previewed, shown, bitsTold, countTold}
 use Rattle.machine.specs.Record.{stateOf}
 use Rattle.machine.specs.declared.state.State as code
 use Rattle.calls.specs.Performed.{asAnswer, Performed}
@@ -36,10 +37,10 @@ use Rattle.calls.proofs.JobChecked.{job-given}
 use Rattle.words.specs.LittleEndian.{number, signedNumber, signed, signedBytes, stored}
 use Rattle.words.proofs.Blocks.{length-decoded}
 use Rattle.lent.specs.Word.{word}
-use Rattle.answers.specs.Runs.{stateBytes, countBytes, stateIn, answerIn, replyTo, forceBytes, bytesIn, leftBy, PicksAnswered, setIn, previewWord}
-use Rattle.answers.specs.code.Ran.{StateIs, Taken, Parts, Ran, Looks, LowPlace, PicksFit}
+use Rattle.answers.specs.Runs.{stateBytes, countBytes, stateIn, answerIn, replyTo, forceBytes, bytesIn, leftBy, Moved, setIn, previewWord, roundWord}
+use Rattle.answers.specs.code.Ran.{StateIs, Taken, Parts, Ran, Looks, LowPlace, LowMoves, Plain, PicksFit}
 use Rattle.answers.proofs.RunCalls.{decoded, always-refused}
-use Rattle.answers.proofs.TakenFew.{number-low, few-ready, ready-low, taken-few}
+use Rattle.answers.proofs.TakenFew.{number-low, round-number-low, few-ready, ready-low, taken-few, moves-few}
 
 -- ---- a call that took picks, or none, and was not refused
 
@@ -97,31 +98,62 @@ module _ (m : Matrix) (x : List ℤ) (order groups : List ℕ) (count : ℕ) (s 
     unfolding jobOf
     sums-whole {sums} f = take-all maxStarts sums (omega (arith, ap length f, enough, length-take maxStarts sums, matrix-facts m (accepted .matrix) .few))
 
-  module _ {t q p : ℕ} (e : picked t q p ≡ answerLent m x order groups count s c) where
-    -- the place fits a word's low half
-    pub picked-low : length (s .made) ≡ maxWorkers → p < 2 ^ 32
-    unfolding answerOf pickedOf readyOf forcesOf shown
-    picked-low long = go c (stated (picked-told t q p) e .1)
-      where
-        other : (a b : Bool) (n : ℕ) (zs : List ℤ) → picked t q p ≡ forcesOf a b n zs → p < 2 ^ 32
-        other false b n zs told = absurd (let z : _≡_ {A = ℕ} 0 1 = cc in omega arith)
-        other true false n zs told = absurd (let z : _≡_ {A = ℕ} 0 1 = cc in omega arith)
-        other true true n zs told = absurd (let z : _≡_ {A = ℕ} 0 1 = cc in omega arith)
+  module _ {t q p : ℕ} (e : picked t q p ≡ answerLent m x order groups count s c) (long : length (s .made) ≡ maxWorkers) where
+    abbrev is : picked t q p ≡ answerOf job s c
+    is = stated (picked-told t q p) e .1
 
-        go : (d : Call) → picked t q p ≡ answerOf job s d → p < 2 ^ 32
-        go (picks ws) told =
+    abbrev ok : Accepted job
+    ok = accepted (picked-told t q p) e
+
+    -- no forces are picks
+    other : {A : Type 0} (a b : Bool) (n : ℕ) (zs : List ℤ) → picked t q p ≡ forcesOf a b n zs → A
+    unfolding forcesOf
+    other false b n zs told = absurd (let z : _≡_ {A = ℕ} 0 1 = cc in omega arith)
+    other true false n zs told = absurd (let z : _≡_ {A = ℕ} 0 1 = cc in omega arith)
+    other true true n zs told = absurd (let z : _≡_ {A = ℕ} 0 1 = cc in omega arith)
+
+    -- the place fits a word's low half, but of rounds
+    pub picked-low : Plain c → p < 2 ^ 32
+    unfolding answerOf pickedOf readyOf shown Plain
+    picked-low plain = go c is plain
+      where
+        go : (d : Call) → picked t q p ≡ answerOf job s d → Plain d → p < 2 ^ 32
+        go (picks ws) told h =
             let r = steps job s ws in
             let same : picked t q p ≡ picked (r .taken) (r .number) (placeOf (r .number) (r .taken)) = told in
             let place : p ≡ placeOf (r .number) (r .taken) = cc in
-            omega (arith, place-low (r .number) (r .taken), taken-few job (accepted (picked-told t q p) e) s ws long)
+            omega (arith, place-low (r .number) (r .taken), taken-few job ok s ws long)
+        go readySet told h = absurd (let z : _≡_ {A = ℕ} 0 1 = cc in omega arith)
+        go (forceList room) told h = other (over job (s .made)) (leb (job .matrix .n) room) (job .matrix .n) (original job (s .sums)) told
+        go (preview ws) told h = absurd (let z : _≡_ {A = ℕ} 0 1 = cc in omega arith)
+        go (rounds ws) told h = absurd h
+
+    -- the moves made and the number fit the word of rounds
+    pub picked-few : (t < 2 ^ 24) × (q < 2 ^ 8)
+    unfolding answerOf pickedOf passedOf readyOf shown
+    picked-few = go c is
+      where
+        go : (d : Call) → picked t q p ≡ answerOf job s d → (t < 2 ^ 24) × (q < 2 ^ 8)
+        go (picks ws) told =
+            let r = steps job s ws in
+            let same : picked t q p ≡ picked (r .taken) (r .number) (placeOf (r .number) (r .taken)) = told in
+            let taken : t ≡ r .taken = cc in
+            let number : q ≡ r .number = cc in
+            (omega (arith, taken-few job ok s ws long), omega (arith, number-low job s ws))
         go readySet told = absurd (let z : _≡_ {A = ℕ} 0 1 = cc in omega arith)
         go (forceList room) told = other (over job (s .made)) (leb (job .matrix .n) room) (job .matrix .n) (original job (s .sums)) told
         go (preview ws) told = absurd (let z : _≡_ {A = ℕ} 0 1 = cc in omega arith)
+        go (rounds ws) told =
+            let r = round job s ws in
+            let same : picked t q p ≡ picked (r .taken) (r .number) (placeOf (r .number) (r .met)) = told in
+            let taken : t ≡ r .taken = cc in
+            let number : q ≡ r .number = cc in
+            (omega (arith, moves-few job ok s ws long), omega (arith, round-number-low job s ws))
 
   module _ {t q p b k : ℕ} (e : previewed t q p b k ≡ answerLent m x order groups count s c) where
     -- the parts of its word fit it
     pub preview-parts : length (s .made) ≡ maxWorkers → Parts t q p b k
-    unfolding answerOf pickedOf readyOf forcesOf shown bitsTold countTold
+    unfolding answerOf pickedOf passedOf readyOf forcesOf shown bitsTold countTold
     preview-parts long = go c (stated (previewed-told t q p b k) e .1)
       where
         other : (a c : Bool) (n : ℕ) (zs : List ℤ) → previewed t q p b k ≡ forcesOf a c n zs → Parts t q p b k
@@ -131,6 +163,7 @@ module _ (m : Matrix) (x : List ℤ) (order groups : List ℕ) (count : ℕ) (s 
 
         go : (d : Call) → previewed t q p b k ≡ answerOf job s d → Parts t q p b k
         go (picks ws) told = absurd (let z : _≡_ {A = ℕ} 0 1 = cc in omega arith)
+        go (rounds ws) told = absurd (let z : _≡_ {A = ℕ} 0 1 = cc in omega arith)
         go readySet told = absurd (let z : _≡_ {A = ℕ} 0 1 = cc in omega arith)
         go (forceList room) told = other (over job (s .made)) (leb (job .matrix .n) room) (job .matrix .n) (original job (s .sums)) told
         go (preview ws) told =
@@ -152,6 +185,17 @@ module _ (m : Matrix) (x : List ℤ) (order groups : List ℕ) (count : ℕ) (s 
 
 -- ---- what the call leaves
 
+module _ (m : Matrix) (x : List ℤ) (order groups : List ℕ) (count : ℕ) (c : Call) (state sums : List ℕ) where
+  -- a call that is not refused has the bytes of a state: no others are taken
+  whole-state : {b : Answer} → Told b → answerIn m x order groups count state sums c ≡ b → length state ≡ stateBytes
+  unfolding answerIn
+  whole-state {b} d e = go (eqb (length state) stateBytes) refl e
+    where
+      go : (t : Bool) → eqb (length state) stateBytes ≡ t
+          → cond t (answerLent m x order groups count (stateIn state sums) c) (inTurn denied (jobChecks m x order groups count) (denied why.notState 0)) ≡ b → length state ≡ stateBytes
+      go true t f = eqb-true (length state) stateBytes t
+      go false t f = let a = always-refused (jobChecks m x order groups count) why.notState 0 in absurd (d (a .0) (a .1) (sym f ∙ a .2))
+
 -- a call in bytes that is not refused
 module _ (m : Matrix) (x : List ℤ) (order groups : List ℕ) (count : ℕ) (c : Call) (state sums : List ℕ) (r : code.State) {zs : List ℤ}
     (is : length state ≡ stateBytes → StateIs r state) (lent : zs ≡ cond (eqb (length state) stateBytes) (take maxStarts (signed 8 sums)) [])
@@ -159,15 +203,8 @@ module _ (m : Matrix) (x : List ℤ) (order groups : List ℕ) (count : ℕ) (c 
   told : b ≡ answerLent m x order groups count (stateOf r zs) c
   told = sym (decoded m x order groups count c state sums r is lent ∙ e)
 
-  -- its bytes are a state: no other is taken
   whole : length state ≡ stateBytes
-  unfolding answerIn
-  whole = go (eqb (length state) stateBytes) refl e
-    where
-      go : (t : Bool) → eqb (length state) stateBytes ≡ t
-          → cond t (answerLent m x order groups count (stateIn state sums) c) (inTurn denied (jobChecks m x order groups count) (denied why.notState 0)) ≡ b → length state ≡ stateBytes
-      go true t f = eqb-true (length state) stateBytes t
-      go false t f = let a = always-refused (jobChecks m x order groups count) why.notState 0 in absurd (d (a .0) (a .1) (sym f ∙ a .2))
+  whole = whole-state m x order groups count c state sums d e
 
   -- all its sums are lent on
   all-lent : zs ≡ signed 8 sums
@@ -185,20 +222,28 @@ module _ (m : Matrix) (x : List ℤ) (order groups : List ℕ) (count : ℕ) (c 
     (is : length state ≡ stateBytes → StateIs r state) (lent : zs ≡ cond (eqb (length state) stateBytes) (take maxStarts (signed 8 sums)) []) where
   -- what is stored of picks that it took
   picks-taken : {k q p : ℕ} → answerIn m x order groups count state sums c ≡ picked k q p → {after : code.State} {part : List ℤ} (rest : List ℤ) → length part ≡ length zs
-      → stateOf after part ≡ afterLent m x order groups count (stateOf r zs) c → Taken (m .n) (afterLent m x order groups count (stateIn state sums) c) p state sums after (part ++ rest)
+      → stateOf after part ≡ afterLent m x order groups count (stateOf r zs) c → Taken (m .n) (afterLent m x order groups count (stateIn state sums) c) k q state sums after (part ++ rest)
   picks-taken {k} {q} {p} e {after} {part} rest long f =
       let d = picked-told k q p in
       let be = told m x order groups count c state sums r is lent d e in
       let rows : length zs ≡ m .n = enough m x order groups count (stateOf r zs) c d be in
       let lists : zs ≡ signed 8 sums = all-lent m x order groups count c state sums r is lent d e in
       let room : length zs ≡ length sums / 8 = ap (λ (ys : List ℤ). length ys) lists ∙ length-decoded (signedNumber 8) 8 sums in
+      let few = picked-few m x order groups count (stateOf r zs) c be (sixteen m x order groups count c state sums r is lent d e) in
       record {
         left = ap (stateOf after) (take-at part rest (m .n) (long ∙ rows)) ∙ f ∙ ap (λ (s : State). afterLent m x order groups count s c) (same-state m x order groups count c state sums r is lent d e);
         whole = whole m x order groups count c state sums r is lent d e;
         inside = omega (arith, long, rows, length-append part rest);
         room = omega (arith, rows, room);
-        low = picked-low m x order groups count (stateOf r zs) c be (sixteen m x order groups count c state sums r is lent d e);
+        moves-low = few .0;
+        number-low = few .1;
       }
+
+  -- the place of an ending, but of rounds
+  place-fits : Plain c → {k q p : ℕ} → answerIn m x order groups count state sums c ≡ picked k q p → p < 2 ^ 32
+  place-fits plain {k} {q} {p} e =
+      let d = picked-told k q p in
+      picked-low m x order groups count (stateOf r zs) c (told m x order groups count c state sums r is lent d e) (sixteen m x order groups count c state sums r is lent d e) plain
 
   -- the parts of the word of a preview
   looked : {t q p b k : ℕ} → answerIn m x order groups count state sums c ≡ previewed t q p b k → Parts t q p b k
@@ -212,7 +257,7 @@ pub ran : (m : Matrix) (x : List ℤ) (order groups : List ℕ) (count : ℕ) (c
     → {old : List ℤ} {answer : Response} (made : List ℤ) {after : code.State} {part : List ℤ} (rest : List ℤ) {forces : List ℤ} → length part ≡ length zs
     → Performed m x order groups count (stateOf r zs) c old (asAnswer answer made) (stateOf after part) forces
     → {bytes left : List ℕ} → left ≡ replies.lent (replyTo (asAnswer answer made)) (forceBytes (asAnswer answer made)) bytes
-    → Ran (m .n) (answerIn m x order groups count state sums c) (afterLent m x order groups count (stateIn state sums) c) state sums bytes answer after (part ++ rest) left
+    → Ran (m .n) c (answerIn m x order groups count state sums c) (afterLent m x order groups count (stateIn state sums) c) state sums bytes answer after (part ++ rest) left
 ran m x order groups count c state sums r is lent made rest long h {bytes} f =
     let told = h .answers ∙ decoded m x order groups count c state sums r is lent in
     record {
@@ -220,6 +265,7 @@ ran m x order groups count c state sums r is lent made rest long h {bytes} f =
       answers = told;
       lists = f ∙ ap (λ (a : Answer). replies.lent (replyTo a) (forceBytes a) bytes) told;
       taken = λ k q p e. picks-taken m x order groups count c state sums r is lent e rest long (h .leaves);
+      low = λ plain k q p e. place-fits m x order groups count c state sums r is lent plain e;
       looked = λ t q p b k e. looked m x order groups count c state sums r is lent e;
     }
 
@@ -272,6 +318,25 @@ preview-fits (Refused q p) h e f = inl f
 preview-fits (Previewed t zero p b k) h e f = let g = h t 0 p b k refl in inr (omega (arith, g .taken-low, g .count-low, g .bits-low))
 preview-fits (Previewed t (suc q) p b k) h e f = let g = h t (suc q) p b k refl in inr (omega (arith, g .number-low, g .place-low, g .count-low, g .bits-low))
 
+-- an answer of another kind than picks
+pub not-picked : (r : Response) → OneOf (1 ∷ 2 ∷ 3 ∷ 4 ∷ []) (tagOf the-type r) → (k q p : ℕ) → r ≢ Picked k q p
+not-picked r h k q p e = let g : OneOf (1 ∷ 2 ∷ 3 ∷ 4 ∷ []) 0 = rw e at h in ⊎-elim (λ y. omega arith) (⊎-elim (λ y. omega arith) (⊎-elim (λ y. omega arith) (λ y. omega arith))) g
+
+-- .. has its own word in rounds
+pub round-other : (r : Response) → OneOf (1 ∷ 2 ∷ 3 ∷ 4 ∷ []) (tagOf the-type r) → (zs : List ℤ) → word (replyTo (asAnswer r zs)) ≡ roundWord (asAnswer r zs)
+unfolding roundWord
+round-other (Picked k q p) h zs = absurd (not-picked (Picked k q p) h k q p refl)
+round-other (Ready b k) h zs = refl
+round-other Forces h zs = refl
+round-other (Refused q p) h zs = refl
+round-other (Previewed t q p b k) h zs = refl
+
+-- the word of rounds that a pick ended
+pub round-ended : (t q p : ℕ) → q ≢ 0 → p % 2 ^ 32 + q * 2 ^ 32 + t * 2 ^ 40 ≡ roundWord (picked t q p)
+unfolding roundWord
+round-ended t zero p h = absurd (h refl)
+round-ended t (suc q) p h = refl
+
 -- other answers leave both lists
 pub picks-kept : (r : Response) → OneOf (1 ∷ 2 ∷ 3 ∷ 4 ∷ []) (tagOf the-type r) → (zs : List ℤ) (new old : List ℕ) → old ≡ leftBy (asAnswer r zs) new old
 unfolding leftBy
@@ -285,13 +350,22 @@ picks-kept (Previewed t q p b k) h zs new old = refl
 pub sums-stored : (zs : List ℤ) (bytes : List ℕ) {new : List ℕ} → length zs ≤ length bytes / 8 → new ≡ stored (signedBytes 8 (take (length bytes / 8) zs)) bytes → new ≡ stored (signedBytes 8 zs) bytes
 sums-stored zs bytes l e = e ∙ rw (take-all (length bytes / 8) zs l)
 
-module _ {n : ℕ} {a : Answer} {s : State} {state sums old : List ℕ} {answer : Response} {after : code.State} {new : List ℤ} {left : List ℕ} (h : Ran n a s state sums old answer after new left) where
-  picked-is : (k q p : ℕ) → answer ≡ Picked k q p → Taken n s p state sums after new
+module _ {n : ℕ} {c : Call} {a : Answer} {s : State} {state sums old : List ℕ} {answer : Response} {after : code.State} {new : List ℤ} {left : List ℕ} (h : Ran n c a s state sums old answer after new left) where
+  picked-is : (k q p : ℕ) → answer ≡ Picked k q p → Taken n s k q state sums after new
   picked-is k q p e = h .taken k q p (sym (h .answers) ∙ ap (λ (r : Response). asAnswer r (h .made)) e)
 
+  as-answer : {r : Response} → answer ≡ r → a ≡ asAnswer r (h .made)
+  as-answer e = sym (h .answers) ∙ ap (λ (r : Response). asAnswer r (h .made)) e
+
   -- what is asked before
-  pub ran-low : LowPlace answer
-  ran-low = (λ k q p e. picked-is k q p e .low, λ t q p b k e. h .looked t q p b k (sym (h .answers) ∙ ap (λ (r : Response). asAnswer r (h .made)) e))
+  ran-looks : Looks answer
+  ran-looks t q p b k e = h .looked t q p b k (as-answer e)
+
+  pub ran-low : Plain c → LowPlace answer
+  ran-low plain = (λ k q p e. h .low plain k q p (as-answer e), ran-looks)
+
+  pub ran-moves : LowMoves answer
+  ran-moves = (λ k q p e. let t = picked-is k q p e in (t .moves-low, t .number-low), ran-looks)
 
   pub ran-fits : PicksFit n answer new state sums
   ran-fits k q p e = let t = picked-is k q p e in (t .whole, t .inside, t .room)
@@ -315,8 +389,8 @@ module _ {n : ℕ} {a : Answer} {s : State} {state sums old : List ℕ} {answer 
       go (Refused q p) e = refl
       go (Previewed t q p b k) e = refl
 
-  -- a call of picks
-  pub picks-answered : {w : ℕ} → ((zs : List ℤ) → w ≡ word (replyTo (asAnswer answer zs))) → (zs : List ℤ) {newState newSums : List ℕ}
+  -- a call that takes picks
+  pub moved-answered : (f : Answer → ℕ) {w : ℕ} → ((zs : List ℤ) → w ≡ f (asAnswer answer zs)) → (zs : List ℤ) {newState newSums : List ℕ}
       → newState ≡ leftBy (asAnswer answer zs) (bytesIn (stateOf after (take n new))) state → newSums ≡ leftBy (asAnswer answer zs) (signedBytes 8 (take n new)) sums
-      → PicksAnswered a s state sums w newState newSums
-  picks-answered f zs g i = record { returns = ran-word f; state-left = g ∙ left-is zs bytesIn state; sums-left = i ∙ left-is zs (λ (u : State). signedBytes 8 (u .sums)) sums }
+      → Moved (f a) a s state sums w newState newSums
+  moved-answered f e zs g i = record { returns = e (h .made) ∙ ap f (h .answers); state-left = g ∙ left-is zs bytesIn state; sums-left = i ∙ left-is zs (λ (u : State). signedBytes 8 (u .sums)) sums }

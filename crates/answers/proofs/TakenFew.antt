@@ -16,12 +16,16 @@ use Rattle.base.proofs.Sums.{sum-below-more, sum-below-bound}
 use Rattle.plan.specs.Sound.{maxWorkers}
 use Rattle.run.specs.Job.{Job, Accepted, workers}
 use Rattle.run.specs.Updates.{Update, count, updates, accesses, next, waits}
-use Rattle.run.specs.Machine.{reason, refusal, Outcome, moved, halted, onward, total, access, move, stepIf, step, oneMore, steps, readyBelow, ready, bits}
+use Rattle.run.specs.Machine.{reason, refusal, Outcome, moved, halted, onward, total, access, move, stepIf, step, steps, readyBelow, ready, bits}
+use Rattle.run.specs.Schedule.{Passed, pass, oneTaken, oneSkipped, nothing}
+use Rattle.run.specs.Rounds.{skips, round}
 use Rattle.run.specs.State.{State}
 use Rattle.tables.specs.code.Laid.{maxUpdates}
 use Rattle.run.proofs.Able.{able}
 use Rattle.run.proofs.Accepted.{facts}
-use Rattle.run.proofs.Schedule.{step-end, steps-on, steps-end, step-made}
+use Rattle.run.proofs.Passes.{pass-on, pass-skip, pass-end}
+use Rattle.run.proofs.Rounds.{no-skips}
+use Rattle.run.proofs.Schedule.{step-moved, step-made}
 use Rattle.layout.proofs.UpdateRoom.{room}
 use Rattle.machine.proofs.ReadyBits.{low-bits}
 
@@ -51,14 +55,25 @@ module _ (j : Job) where
       go zero l x = by (eqb (count (s .made) w % 2) 0) (fits64 (total s w u)) x
       go (suc n) l x = let z : suc n ≡ k = cc in omega arith
 
-  pub number-low : (s : State) (ws : List ℕ) → steps j s ws .number < 2 ^ 8
-  unfolding steps oneMore
-  number-low s [] = omega arith
-  number-low s (w ∷ ws) = go (step j s w) refl (λ t. number-low t ws)
+  -- of a schedule that skips what it likes
+  pass-number : (f : ℕ → Bool) (s : State) (ws : List ℕ) → pass f (step j) s ws .number < 2 ^ 8
+  unfolding pass oneTaken oneSkipped
+  pass-number f s [] = omega arith
+  pass-number f s (w ∷ ws) = go (step j s w) refl (λ t. pass-number f t ws)
     where
-      go : (o : Outcome State) → step j s w ≡ o → ((t : State) → steps j t ws .number < 2 ^ 8) → steps j s (w ∷ ws) .number < 2 ^ 8
-      go (moved t) e ih = rw (steps-on j s w ws t e) (ih t)
-      go (halted k) e ih = rw (steps-end j s w ws k e) (halted-low s w k e)
+      go : (o : Outcome State) → step j s w ≡ o → ((t : State) → pass f (step j) t ws .number < 2 ^ 8) → pass f (step j) s (w ∷ ws) .number < 2 ^ 8
+      go (moved t) e ih = rw (pass-on f (step j) s w ws t e) (ih t)
+      go (halted k) e ih = by (f k) refl
+        where
+          by : (b : Bool) → f k ≡ b → pass f (step j) s (w ∷ ws) .number < 2 ^ 8
+          by true h = rw (pass-skip f (step j) s w ws k e h) (ih s)
+          by false h = rw (pass-end f (step j) s w ws k e h) (halted-low s w k e)
+
+  pub number-low : (s : State) (ws : List ℕ) → steps j s ws .number < 2 ^ 8
+  number-low s ws = omega (arith, pass-number nothing s ws, ap (λ (r : Passed State). r .number) (no-skips j s ws))
+
+  pub round-number-low : (s : State) (ws : List ℕ) → round j s ws .number < 2 ^ 8
+  round-number-low s ws = pass-number skips s ws
 
 -- ---- how many are ready
 
@@ -94,30 +109,38 @@ module _ (j : Job) (ok : Accepted j) where
       (omega (arith, getD-set-same made w (suc (count made w)) 0 (omega (arith, facts j ok .few))))
       (λ v d. rw (getD-set-other made w v (suc (count made w)) 0 d))
 
-  -- each step that is taken leaves one less
-  taken-left : (s : State) (ws : List ℕ) → length (s .made) ≡ maxWorkers → steps j s ws .taken ≤ left (s .made)
-  unfolding steps oneMore onward
-  taken-left s [] long = omega arith
-  taken-left s (w ∷ ws) long = go (refusal j (s .made) w) refl (step j s w) refl (λ t. taken-left t ws)
+  -- each step that is taken leaves one less, whatever is skipped
+  taken-left : (f : ℕ → Bool) (s : State) (ws : List ℕ) → length (s .made) ≡ maxWorkers → pass f (step j) s ws .taken ≤ left (s .made)
+  unfolding pass oneTaken oneSkipped onward
+  taken-left f s [] long = omega arith
+  taken-left f s (w ∷ ws) long = go (step j s w) refl (λ t. taken-left f t ws)
     where
-      go : (k : ℕ) → refusal j (s .made) w ≡ k → (o : Outcome State) → step j s w ≡ o → ((t : State) → length (t .made) ≡ maxWorkers → steps j t ws .taken ≤ left (t .made))
-          → steps j s (w ∷ ws) .taken ≤ left (s .made)
-      go (suc k) e o f ih = rw (steps-end j s w ws (suc k) (step-end j s w k e)) (omega arith)
-      go zero e (halted k) f ih = rw (steps-end j s w ws k f) (omega arith)
-      go zero e (moved t) f ih =
-          let a = able j (s .made) w e in
-          let made : t .made ≡ onward (s .made) w = step-made j s w t f in
+      go : (o : Outcome State) → step j s w ≡ o → ((t : State) → length (t .made) ≡ maxWorkers → pass f (step j) t ws .taken ≤ left (t .made)) → pass f (step j) s (w ∷ ws) .taken ≤ left (s .made)
+      go (moved t) e ih =
+          let a = able j (s .made) w (step-moved j s w t e .free) in
+          let made : t .made ≡ onward (s .made) w = step-made j s w t e in
           let long′ : length (t .made) ≡ maxWorkers = ap length made ∙ length-set (s .made) w (suc (count (s .made) w)) ∙ long in
-          rw (steps-on j s w ws t f) (omega (arith, ih t long′, ap left made, one-less (s .made) w long (a .inPlan) (a .left)))
+          rw (pass-on f (step j) s w ws t e) (omega (arith, ih t long′, ap left made, one-less (s .made) w long (a .inPlan) (a .left)))
+      go (halted k) e ih = by (f k) refl
+        where
+          by : (b : Bool) → f k ≡ b → pass f (step j) s (w ∷ ws) .taken ≤ left (s .made)
+          by true h = rw (pass-skip f (step j) s w ws k e h) (ih s long)
+          by false h = rw (pass-end f (step j) s w ws k e h) (omega arith)
 
   -- no worker has more than the tables have room for
   accesses-few : (w : ℕ) → w < workers j → accesses j w ≤ 2 * maxUpdates
   unfolding accesses updates
   accesses-few w l = omega (arith, room j ok w (j .matrix .n) (omega (arith, facts j ok .few)) (omega arith))
 
-  -- so few are left
-  pub left-few : (made : List ℕ) → left made < 2 ^ 31
-  left-few made = omega (arith, sum-below-bound (λ w. accesses j w - count made w) (workers j) (2 * maxUpdates) (λ w l. omega (arith, accesses-few w l)), facts j ok .few)
+  pub left-few : (made : List ℕ) → left made < 2 ^ 24
+  left-few made = omega (
+    arith,
+    sum-below-bound (λ w. accesses j w - count made w) (workers j) (2 * maxUpdates) (λ w l. omega (arith, accesses-few w l)),
+    facts j ok .few,
+  )
 
-  pub taken-few : (s : State) (ws : List ℕ) → length (s .made) ≡ maxWorkers → steps j s ws .taken < 2 ^ 32
-  taken-few s ws long = omega (arith, taken-left s ws long, left-few (s .made))
+  pub taken-few : (s : State) (ws : List ℕ) → length (s .made) ≡ maxWorkers → steps j s ws .taken < 2 ^ 24
+  taken-few s ws long = omega (arith, taken-left nothing s ws long, left-few (s .made), ap (λ (r : Passed State). r .taken) (no-skips j s ws))
+
+  pub moves-few : (s : State) (ws : List ℕ) → length (s .made) ≡ maxWorkers → round j s ws .taken < 2 ^ 24
+  moves-few s ws long = omega (arith, taken-left skips s ws long, left-few (s .made))

@@ -2,7 +2,7 @@
 use mathlib.Core.Path.{_≡_}
 use mathlib.Core.Bool.{cond}
 use mathlib.Core.List.{List, [], _++_}
-use Prim.Native.Nat.{ℕ, zero, suc, _+_, _*_, _^_}
+use Prim.Native.Nat.{ℕ, zero, suc, _+_, _*_, _%_, _^_}
 use lib.Dec.{eqb}
 use lib.IntN.{ℤ}
 use lib.ListN.{length, take, drop}
@@ -61,6 +61,16 @@ setIn (denied number place) = 0
 abbrev pub previewWord : Answer → ℕ
 previewWord a = word (replyTo a) + setIn a
 
+-- Q-14: the word of rounds: the moves made, or the refused pick's index, in bits 0 to 31, the number in bits 32 to 39,
+-- and the moves made in bits 40 to 63, always; of an index past 32 bits the low ones
+unfoldable pub roundWord : Answer → ℕ
+roundWord (picked taken zero place) = taken + taken * 2 ^ 40
+roundWord (picked taken (suc k) place) = place % 2 ^ 32 + suc k * 2 ^ 32 + taken * 2 ^ 40
+roundWord (isReady bits count) = word (replyTo (isReady bits count))
+roundWord (forces zs) = word (replyTo (forces zs))
+roundWord (denied number place) = word (replyTo (denied number place))
+roundWord (previewed taken number place bits count) = word (replyTo (previewed taken number place bits count))
+
 -- ---- what is left in the lists that a call fills
 
 -- the bytes of the forces
@@ -79,7 +89,7 @@ ForcesAnswered a old returned new = Answered (replyTo a) (forceBytes a) old retu
 abbrev pub bytesIn : State → List ℕ
 bytesIn s = unsignedBytes 4 (s .made) ++ signedBytes 8 (s .held)
 
--- a lent list after a call of picks with this answer: as the picks taken left it, also if
+-- a lent list after a call of picks or rounds with this answer: as the picks taken left it, also if
 -- there are none; where 5, 6, 8 or 11 refused the call, as it was
 unfoldable pub leftBy : Answer → (new old : List ℕ) → List ℕ
 leftBy (picked taken number place) new old = stored new old
@@ -88,8 +98,16 @@ leftBy (forces zs) new old = old
 leftBy (denied number place) new old = old
 leftBy (previewed taken number place bits count) new old = old
 
--- a call of picks with this answer that leaves this state: the returned word, and the lent lists after it
-pub record PicksAnswered (a : Answer) (s : State) (state sums : List ℕ) (returned : ℕ) (newState newSums : List ℕ) : Type 0 where
-  pub returns : returned ≡ word (replyTo a)
+-- a call that takes picks, with this word and answer, and leaves this state: the returned word, and the lent lists
+-- after it
+pub record Moved (told : ℕ) (a : Answer) (s : State) (state sums : List ℕ) (returned : ℕ) (newState newSums : List ℕ) : Type 0 where
+  pub returns : returned ≡ told
   pub state-left : newState ≡ leftBy a (bytesIn s) state
   pub sums-left : newSums ≡ leftBy a (signedBytes 8 (s .sums)) sums
+
+-- of picks, and of rounds
+abbrev pub PicksAnswered : Answer → State → (state sums : List ℕ) (returned : ℕ) (newState newSums : List ℕ) → Type 0
+PicksAnswered a = Moved (word (replyTo a)) a
+
+abbrev pub RoundsAnswered : Answer → State → (state sums : List ℕ) (returned : ℕ) (newState newSums : List ℕ) → Type 0
+RoundsAnswered a = Moved (roundWord a) a

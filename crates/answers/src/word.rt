@@ -7,8 +7,8 @@ ghost use Prim.Native.Nat.{_^_, _<_};
 ghost use lib.IntN.{ℤ};
 ghost use Rattle.run.specs.Answers.{picked};
 ghost use Rattle.calls.specs.Performed.{asAnswer};
-ghost use Rattle.answers.specs.Runs.{replyTo, setIn, previewWord};
-ghost use Rattle.answers.specs.code.Ran.{LowPlace, Looks};
+ghost use Rattle.answers.specs.Runs.{replyTo, setIn, previewWord, roundWord};
+ghost use Rattle.answers.specs.code.Ran.{LowPlace, LowMoves, Looks};
 ghost use Rattle.lent.specs.Word.{word};
 
 // 2 ^ 40 and 2 ^ 48: where the count and the bits of a preview's ready set stand in its word.
@@ -59,4 +59,19 @@ pub fn word_of_preview(answer: Response) -> u64
     ensures { λ r. ⌜ ((forces : List ℤ) → r ≡ previewWord (asAnswer answer forces)) ⌝ }
 {
     word_of(answer) + set_of(answer)
+}
+
+// The word of rounds: the moves made, or the number and place of what ended them, and above them the moves made.
+pub fn word_of_round(answer: Response) -> u64
+    requires { ⌜ LowMoves answer ⌝ }
+    ensures { λ r. ⌜ ((forces : List ℤ) → r ≡ roundWord (asAnswer answer forces)) ⌝ }
+{
+    let Response::Picked(taken, why, place) = answer else {
+        return word_of(answer);
+    };
+    let moves = taken as u64 * 1099511627776;
+    if why == 0 {
+        return taken as u64 + moves;
+    }
+    (place % 4294967296) as u64 + why as u64 * 4294967296 + moves
 }

@@ -51,7 +51,7 @@ pub fn perform_in(
     call: Call,
 ) -> Done
     requires { ⌜ length (now new) ≡ maxStarts ⌝ }
-    ensures { λ r. ⌜ Ran n
+    ensures { λ r. ⌜ Ran n (asCall call (now (schedule .entry)) (length (now (forces .entry)) / 8))
         (answerIn (matrixIn n (now («row_starts» .entry)) (now (columns .entry)) (now (values .entry))) (signed 4 (now (movements .entry))) (unsigned 4 (now (order .entry))) (unsigned 4 (now (groups .entry))) «group_count»
         (now (state .entry)) (now (sums .entry)) (asCall call (now (schedule .entry)) (length (now (forces .entry)) / 8)))
         (afterLent (matrixIn n (now («row_starts» .entry)) (now (columns .entry)) (now (values .entry))) (signed 4 (now (movements .entry))) (unsigned 4 (now (order .entry))) (unsigned 4 (now (groups .entry))) «group_count»

@@ -19,6 +19,7 @@ asCall call.Picks schedule room = calls.picks schedule
 asCall call.ReadySet schedule room = calls.readySet
 asCall call.ForceList schedule room = calls.forceList room
 asCall call.Preview schedule room = calls.preview schedule
+asCall call.Rounds schedule room = calls.rounds schedule
 
 -- what is answered; forces are those that the call leaves in the lent list
 abbrev pub asAnswer : Response → (forces : List ℤ) → calls.Answer

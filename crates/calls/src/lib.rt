@@ -12,6 +12,7 @@ use layout::counts::first_updates;
 use machine::state::State;
 use matrix::limits::MAX_ROWS;
 use multiply::check_displacements;
+use picks::is_taken;
 use picks::picks;
 use picks::preview;
 use plan::fields::WIDTH;
@@ -22,6 +23,7 @@ use symmetric::is_matrix;
 use upper::sizes::sizes_of;
 ghost use mathlib.Core.Path.{_≡_};
 ghost use mathlib.Core.Logic.{_≢_};
+ghost use mathlib.Core.Bool.{false};
 ghost use mathlib.Core.List.{List};
 ghost use Prim.Native.Nat.{ℕ, _/_};
 ghost use lib.IntN.{ℤ};
@@ -34,17 +36,18 @@ ghost use Rattle.run.specs.Calls.{jobChecks};
 ghost use Rattle.run.specs.Job.{jobOf};
 ghost use Rattle.layout.specs.code.UpdateTable.{Given};
 ghost use Rattle.machine.specs.Record.{stateOf};
-ghost use Rattle.calls.specs.declared.Call.the-variants.{Picks, Preview};
+ghost use Rattle.calls.specs.declared.Call.the-variants.{Preview};
 ghost use Rattle.calls.specs.Performed.{asCall, asAnswer, Performed};
-ghost use Rattle.calls.specs.code.Made.{Made};
+ghost use Rattle.calls.specs.code.Made.{isTaken, Made};
 
 // What is asked of a run: that it take the picks of a lent schedule, who is ready, its forces for a lent list, what
-// the picks of a lent schedule would do.
+// the picks of a lent schedule would do, that it take those of them whose workers can move.
 pub enum Call {
     Picks,
     ReadySet,
     ForceList,
     Preview,
+    Rounds,
 }
 
 // The answer: picks taken, and what ended them where; a bit for each worker, and their count; forces, which stand in the
@@ -112,7 +115,7 @@ fn report(
 ) -> Response
     requires { ⌜ ((values : List ℤ) × (x : List ℤ) × Given (length (now sums)) (now starts) (now columns) values x (now order) (now groups) (length (now groups) / width)) ⌝ }
     ensures { λ r. ⌜ ((values x : List ℤ) (schedule : List ℕ) → Given (length (now (sums .entry))) (now (starts .entry)) (now (columns .entry)) values x (now (order .entry)) (now (groups .entry)) (length (now (groups .entry)) / width)
-        → call ≢ Picks → call ≢ Preview → Made (jobOf (matrixOf (length (now (sums .entry))) (now (starts .entry)) (now (columns .entry)) values) x (now (order .entry)) (now (groups .entry)) (length (now (groups .entry)) / width))
+        → isTaken call ≡ false → call ≢ Preview → Made (jobOf (matrixOf (length (now (sums .entry))) (now (starts .entry)) (now (columns .entry)) values) x (now (order .entry)) (now (groups .entry)) (length (now (groups .entry)) / width))
         (stateOf state (now (sums .entry))) (asCall call schedule (length (now (forces .entry)))) (now (forces .entry))
         (asAnswer r (take (length (now (sums .entry))) (now (forces .exit)))) (stateOf state (now (sums .entry))) (now (forces .exit))) ⌝ }
 {
@@ -170,7 +173,7 @@ pub fn perform(
     }
     let size = WIDTH * count as usize;
     let records = &groups[..size];
-    if let Call::Picks = call {
+    if is_taken(call) {
         return picks(
             starts,
             columns,

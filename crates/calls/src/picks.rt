@@ -29,7 +29,30 @@ ghost use Rattle.run.specs.Job.{jobOf};
 ghost use Rattle.layout.specs.code.UpdateTable.{Given};
 ghost use Rattle.machine.specs.Record.{stateOf};
 ghost use Rattle.calls.specs.Performed.{asAnswer};
-ghost use Rattle.calls.specs.code.Made.{Made, toldBy, Taken};
+ghost use Rattle.calls.specs.code.Made.{Made, isTaken, ruleOf, toldBy, Taken};
+
+// Whether a call takes the picks that it names.
+pub(crate) fn is_taken(call: Call) -> bool
+    ensures { λ r. ⌜ r ≡ isTaken call ⌝ }
+{
+    match call {
+        Call::Picks => true,
+        Call::ReadySet => false,
+        Call::ForceList => false,
+        Call::Preview => false,
+        Call::Rounds => true,
+    }
+}
+
+// Whether they are passed over where their workers cannot move.
+fn rule_of(call: Call) -> Rule
+    ensures { λ r. ⌜ r ≡ ruleOf call ⌝ }
+{
+    if let Call::Rounds = call {
+        return Rule::Skip;
+    }
+    Rule::Stop
+}
 
 // The place of an ending: the pick's index; 0 if none ended the picks.
 fn place_of(number: u32, past: usize) -> usize
@@ -92,7 +115,7 @@ pub(crate) fn picks(
     let reached = state.take(
         sums,
         schedule,
-        Rule::Stop,
+        rule_of(call),
         groups,
         &sizes,
         first,

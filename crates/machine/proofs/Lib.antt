@@ -1,5 +1,4 @@
-pub mod ScheduleLoop
-pub mod StopSteps
+pub mod UnderRules
 pub mod AllBelow
 pub mod TableWaits
 pub mod BlockedLeaves

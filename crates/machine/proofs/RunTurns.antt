@@ -30,7 +30,7 @@ use Rattle.run.proofs.Able.{able}
 use Rattle.machine.proofs.TableWaits.{table-reason}
 use Rattle.steps.proofs.TableUpdates.{table-update}
 use Rattle.machine.proofs.BlockedLeaves.{whole-crew, waits-of}
-use Rattle.machine.proofs.ScheduleLoop.{Left, left-start, left-step, left-past, left-halt, left-none}
+use Rattle.run.proofs.Passes.{Left, left-start, left-step, left-skip, left-halt, left-none}
 
 -- ---- a step is the machine's
 
@@ -146,17 +146,17 @@ module _ (T : Tables) where
     pub long : length (s .made) ≡ maxWorkers
     pub blocked : Blocks (T .count) (T .groups) (T .ends) (s .made) blocks
     pub ahead : Ahead (T .count) (T .groups) (T .ends) (s .made) stops
-    pub left : EachJob (λ j. Left rule j s₀ schedule n k s)
+    pub left : EachJob (λ j. Left (passesOver rule) (step j) s₀ schedule k n s)
 
 module _ {T : Tables} {rule : Rule} {s₀ : State} {schedule : List ℕ} where
   -- at first
   pub running-start : {blocks stops : List ℕ} → T .crew ≡ recordAt (T .groups) 0 .workers → length (s₀ .made) ≡ maxWorkers → Blocks (T .count) (T .groups) (T .ends) (s₀ .made) blocks → Ahead (T .count) (T .groups) (T .ends) (s₀ .made) stops → Running T rule s₀ schedule 0 0 s₀ blocks stops
-  running-start c e b a = record { crew = c; long = e; blocked = b; ahead = a; left = λ j ok is laid t. left-start rule j s₀ schedule }
+  running-start c e b a = record { crew = c; long = e; blocked = b; ahead = a; left = λ j ok is laid t. left-start (passesOver rule) (step j) s₀ schedule }
 
   module _ {n k : ℕ} {s : State} {blocks stops : List ℕ} (r : Running T rule s₀ schedule n k s blocks stops) where
     -- all picks are gone through
-    pub running-none : k ≡ length schedule → EachJob T (λ j. record { state = s; taken = n; past = k; number = 0 } ≡ walk rule j s₀ schedule)
-    running-none l j ok is laid t = left-none rule j s₀ schedule n k s (r .left j ok is laid t) l
+    pub running-none : k ≡ length schedule → EachJob T (λ j. record { state = s; taken = n; met = k; number = 0 } ≡ walk rule j s₀ schedule)
+    running-none l j ok is laid t = left-none (passesOver rule) (step j) s₀ schedule k n s (r .left j ok is laid t) l
 
     -- the next pick
     module _ (few : T .crew ≤ maxWorkers) (R : Recorded (T .count) (T .groups)) (l : k < length schedule) {number : ℕ} {new : State}
@@ -172,10 +172,10 @@ module _ {T : Tables} {rule : Rule} {s₀ : State} {schedule : List ℕ} where
         halts j ok is laid t = is-step j ok is laid t ∙ outcome-halted number new q
 
         -- it is refused, and ends the schedule
-        pub running-halt : passesOver rule number ≡ false → EachJob T (λ j. record { state = new; taken = n; past = k; number = number } ≡ walk rule j s₀ schedule)
+        pub running-halt : passesOver rule number ≡ false → EachJob T (λ j. record { state = new; taken = n; met = k; number = number } ≡ walk rule j s₀ schedule)
         running-halt p j ok is laid t =
-            ap (λ (y : State). record { state = y; taken = n; past = k; number = number }) (h .kept q)
-            ∙ left-halt rule j s₀ schedule n k s (r .left j ok is laid t) l number (halts j ok is laid t) p
+            ap (λ (y : State). record { state = y; taken = n; met = k; number = number }) (h .kept q)
+            ∙ left-halt (passesOver rule) (step j) s₀ schedule k n s (r .left j ok is laid t) l number (halts j ok is laid t) p
 
         -- .. or is passed over
         pub running-past : passesOver rule number ≡ true → Running T rule s₀ schedule n (k + 1) new blocks stops
@@ -184,10 +184,7 @@ module _ {T : Tables} {rule : Rule} {s₀ : State} {schedule : List ℕ} where
           long = r .long;
           blocked = r .blocked;
           ahead = r .ahead;
-          left = λ j ok is laid t.
-              (let more : n + 0 ≡ n = omega arith in
-              subst (λ (y : ℕ). Left rule j s₀ schedule n y s) (sym (add-one k))
-              (subst (λ (y : ℕ). Left rule j s₀ schedule y (suc k) s) more (left-past rule j s₀ schedule n k s (r .left j ok is laid t) l number (halts j ok is laid t) p)));
+          left = λ j ok is laid t. subst (λ (y : ℕ). Left (passesOver rule) (step j) s₀ schedule y n s) (sym (add-one k)) (left-skip (passesOver rule) (step j) s₀ schedule k n s (r .left j ok is laid t) l number (halts j ok is laid t) p);
         })
 
       module _ (q : number ≡ 0) where
@@ -199,11 +196,10 @@ module _ {T : Tables} {rule : Rule} {s₀ : State} {schedule : List ℕ} where
         unfolding onward
         next-long = ap length one-more ∙ length-set (s .made) w (suc (getD (s .made) w 0)) ∙ r .long
 
-        next-left : EachJob T (λ j. Left rule j s₀ schedule (n + 1) (k + 1) new)
+        next-left : EachJob T (λ j. Left (passesOver rule) (step j) s₀ schedule (k + 1) (n + 1) new)
         unfolding outcomeOf
         next-left j ok is laid t =
-            subst (λ (y : ℕ). Left rule j s₀ schedule (n + 1) y new) (sym (add-one k))
-            (left-step rule j s₀ schedule n k s (r .left j ok is laid t) l new (is-step j ok is laid t ∙ ap (λ (y : ℕ). outcomeOf y new) q))
+            rw (add-one k, add-one n) (left-step (passesOver rule) (step j) s₀ schedule k n s (r .left j ok is laid t) l new (is-step j ok is laid t ∙ ap (λ (y : ℕ). outcomeOf y new) q))
 
         -- the blocked groups are found anew
         pub running-renewed : {blocks′ stops′ : List ℕ} → Blocks (T .count) (T .groups) (T .ends) (new .made) blocks′ → Ahead (T .count) (T .groups) (T .ends) (new .made) stops′ → Running T rule s₀ schedule (n + 1) (k + 1) new blocks′ stops′

@@ -7,6 +7,7 @@ pub mod join;
 pub mod nets;
 pub mod preview;
 pub mod read_plan;
+pub mod rounds;
 pub mod runs;
 pub mod survey;
 pub mod write_plan;

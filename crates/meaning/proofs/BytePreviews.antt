@@ -26,7 +26,7 @@ use Rattle.run.specs.Calls.{pickedOf, answerOf, afterOf, stateCheck, answer, af
 use Rattle.run.specs.Answers.{picks, readySet, preview, Answer, denied, shown}
 use Rattle.run.specs.LentRuns.{passed}
 use Rattle.run.proofs.Accepted.{accesses-small}
-use Rattle.run.proofs.Fits.{Fit, Fits, after-fits}
+use Rattle.run.proofs.Fits.{Fit, Fits, get-each, after-fits}
 use Rattle.run.proofs.LentRuns.{lent-runs}
 use Rattle.run.proofs.OnCopy.{on-copy}
 use Rattle.run.proofs.Schedule.{steps-on, steps-end, step-moved}
@@ -35,8 +35,7 @@ use Rattle.words.specs.LittleEndian.{number, toSigned, signedNumber, wholeBlock
 use Rattle.words.proofs.Blocks.{length-decoded}
 use Rattle.answers.specs.Runs.{stateBytes, countBytes, Bytes, stateIn, answerIn, bytesIn, leftBy}
 use Rattle.answers.proofs.RunCalls.{always-refused}
-use Rattle.meaning.specs.ByteRuns.{byteAnswer, picksLeave, byteAfter, BytePreviews}
-use Rattle.meaning.proofs.EachIn.{each-below}
+use Rattle.meaning.specs.ByteRuns.{byteAnswer, stateLeft, bytesMoved, byteAfter, BytePreviews}
 use Rattle.meaning.proofs.StateBack.{Sized, state-left}
 
 -- a refusal is shown as it is
@@ -104,7 +103,7 @@ module _ (j : Job) where
     counts-fit : length (s .made) ≡ maxWorkers → Each (λ k. k < 2 ^ 32) (s .made)
     unfolding isState
     counts-fit long =
-        each-below (λ k. k < 2 ^ 32) (s .made) 0 (λ i l.
+        get-each (λ k. k < 2 ^ 32) (s .made) 0 (λ i l.
         omega (arith, accesses-small j ok i (omega arith), fine-below (s .made) maxWorkers (and-right (eqb (length (s .sums)) (j .matrix .n)) (countsFine j (s .made) maxWorkers) is) i (omega arith)))
 
 module _ (m : Matrix) (x : List ℤ) (order groups : List ℕ) (count : ℕ) (b : Bytes) (ws : List ℕ) where
@@ -132,7 +131,7 @@ module _ (m : Matrix) (x : List ℤ) (order groups : List ℕ) (count : ℕ) (b 
 
     -- the state that the picks leave is read back from the bytes that they leave
     taken : isState j s ≡ true → Same
-    unfolding byteAnswer answerIn byteAfter picksLeave leftBy pickedOf
+    unfolding byteAnswer answerIn byteAfter bytesMoved stateLeft leftBy pickedOf
     taken is = on-copy .same m x order groups count s ws ∙ ap (shown (answerLent m x order groups count s (picks ws))) (sym there)
       where
         t : State

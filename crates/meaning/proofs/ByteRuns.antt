@@ -12,9 +12,10 @@ use Rattle.matrix.specs.Matrix.{Matrix}
 use Rattle.matrix.specs.Product.{product}
 use Rattle.run.specs.Job.{Job, jobOf}
 use Rattle.run.specs.Machine.{isState, steps}
+use Rattle.run.specs.Rounds.{round}
 use Rattle.run.specs.State.{State, fresh}
-use Rattle.run.specs.Calls.{pickedOf, answerOf, afterOf, stateCheck, answer, after}
-use Rattle.run.specs.Answers.{Call, picks, readySet, forceList, preview, Answer, forces}
+use Rattle.run.specs.Calls.{pickedOf, passedOf, answerOf, afterOf, stateCheck, answer, after}
+use Rattle.run.specs.Answers.{Call, picks, readySet, forceList, preview, rounds, Answer, picked, forces}
 use Rattle.run.specs.EveryRun.{runState, runAnswers, finishedRun}
 use Rattle.run.specs.LentRuns.{passed, LentRun}
 use Rattle.run.proofs.Sequence.{all-answered, all-left, all-met}
@@ -27,7 +28,7 @@ use Rattle.run.proofs.LentRuns.{lent-runs}
 use Rattle.words.specs.LittleEndian.{signedBytes, stored}
 use Rattle.lent.specs.Word.{word}
 use Rattle.answers.specs.Runs.{stateBytes, answerIn, replyTo, forceBytes, ForcesAnswered, bytesIn, leftBy}
-use Rattle.meaning.specs.ByteRuns.{inBytes, byteAnswer, picksLeave, byteAfter, byteAnswers, runBytes, ByteRun, ByteRuns}
+use Rattle.meaning.specs.ByteRuns.{inBytes, byteAnswer, stateLeft, bytesMoved, byteAfter, byteAnswers, runBytes, ByteRun, ByteRuns}
 use Rattle.meaning.proofs.StateBack.{Sized, state-length, state-back, sums-length, zeros-fresh}
 use Rattle.answers.proofs.StateBytes.{stored-over}
 
@@ -67,31 +68,36 @@ module _ (m : Matrix) (x : List ℤ) (order groups : List ℕ) (count : ℕ) (pa
   unfolding byteAnswer answerIn
   one-answer s k c = rw (eq-eqb (length (bytesIn s)) stateBytes (state-length s (sized s k)), state-back s (sized s k)) (same .answered s c)
 
-  one-left : (s : State) → Met s → (ws : List ℕ) → picksLeave m x order groups count (inBytes s) ws ≡ after job s (picks ws)
-  unfolding picksLeave
-  one-left s k ws = rw (state-back s (sized s k)) (same .left s (picks ws))
+  one-left : (s : State) → Met s → (c : Call) → stateLeft m x order groups count (inBytes s) c ≡ after job s c
+  unfolding stateLeft
+  one-left s k c = rw (state-back s (sized s k)) (same .left s c)
 
   -- picks are taken, if only some or none: no check refuses them
-  picks-answer : (s : State) → Met s → (ws : List ℕ) → answer job s (picks ws) ≡ pickedOf (steps job s ws .taken) (steps job s ws .number)
-  unfolding answer stateCheck inTurn answerOf
-  picks-answer s k ws = rw (is-state s k)
-
-  picks-after : (s : State) → Met s → (ws : List ℕ) → byteAfter m x order groups count (inBytes s) (picks ws) ≡ inBytes (after job s (picks ws))
-  unfolding byteAfter leftBy pickedOf
-  picks-after s k ws =
-      let t = after job s (picks ws) in
-      let l = met-after s k (picks ws) in
+  one-moved : (s : State) → Met s → (c : Call) {t q p : ℕ} → answer job s c ≡ picked t q p → bytesMoved m x order groups count (inBytes s) c ≡ inBytes (after job s c)
+  unfolding bytesMoved leftBy
+  one-moved s k c e =
+      let t = after job s c in
+      let l = met-after s k c in
       rw (
-        one-answer s k (picks ws),
-        picks-answer s k ws,
-        one-left s k ws,
+        one-answer s k c,
+        e,
+        one-left s k c,
         stored-over (bytesIn t) (bytesIn s) (state-length t (sized t l) ∙ sym (state-length s (sized s k))),
         stored-over (signedBytes 8 (t .sums)) (signedBytes 8 (s .sums)) (sums-length (t .sums) (s .sums) (l .inv .sums-length ∙ sym (k .inv .sums-length))),
       )
 
+  picks-answer : (s : State) → Met s → (ws : List ℕ) → answer job s (picks ws) ≡ pickedOf (steps job s ws .taken) (steps job s ws .number)
+  unfolding answer stateCheck inTurn answerOf
+  picks-answer s k ws = rw (is-state s k)
+
+  rounds-answer : (s : State) → Met s → (ws : List ℕ) → answer job s (rounds ws) ≡ passedOf (round job s ws)
+  unfolding answer stateCheck inTurn answerOf
+  rounds-answer s k ws = rw (is-state s k)
+
   one-after : (s : State) → Met s → (c : Call) → byteAfter m x order groups count (inBytes s) c ≡ inBytes (after job s c)
-  unfolding byteAfter after stateCheck inTurn afterOf
-  one-after s k (picks ws) = picks-after s k ws
+  unfolding byteAfter after stateCheck inTurn afterOf pickedOf passedOf
+  one-after s k (picks ws) = one-moved s k (picks ws) (picks-answer s k ws)
+  one-after s k (rounds ws) = one-moved s k (rounds ws) (rounds-answer s k ws)
   one-after s k readySet = rw (is-state s k)
   one-after s k (forceList room) = rw (is-state s k)
   one-after s k (preview ws) = rw (is-state s k)

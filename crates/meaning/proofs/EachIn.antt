@@ -1,9 +1,7 @@
 -- A property of every element, through filters and concatenations.
 use mathlib.Core.Bool.{Bool, true, false}
 use mathlib.Core.List.{List, [], _∷_, map}
-use Prim.Native.Nat.{ℕ, zero, suc, _<_}
-use native.Mathlib.Omega.{arith}
-use lib.ListN.{length, getD}
+use Prim.Native.Nat.{ℕ, zero, suc}
 use Rattle.base.specs.Lists.{filter, keep, concat, range}
 use Rattle.base.proofs.Each.{Each, each-append}
 
@@ -34,8 +32,3 @@ each-mapped P Q f h (x ∷ xs) k = (h x (k .0), each-mapped P Q f h xs (k .1))
 pub each-made : {A : Type 0} (P : A → Type 0) (f : ℕ → A) → ((i : ℕ) → P (f i)) → (k n : ℕ) → Each P (map f (range k n))
 each-made P f h k zero = tt
 each-made P f h k (suc n) = (h k, each-made P f h (suc k) n)
-
--- .. of those at each place
-pub each-below : {A : Type 0} (P : A → Type 0) (xs : List A) (d : A) → ((i : ℕ) → i < length xs → P (getD xs i d)) → Each P xs
-each-below P [] d h = tt
-each-below P (x ∷ xs) d h = (h 0 (omega arith), each-below P xs d (λ i l. h (suc i) (omega arith)))

@@ -1,8 +1,9 @@
 -- The word of every call's reply tells it.
-use mathlib.Core.Path.{_≡_, refl, ap}
+use mathlib.Core.Logic.{_≢_}
+use mathlib.Core.Path.{_≡_, refl, ap, _∙_}
 use mathlib.Core.Bool.{Bool, true, false, _&&_, not, cond}
 use mathlib.Core.List.{List, [], _∷_, _++_}
-use Prim.Native.Nat.{ℕ, zero, suc, _+_, _*_, _-_, _^_, _≤_, _<_}
+use Prim.Native.Nat.{ℕ, zero, suc, _+_, _*_, _-_, _/_, _%_, _^_, _≤_, _<_}
 use native.Mathlib.Omega.{arith}
 use lib.Dec.{eqb, ltb, leb}
 use lib.IntN.{ℤ, pos, negsuc}
@@ -43,9 +44,11 @@ use Rattle.race.specs.Planner.{plan, planReply}
 use Rattle.race.proofs.PlannedSound.{planned-sound}
 use Rattle.run.specs.Job.{Job, jobOf, Accepted}
 use Rattle.run.specs.Machine.{steps, ready, bits, over}
+use Rattle.run.specs.Rounds.{round}
 use Rattle.run.specs.State.{State}
-use Rattle.run.specs.Calls.{placeOf, pickedOf, readyOf, forcesOf, answerOf, stateCheck, answer, jobChecks, answerLent}
-use Rattle.run.specs.Answers.{Call, picks, readySet, forceList, preview, Answer, shown}
+use Rattle.run.specs.EveryRun.{takenOf}
+use Rattle.run.specs.Calls.{placeOf, pickedOf, passedOf, readyOf, forcesOf, answerOf, stateCheck, answer, jobChecks, answerLent}
+use Rattle.run.specs.Answers.{Call, picks, readySet, forceList, preview, rounds, Answer, shown}
 use Rattle.run.specs.Answers as calls
 use Rattle.run.specs.LentRuns.{passed}
 use Rattle.run.proofs.Fits.{each-get}
@@ -59,9 +62,9 @@ use Rattle.lent.specs.Word.{word}
 use Rattle.barrier.specs.Registers.{register, isUp}
 use Rattle.barrier.proofs.BarrierUnit.{bit-small, read-small}
 use Rattle.board.specs.Unit.{unitSize, unitIn, writeUnitReply, readUnitReply, lineReply, releasesReply}
-use Rattle.answers.specs.Runs.{stateBytes, countBytes, stateIn, answerIn, replyTo, setIn}
-use Rattle.answers.proofs.TakenFew.{number-low, few-ready, ready-low, taken-few}
-use Rattle.meaning.specs.Words.{numberIn, placeIn, Told, Foretold, Words}
+use Rattle.answers.specs.Runs.{stateBytes, countBytes, stateIn, answerIn, replyTo, setIn, roundWord}
+use Rattle.answers.proofs.TakenFew.{number-low, round-number-low, few-ready, ready-low, taken-few, moves-few}
+use Rattle.meaning.specs.Words.{numberIn, placeIn, Told, Foretold, RoundsTold, Words}
 use Rattle.meaning.proofs.SmallMatrix.{full-few}
 
 -- ---- one reply
@@ -287,12 +290,13 @@ module _ (j : Job) (ok : Accepted j) (s : State) (long : length (s .made) ≡ ma
   unfolding readyOf replyTo
   ready-tells = told-accepted _ (omega (arith, ready-low j ok (s .made), few-ready j ok (s .made)))
 
-  answer-tells : (c : Call) → Tells (answer j s c)
+  answer-tells : (c : Call) → ((ws : List ℕ) → c ≢ calls.rounds ws) → Tells (answer j s c)
   unfolding answer stateCheck answerOf
-  answer-tells (picks ws) = turn Tells calls.denied _ [] _ (tells-refused why.notState 0 (omega arith) (omega arith)) (λ e. last Tells calls.denied _ (picked-tells (steps j s ws .taken) (steps j s ws .number) (taken-few j ok s ws long)))
-  answer-tells readySet = turn Tells calls.denied _ [] _ (tells-refused why.notState 0 (omega arith) (omega arith)) (λ e. last Tells calls.denied _ ready-tells)
-  answer-tells (preview ws) = turn Tells calls.denied _ [] _ (tells-refused why.notState 0 (omega arith) (omega arith)) (λ e. last Tells calls.denied _ (preview-tells (steps j s ws .taken) (steps j s ws .number) _ (taken-few j ok s ws long)))
-  answer-tells (forceList room) = turn Tells calls.denied _ [] _ (tells-refused why.notState 0 (omega arith) (omega arith)) (λ e. last Tells calls.denied _ (forces-tell (over j (s .made)) (leb (j .matrix .n) room) _ (matrix-facts (j .matrix) (ok .matrix) .few)))
+  answer-tells (picks ws) d = turn Tells calls.denied _ [] _ (tells-refused why.notState 0 (omega arith) (omega arith)) (λ e. last Tells calls.denied _ (picked-tells (steps j s ws .taken) (steps j s ws .number) (omega (arith, taken-few j ok s ws long))))
+  answer-tells readySet d = turn Tells calls.denied _ [] _ (tells-refused why.notState 0 (omega arith) (omega arith)) (λ e. last Tells calls.denied _ ready-tells)
+  answer-tells (preview ws) d = turn Tells calls.denied _ [] _ (tells-refused why.notState 0 (omega arith) (omega arith)) (λ e. last Tells calls.denied _ (preview-tells (steps j s ws .taken) (steps j s ws .number) _ (omega (arith, taken-few j ok s ws long))))
+  answer-tells (forceList room) d = turn Tells calls.denied _ [] _ (tells-refused why.notState 0 (omega arith) (omega arith)) (λ e. last Tells calls.denied _ (forces-tell (over j (s .made)) (leb (j .matrix .n) room) _ (matrix-facts (j .matrix) (ok .matrix) .few)))
+  answer-tells (rounds ws) d = absurd (d ws refl)
 
 -- what holds of refusals, and of the answers on accepted jobs, holds of all answers in bytes
 module _ (P : Answer → Type 0) (refuses : (q p : ℕ) → 1 ≤ q → q < 2 ^ 8 → p < 2 ^ 32 → P (calls.denied q p)) (m : Matrix) (x : List ℤ) (order groups : List ℕ) (count : ℕ) where
@@ -316,8 +320,8 @@ module _ (P : Answer → Type 0) (refuses : (q p : ℕ) → 1 ≤ q → q < 2 ^ 
           (rw (length-decoded number 4 (take countBytes state), length-take-le countBytes state (omega arith))))
       go false e = checks-hold _ (λ pass. refuses why.notState 0 (omega arith) (omega arith) (omega arith))
 
-run-tells : (m : Matrix) (x : List ℤ) (order groups : List ℕ) (count : ℕ) (state sums : List ℕ) (c : Call) → Tells (answerIn m x order groups count state sums c)
-run-tells m x order groups count state sums c = in-bytes Tells (λ q p h k l. tells-refused q p h l) m x order groups count c (λ j ok s long. answer-tells j ok s long c) state sums
+run-tells : (m : Matrix) (x : List ℤ) (order groups : List ℕ) (count : ℕ) (state sums : List ℕ) (c : Call) → ((ws : List ℕ) → c ≢ calls.rounds ws) → Tells (answerIn m x order groups count state sums c)
+run-tells m x order groups count state sums c d = in-bytes Tells (λ q p h k l. tells-refused q p h l) m x order groups count c (λ j ok s long. answer-tells j ok s long c d) state sums
 
 -- ---- a preview's word
 
@@ -334,7 +338,32 @@ preview-foretold : (m : Matrix) (x : List ℤ) (order groups : List ℕ) (count 
 unfolding answer stateCheck answerOf readyOf
 preview-foretold m x order groups count state sums ws = in-bytes Foretold foretold-refused m x order groups count (calls.preview ws) (λ j ok s long.
     turn Foretold calls.denied _ [] _ (foretold-refused why.notState 0 (omega arith) (omega arith) (omega arith)) (λ e. last Foretold calls.denied _
-    (let made = steps j s ws .state .made in foretold (steps j s ws .taken) (steps j s ws .number) (bits (ready j made)) (length (ready j made)) (taken-few j ok s ws long) (number-low j s ws) (omega (arith, few-ready j ok made)) (ready-low j ok made)))) state sums
+    (let made = steps j s ws .state .made in foretold (steps j s ws .taken) (steps j s ws .number) (bits (ready j made)) (length (ready j made)) (omega (arith, taken-few j ok s ws long)) (number-low j s ws) (omega (arith, few-ready j ok made)) (ready-low j ok made)))) state sums
+
+-- ---- the word of rounds
+
+rounds-refused : (q p : ℕ) → 1 ≤ q → q < 2 ^ 8 → p < 2 ^ 32 → RoundsTold (calls.denied q p)
+unfolding roundWord replyTo word numberIn placeIn takenOf
+rounds-refused q p h k l = record { low = omega arith; number = omega arith; moves = omega arith }
+
+parts : (r q t : ℕ) → r < 2 ^ 32 → q < 2 ^ 8
+    → ((r + q * 2 ^ 32 + t * 2 ^ 40) % 2 ^ 32 ≡ r) × ((r + q * 2 ^ 32 + t * 2 ^ 40) / 2 ^ 32 % 2 ^ 8 ≡ q) × ((r + q * 2 ^ 32 + t * 2 ^ 40) / 2 ^ 40 ≡ t)
+parts r q t h k = (omega arith, omega arith, omega arith)
+
+round-told : (taken number place : ℕ) → taken < 2 ^ 24 → number < 2 ^ 8 → RoundsTold (calls.picked taken number (placeOf number place))
+unfolding placeOf roundWord replyTo numberIn placeIn takenOf
+round-told taken zero place l q =
+    let p = parts taken 0 taken (omega arith) (omega arith) in
+    let e : taken + taken * 2 ^ 40 ≡ taken + 0 * 2 ^ 32 + taken * 2 ^ 40 = omega arith in
+    let low : taken ≡ taken % 2 ^ 32 = omega arith in
+    record { low = ap (λ (w : ℕ). w % 2 ^ 32) e ∙ p .0 ∙ low; number = ap (λ (w : ℕ). w / 2 ^ 32 % 2 ^ 8) e ∙ p .1; moves = ap (λ (w : ℕ). w / 2 ^ 40) e ∙ p .2 }
+round-told taken (suc n) place l q = let p = parts (place % 2 ^ 32) (suc n) taken (omega arith) q in record { low = p .0; number = p .1; moves = p .2 }
+
+rounds-told : (m : Matrix) (x : List ℤ) (order groups : List ℕ) (count : ℕ) (state sums ws : List ℕ) → RoundsTold (answerIn m x order groups count state sums (calls.rounds ws))
+unfolding answer stateCheck answerOf passedOf
+rounds-told m x order groups count state sums ws = in-bytes RoundsTold rounds-refused m x order groups count (calls.rounds ws) (λ j ok s long.
+    turn RoundsTold calls.denied _ [] _ (rounds-refused why.notState 0 (omega arith) (omega arith) (omega arith)) (λ e. last RoundsTold calls.denied _
+    (round-told (round j s ws .taken) (round j s ws .number) (round j s ws .met) (moves-few j ok s ws long) (round-number-low j s ws)))) state sums
 
 -- ---- plan files
 
@@ -414,4 +443,4 @@ module _ (unit : List ℕ) where
 
 -- the theorem
 pub words : Words
-words = record { read = λ text starts columns values. read-told text _ _ _; write = write-told; product = product-told; survey = survey-told; set = λ k c. set-told (k .matrix) (k .displacements) (k .forces) c; join = join-told; plan = λ m w p k order groups. plan-told m w p k _ _; check = check-told; write-plan = write-plan-told; read-plan = read-plan-told; write-unit = write-unit-told; read-unit = λ unit address bytes. read-unit-told unit bytes address; line = line-told; releases = releases-told; control = λ forces. told-accepted (controlNumber (signed 8 forces)) (control-numbers .small (signed 8 forces)); run = run-tells; preview = preview-foretold; one = one }
+words = record { read = λ text starts columns values. read-told text _ _ _; write = write-told; product = product-told; survey = survey-told; set = λ k c. set-told (k .matrix) (k .displacements) (k .forces) c; join = join-told; plan = λ m w p k order groups. plan-told m w p k _ _; check = check-told; write-plan = write-plan-told; read-plan = read-plan-told; write-unit = write-unit-told; read-unit = λ unit address bytes. read-unit-told unit bytes address; line = line-told; releases = releases-told; control = λ forces. told-accepted (controlNumber (signed 8 forces)) (control-numbers .small (signed 8 forces)); run = run-tells; preview = preview-foretold; rounds = rounds-told; one = one }

@@ -11,7 +11,7 @@ use Rattle.matrix.specs.Product.{product}
 use Rattle.run.specs.Job.{jobOf}
 use Rattle.run.specs.State.{State}
 use Rattle.run.specs.Calls.{afterLent}
-use Rattle.run.specs.Answers.{Call, picks, readySet, forceList, preview, Answer, shown}
+use Rattle.run.specs.Answers.{Call, picks, readySet, forceList, preview, rounds, Answer, shown}
 use Rattle.run.specs.Sequence.{answersFrom, stateAfter}
 use Rattle.run.specs.EveryRun.{runState, runAnswers, finishedRun}
 use Rattle.run.specs.LentRuns.{passed}
@@ -30,16 +30,21 @@ module _ (m : Matrix) (x : List ℤ) (order groups : List ℕ) (count : ℕ) whe
   unfoldable pub byteAnswer : Bytes → Call → Answer
   byteAnswer b c = answerIn m x order groups count (b .state) (b .sums) c
 
-  -- the state that a call of picks leaves
-  unfoldable pub picksLeave : Bytes → (schedule : List ℕ) → State
-  picksLeave b ws = afterLent m x order groups count (stateIn (b .state) (b .sums)) (picks ws)
+  -- the state that a call leaves
+  unfoldable pub stateLeft : Bytes → Call → State
+  stateLeft b c = afterLent m x order groups count (stateIn (b .state) (b .sums)) c
 
-  -- the bytes after a call: of picks as PicksAnswered has them; the others write neither
-  unfoldable pub byteAfter : Bytes → Call → Bytes
-  byteAfter b (picks ws) = record {
-    state = leftBy (byteAnswer b (picks ws)) (bytesIn (picksLeave b ws)) (b .state);
-    sums = leftBy (byteAnswer b (picks ws)) (signedBytes 8 (picksLeave b ws .sums)) (b .sums);
+  -- the bytes of it, as PicksAnswered and RoundsAnswered have them
+  unfoldable pub bytesMoved : Bytes → Call → Bytes
+  bytesMoved b c = record {
+    state = leftBy (byteAnswer b c) (bytesIn (stateLeft b c)) (b .state);
+    sums = leftBy (byteAnswer b c) (signedBytes 8 (stateLeft b c .sums)) (b .sums);
   }
+
+  -- the bytes after a call: picks and rounds leave those of their state, the others write neither
+  unfoldable pub byteAfter : Bytes → Call → Bytes
+  byteAfter b (picks ws) = bytesMoved b (picks ws)
+  byteAfter b (rounds ws) = bytesMoved b (rounds ws)
   byteAfter b readySet = b
   byteAfter b (forceList room) = b
   byteAfter b (preview ws) = b

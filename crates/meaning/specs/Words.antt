@@ -1,6 +1,7 @@
 -- What the word that a call returns tells: every count and every place has 32 bits, and no refusal has number 0.
 use mathlib.Core.Path.{_≡_}
 use mathlib.Core.Bool.{true}
+use mathlib.Core.Logic.{_≢_}
 use mathlib.Core.List.{List}
 use Prim.Native.Nat.{ℕ, _/_, _%_, _^_, _≤_}
 use lib.IntN.{ℤ}
@@ -11,7 +12,8 @@ use Rattle.market.specs.Text.{writeReply}
 use Rattle.plan.specs.Sound.{checkReply}
 use Rattle.planfile.specs.PlanFiles.{areBytes}
 use Rattle.planfile.specs.Calls.{writePlanReply, readPlanReply}
-use Rattle.run.specs.Answers.{Call, preview, Answer, bitsTold, countTold}
+use Rattle.run.specs.Answers.{Call, preview, rounds, Answer, bitsTold, countTold}
+use Rattle.run.specs.EveryRun.{takenOf}
 use Rattle.words.specs.LittleEndian.{signed}
 use Rattle.control.specs.ControlNumber.{controlNumber}
 use Rattle.lent.specs.Word.{word}
@@ -21,7 +23,7 @@ use Rattle.survey.specs.Survey.{surveyReply}
 use Rattle.board.specs.Unit.{writeUnitReply, readUnitReply, lineReply, releasesReply}
 use Rattle.upkeep.specs.Upkeep.{KeptForces, Change, changeReply}
 use Rattle.joined.specs.Joined.{joinReply}
-use Rattle.answers.specs.Runs.{Bytes, answerIn, replyTo, previewWord}
+use Rattle.answers.specs.Runs.{Bytes, answerIn, replyTo, previewWord, roundWord}
 use Rattle.crews.specs.Crews.{Two}
 use Rattle.crews.specs.Calls.{picksBoth, readySets, ReadySet, BothAnswer, one, sets}
 use Rattle.stage.specs.Both.{answerBothIn, replyToBoth}
@@ -50,6 +52,13 @@ pub record Foretold (a : Answer) : Type 0 where
   pub count : previewWord a / 2 ^ 40 % 2 ^ 8 ≡ countTold a
   pub bits : previewWord a / 2 ^ 48 ≡ bitsTold a
 
+-- Q-14: the word of rounds has the moves made, or the place, in bits 0 to 31, the number in bits 32 to 39, and in bits 40
+-- to 63 the moves made, always: none where 5, 6, 8 or 11 refused the call
+pub record RoundsTold (a : Answer) : Type 0 where
+  pub low : roundWord a % 2 ^ 32 ≡ placeIn (replyTo a) % 2 ^ 32
+  pub number : roundWord a / 2 ^ 32 % 2 ^ 8 ≡ numberIn (replyTo a)
+  pub moves : roundWord a / 2 ^ 40 ≡ takenOf a
+
 -- of every reply of every call; picks, ready set, force list and preview are calls of a run
 pub record Words : Type 0 where
   pub read : (text starts columns values : List ℕ) → Told (readIn text starts columns values)
@@ -67,8 +76,9 @@ pub record Words : Type 0 where
   pub line : (unit : List ℕ) → Told (lineReply unit)
   pub releases : (unit : List ℕ) → areBytes unit ≡ true → Told (releasesReply unit)
   pub control : (forces : List ℕ) → Told (accepted (controlNumber (signed 8 forces)))
-  pub run : (m : Matrix) (x : List ℤ) (order groups : List ℕ) (count : ℕ) (state sums : List ℕ) (c : Call) → Told (replyTo (answerIn m x order groups count state sums c))
+  pub run : (m : Matrix) (x : List ℤ) (order groups : List ℕ) (count : ℕ) (state sums : List ℕ) (c : Call) → ((ws : List ℕ) → c ≢ rounds ws) → Told (replyTo (answerIn m x order groups count state sums c))
   pub preview : (m : Matrix) (x : List ℤ) (order groups : List ℕ) (count : ℕ) (state sums ws : List ℕ) → Foretold (answerIn m x order groups count state sums (preview ws))
+  pub rounds : (m : Matrix) (x : List ℤ) (order groups : List ℕ) (count : ℕ) (state sums ws : List ℕ) → RoundsTold (answerIn m x order groups count state sums (rounds ws))
   -- so two replies with the same word are the same
   pub one : (r s : Reply) → Told r → Told s → word r ≡ word s → r ≡ s
 

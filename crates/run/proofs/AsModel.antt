@@ -15,15 +15,16 @@ use Rattle.run.specs.Job.{Job}
 use Rattle.run.specs.Updates.{count, accesses}
 use Rattle.run.specs.Machine.{steps, over, original, countsFine, isState}
 use Rattle.run.specs.State.{State}
-use Rattle.run.specs.Calls.{placeOf, pickedOf, readyOf, forcesOf, stateCheck, answerOf, afterOf, answer, after}
-use Rattle.run.specs.Answers.{Call, picks, readySet, forceList, preview, Answer, picked, forces, denied, shown}
+use Rattle.run.specs.Calls.{placeOf, pickedOf, passedOf, readyOf, forcesOf, stateCheck, answerOf, afterOf, answer, after}
+use Rattle.run.specs.Answers.{Call, picks, readySet, forceList, preview, rounds, Answer, picked, forces, denied, shown}
 use Rattle.run.specs.Sequence.{answersFrom, stateAfter}
-use Rattle.run.specs.Model.{note, notedAnswer, ableAnswer, modelAnswer, modelAfter, modelAnswers, modelCounts, takenNow, takenPicks}
+use Rattle.run.specs.Model.{note, noteRound, notedAnswer, ableAnswer, modelAnswer, modelAfter, modelAnswers, modelCounts, takenNow, takenPicks}
 use Rattle.run.specs.OneAccess.{Walk, stay, andThen}
 use Rattle.run.proofs.Facts.{Facts}
 use Rattle.run.proofs.Invariant.{Inv}
 use Rattle.run.proofs.Book.{able-bits, able-count, finished-is}
 use Rattle.run.proofs.Taken.{steps-model, walks}
+use Rattle.run.proofs.Rounds.{round-model}
 use Rattle.run.proofs.Finished.{forces-product}
 
 -- one walk after another
@@ -33,10 +34,10 @@ walk-on j (andThen a x) y = andThen a (walk-on j x y)
 
 module _ (j : Job) (F : Facts j) where
   -- the answer to a list of picks
-  picked-model : (taken number : ℕ) → pickedOf taken number ≡ picked taken number (cond (eqb number 0) 0 taken)
-  unfolding pickedOf placeOf
-  picked-model taken zero = refl
-  picked-model taken (suc k) = rw (ne-eqb (suc k) 0 (λ e. omega arith)) refl
+  picked-model : (taken number past : ℕ) → picked taken number (placeOf number past) ≡ picked taken number (cond (eqb number 0) 0 past)
+  unfolding placeOf
+  picked-model taken zero past = refl
+  picked-model taken (suc k) past = rw (ne-eqb (suc k) 0 (λ e. omega arith)) refl
 
   -- .. to a ready-set call
   ready-model : (s : State) → Inv j s → readyOf j (s .made) ≡ modelAnswer j (s .made) readySet
@@ -57,10 +58,10 @@ module _ (j : Job) (F : Facts j) where
 
   -- .. to a preview: from the counts that its picks lead to
   preview-model : (s : State) → Inv j s → (ws : List ℕ) → answerOf j s (preview ws) ≡ modelAnswer j (s .made) (preview ws)
-  unfolding answerOf modelAnswer
+  unfolding answerOf pickedOf modelAnswer
   preview-model s I ws =
       let a = steps-model j F s I ws in
-      ap (λ (b : Answer). shown b (readyOf j (steps j s ws .state .made))) (rw (a .count, a .number) (picked-model (note j (s .made) ws .taken) (note j (s .made) ws .number)))
+      ap (λ (b : Answer). shown b (readyOf j (steps j s ws .state .made))) (rw (a .count, a .number) (picked-model (note j (s .made) ws .taken) (note j (s .made) ws .number) (note j (s .made) ws .taken)))
       ∙ ap (shown (notedAnswer (note j (s .made) ws))) (ready-model (steps j s ws .state) (a .inv) ∙ ap (ableAnswer j) (a .made))
 
   -- one call
@@ -83,11 +84,15 @@ module _ (j : Job) (F : Facts j) where
 
   -- a call from a state with the invariant keeps it, and is answered as the model answers
   pub call-model : (s : State) → Inv j s → (c : Call) → Kept s c
-  unfolding answer after stateCheck inTurn answerOf afterOf modelAnswer modelAfter takenNow
-  call-model s I (picks ws) = let a = steps-model j F s I ws in record { inv = rw (fine s I) (a .inv); made = rw (fine s I) (a .made); same = rw (fine s I, a .count, a .number) (picked-model (note j (s .made) ws .taken) (note j (s .made) ws .number)); walked = rw (fine s I) (walks j F s I ws) }
+  unfolding answer after stateCheck inTurn answerOf afterOf pickedOf passedOf modelAnswer modelAfter takenNow
+  call-model s I (picks ws) = let a = steps-model j F s I ws in record { inv = rw (fine s I) (a .inv); made = rw (fine s I) (a .made); same = rw (fine s I, a .count, a .number) (picked-model (note j (s .made) ws .taken) (note j (s .made) ws .number) (note j (s .made) ws .taken)); walked = rw (fine s I) (walks j F s I ws) }
   call-model s I readySet = record { inv = rw (fine s I) I; made = rw (fine s I) refl; same = rw (fine s I) (ready-model s I); walked = rw (fine s I) stay }
   call-model s I (forceList room) = record { inv = rw (fine s I) I; made = rw (fine s I) refl; same = rw (fine s I) (forces-model s I room); walked = rw (fine s I) stay }
   call-model s I (preview ws) = record { inv = rw (fine s I) I; made = rw (fine s I) refl; same = rw (fine s I) (preview-model s I ws); walked = rw (fine s I) stay }
+  call-model s I (rounds ws) =
+      let a = round-model j F s I ws in
+      let b = noteRound j (s .made) ws in
+      record { inv = rw (fine s I) (a .inv); made = rw (fine s I) (a .made); same = rw (fine s I, a .count, a .number, a .met) (picked-model (b .taken) (b .number) (b .met)); walked = rw (fine s I) (a .walked) }
 
   -- a list of calls
   pub record AllKept (s : State) (cs : List Call) : Type 0 where

@@ -16,10 +16,14 @@ use Rattle.run.specs.Job.{Job, Accepted, workers}
 use Rattle.run.specs.Updates.{count, accesses, waits}
 use Rattle.run.specs.Machine.{reason, refusal, readyBelow, ready, bits, over}
 use Rattle.run.specs.Calls.{answer}
-use Rattle.run.specs.Answers.{Call, picks, readySet, forceList, preview, isReady, forces, denied, shown}
-use Rattle.run.specs.Model.{noCounts, added, ending, oneNoted, note, isFinished, modelAnswer, modelAfter, modelAnswers}
+use Rattle.run.specs.Answers.{Call, picks, readySet, forceList, preview, rounds, isReady, forces, denied, shown}
+use Rattle.run.specs.Schedule.{pass, oneTaken, oneSkipped}
+use Rattle.run.specs.Rounds.{skips}
+use Rattle.run.specs.Model.{noCounts, added, ending, oneNoted, note, noteOne, noteRound, isFinished, modelAnswer, modelAfter, modelAnswers}
 use Rattle.run.specs.EveryRun.{runState, finishedRun}
 use Rattle.run.specs.Consequences.{numberOf, Consequence, Consequences}
+use Rattle.run.proofs.Passes.{pass-on, pass-skip, pass-end}
+use Rattle.run.proofs.Rounds.{noted-on, noted-end}
 use Rattle.run.proofs.Schedule.{note-on, note-end}
 use Rattle.run.proofs.Finished.{over-made}
 use Rattle.run.proofs.Progress.{progress}
@@ -51,6 +55,19 @@ known-note j made (w ∷ ws) = go (ending j made w) refl (known-note j (added ma
     go zero e ih = rw (note-on j made w ws e) ih
     go (suc k) e ih = rw (note-end j made w ws k e) (subst (λ (y : ℕ). known y ≡ true) e (known-ending j made w))
 
+known-round : (j : Job) (made ws : List ℕ) → known (noteRound j made ws .number) ≡ true
+unfolding pass oneTaken oneSkipped
+known-round j made [] = refl
+known-round j made (w ∷ ws) = go (ending j made w) refl (λ m. known-round j m ws)
+  where
+    go : (k : ℕ) → ending j made w ≡ k → ((m : List ℕ) → known (noteRound j m ws .number) ≡ true) → known (noteRound j made (w ∷ ws) .number) ≡ true
+    go zero e ih = rw (pass-on skips (noteOne j) made w ws (added made w) (noted-on j made w e)) (ih (added made w))
+    go (suc k) e ih = by (skips (suc k)) refl
+      where
+        by : (b : Bool) → skips (suc k) ≡ b → known (noteRound j made (w ∷ ws) .number) ≡ true
+        by true h = rw (pass-skip skips (noteOne j) made w ws (suc k) (noted-end j made w k e) h) (ih made)
+        by false h = rw (pass-end skips (noteOne j) made w ws (suc k) (noted-end j made w k e) h) (subst (λ (y : ℕ). known y ≡ true) e (known-ending j made w))
+
 known-forces : (a b : Bool) (n : ℕ) (zs : List ℤ) → known (numberOf (cond a (cond b (forces zs) (denied why.tooShort n)) (denied why.tooEarly 0))) ≡ true
 unfolding numberOf
 known-forces false b n zs = refl
@@ -63,6 +80,7 @@ known-call j made (picks ws) = unfold numberOf in known-note j made ws
 known-call j made readySet = unfold numberOf in refl
 known-call j made (forceList room) = known-forces (isFinished j made) (leb (j .matrix .n) room) (j .matrix .n) (product (j .matrix) (j .displacements))
 known-call j made (preview ws) = unfold numberOf shown in known-note j made ws
+known-call j made (rounds ws) = unfold numberOf in known-round j made ws
 
 known-all : (j : Job) (made : List ℕ) (cs : List Call) → all known (map numberOf (modelAnswers j made cs)) ≡ true
 unfolding modelAnswers

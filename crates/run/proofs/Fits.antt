@@ -1,5 +1,5 @@
 -- The numbers of a run's state fit its bytes: held numbers and sums have 64 bits, counts have 32.
-use mathlib.Core.Path.{_≡_, refl}
+use mathlib.Core.Path.{_≡_, refl, subst}
 use mathlib.Core.Bool.{Bool, true, false, cond}
 use mathlib.Core.List.{List, [], _∷_}
 use Prim.Native.Nat.{ℕ, zero, suc, _%_, _<_, _^_}
@@ -15,9 +15,11 @@ use Rattle.run.specs.Job.{Job, Accepted}
 use Rattle.run.specs.Updates.{Update, count, next}
 use Rattle.run.specs.Machine.{refusal, Outcome, moved, halted, load, total, store, access, move, stepIf, step, oneMore, steps, isState}
 use Rattle.run.specs.State.{State, fresh}
+use Rattle.run.specs.Rounds.{skips}
 use Rattle.run.specs.Calls.{stateCheck, afterOf, after}
-use Rattle.run.specs.Answers.{Call, picks, readySet, forceList, preview}
+use Rattle.run.specs.Answers.{Call, picks, readySet, forceList, preview, rounds}
 use Rattle.run.proofs.Invariant.{Inv}
+use Rattle.run.proofs.Passes.{pass-keeps}
 use Rattle.run.proofs.Schedule.{steps-on, steps-end}
 use Rattle.run.proofs.Accepted.{accesses-small}
 
@@ -29,7 +31,7 @@ module _ {A : Type 0} (P : A → Type 0) where
   each-get (x ∷ xs) d h p zero = h .0
   each-get (x ∷ xs) d h p (suc i) = each-get xs d (h .1) p i
 
-  get-each : (xs : List A) (d : A) → ((i : ℕ) → i < length xs → P (getD xs i d)) → Each P xs
+  pub get-each : (xs : List A) (d : A) → ((i : ℕ) → i < length xs → P (getD xs i d)) → Each P xs
   get-each [] d h = tt
   get-each (x ∷ xs) d h = (h 0 (omega arith), get-each xs d (λ i l. h (suc i) (omega arith)))
 
@@ -97,6 +99,7 @@ module _ (j : Job) where
       made readySet = f
       made (forceList room) = f
       made (preview ws) = f
+      made (rounds ws) = pass-keeps skips (step j) Fits (λ s w t e g. subst FitsIn e (step-fits s w g)) s ws f
 
       go : (b : Bool) → Fits (cond b (afterOf j s c) s)
       go true = made c

@@ -11,6 +11,7 @@ pub mod Stays
 pub mod OneAccess
 pub mod Passes
 pub mod Taken
+pub mod Rounds
 pub mod Finished
 pub mod AsModel
 pub mod Holds

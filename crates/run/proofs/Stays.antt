@@ -40,7 +40,7 @@ module _ (j : Job) where
   unfolding load store
   step-sums s w t h = ⊎-elim (λ e. ap (λ (z : State). length (z .sums)) (sym e)) (λ e. ap (λ (z : State). length (z .sums)) (sym e) ∙ length-set (s .sums) _ _) (step-moved j s w t h .one)
 
-  step-stays : (s : State) (w : ℕ) (t : State) → step j s w ≡ moved t → isState j s ≡ true → isState j t ≡ true
+  pub step-stays : (s : State) (w : ℕ) (t : State) → step j s w ≡ moved t → isState j s ≡ true → isState j t ≡ true
   unfolding isState
   step-stays s w t h e =
       let n = eqb-true (length (s .sums)) (j .matrix .n) (and-left (eqb (length (s .sums)) (j .matrix .n)) (countsFine j (s .made) maxWorkers) e) in

@@ -14,11 +14,15 @@ use Rattle.matrix.specs.Product.{product}
 use Rattle.plan.specs.Sound.{maxWorkers}
 use Rattle.run.specs.Job.{Job, workers}
 use Rattle.run.specs.Updates.{count}
-use Rattle.run.specs.Answers.{Call, picks, readySet, forceList, preview, forces, denied, shown}
-use Rattle.run.specs.Model.{noCounts, added, ending, oneNoted, note, isFinished, modelAnswer, modelAfter, modelAnswers, modelCounts}
+use Rattle.run.specs.Answers.{Call, picks, readySet, forceList, preview, rounds, forces, denied, shown}
+use Rattle.run.specs.Schedule.{pass, oneTaken, oneSkipped}
+use Rattle.run.specs.Rounds.{skips}
+use Rattle.run.specs.Model.{noCounts, added, ending, oneNoted, note, noteOne, noteRound, isFinished, modelAnswer, modelAfter, modelAnswers, modelCounts}
 use Rattle.run.specs.EveryRun.{takenOf, takenIn}
 use Rattle.run.proofs.Invariant.{zero-count}
 use Rattle.run.proofs.Book.{ending-in}
+use Rattle.run.proofs.Passes.{pass-on, pass-skip, pass-end}
+use Rattle.run.proofs.Rounds.{noted-on, noted-end}
 use Rattle.run.proofs.Schedule.{note-on, note-end}
 
 module _ (j : Job) (few : workers j ≤ maxWorkers) where
@@ -49,12 +53,30 @@ module _ (j : Job) (few : workers j ≤ maxWorkers) where
       go zero e ih = rw (note-on j made w ws e) (record { more = omega (arith, ih .more, one-more made w l (ending-in j made w e)); long = ih .long })
       go (suc k) e ih = rw (note-end j made w ws k e) (record { more = omega arith; long = l })
 
+  -- a round
+  passed : (made ws : List ℕ) → length made ≡ maxWorkers → Tally made (noteRound j made ws .state) (noteRound j made ws .taken)
+  unfolding pass oneTaken oneSkipped added
+  passed made [] l = record { more = omega arith; long = l }
+  passed made (w ∷ ws) l = go (ending j made w) refl (λ m. passed m ws)
+    where
+      go : (k : ℕ) → ending j made w ≡ k → ((m : List ℕ) → length m ≡ maxWorkers → Tally m (noteRound j m ws .state) (noteRound j m ws .taken))
+          → Tally made (noteRound j made (w ∷ ws) .state) (noteRound j made (w ∷ ws) .taken)
+      go zero e ih =
+          let t = ih (added made w) (length-set made w (suc (count made w)) ∙ l) in
+          rw (pass-on skips (noteOne j) made w ws (added made w) (noted-on j made w e)) (record { more = omega (arith, t .more, one-more made w l (ending-in j made w e)); long = t .long })
+      go (suc k) e ih = by (skips (suc k)) refl
+        where
+          by : (b : Bool) → skips (suc k) ≡ b → Tally made (noteRound j made (w ∷ ws) .state) (noteRound j made (w ∷ ws) .taken)
+          by true h = rw (pass-skip skips (noteOne j) made w ws (suc k) (noted-end j made w k e) h) (ih made l)
+          by false h = rw (pass-end skips (noteOne j) made w ws (suc k) (noted-end j made w k e) h) (record { more = omega arith; long = l })
+
   -- a call
   called : (made : List ℕ) (c : Call) → length made ≡ maxWorkers → Tally made (modelAfter j made c) (takenOf (modelAnswer j made c))
   unfolding modelAfter modelAnswer takenOf shown
   called made (picks ws) l = noted made ws l
   called made readySet l = record { more = omega arith; long = l }
   called made (preview ws) l = record { more = omega arith; long = l }
+  called made (rounds ws) l = passed made ws l
   called made (forceList room) l =
       record { more = omega (arith, none (isFinished j made) (leb (j .matrix .n) room)); long = l }
     where

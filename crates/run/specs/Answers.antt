@@ -11,6 +11,8 @@ pub data Call : Type 0 where
   forceList : (room : ℕ) → Call
   -- Q-7: "what a list of picks would do"
   preview : (schedule : List ℕ) → Call
+  -- Q-14: "pick all workers in turn and pass over those that can't move"
+  rounds : (schedule : List ℕ) → Call
 
 pub data Answer : Type 0 where
   -- "the number that the call took and that ending, or 0 at 0 as its ending if it took all"

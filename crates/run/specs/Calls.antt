@@ -11,8 +11,10 @@ use Rattle.matrix.specs.Matrix.{Matrix, matrixCheck, displacementCheck}
 use Rattle.plan.specs.Sound.{planCheck}
 use Rattle.run.specs.Job.{Job, jobOf}
 use Rattle.run.specs.Machine.{steps, ready, bits, over, original, isState}
+use Rattle.run.specs.Schedule.{Passed}
+use Rattle.run.specs.Rounds.{round}
 use Rattle.run.specs.State.{State}
-use Rattle.run.specs.Answers.{Call, picks, readySet, forceList, preview, Answer, picked, isReady, forces, denied, previewed, shown}
+use Rattle.run.specs.Answers.{Call, picks, readySet, forceList, preview, rounds, Answer, picked, isReady, forces, denied, previewed, shown}
 
 unfoldable pub placeOf : (number taken : ℕ) → ℕ
 placeOf zero taken = 0
@@ -20,6 +22,10 @@ placeOf (suc k) taken = taken
 
 unfoldable pub pickedOf : (taken number : ℕ) → Answer
 pickedOf taken number = picked taken number (placeOf number taken)
+
+-- Q-14: "it tells how many moves were made", and its ending stands at the pick's index
+unfoldable pub passedOf : Passed State → Answer
+passedOf r = picked (r .taken) (r .number) (placeOf (r .number) (r .met))
 
 unfoldable pub readyOf : Job → (made : List ℕ) → Answer
 readyOf j made = isReady (bits (ready j made)) (length (ready j made))
@@ -35,6 +41,7 @@ answerOf j s (picks ws) = pickedOf (steps j s ws .taken) (steps j s ws .number)
 answerOf j s readySet = readyOf j (s .made)
 answerOf j s (forceList room) = forcesOf (over j (s .made)) (leb (j .matrix .n) room) (j .matrix .n) (original j (s .sums))
 answerOf j s (preview ws) = shown (pickedOf (steps j s ws .taken) (steps j s ws .number)) (readyOf j (steps j s ws .state .made))
+answerOf j s (rounds ws) = passedOf (round j s ws)
 
 unfoldable pub afterOf : Job → State → Call → State
 afterOf j s (picks ws) = steps j s ws .state
@@ -42,6 +49,7 @@ afterOf j s readySet = s
 afterOf j s (forceList room) = s
 -- Q-7: "with the state and sums left alone"
 afterOf j s (preview ws) = s
+afterOf j s (rounds ws) = round j s ws .state
 
 unfoldable pub stateCheck : Job → State → List Check
 stateCheck j s = check why.notState (isState j s) ∷ []

@@ -7,6 +7,7 @@ pub mod State
 pub mod OneAccess
 pub mod Machine
 pub mod Schedule
+pub mod Rounds
 pub mod InOrder
 pub mod Calls
 pub mod Sequence

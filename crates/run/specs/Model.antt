@@ -12,7 +12,10 @@ use Rattle.matrix.specs.Product.{product}
 use Rattle.plan.specs.Sound.{maxWorkers}
 use Rattle.run.specs.Job.{Job, workers}
 use Rattle.run.specs.Updates.{count, accesses, waits}
-use Rattle.run.specs.Answers.{Call, picks, readySet, forceList, preview, Answer, picked, isReady, forces, denied, shown}
+use Rattle.run.specs.Machine.{Outcome, moved, halted}
+use Rattle.run.specs.Schedule.{Passed, pass}
+use Rattle.run.specs.Rounds.{skips, takenBy}
+use Rattle.run.specs.Answers.{Call, picks, readySet, forceList, preview, rounds, Answer, picked, isReady, forces, denied, shown}
 
 -- "It keeps a count for each worker, at first 0"
 unfoldable pub noCounts : List ℕ
@@ -59,6 +62,17 @@ notedAnswer r = picked (r .taken) (r .number) (cond (eqb (r .number) 0) 0 (r .ta
 abbrev pub ableAnswer : Job → (counts : List ℕ) → Answer
 ableAnswer j counts = isReady (sum (map (_^_ 2) (able j counts))) (length (able j counts))
 
+-- Q-14, which "stands in place of a run's book": a pick by the counts, as it is noted, and a list of picks of which 12
+-- and 13 skip those that they refuse; its answer is the number of moves made, and the ending at the pick's index
+unfoldable pub noteOne : Job → (counts : List ℕ) → ℕ → Outcome (List ℕ)
+noteOne j counts w = elim (ending j counts w) [ zero ↦ moved (added counts w) | suc k ↦ halted (suc k) ]
+
+abbrev pub noteRound : Job → (counts schedule : List ℕ) → Passed (List ℕ)
+noteRound j counts ws = pass skips (noteOne j) counts ws
+
+abbrev pub roundAnswer : Passed (List ℕ) → Answer
+roundAnswer r = picked (r .taken) (r .number) (cond (eqb (r .number) 0) 0 (r .met))
+
 -- .. and "15 until then, afterwards 9 at n .., else 0 with the full product in original order"; a preview (Q-7) is
 -- answered from the counts that its picks would lead to
 unfoldable pub modelAnswer : Job → (counts : List ℕ) → Call → Answer
@@ -67,6 +81,7 @@ modelAnswer j counts readySet = ableAnswer j counts
 modelAnswer j counts (forceList room) =
     cond (isFinished j counts) (cond (leb (j .matrix .n) room) (forces (product (j .matrix) (j .displacements))) (denied why.tooShort (j .matrix .n))) (denied why.tooEarly 0)
 modelAnswer j counts (preview ws) = shown (notedAnswer (note j counts ws)) (ableAnswer j (note j counts ws .counts))
+modelAnswer j counts (rounds ws) = roundAnswer (noteRound j counts ws)
 
 -- "It and the ready set change no count"
 unfoldable pub modelAfter : Job → (counts : List ℕ) → Call → List ℕ
@@ -74,6 +89,7 @@ modelAfter j counts (picks ws) = note j counts ws .counts
 modelAfter j counts readySet = counts
 modelAfter j counts (forceList room) = counts
 modelAfter j counts (preview ws) = counts
+modelAfter j counts (rounds ws) = noteRound j counts ws .state
 
 unfoldable pub modelAnswers : Job → (counts : List ℕ) → List Call → List Answer
 modelAnswers j counts [] = []
@@ -89,6 +105,7 @@ takenNow j counts (picks ws) = take (note j counts ws .taken) ws
 takenNow j counts readySet = []
 takenNow j counts (forceList room) = []
 takenNow j counts (preview ws) = []
+takenNow j counts (rounds ws) = takenBy (noteOne j) counts ws
 
 unfoldable pub takenPicks : Job → (counts : List ℕ) → List Call → List ℕ
 takenPicks j counts [] = []

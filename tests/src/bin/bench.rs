@@ -82,6 +82,7 @@ struct Implementation {
     barrier_write: fn(Out, Write) -> u64,
     barrier_releases: fn(&[u8]) -> u64,
     picks: fn(RunLists, Out, Out, &[u8]) -> u64,
+    rounds: fn(RunLists, Out, Out, &[u8]) -> u64,
     preview: fn(RunLists, &[u8], &[u8], &[u8]) -> u64,
     ready: fn(RunLists, &[u8], &[u8]) -> u64,
     forces: fn(RunLists, &[u8], &[u8], Out) -> u64,
@@ -105,6 +106,7 @@ const LIBRARY: Implementation = Implementation {
     barrier_write: library::barrier_write,
     barrier_releases: library::barrier_releases,
     picks: library::picks,
+    rounds: library::rounds,
     preview: library::preview,
     ready: library::ready,
     forces: library::forces,
@@ -128,6 +130,7 @@ const RUST: Implementation = Implementation {
     barrier_write: calls::barrier_write,
     barrier_releases: calls::barrier_releases,
     picks: calls::picks,
+    rounds: calls::rounds,
     preview: calls::preview,
     ready: calls::ready,
     forces: calls::forces,
@@ -182,6 +185,12 @@ const WORKS: &[(&str, Work)] = &[
     ("picks, a run in 1,000 lists", |by, given, lent| {
         let At { state, sums } = lent.at.clear();
         given.lists().map(|picks| (by.picks)(given.run(), state, sums, picks)).sum()
+    }),
+    ("rounds", |by, given, lent| {
+        let At { state, sums } = lent.at.clear();
+        let everyone: Vec<u8> = (0..16).collect();
+        let picks = everyone.repeat(given.schedule.len() / 16);
+        (by.rounds)(given.run(), state, sums, &picks)
     }),
     ("preview", |by, given, lent| {
         let At { state, sums } = lent.at.clear();

@@ -86,6 +86,7 @@ fn make(call: &str, stack: usize, given: &Given) -> Option<u64> {
         "barrier_line" => on_stack(stack, || library::barrier_line(&state)),
         "barrier_releases" => on_stack(stack, || library::barrier_releases(&state)),
         "picks" => on_stack(stack, || library::picks(given.run(), &mut state, &mut sums, &given.schedule)),
+        "rounds" => on_stack(stack, || library::rounds(given.run(), &mut state, &mut sums, &given.schedule)),
         "preview" => on_stack(stack, || library::preview(given.run(), &state, &sums, &given.schedule)),
         "ready" => on_stack(stack, || library::ready(given.run(), &state, &sums)),
         "forces" => on_stack(stack, || library::forces(given.run(), &end.state, &end.sums, &mut forces)),
@@ -119,8 +120,8 @@ fn run(call: &str, stack: usize) {
 fn usage() -> ! {
     eprintln!(
         "usage: stack CALL BYTES (read, write, product, survey, set_movement, set_entry, join, plan, check, \
-         write_plan, read_plan, picks, preview, ready, forces, picks_both, ready_both, barrier_write, barrier_read, \
-         barrier_line, barrier_releases or control)"
+         write_plan, read_plan, picks, rounds, preview, ready, forces, picks_both, ready_both, barrier_write, \
+         barrier_read, barrier_line, barrier_releases or control)"
     );
     exit(2);
 }

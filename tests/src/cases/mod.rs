@@ -201,6 +201,7 @@ const WEIGHTS: &[(u64, fn(&mut Prng, &mut Seen))] = &[
     (1, plan_file::read),
     (5, run::picks),
     (3, run::preview),
+    (3, run::rounds),
     (3, run::ready),
     (3, run::forces),
     (1, run::whole),

@@ -31,6 +31,14 @@ pub fn picks(rng: &mut Prng, seen: &mut Seen) {
     seen.note(both::picks(&run.lists, &mut run.at, &picks));
 }
 
+/// Takes random picks from any state, and passes over those whose workers cannot move.
+pub fn rounds(rng: &mut Prng, seen: &mut Seen) {
+    let mut run = Run::any(rng, 10);
+    let most = rng.one_of(&[4, 12, 40]);
+    let picks = Twin::new(run.any_picks(rng, most));
+    seen.note(both::rounds(&run.lists, &mut run.at, &picks));
+}
+
 /// Asks in any state what random picks would do; then that is done on a copy.
 pub fn preview(rng: &mut Prng, seen: &mut Seen) {
     let run = Run::any(rng, 10);
@@ -186,6 +194,11 @@ fn state_bytes(state: &State) -> Vec<u8> {
     [made, bytes(&state.held, i64::to_le_bytes)].concat()
 }
 
+/// The moves that rounds made, in their word.
+pub fn moves_made(word: u64) -> u64 {
+    word >> 40
+}
+
 /// A run from fresh to its end.
 pub struct WholeRun {
     pub run: Run,
@@ -215,6 +228,25 @@ impl WholeRun {
         WholeRun::new(rng, &matrix, &plan)
     }
 
+    /// Runs to the end in rounds of all workers in any order, each named at least once: each makes a move until then,
+    /// and none after it.
+    pub fn finish_by_rounds(&mut self, rng: &mut Prng, most: usize) {
+        let everyone: Vec<u8> = (0..self.run.workers as u8).collect();
+        let mut made = 0;
+        while made < self.moves {
+            let more = plans::random_picks(rng, &everyone, most);
+            let mut picks = [more, everyone.clone()].concat();
+            rng.shuffle(&mut picks);
+            let word = both::rounds(&self.run.lists, &mut self.run.at, &Twin::new(picks));
+            assert_eq!(refusal_number(word), 0, "a round");
+            assert!(moves_made(word) > 0, "a round that makes no move");
+            made += moves_made(word);
+        }
+        let word = both::rounds(&self.run.lists, &mut self.run.at, &Twin::new(everyone));
+        assert_eq!((made, word), (self.moves, 0), "rounds of a whole run");
+        self.check_end();
+    }
+
     /// Runs to the end in lists of at most so many picks; what comes after each list is told its answer word.
     pub fn finish(
         &mut self,
@@ -233,6 +265,11 @@ impl WholeRun {
             after(rng, &self.run, word);
         }
         assert_eq!(taken, self.moves, "the moves of a whole run");
+        self.check_end();
+    }
+
+    /// The forces of the finished run are the product.
+    fn check_end(&self) {
         let StateTwins { state, sums } = &self.run.at;
         let mut forces = vec![0; self.product.len()];
         let word = calls::forces(

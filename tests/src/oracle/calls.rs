@@ -271,18 +271,39 @@ pub fn control(forces: &[u8]) -> u64 {
 
 /// Picks of a run; counts those taken.
 pub fn picks(run: RunLists, state: &mut [u8], sums: &mut [u8], picks: &[u8]) -> u64 {
-    let lists = Lists::of_run(run);
-    let mut take = || {
-        let mut numbers = lists.state(state)?;
-        let mut list = get(sums, usize::MAX, i64::from_le_bytes);
-        let picked = machine::picks(&lists.lent(), &mut numbers, &mut list, picks);
-        if has_begun(&picked) {
-            put_state(state, &numbers);
-            put(sums, &list, i64::to_le_bytes);
+    match take(run, state, sums, picks, &[]) {
+        Ok(picked) => word(picked.stopped.map_or(Ok(picked.taken), Err)),
+        Err(refusal) => word(Err(refusal)),
+    }
+}
+
+/// Picks of a run, of which 12 and 13 skip those that they refuse; the word also has the moves made × 2^40.
+pub fn rounds(run: RunLists, state: &mut [u8], sums: &mut [u8], picks: &[u8]) -> u64 {
+    match take(run, state, sums, picks, &[12, 13]) {
+        Ok(picked) => {
+            word(picked.stopped.map_or(Ok(picked.taken), Err)) | u64::from(picked.taken) << 40
         }
-        picked.stopped.map_or(Ok(picked.taken), Err)
-    };
-    word(take())
+        Err(refusal) => word(Err(refusal)),
+    }
+}
+
+/// Takes picks and leaves state and sums as they are then; 5, 6, 8 and 11 leave them as they were.
+fn take(
+    run: RunLists,
+    state: &mut [u8],
+    sums: &mut [u8],
+    picks: &[u8],
+    skips: &[u32],
+) -> Result<Picked, Refusal> {
+    let lists = Lists::of_run(run);
+    let mut numbers = lists.state(state)?;
+    let mut list = get(sums, usize::MAX, i64::from_le_bytes);
+    let picked = machine::skipping(&lists.lent(), &mut numbers, &mut list, picks, skips);
+    if has_begun(&picked) {
+        put_state(state, &numbers);
+        put(sums, &list, i64::to_le_bytes);
+    }
+    Ok(picked)
 }
 
 /// Whether a call came to its picks: 5, 6, 8 and 11 write nothing.

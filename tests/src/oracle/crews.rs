@@ -55,7 +55,7 @@ pub fn picks(lent: &LentBoth, at: &mut [At; 2], picks: &[u8]) -> Picked {
     let [at0, at1] = at;
     let mut crew0 = Crew::new(net(lent.run.movements), &mut at0.state, &mut at0.sums);
     let mut crew1 = Crew::new(net(lent.movements1), &mut at1.state, &mut at1.sums);
-    Picked::in_turn(picks, |pick| {
+    Picked::in_turn(picks, &[], |pick| {
         let worker = usize::from(pick) % WORKERS;
         match usize::from(pick) / WORKERS {
             0 => crew0.take(worker, || crew1.is_inside(worker)),

@@ -96,18 +96,26 @@ impl Picked {
         }
     }
 
-    /// Picks taken in turn until one is refused; a pick is taken by `take`, or it tells its number.
-    pub fn in_turn(picks: &[u8], mut take: impl FnMut(u8) -> Result<(), u32>) -> Picked {
+    /// Picks taken in turn until one is refused by a number that skips none; a pick is taken by `take`, or it tells its
+    /// number.
+    pub fn in_turn(
+        picks: &[u8],
+        skips: &[u32],
+        mut take: impl FnMut(u8) -> Result<(), u32>,
+    ) -> Picked {
+        let mut taken = 0;
         for (index, &pick) in picks.iter().enumerate() {
-            if let Err(number) = take(pick) {
-                return Picked {
-                    taken: index as u32,
-                    stopped: Some(Refusal::at(number, index)),
-                };
+            match take(pick) {
+                Ok(()) => taken += 1,
+                Err(number) if skips.contains(&number) => (),
+                Err(number) => {
+                    let stopped = Some(Refusal::at(number, index));
+                    return Picked { taken, stopped };
+                }
             }
         }
         Picked {
-            taken: picks.len() as u32,
+            taken,
             stopped: None,
         }
     }
@@ -125,6 +133,17 @@ impl Ready {
 
 /// Takes picks in turn, "each one move", until one is refused.
 pub fn picks(lent: &Lent, state: &mut State, sums: &mut [i64], picks: &[u8]) -> Picked {
+    skipping(lent, state, sums, picks, &[])
+}
+
+/// The same; but some refusals skip a pick and do not stop it, Q-14.
+pub fn skipping(
+    lent: &Lent,
+    state: &mut State,
+    sums: &mut [i64],
+    picks: &[u8],
+    skips: &[u32],
+) -> Picked {
     let (rows, plan) = match lent.judge() {
         Ok(judged) => judged,
         Err(refusal) => return Picked::refused(refusal),
@@ -139,7 +158,7 @@ pub fn picks(lent: &Lent, state: &mut State, sums: &mut [i64], picks: &[u8]) -> 
         leaves: &leaves,
         movements: lent.movements,
     };
-    take_all(net, state, sums, picks)
+    take_all(net, state, sums, picks, skips)
 }
 
 /// "what a list of picks would do", Q-7: what they come to on a copy, and the ready set there.
@@ -158,14 +177,14 @@ pub fn preview(
         leaves: &leaves,
         movements: lent.movements,
     };
-    let picked = take_all(net, &mut state, &mut sums, picks);
+    let picked = take_all(net, &mut state, &mut sums, picks, &[]);
     Ok((picked, ready_by(&leaves, &state)))
 }
 
-/// Picks in turn, up to the first that is refused.
-fn take_all(net: Net, state: &mut State, sums: &mut [i64], picks: &[u8]) -> Picked {
+/// Picks in turn, up to the first that is refused and not skipped.
+fn take_all(net: Net, state: &mut State, sums: &mut [i64], picks: &[u8], skips: &[u32]) -> Picked {
     let mut crew = Crew::new(net, state, sums);
-    Picked::in_turn(picks, |pick| crew.take(usize::from(pick), || false))
+    Picked::in_turn(picks, skips, |pick| crew.take(usize::from(pick), || false))
 }
 
 /// The workers whose pick neither 12 nor 13 would refuse.

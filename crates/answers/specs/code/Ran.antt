@@ -6,7 +6,7 @@ use lib.IntN.{ℤ}
 use lib.ListN.{length, take, drop}
 use Rattle.base.specs.Replies.{lent}
 use Rattle.run.specs.State.{State}
-use Rattle.run.specs.Answers.{Answer, picked, previewed}
+use Rattle.run.specs.Answers.{Call, picks, readySet, forceList, preview, rounds, Answer, picked, previewed}
 use Rattle.machine.specs.Record.{stateOf}
 use Rattle.machine.specs.declared.state.State as code
 use Rattle.calls.specs.Performed.{asAnswer}
@@ -21,13 +21,14 @@ pub record StateIs (r : code.State) (bytes : List ℕ) : Type 0 where
   pub held : r .held ≡ signed 8 (drop countBytes bytes)
 
 -- picks that were taken leave state s: it is in the record and the first n numbers of
--- `new`, there is room for it, and a place fits a word's low half
-pub record Taken (n : ℕ) (s : State) (place : ℕ) (state sums : List ℕ) (after : code.State) (new : List ℤ) : Type 0 where
+-- `new`, there is room for it, and the moves made and the number fit a word of rounds
+pub record Taken (n : ℕ) (s : State) (taken number : ℕ) (state sums : List ℕ) (after : code.State) (new : List ℤ) : Type 0 where
   pub left : stateOf after (take n new) ≡ s
   pub whole : length state ≡ stateBytes
   pub inside : n ≤ length new
   pub room : n ≤ length sums / 8
-  pub low : place < 2 ^ 32
+  pub moves-low : taken < 2 ^ 24
+  pub number-low : number < 2 ^ 8
 
 -- the parts of a preview's word, each below what is above it
 pub record Parts (taken number place bits count : ℕ) : Type 0 where
@@ -37,13 +38,22 @@ pub record Parts (taken number place bits count : ℕ) : Type 0 where
   pub count-low : count < 2 ^ 8
   pub bits-low : bits < 2 ^ 16
 
--- a call with the answer a, that leaves state s if that is of picks: the code's answer,
+-- a call other than rounds
+unfoldable pub Plain : Call → Type 0
+Plain (picks ws) = Unit {0}
+Plain readySet = Unit {0}
+Plain (forceList room) = Unit {0}
+Plain (preview ws) = Unit {0}
+Plain (rounds ws) = ⊥
+
+-- call c with the answer a, that leaves state s if that is of picks: the code's answer,
 -- with the forces that it may have, and what stands in the lists
-pub record Ran (n : ℕ) (a : Answer) (s : State) (state sums old : List ℕ) (answer : Response) (after : code.State) (new : List ℤ) (left : List ℕ) : Type 0 where
+pub record Ran (n : ℕ) (c : Call) (a : Answer) (s : State) (state sums old : List ℕ) (answer : Response) (after : code.State) (new : List ℤ) (left : List ℕ) : Type 0 where
   pub made : List ℤ
   pub answers : asAnswer answer made ≡ a
   pub lists : left ≡ lent (replyTo a) (forceBytes a) old
-  pub taken : (k q p : ℕ) → a ≡ picked k q p → Taken n s p state sums after new
+  pub taken : (k q p : ℕ) → a ≡ picked k q p → Taken n s k q state sums after new
+  pub low : Plain c → (k q p : ℕ) → a ≡ picked k q p → p < 2 ^ 32
   pub looked : (t q p b k : ℕ) → a ≡ previewed t q p b k → Parts t q p b k
 
 -- the parts of a preview's word fit it
@@ -53,6 +63,10 @@ Looks answer = (t q p b k : ℕ) → answer ≡ Previewed t q p b k → Parts t 
 -- the place of picks' ending fits a word's low half
 abbrev pub LowPlace : Response → Type 0
 LowPlace answer = ((k q p : ℕ) → answer ≡ Picked k q p → p < 2 ^ 32) × Looks answer
+
+-- the moves made and the number of rounds fit their word
+abbrev pub LowMoves : Response → Type 0
+LowMoves answer = ((k q p : ℕ) → answer ≡ Picked k q p → (k < 2 ^ 24) × (q < 2 ^ 8)) × Looks answer
 
 -- picks have a whole state and n sums to be stored over
 abbrev pub PicksFit : (n : ℕ) → Response → (new : List ℤ) (state sums : List ℕ) → Type 0

@@ -12,7 +12,7 @@ use Rattle.run.specs.Job.{Job, jobOf}
 use Rattle.run.specs.Calls.{jobChecks}
 use Rattle.layout.specs.code.UpdateTable.{Given}
 use Rattle.calls.proofs.Prepared.{passed-given, cut-job, cut-given}
-use Rattle.calls.proofs.Performing.{state-size, not-picks, not-preview, made-refused, made-picks, lists-refused, performed}
+use Rattle.calls.proofs.Performing.{state-size, not-preview, made-refused, made-picks, lists-refused, performed}
 use Rattle.calls.proofs.perform.Statement.{statement}
 use Rattle.calls.proofs.perform.Tie as tie
 
@@ -72,8 +72,8 @@ slice-aggregate-records c =
 
 -- ---- picks
 
-enum-told-2 : tie.Need-enum-told-2
-enum-told-2 c = search needs
+is-taken-requires : tie.Need-is-taken-requires
+is-taken-requires c κs = search needs
 
 picks-requires : tie.Need-picks-requires
 picks-requires c κs =
@@ -87,20 +87,20 @@ same-length c = search needs
 returns-3 : tie.Need-returns-3
 returns-3 c =
     let t = c .before .before .before in
-    let l = t .before .before .before in
+    let i = t .before in
+    let l = i .before .before in
     let a = start (l .before) .args in
-    rw (t .enum-told2 .given .1)
-    (performed _ _ _ _ _ _ _ _ (passed (l .before)) (cut-job _ _ (holds-job (l .before) .groups-long) _ _ _)
-    (made-picks _ _ _ _ (t .enum-told2 .given .1) (rw (l .if1 .left) at (c .before .picks .ensures (take (a .n) (a .forces .now))))))
+    performed _ _ _ _ _ _ _ _ (passed (l .before)) (cut-job _ _ (holds-job (l .before) .groups-long) _ _ _)
+    (made-picks _ _ _ (a .call) (a .schedule .now) _ (sym (i .is-taken .ensures) ∙ t .if2 .taken) (rw (l .if1 .left) at (c .before .picks .ensures (take (a .n) (a .forces .now)))))
 
 -- ---- a preview
 
-enum-told-3 : tie.Need-enum-told-3
-enum-told-3 c = search needs
+enum-told-2 : tie.Need-enum-told-2
+enum-told-2 c = search needs
 
 preview-requires : tie.Need-preview-requires
 preview-requires c κs =
-    let l = c .before .before .before .before .before in
+    let l = c .before .before .before .before .before .before in
     let g = holds-job (l .before) in
     rw (l .if1 .left) (cut-given _ _ (g .groups-long) g)
 
@@ -113,16 +113,16 @@ same-length-2 c = search needs
 returns-4 : tie.Need-returns-4
 returns-4 c =
     let t = c .before .before .before in
-    let l = t .before .before .before .before in
+    let l = t .before .before .before .before .before in
     let a = start (l .before) .args in
-    rw (c .answered3 .ensures .0, c .answered3 .ensures .1, t .enum-told3 .given .1)
+    rw (c .answered3 .ensures .0, c .answered3 .ensures .1, t .enum-told2 .given .1)
     (performed _ _ _ _ _ _ _ _ (passed (l .before)) (cut-job _ _ (holds-job (l .before) .groups-long) _ _ _) (rw (l .if1 .left) at (c .before .preview .ensures (a .forces .now) (take (a .n) (a .forces .now)))))
 
 -- ---- the other calls that leave the state
 
 report-requires : tie.Need-report-requires
 report-requires c κs =
-    let l = c .before .before .before .before .before in
+    let l = c .before .before .before .before .before .before in
     let g = holds-job (l .before) in
     let a = start (l .before) .args in
     (a .values .now, a .displacements .now, rw (l .if1 .left) (cut-given _ _ (g .groups-long) g))
@@ -139,13 +139,14 @@ same-length-4 c = search needs
 returns-5 : tie.Need-returns-5
 returns-5 c =
     let p = c .before .before .before .before .before in
-    let m = p .before in
-    let l = m .before .before in
+    let t = p .before in
+    let i = t .before in
+    let l = i .before .before in
     let g = holds-job (l .before) in
     let a = start (l .before) .args in
     rw (c .answered4 .ensures .0, c .answered4 .ensures .1)
     (performed _ _ _ _ _ _ _ _ (passed (l .before)) (cut-job _ _ (g .groups-long) _ _ _)
-    (rw (l .if1 .left) at (c .before .before .report .ensures (a .values .now) (a .displacements .now) (a .schedule .now) (rw (l .if1 .left) (cut-given _ _ (g .groups-long) g)) (not-picks _ (m .match2 .keys2)) (not-preview _ (p .match3 .keys2)))))
+    (rw (l .if1 .left) at (c .before .before .report .ensures (a .values .now) (a .displacements .now) (a .schedule .now) (rw (l .if1 .left) (cut-given _ _ (g .groups-long) g)) (sym (i .is-taken .ensures) ∙ t .if2 .left) (not-preview _ (p .match2 .keys2)))))
 
 pub perform-spec : {M : Type 1} → statement M
 perform-spec =
@@ -160,11 +161,11 @@ perform-spec =
     returns-2
     mul-size
     slice-aggregate-records
-    enum-told-2
+    is-taken-requires
     picks-requires
     same-length
     returns-3
-    enum-told-3
+    enum-told-2
     preview-requires
     answered-requires-3
     same-length-2

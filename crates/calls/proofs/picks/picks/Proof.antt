@@ -91,10 +91,13 @@ displace-requires c κs = let d = given-displaced (start (begun (laid (c .before
 
 -- ---- the picks
 
+rule-of-requires : tie.Need-rule-of-requires
+rule-of-requires c κs = search needs
+
 take-requires : tie.Need-take-requires
 unfolding jobOf
 take-requires c κs =
-    let d = c .before .before .before .before .before .before in
+    let d = c .before .before .before .before .before .before .before in
     let f = d .before .before .before .before in
     let p = f .before .before in
     let u = laid f in
@@ -118,7 +121,8 @@ same-length c = search needs
 returns-2 : tie.Need-returns-2
 returns-2 c zs =
     let t = c .before .before .before .before .before in
-    let d = t .before .before .before .before .before .before .before in
+    let k = t .before .before .before .before .before .before in
+    let d = k .before .before in
     let f = d .before .before .before .before in
     let p = f .before .before in
     let u = laid f in
@@ -126,7 +130,7 @@ returns-2 c zs =
     let r = t .take .ensures _ (planned-of g (part-sizes-are (u .upper .ensures .1) (p .part-sizes .ensures .0) (p .part-sizes .ensures .1))) (counted f)
     (triangle-of _ _ (rw (given-many g) at (d .displace .ensures)) (u .upper .ensures .0) (u .upper .ensures .1)) in
     rw (c .answered2 .ensures .0, c .answered2 .ensures .1)
-    (taken-picks _ _ _ _ (fine (d .before .before)) _ (r .0) _ (r .1) (c .before .told .ensures zs))
+    (taken-picks _ _ _ _ (fine (d .before .before)) (k .rule-of .ensures) _ (r .0) _ (r .1) (c .before .told .ensures zs))
 
 pub picks-spec : {M : Type 1} → statement M
 picks-spec =
@@ -140,6 +144,7 @@ picks-spec =
     answered-requires
     returns
     displace-requires
+    rule-of-requires
     take-requires
     told-requires
     answered-requires-2

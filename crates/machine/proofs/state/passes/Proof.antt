@@ -1,6 +1,7 @@
 -- `machine::state::passes` meets its contract, case by case.
 use borrow.Author.Needs.{needs}
 use borrow.Author.Tests.{eq-eqb, ne-eqb}
+use Rattle.run.specs.Rounds.{skips}
 use Rattle.machine.specs.code.Stepped.{passesOver}
 use Rattle.machine.proofs.state.passes.Statement.{statement}
 use Rattle.machine.proofs.state.passes.Tie as tie
@@ -12,15 +13,15 @@ enum-told-2 : tie.Need-enum-told-2
 enum-told-2 c = search needs
 
 returns : tie.Need-returns
-unfolding passesOver
+unfolding passesOver skips
 returns c = rw (c .enum-told .given .1)
 
 returns-2 : tie.Need-returns-2
-unfolding passesOver
+unfolding passesOver skips
 returns-2 c = rw (c .before .enum-told2 .given .1, eq-eqb _ _ (c .if1 .taken))
 
 returns-3 : tie.Need-returns-3
-unfolding passesOver
+unfolding passesOver skips
 returns-3 c = rw (c .before .enum-told2 .given .1, ne-eqb _ _ (c .if1 .left))
 
 pub passes-spec : {M : Type 1} → statement M

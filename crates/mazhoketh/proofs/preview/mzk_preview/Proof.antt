@@ -1,11 +1,13 @@
 -- `mzk_preview` meets its contract: the call, then its word.
 use borrow.Author.Needs.{needs}
+use Rattle.answers.specs.code.Ran.{Plain}
 use Rattle.answers.proofs.RunPicks.{ran-low, ran-preview}
 use Rattle.mazhoketh.proofs.preview.mzk_preview.Statement.{statement}
 use Rattle.mazhoketh.proofs.preview.mzk_preview.Tie as tie
 
 word-of-preview-requires : tie.Need-word-of-preview-requires
-word-of-preview-requires c κs = ran-low (c .before .before .perform-in .ensures)
+unfolding Plain
+word-of-preview-requires c κs = ran-low (c .before .before .perform-in .ensures) tt
 
 returns : tie.Need-returns
 returns c = ran-preview (c .before .before .before .perform-in .ensures) (c .word-of-preview .ensures)

@@ -1,6 +1,9 @@
 -- `mzk_picks` meets its contract: the call, then what it leaves is stored.
 use borrow.Author.Needs.{needs}
-use Rattle.answers.proofs.RunPicks.{ran-low, ran-fits, picks-answered}
+use Rattle.lent.specs.Word.{word}
+use Rattle.answers.specs.Runs.{replyTo}
+use Rattle.answers.specs.code.Ran.{Plain}
+use Rattle.answers.proofs.RunPicks.{ran-low, ran-fits, moved-answered}
 use Rattle.mazhoketh.proofs.runs.mzk_picks.Statement.{statement}
 use Rattle.mazhoketh.proofs.runs.mzk_picks.Tie as tie
 
@@ -8,12 +11,13 @@ store-picks-requires : tie.Need-store-picks-requires
 store-picks-requires c κs = ran-fits (c .before .before .before .before .before .before .perform-in .ensures)
 
 word-of-requires : tie.Need-word-of-requires
-word-of-requires c κs = ran-low (c .before .before .before .before .before .before .before .before .before .before .before .perform-in .ensures)
+unfolding Plain
+word-of-requires c κs = ran-low (c .before .before .before .before .before .before .before .before .before .before .before .perform-in .ensures) tt
 
 returns : tie.Need-returns
 returns c =
     let stored = c .before .before .before .before .before in
-    picks-answered (stored .before .before .before .before .before .before .before .perform-in .ensures) (c .word-of .ensures) _ (stored .store-picks .ensures .0) (stored .store-picks .ensures .1)
+    moved-answered (stored .before .before .before .before .before .before .before .perform-in .ensures) (λ a. word (replyTo a)) (c .word-of .ensures) _ (stored .store-picks .ensures .0) (stored .store-picks .ensures .1)
 
 pub mzk-picks-spec : {M : Type 1} → statement M
 mzk-picks-spec =

@@ -1,11 +1,13 @@
 -- `mzk_ready` meets its contract: the call, then its word.
 use borrow.Author.Needs.{needs}
+use Rattle.answers.specs.code.Ran.{Plain}
 use Rattle.answers.proofs.RunPicks.{ran-low, ran-word}
 use Rattle.mazhoketh.proofs.runs.mzk_ready.Statement.{statement}
 use Rattle.mazhoketh.proofs.runs.mzk_ready.Tie as tie
 
 word-of-requires : tie.Need-word-of-requires
-word-of-requires c κs = ran-low (c .before .before .perform-in .ensures)
+unfolding Plain
+word-of-requires c κs = ran-low (c .before .before .perform-in .ensures) tt
 
 returns : tie.Need-returns
 returns c = ran-word (c .before .before .before .perform-in .ensures) (c .word-of .ensures)

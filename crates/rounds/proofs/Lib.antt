@@ -1,0 +1,3 @@
+pub mod Skipping
+pub mod Through
+pub mod Rounds
