@@ -9,10 +9,11 @@ use native.Mathlib.Numerals.{add-one}
 use native.Mathlib.Omega.{arith}
 use lib.Dec.{leb}
 use lib.IntN.{ℤ}
-use lib.ListN.{length, getD, length-set}
+use lib.ListN.{length, getD, replicate, length-set}
 use lib.Seq.{getD-set-same, getD-set-other}
 use borrow.Author.Tests.{le-leb, lt-leb}
 use Rattle.base.proofs.Booleans.{same-or}
+use Rattle.matrix.specs.Limits.{maxRows}
 use Rattle.plan.specs.Sound.{maxWorkers}
 use Rattle.plan.specs.Groups.{records}
 use Rattle.plan.specs.code.Checks.{recordAt}
@@ -22,13 +23,15 @@ use Rattle.run.specs.Machine.{refusal, halted, onward, stepIf, step}
 use Rattle.run.specs.State.{State}
 use Rattle.tables.specs.code.Laid.{Laid, Waits}
 use Rattle.waits.specs.code.Waits.{Recorded, Blocks, Ahead}
-use Rattle.steps.specs.code.Updates.{updateIn, Triangle}
-use Rattle.steps.specs.code.Steps.{rowNext, numberNext, reasonAt, outcomeOf, PickMade}
+use Rattle.steps.specs.code.Updates.{Triangle}
+use Rattle.steps.specs.code.Steps.{updateNext, reasonAt, outcomeOf, PickMade}
+use Rattle.steps.specs.code.AtHand.{AtHand}
 use Rattle.machine.specs.code.Stepped.{passesOver, walk}
 use Rattle.machine.specs.declared.state.Rule.{Rule}
 use Rattle.run.proofs.Able.{able}
 use Rattle.machine.proofs.TableWaits.{table-reason}
 use Rattle.steps.proofs.TableUpdates.{table-update}
+use Rattle.steps.proofs.UpdatesAtHand.{none-at-hand}
 use Rattle.machine.proofs.BlockedLeaves.{whole-crew, waits-of}
 use Rattle.run.proofs.Passes.{Left, left-start, left-step, left-skip, left-halt, left-none}
 
@@ -38,7 +41,7 @@ module _ (j : Job) {first row begins leaves ends : List ℕ} (laid : Laid j firs
     {parts : List ℕ} {displaced : List ℤ} {at : List ℕ} {beside : List ℤ} (t : Triangle j parts displaced at beside) where
   -- the update of worker w's next access
   abbrev nextUpdate : (made : List ℕ) → ℕ → Update
-  nextUpdate made w = updateIn parts displaced at beside (rowNext first row made w) (numberNext first row begins made w)
+  nextUpdate = updateNext first row begins parts displaced at beside
 
   table-step : (crew : ℕ) → crew ≡ workers j → crew ≤ maxWorkers → (s : State) (blocks : List ℕ) → Waits j (s .made) blocks → (w : ℕ)
       → stepIf (reasonAt crew first row leaves blocks (s .made) w) s w (nextUpdate (s .made) w) ≡ step j s w
@@ -137,30 +140,37 @@ module _ (T : Tables) where
 
   -- the update of worker w's next access
   abbrev updateOf : (made : List ℕ) → ℕ → Update
-  updateOf made w = updateIn (T .parts) (T .displaced) (T .at) (T .beside) (rowNext (T .first) (T .row) made w) (numberNext (T .first) (T .row) (T .begins) made w)
+  updateOf = updateNext (T .first) (T .row) (T .begins) (T .parts) (T .displaced) (T .at) (T .beside)
+
+  -- why its next step is refused
+  abbrev causeOf : (blocks made : List ℕ) → ℕ → ℕ
+  causeOf blocks = reasonAt (T .crew) (T .first) (T .row) (T .leaves) blocks
 
   -- k picks of the schedule, n of them taken, led from s₀ to s; these groups are blocked now, and until a count reaches
-  -- its stop
-  pub record Running (rule : Rule) (s₀ : State) (schedule : List ℕ) (n k : ℕ) (s : State) (blocks stops : List ℕ) : Type 0 where
+  -- its stop; these updates are at hand
+  pub record Running (rule : Rule) (s₀ : State) (schedule : List ℕ) (n k : ℕ) (s : State) (blocks stops targets : List ℕ) (amounts : List ℤ) : Type 0 where
     pub crew : T .crew ≡ recordAt (T .groups) 0 .workers
     pub long : length (s .made) ≡ maxWorkers
     pub blocked : Blocks (T .count) (T .groups) (T .ends) (s .made) blocks
     pub ahead : Ahead (T .count) (T .groups) (T .ends) (s .made) stops
+    pub hand : AtHand (causeOf blocks) updateOf (s .made) targets amounts
     pub left : EachJob (λ j. Left (passesOver rule) (step j) s₀ schedule k n s)
 
 module _ {T : Tables} {rule : Rule} {s₀ : State} {schedule : List ℕ} where
   -- at first
-  pub running-start : {blocks stops : List ℕ} → T .crew ≡ recordAt (T .groups) 0 .workers → length (s₀ .made) ≡ maxWorkers → Blocks (T .count) (T .groups) (T .ends) (s₀ .made) blocks → Ahead (T .count) (T .groups) (T .ends) (s₀ .made) stops → Running T rule s₀ schedule 0 0 s₀ blocks stops
-  running-start c e b a = record { crew = c; long = e; blocked = b; ahead = a; left = λ j ok is laid t. left-start (passesOver rule) (step j) s₀ schedule }
+  pub running-start : {blocks stops : List ℕ} → T .crew ≡ recordAt (T .groups) 0 .workers → length (s₀ .made) ≡ maxWorkers → Blocks (T .count) (T .groups) (T .ends) (s₀ .made) blocks → Ahead (T .count) (T .groups) (T .ends) (s₀ .made) stops
+      → {amounts : List ℤ} → length amounts ≡ maxWorkers → Running T rule s₀ schedule 0 0 s₀ blocks stops (replicate maxWorkers maxRows) amounts
+  running-start c e b a f = record { crew = c; long = e; blocked = b; ahead = a; hand = none-at-hand e f; left = λ j ok is laid t. left-start (passesOver rule) (step j) s₀ schedule }
 
-  module _ {n k : ℕ} {s : State} {blocks stops : List ℕ} (r : Running T rule s₀ schedule n k s blocks stops) where
+  module _ {n k : ℕ} {s : State} {blocks stops targets : List ℕ} {amounts : List ℤ} (r : Running T rule s₀ schedule n k s blocks stops targets amounts) where
     -- all picks are gone through
     pub running-none : k ≡ length schedule → EachJob T (λ j. record { state = s; taken = n; met = k; number = 0 } ≡ walk rule j s₀ schedule)
     running-none l j ok is laid t = left-none (passesOver rule) (step j) s₀ schedule k n s (r .left j ok is laid t) l
 
     -- the next pick
     module _ (few : T .crew ≤ maxWorkers) (R : Recorded (T .count) (T .groups)) (l : k < length schedule) {number : ℕ} {new : State}
-        (h : PickMade (reasonAt (T .crew) (T .first) (T .row) (T .leaves) blocks (s .made) (getD schedule k 0)) s (getD schedule k 0) (updateOf T (s .made) (getD schedule k 0)) number new) where
+        (h : PickMade (causeOf T blocks (s .made) (getD schedule k 0)) s (getD schedule k 0) (updateOf T (s .made) (getD schedule k 0)) number new)
+        {targets′ : List ℕ} {amounts′ : List ℤ} (x : AtHand (causeOf T blocks) (updateOf T) (new .made) targets′ amounts′) where
       abbrev w : ℕ
       w = getD schedule k 0
 
@@ -178,12 +188,13 @@ module _ {T : Tables} {rule : Rule} {s₀ : State} {schedule : List ℕ} where
             ∙ left-halt (passesOver rule) (step j) s₀ schedule k n s (r .left j ok is laid t) l number (halts j ok is laid t) p
 
         -- .. or is passed over
-        pub running-past : passesOver rule number ≡ true → Running T rule s₀ schedule n (k + 1) new blocks stops
-        running-past p = subst (λ (y : State). Running T rule s₀ schedule n (k + 1) y blocks stops) (sym (h .kept q)) (record {
+        pub running-past : passesOver rule number ≡ true → Running T rule s₀ schedule n (k + 1) new blocks stops targets′ amounts′
+        running-past p = subst (λ (y : State). Running T rule s₀ schedule n (k + 1) y blocks stops targets′ amounts′) (sym (h .kept q)) (record {
           crew = r .crew;
           long = r .long;
           blocked = r .blocked;
           ahead = r .ahead;
+          hand = rw (h .kept q) at x;
           left = λ j ok is laid t. subst (λ (y : ℕ). Left (passesOver rule) (step j) s₀ schedule y n s) (sym (add-one k)) (left-skip (passesOver rule) (step j) s₀ schedule k n s (r .left j ok is laid t) l number (halts j ok is laid t) p);
         })
 
@@ -202,15 +213,16 @@ module _ {T : Tables} {rule : Rule} {s₀ : State} {schedule : List ℕ} where
             rw (add-one k, add-one n) (left-step (passesOver rule) (step j) s₀ schedule k n s (r .left j ok is laid t) l new (is-step j ok is laid t ∙ ap (λ (y : ℕ). outcomeOf y new) q))
 
         -- the blocked groups are found anew
-        pub running-renewed : {blocks′ stops′ : List ℕ} → Blocks (T .count) (T .groups) (T .ends) (new .made) blocks′ → Ahead (T .count) (T .groups) (T .ends) (new .made) stops′ → Running T rule s₀ schedule (n + 1) (k + 1) new blocks′ stops′
-        running-renewed b a = record { crew = r .crew; long = next-long; blocked = b; ahead = a; left = next-left }
+        pub running-renewed : {blocks′ stops′ : List ℕ} → Blocks (T .count) (T .groups) (T .ends) (new .made) blocks′ → Ahead (T .count) (T .groups) (T .ends) (new .made) stops′ → Running T rule s₀ schedule (n + 1) (k + 1) new blocks′ stops′ (replicate maxWorkers maxRows) amounts′
+        running-renewed b a = record { crew = r .crew; long = next-long; blocked = b; ahead = a; hand = none-at-hand next-long (x .amounts-long); left = next-left }
 
         -- .. or are as they were
-        pub running-on : w < length (s .made) → getD (new .made) w 0 < getD stops w 0 → Running T rule s₀ schedule (n + 1) (k + 1) new blocks stops
+        pub running-on : w < length (s .made) → getD (new .made) w 0 < getD stops w 0 → Running T rule s₀ schedule (n + 1) (k + 1) new blocks stops targets′ amounts′
         running-on inside below = record {
           crew = r .crew;
           long = next-long;
           blocked = blocks-kept (T .count) (T .groups) (T .ends) (s .made) (new .made) stops w inside one-more below (r .ahead) blocks (r .blocked);
           ahead = ahead-kept (T .count) (T .groups) (T .ends) (s .made) (new .made) stops w inside one-more below (r .ahead);
+          hand = x;
           left = next-left;
         }

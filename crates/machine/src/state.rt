@@ -8,6 +8,7 @@ use plan::MAX_GROUPS;
 use plan::MAX_WORKERS;
 use plan::fields::WIDTH;
 use plan::fields::record_at;
+use steps::NONE;
 use steps::accesses;
 use steps::pick;
 use tables::FIRSTS;
@@ -137,6 +138,8 @@ impl State {
         let workers = whole.workers;
         let mut blocks = blocked_groups(groups, count, ends, &made);
         let mut stops = next_ends(groups, count, ends, &made);
+        let mut targets = [NONE; MAX_WORKERS];
+        let mut amounts = [0i64; MAX_WORKERS];
         let mut taken = 0;
         let mut k = 0;
         while k < schedule.len() {
@@ -156,6 +159,8 @@ impl State {
                 displaced,
                 at,
                 beside,
+                &mut targets,
+                &mut amounts,
             );
             if number != 0 {
                 if !passes(rule, number) {
@@ -168,6 +173,7 @@ impl State {
             if stops[w] <= made[w] {
                 blocks = blocked_groups(groups, count, ends, &made);
                 stops = next_ends(groups, count, ends, &made);
+                targets = [NONE; MAX_WORKERS];
             }
             k += 1;
         }

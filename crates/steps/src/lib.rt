@@ -17,13 +17,17 @@ use tables::MAX_UPDATES;
 use updates::amount_of;
 use updates::target_of;
 ghost use mathlib.Core.Path.{_≡_};
+ghost use mathlib.Core.List.{List};
 ghost use Prim.Native.Nat.{ℕ, _*_, _≤_, _<_};
-ghost use lib.ListN.{length};
+ghost use lib.ListN.{length, getD, set};
 ghost use Rattle.plan.specs.Sound.{maxWorkers};
 ghost use Rattle.run.specs.Updates.{count};
 ghost use Rattle.tables.specs.code.Laid.{maxUpdates, updatesIn, Rising, Bounded};
-ghost use Rattle.steps.specs.code.Updates.{updateIn, Readable};
-ghost use Rattle.steps.specs.code.Steps.{stateWith, placeNext, rowNext, numberNext, reasonAt, StepTables, PickMade};
+ghost use Rattle.steps.specs.code.Steps.{stateWith, placeNext, reasonAt, updateNext, StepTables, PickMade};
+ghost use Rattle.steps.specs.code.AtHand.{AtHand, AccessMade, Entered};
+
+// In the list of the positions of sums: no update of the worker is at hand.
+pub const NONE: usize = MAX_ROWS;
 
 // How many accesses worker w makes: two for each of its updates.
 pub fn accesses(first: &[u32; FIRSTS], w: usize) -> u32
@@ -65,42 +69,112 @@ pub fn refusal(
     if blocks[i] == 1 { WAITING } else { 0 }
 }
 
-// Worker w loads or stores the sum of update number k of the row at position p. 0, or 14 if the sum to store would pass
-// 64 bits: then all is as it was.
-fn access(
-    made: &mut [u32; MAX_WORKERS],
-    held: &mut [i64; MAX_WORKERS],
-    sums: &mut [i64],
+// Puts worker w's next update at hand: the position of its sum, and what it adds.
+pub fn look_up(
+    made: &[u32; MAX_WORKERS],
     w: usize,
+    first: &[u32; FIRSTS],
+    row: &[u16; MAX_UPDATES],
+    begins: &[u32; MAX_ROWS],
     parts: &[u32; MAX_ROWS],
     displaced: &[i32; MAX_ROWS],
     at: &[u16; MAX_UPDATES],
     beside: &[i32; MAX_UPDATES],
-    p: usize,
-    k: usize,
-) -> u32
-    requires { ⌜ (w < maxWorkers) × (count (now made) w < 2 * maxUpdates) × Readable (length (now sums)) (now parts) (now at) p k ⌝ }
-    ensures { λ r. ⌜ PickMade 0 (stateWith (now (made .entry)) (now (held .entry)) (now (sums .entry))) w
-        (updateIn (now (parts .entry)) (now (displaced .entry)) (now (at .entry)) (now (beside .entry)) p k) r
-        (stateWith (now (made .exit)) (now (held .exit)) (now (sums .exit))) ⌝ }
+    targets: &mut [usize; MAX_WORKERS],
+    amounts: &mut [i64; MAX_WORKERS],
+)
+    requires { ⌜ (w < maxWorkers) × (count (now made) w < 2 * updatesIn (now first) w)
+        × ((n : ℕ) × (leaves : List ℕ) × StepTables n (now first) (now row) (now begins) (now parts) leaves (now at)) ⌝ }
+    ensures targets { λ _. ⌜ now (targets .exit) ≡ set (now (targets .entry)) w
+        (updateNext (now (first .entry)) (now (row .entry)) (now (begins .entry)) (now (parts .entry)) (now (displaced .entry)) (now (at .entry)) (now (beside .entry)) (now (made .entry)) w .target) ⌝ }
+    ensures amounts { λ _. ⌜ now (amounts .exit) ≡ set (now (amounts .entry)) w
+        (updateNext (now (first .entry)) (now (row .entry)) (now (begins .entry)) (now (parts .entry)) (now (displaced .entry)) (now (at .entry)) (now (beside .entry)) (now (made .entry)) w .amount) ⌝ }
 {
-    let t = target_of(parts, at, p, k);
+    let place = next_place(made, w, first);
+    let p = wide(row[place]);
+    let k = place - begins[p] as usize;
+    targets[w] = target_of(parts, at, p, k);
+    amounts[w] = amount_of(parts, displaced, at, beside, p, k);
+}
+
+// Worker w loads or stores the sum of the update at hand, which a store ends. 0, or 14 if the sum to store would pass 64
+// bits: then all is as it was.
+pub fn access(
+    made: &mut [u32; MAX_WORKERS],
+    held: &mut [i64; MAX_WORKERS],
+    sums: &mut [i64],
+    w: usize,
+    targets: &mut [usize; MAX_WORKERS],
+    amounts: &[i64; MAX_WORKERS],
+) -> u32
+    requires { ⌜ (w < maxWorkers) × (count (now made) w < 2 * maxUpdates) × (getD (now targets) w 0 < length (now sums)) ⌝ }
+    ensures { λ r. ⌜ AccessMade (stateWith (now (made .entry)) (now (held .entry)) (now (sums .entry))) w (now (targets .entry)) (now (amounts .entry)) r
+        (stateWith (now (made .exit)) (now (held .exit)) (now (sums .exit))) (now (targets .exit)) ⌝ }
+{
+    let t = targets[w];
     if made[w] % 2 == 0 {
         held[w] = sums[t];
         made[w] += 1;
         return 0;
     }
-    let amount = amount_of(parts, displaced, at, beside, p, k);
-    let Sum::Fits(sum) = add_checked(held[w], amount) else {
+    let Sum::Fits(sum) = add_checked(held[w], amounts[w]) else {
         return OVERFLOW;
     };
     sums[t] = sum;
     made[w] += 1;
+    targets[w] = NONE;
+    0
+}
+
+// Has worker w's next update at hand, unless its step is refused: 0, or why it is.
+fn enter(
+    made: &[u32; MAX_WORKERS],
+    w: usize,
+    workers: usize,
+    first: &[u32; FIRSTS],
+    row: &[u16; MAX_UPDATES],
+    begins: &[u32; MAX_ROWS],
+    parts: &[u32; MAX_ROWS],
+    leaves: &[u16; MAX_ROWS],
+    blocks: &[u8; MAX_GROUPS],
+    displaced: &[i32; MAX_ROWS],
+    at: &[u16; MAX_UPDATES],
+    beside: &[i32; MAX_UPDATES],
+    targets: &mut [usize; MAX_WORKERS],
+    amounts: &mut [i64; MAX_WORKERS],
+) -> u32
+    requires { ⌜ (w < maxWorkers) × (workers ≤ maxWorkers) × ((n : ℕ) × StepTables n (now first) (now row) (now begins) (now parts) (now leaves) (now at))
+        × AtHand (reasonAt workers (now first) (now row) (now leaves) (now blocks))
+        (updateNext (now first) (now row) (now begins) (now parts) (now displaced) (now at) (now beside)) (now made) (now targets) (now amounts) ⌝ }
+    ensures { λ r. ⌜ Entered (reasonAt workers (now (first .entry)) (now (row .entry)) (now (leaves .entry)) (now (blocks .entry)))
+        (updateNext (now (first .entry)) (now (row .entry)) (now (begins .entry)) (now (parts .entry)) (now (displaced .entry)) (now (at .entry)) (now (beside .entry)))
+        (now (made .entry)) w r (now (targets .exit)) (now (amounts .exit)) ⌝ }
+{
+    if targets[w] < NONE {
+        return 0;
+    }
+    let why = refusal(made, w, workers, first, row, leaves, blocks);
+    if why != 0 {
+        return why;
+    }
+    look_up(
+        made,
+        w,
+        first,
+        row,
+        begins,
+        parts,
+        displaced,
+        at,
+        beside,
+        targets,
+        amounts,
+    );
     0
 }
 
 // One pick, in place: worker w loads or stores the sum of its next update. 0, or why it is refused: then all is as it
-// was.
+// was. From its load to its store an update is at hand.
 pub fn pick(
     made: &mut [u32; MAX_WORKERS],
     held: &mut [i64; MAX_WORKERS],
@@ -116,20 +190,41 @@ pub fn pick(
     displaced: &[i32; MAX_ROWS],
     at: &[u16; MAX_UPDATES],
     beside: &[i32; MAX_UPDATES],
+    targets: &mut [usize; MAX_WORKERS],
+    amounts: &mut [i64; MAX_WORKERS],
 ) -> u32
-    requires { ⌜ (workers ≤ maxWorkers) × StepTables (length (now sums)) (now first) (now row) (now begins) (now parts) (now leaves) (now at) ⌝ }
+    requires { ⌜ (workers ≤ maxWorkers) × StepTables (length (now sums)) (now first) (now row) (now begins) (now parts) (now leaves) (now at)
+        × AtHand (reasonAt workers (now first) (now row) (now leaves) (now blocks))
+        (updateNext (now first) (now row) (now begins) (now parts) (now displaced) (now at) (now beside)) (now made) (now targets) (now amounts) ⌝ }
     ensures { λ r. ⌜ PickMade (reasonAt workers (now (first .entry)) (now (row .entry)) (now (leaves .entry)) (now (blocks .entry)) (now (made .entry)) w)
         (stateWith (now (made .entry)) (now (held .entry)) (now (sums .entry))) w
-        (updateIn (now (parts .entry)) (now (displaced .entry)) (now (at .entry)) (now (beside .entry))
-        (rowNext (now (first .entry)) (now (row .entry)) (now (made .entry)) w) (numberNext (now (first .entry)) (now (row .entry)) (now (begins .entry)) (now (made .entry)) w))
-        r (stateWith (now (made .exit)) (now (held .exit)) (now (sums .exit))) ⌝ }
+        (updateNext (now (first .entry)) (now (row .entry)) (now (begins .entry)) (now (parts .entry)) (now (displaced .entry)) (now (at .entry)) (now (beside .entry)) (now (made .entry)) w)
+        r (stateWith (now (made .exit)) (now (held .exit)) (now (sums .exit)))
+        × AtHand (reasonAt workers (now (first .entry)) (now (row .entry)) (now (leaves .entry)) (now (blocks .entry)))
+        (updateNext (now (first .entry)) (now (row .entry)) (now (begins .entry)) (now (parts .entry)) (now (displaced .entry)) (now (at .entry)) (now (beside .entry)))
+        (now (made .exit)) (now (targets .exit)) (now (amounts .exit)) ⌝ }
 {
-    let why = refusal(made, w, workers, first, row, leaves, blocks);
+    if workers <= w {
+        return STRANGER;
+    }
+    let why = enter(
+        made,
+        w,
+        workers,
+        first,
+        row,
+        begins,
+        parts,
+        leaves,
+        blocks,
+        displaced,
+        at,
+        beside,
+        targets,
+        amounts,
+    );
     if why != 0 {
         return why;
     }
-    let place = next_place(made, w, first);
-    let p = wide(row[place]);
-    let k = place - begins[p] as usize;
-    access(made, held, sums, w, parts, displaced, at, beside, p, k)
+    access(made, held, sums, w, targets, amounts)
 }

@@ -1,2 +1,3 @@
 pub mod CrewTurns
 pub mod SharedLoop
+pub mod CrewHands

@@ -3,29 +3,37 @@
 use mathlib.Core.Path.{_≡_, refl, sym, ap, _∙_, subst}
 use mathlib.Core.Logic.{_≢_}
 use mathlib.Core.List.{List}
-use Prim.Native.Nat.{ℕ, _+_, _/_, _%_, _≤_, _<_}
+use Prim.Native.Nat.{ℕ, _+_, _*_, _/_, _%_, _≤_, _<_}
 use native.Mathlib.Numerals.{add-one}
 use native.Mathlib.Omega.{arith}
 use lib.IntN.{ℤ}
-use lib.ListN.{length, getD}
+use lib.ListN.{length, getD, set, replicate}
+use Rattle.matrix.specs.Limits.{maxRows}
 use Rattle.plan.specs.Sound.{maxWorkers}
 use Rattle.plan.specs.Groups.{records}
 use Rattle.plan.specs.code.Checks.{recordAt}
 use Rattle.run.specs.Job.{workers}
+use Rattle.run.specs.Machine.{onward}
+use Rattle.run.specs.Updates.{Update, count}
 use Rattle.run.specs.State.{State}
 use Rattle.run.specs.Schedule.{nothing}
 use Rattle.run.proofs.Onward.{onward-length}
 use Rattle.run.proofs.Passes.{Left, left-start, left-step, left-halt, left-none}
-use Rattle.tables.specs.code.Laid.{Laid}
+use Rattle.tables.specs.code.Laid.{maxUpdates, updatesIn, Laid}
 use Rattle.waits.specs.code.Waits.{Recorded, Blocks, Ahead}
-use Rattle.steps.specs.code.Updates.{updateIn, Triangle}
-use Rattle.steps.specs.code.Steps.{rowNext, numberNext, reasonAt, outcomeOf, PickMade}
+use Rattle.steps.specs.code.Updates.{Triangle}
+use Rattle.steps.specs.code.Steps.{reasonAt, updateNext, outcomeOf, StepTables, PickMade}
+use Rattle.steps.specs.code.AtHand.{AtHand, Entered, AccessMade}
+use Rattle.steps.proofs.TableSteps.{reason-none}
+use Rattle.steps.proofs.UpdatesAtHand.{Steady, none-at-hand, access-picks, access-keeps, target-low}
+use Rattle.crews.proofs.Turns.{not-away}
 use Rattle.machine.proofs.BlockedLeaves.{whole-crew, waits-of}
 use Rattle.machine.proofs.RunTurns.{blocks-kept, ahead-kept}
-use Rattle.crews.specs.Crews.{Crew, crew0, crew1, other, crewNumber, Two, ownOf, put, Roof, jobFor, unlessAway, crewStep, turn, turns}
+use Rattle.crews.specs.Crews.{Crew, crew0, crew1, other, crewNumber, Two, ownOf, put, Roof, jobFor, crewStep, turn, turns}
 use Rattle.crews.specs.TwoCrews.{AcceptedRoof}
-use Rattle.turns.specs.code.Inside.{insideAt}
+use Rattle.turns.specs.code.Inside.{insideAt, causeAt}
 use Rattle.turns.specs.code.Turned.{misnamed}
+use Rattle.turns.proofs.CrewHands.{crew-steady, other-moved}
 use Rattle.turns.proofs.CrewTurns.{turn-answer, turn-halts, turn-moves, name-halts}
 
 -- the tables that the picks are taken by
@@ -60,32 +68,72 @@ module _ (T : Tables) where
     pub blocked : Blocks (T .count) (T .groups) (T .ends) made blocks
     pub ahead : Ahead (T .count) (T .groups) (T .ends) made stops
 
+  -- why a pick of a worker of the plan is refused, for a crew beside the other's counts, and its update
+  abbrev causeOf : (blocks other made : List ℕ) → ℕ → ℕ
+  causeOf blocks other = causeAt (T .first) (T .row) (T .begins) (T .leaves) blocks other
+
+  abbrev updateOf : Crew → (made : List ℕ) → ℕ → Update
+  updateOf c = updateNext (T .first) (T .row) (T .begins) (T .parts) (ownOf (T .displaced) c) (T .at) (T .beside)
+
+  -- these updates of crew c are at hand
+  abbrev Hand : Two State → Crew → (blocks targets : List ℕ) (amounts : List ℤ) → Type 0
+  Hand S c blocks targets amounts = AtHand (causeOf blocks (ownOf S (other c) .made)) (updateOf c) (ownOf S c .made) targets amounts
+
   -- k picks of the schedule, all taken, led from S₀ to S
-  pub record Sharing (S₀ : Two State) (schedule : List ℕ) (k : ℕ) (S : Two State) (blocks stops : Two (List ℕ)) : Type 0 where
+  pub record Sharing (S₀ : Two State) (schedule : List ℕ) (k : ℕ) (S : Two State) (blocks stops targets : Two (List ℕ)) (amounts : Two (List ℤ)) : Type 0 where
     pub crew : T .workers ≡ recordAt (T .groups) 0 .workers
+    pub hand : (c : Crew) → Hand S c (ownOf blocks c) (ownOf targets c) (ownOf amounts c)
     pub side : (c : Crew) → Side (ownOf S c .made) (ownOf blocks c) (ownOf stops c)
     pub left : EachRoof (λ q. Left nothing (turn q) S₀ schedule k k S)
 
   -- a pick of worker w for crew c by the tables, with this answer, that leaves this state
   abbrev pub Made : Two State → Crew → (blocks : List ℕ) (w number : ℕ) → State → Type 0
-  Made S c blocks w number new =
-      let made : List ℕ = ownOf S c .made in
-      PickMade (unlessAway (reasonAt maxWorkers (T .first) (T .row) (T .leaves) blocks made w) (insideAt (T .first) (T .row) (T .begins) (ownOf S (other c) .made) w)) (ownOf S c) w
-      (updateIn (T .parts) (ownOf (T .displaced) c) (T .at) (T .beside) (rowNext (T .first) (T .row) made w) (numberNext (T .first) (T .row) (T .begins) made w)) number new
+  Made S c blocks w number new = PickMade (causeOf blocks (ownOf S (other c) .made) (ownOf S c .made) w) (ownOf S c) w (updateOf c (ownOf S c .made) w) number new
 
 module _ {T : Tables} {S₀ : Two State} {schedule : List ℕ} where
   -- at first
-  pub sharing-start : {blocks stops : Two (List ℕ)} → T .workers ≡ recordAt (T .groups) 0 .workers → Side T (S₀ .of0 .made) (blocks .of0) (stops .of0) → Side T (S₀ .of1 .made) (blocks .of1) (stops .of1) → Sharing T S₀ schedule 0 S₀ blocks stops
-  sharing-start {blocks} {stops} e a b = record { crew = e; side = each; left = λ q ok is laid t u. left-start nothing (turn q) S₀ schedule }
+  pub sharing-start : {blocks stops : Two (List ℕ)} → T .workers ≡ recordAt (T .groups) 0 .workers → Side T (S₀ .of0 .made) (blocks .of0) (stops .of0) → Side T (S₀ .of1 .made) (blocks .of1) (stops .of1)
+      → {amounts : Two (List ℤ)} → length (amounts .of0) ≡ maxWorkers → length (amounts .of1) ≡ maxWorkers
+      → Sharing T S₀ schedule 0 S₀ blocks stops (record { of0 = replicate maxWorkers maxRows; of1 = replicate maxWorkers maxRows }) amounts
+  sharing-start {blocks} {stops} e a b {amounts} f g = record { crew = e; side = each; hand = nobody; left = λ q ok is laid t u. left-start nothing (turn q) S₀ schedule }
     where
       each : (c : Crew) → Side T (ownOf S₀ c .made) (ownOf blocks c) (ownOf stops c)
       each crew0 = a
       each crew1 = b
 
-  module _ {k : ℕ} {S : Two State} {blocks stops : Two (List ℕ)} (r : Sharing T S₀ schedule k S blocks stops) where
+      nobody : (c : Crew) → Hand T S₀ c (ownOf blocks c) (ownOf (record { of0 = replicate maxWorkers maxRows; of1 = replicate maxWorkers maxRows }) c) (ownOf amounts c)
+      nobody crew0 = none-at-hand (a .long) f
+      nobody crew1 = none-at-hand (b .long) g
+
+  module _ {k : ℕ} {S : Two State} {blocks stops targets : Two (List ℕ)} {amounts : Two (List ℤ)} (r : Sharing T S₀ schedule k S blocks stops targets amounts) where
     -- all picks are taken
     pub sharing-none : k ≡ length schedule → EachRoof T (λ q. record { state = S; taken = k; met = k; number = 0 } ≡ turns q S₀ schedule)
     sharing-none l q ok is laid t u = left-none nothing (turn q) S₀ schedule k k S (r .left q ok is laid t u) l
+
+    -- the update of a worker is at hand for crew c
+    module _ (c : Crew) {w : ℕ} (low : w < maxWorkers) {cause : ℕ} {targets′ : List ℕ} {amounts′ : List ℤ}
+        (h : Entered (causeOf T (ownOf blocks c) (ownOf S (other c) .made)) (updateOf T c) (ownOf S c .made) w cause targets′ amounts′) (z : cause ≡ 0) where
+      steady : Steady (causeOf T (ownOf blocks c) (ownOf S (other c) .made)) (updateOf T c)
+      steady = crew-steady (T .first) (T .row) (T .begins) (T .parts) (T .leaves) (ownOf blocks c) (ownOf (T .displaced) c) (T .at) (T .beside) (ownOf S (other c) .made)
+
+      -- what an access needs
+      pub sharing-ready : {n : ℕ} → StepTables n (T .first) (T .row) (T .begins) (T .parts) (T .leaves) (T .at) → (count (ownOf S c .made) w < 2 * maxUpdates) × (getD targets′ w 0 < n)
+      sharing-ready t =
+          let made : List ℕ = ownOf S c .made in
+          let known = h .hand .is w low (h .known z) in
+          let free = not-away (reasonAt maxWorkers (T .first) (T .row) (T .leaves) (ownOf blocks c) made w) (insideAt (T .first) (T .row) (T .begins) (ownOf S (other c) .made) w) (known .free) .0 in
+          let left = reason-none w maxWorkers (count made w) (2 * updatesIn (T .first) w) _ free .1 in (
+            omega (arith, left, t .bounded .rising .few (w + 1) (omega arith)),
+            omega (arith, known .target-is, target-low maxWorkers (T .first) (T .row) (T .begins) (T .parts) (T .leaves) (ownOf blocks c) (ownOf (T .displaced) c) (T .at) (T .beside) t made w),
+          )
+
+      -- the access is a pick by the tables
+      module _ {number : ℕ} {new : State} {targets″ : List ℕ} (a : AccessMade (ownOf S c) w targets′ amounts′ number new targets″) where
+        pub sharing-picks : Made T S c (ownOf blocks c) w number new
+        sharing-picks = access-picks steady low (h .known z) (h .hand) a
+
+        pub sharing-keeps : AtHand (causeOf T (ownOf blocks c) (ownOf S (other c) .made)) (updateOf T c) (new .made) targets″ amounts′
+        sharing-keeps = access-keeps steady low (h .known z) (h .hand) a
 
     module _ (R : Recorded (T .count) (T .groups)) (l : k < length schedule) where
       abbrev byte : ℕ
@@ -140,14 +188,35 @@ module _ {T : Tables} {S₀ : Two State} {schedule : List ℕ} where
               by crew1 s crew0 = r .side crew0
               by crew1 s crew1 = s
 
+          -- what was at hand of the worker for the other crew is gone
+          hands : (blocks′ targets′ : List ℕ) (amounts′ : List ℤ) → AtHand (causeOf T blocks′ (ownOf S (other c) .made)) (updateOf T c) (new .made) targets′ amounts′
+              → (d : Crew) → Hand T (put S c new) d (ownOf (put blocks c blocks′) d) (ownOf (put (put targets (other c) (set (ownOf targets (other c)) w maxRows)) c targets′) d) (ownOf (put amounts c amounts′) d)
+          hands blocks′ targets′ amounts′ x = by c x (h .counted z)
+            where
+              by : (c : Crew) → AtHand (causeOf T blocks′ (ownOf S (other c) .made)) (updateOf T c) (new .made) targets′ amounts′ → new .made ≡ onward (ownOf S c .made) w
+                  → (d : Crew) → Hand T (put S c new) d (ownOf (put blocks c blocks′) d) (ownOf (put (put targets (other c) (set (ownOf targets (other c)) w maxRows)) c targets′) d) (ownOf (put amounts c amounts′) d)
+              by crew0 x e crew0 = x
+              by crew0 x e crew1 = other-moved (T .first) (T .row) (T .begins) (T .leaves) (blocks .of1) (S .of0 .made) w (omega arith) e (r .hand crew1)
+              by crew1 x e crew0 = other-moved (T .first) (T .row) (T .begins) (T .leaves) (blocks .of0) (S .of1 .made) w (omega arith) e (r .hand crew0)
+              by crew1 x e crew1 = x
+
           -- it is taken, and the blocked groups are found anew
+          next : {blocks′ stops′ : List ℕ} → Blocks (T .count) (T .groups) (T .ends) (new .made) blocks′ → Ahead (T .count) (T .groups) (T .ends) (new .made) stops′
+              → {targets′ : List ℕ} {amounts′ : List ℤ} → AtHand (causeOf T blocks′ (ownOf S (other c) .made)) (updateOf T c) (new .made) targets′ amounts′
+              → Sharing T S₀ schedule (k + 1) (put S c new) (put blocks c blocks′) (put stops c stops′) (put (put targets (other c) (set (ownOf targets (other c)) w maxRows)) c targets′) (put amounts c amounts′)
+          next {blocks′} {stops′} b a {targets′} {amounts′} x =
+              record { crew = r .crew; side = sides blocks′ stops′ (record { long = next-long; blocked = b; ahead = a }); hand = hands blocks′ targets′ amounts′ x; left = next-left }
+
           pub sharing-renewed : {blocks′ stops′ : List ℕ} → Blocks (T .count) (T .groups) (T .ends) (new .made) blocks′ → Ahead (T .count) (T .groups) (T .ends) (new .made) stops′
-              → Sharing T S₀ schedule (k + 1) (put S c new) (put blocks c blocks′) (put stops c stops′)
-          sharing-renewed {blocks′} {stops′} b a = record { crew = r .crew; side = sides blocks′ stops′ (record { long = next-long; blocked = b; ahead = a }); left = next-left }
+              → {targets′ : List ℕ} {amounts′ : List ℤ} → AtHand (causeOf T (ownOf blocks c) (ownOf S (other c) .made)) (updateOf T c) (new .made) targets′ amounts′
+              → Sharing T S₀ schedule (k + 1) (put S c new) (put blocks c blocks′) (put stops c stops′) (put (put targets (other c) (set (ownOf targets (other c)) w maxRows)) c (replicate maxWorkers maxRows)) (put amounts c amounts′)
+          sharing-renewed b a x = next b a (none-at-hand next-long (x .amounts-long))
 
           -- .. or are as they were
-          pub sharing-on : w < length (ownOf S c .made) → getD (new .made) w 0 < getD (ownOf stops c) w 0 → Sharing T S₀ schedule (k + 1) (put S c new) (put blocks c (ownOf blocks c)) (put stops c (ownOf stops c))
-          sharing-on inside below =
-              sharing-renewed
+          pub sharing-on : w < length (ownOf S c .made) → getD (new .made) w 0 < getD (ownOf stops c) w 0
+              → {targets′ : List ℕ} {amounts′ : List ℤ} → AtHand (causeOf T (ownOf blocks c) (ownOf S (other c) .made)) (updateOf T c) (new .made) targets′ amounts′
+              → Sharing T S₀ schedule (k + 1) (put S c new) (put blocks c (ownOf blocks c)) (put stops c (ownOf stops c)) (put (put targets (other c) (set (ownOf targets (other c)) w maxRows)) c targets′) (put amounts c amounts′)
+          sharing-on inside below x =
+              next
               (blocks-kept (T .count) (T .groups) (T .ends) (ownOf S c .made) (new .made) (ownOf stops c) w inside (h .counted z) below (r .side c .ahead) (ownOf blocks c) (r .side c .blocked))
-              (ahead-kept (T .count) (T .groups) (T .ends) (ownOf S c .made) (new .made) (ownOf stops c) w inside (h .counted z) below (r .side c .ahead))
+              (ahead-kept (T .count) (T .groups) (T .ends) (ownOf S c .made) (new .made) (ownOf stops c) w inside (h .counted z) below (r .side c .ahead)) x

@@ -8,10 +8,12 @@ use plan::MAX_GROUPS;
 use plan::MAX_WORKERS;
 use plan::fields::WIDTH;
 use plan::fields::record_at;
+use steps::NONE;
+use steps::access;
 use tables::FIRSTS;
 use tables::MAX_UPDATES;
+use turn::begin;
 use turn::refused_name;
-use turn::turn;
 use waits::blocked_groups;
 use waits::next_ends;
 ghost use mathlib.Core.Path.{_≡_};
@@ -114,6 +116,10 @@ impl Crews {
         let mut stops0 = next_ends(groups, count, &ends, &made0);
         let mut blocks1 = blocked_groups(groups, count, &ends, &made1);
         let mut stops1 = next_ends(groups, count, &ends, &made1);
+        let mut targets0 = [NONE; MAX_WORKERS];
+        let mut amounts0 = [0i64; MAX_WORKERS];
+        let mut targets1 = [NONE; MAX_WORKERS];
+        let mut amounts1 = [0i64; MAX_WORKERS];
         let mut k = 0;
         while k < schedule.len() {
             let byte = schedule[k] as usize;
@@ -123,10 +129,8 @@ impl Crews {
             }
             let w = byte % MAX_WORKERS;
             if byte < MAX_WORKERS {
-                let number = turn(
-                    &mut made0,
-                    &mut held0,
-                    sums0,
+                let why = begin(
+                    &made0,
                     w,
                     &made1,
                     &first,
@@ -138,21 +142,27 @@ impl Crews {
                     displaced0,
                     at,
                     beside,
+                    &mut targets0,
+                    &mut amounts0,
                 );
+                if why != 0 {
+                    return ended(made0, held0, made1, held1, k, why);
+                }
+                let number = access(&mut made0, &mut held0, sums0, w, &mut targets0, &amounts0);
                 if number != 0 {
                     return ended(made0, held0, made1, held1, k, number);
                 }
+                targets1[w] = NONE;
                 if stops0[w] <= made0[w] {
                     blocks0 = blocked_groups(groups, count, &ends, &made0);
                     stops0 = next_ends(groups, count, &ends, &made0);
+                    targets0 = [NONE; MAX_WORKERS];
                 }
                 k += 1;
                 continue;
             }
-            let number = turn(
-                &mut made1,
-                &mut held1,
-                sums1,
+            let why = begin(
+                &made1,
                 w,
                 &made0,
                 &first,
@@ -164,13 +174,21 @@ impl Crews {
                 displaced1,
                 at,
                 beside,
+                &mut targets1,
+                &mut amounts1,
             );
+            if why != 0 {
+                return ended(made0, held0, made1, held1, k, why);
+            }
+            let number = access(&mut made1, &mut held1, sums1, w, &mut targets1, &amounts1);
             if number != 0 {
                 return ended(made0, held0, made1, held1, k, number);
             }
+            targets0[w] = NONE;
             if stops1[w] <= made1[w] {
                 blocks1 = blocked_groups(groups, count, &ends, &made1);
                 stops1 = next_ends(groups, count, &ends, &made1);
+                targets1 = [NONE; MAX_WORKERS];
             }
             k += 1;
         }

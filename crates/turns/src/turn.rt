@@ -6,19 +6,19 @@ use base::STRANGER;
 use matrix::limits::MAX_ROWS;
 use plan::MAX_GROUPS;
 use plan::MAX_WORKERS;
-use steps::pick;
+use steps::NONE;
+use steps::look_up;
 use steps::refusal;
 use tables::FIRSTS;
 use tables::MAX_UPDATES;
 ghost use mathlib.Core.Path.{_≡_};
 ghost use mathlib.Core.Bool.{true};
-ghost use Prim.Native.Nat.{_<_};
-ghost use lib.ListN.{length};
+ghost use Prim.Native.Nat.{ℕ, _<_};
 ghost use Rattle.plan.specs.Sound.{maxWorkers};
 ghost use Rattle.crews.specs.Crews.{unlessAway};
-ghost use Rattle.steps.specs.code.Updates.{updateIn};
-ghost use Rattle.steps.specs.code.Steps.{stateWith, rowNext, numberNext, reasonAt, StepTables, PickMade};
-ghost use Rattle.turns.specs.code.Inside.{insideAt};
+ghost use Rattle.steps.specs.code.Steps.{updateNext, StepTables};
+ghost use Rattle.steps.specs.code.AtHand.{AtHand, Entered};
+ghost use Rattle.turns.specs.code.Inside.{causeAt};
 ghost use Rattle.turns.specs.code.Turned.{misnamed};
 
 // Why a pick's byte is refused by itself: it names no crew, or no worker of the plan; 0 if it names both.
@@ -42,12 +42,10 @@ fn elsewhere(why: u32) -> u32
     if why == 0 { ELSEWHERE } else { why }
 }
 
-// One pick of a worker of the plan for a crew, in place. The counts of the other crew say whether the worker is inside a
-// row there. 0, or why it is refused: then all is as it was.
-pub(crate) fn turn(
-    made: &mut [u32; MAX_WORKERS],
-    held: &mut [i64; MAX_WORKERS],
-    sums: &mut [i64],
+// Has the next update of a worker of the plan at hand for a crew, unless its pick is refused: 0, or why it is. The counts
+// of the other crew say whether the worker is inside a row there.
+pub(crate) fn begin(
+    made: &[u32; MAX_WORKERS],
     w: usize,
     other: &[u32; MAX_WORKERS],
     first: &[u32; FIRSTS],
@@ -59,32 +57,38 @@ pub(crate) fn turn(
     displaced: &[i32; MAX_ROWS],
     at: &[u16; MAX_UPDATES],
     beside: &[i32; MAX_UPDATES],
+    targets: &mut [usize; MAX_WORKERS],
+    amounts: &mut [i64; MAX_WORKERS],
 ) -> u32
-    requires { ⌜ (w < maxWorkers) × StepTables (length (now sums)) (now first) (now row) (now begins) (now parts) (now leaves) (now at) ⌝ }
-    ensures { λ r. ⌜ PickMade (unlessAway (reasonAt maxWorkers (now (first .entry)) (now (row .entry)) (now (leaves .entry)) (now (blocks .entry)) (now (made .entry)) w)
-        (insideAt (now (first .entry)) (now (row .entry)) (now (begins .entry)) (now (other .entry)) w))
-        (stateWith (now (made .entry)) (now (held .entry)) (now (sums .entry))) w
-        (updateIn (now (parts .entry)) (now (displaced .entry)) (now (at .entry)) (now (beside .entry))
-        (rowNext (now (first .entry)) (now (row .entry)) (now (made .entry)) w) (numberNext (now (first .entry)) (now (row .entry)) (now (begins .entry)) (now (made .entry)) w))
-        r (stateWith (now (made .exit)) (now (held .exit)) (now (sums .exit))) ⌝ }
+    requires { ⌜ (w < maxWorkers) × ((n : ℕ) × StepTables n (now first) (now row) (now begins) (now parts) (now leaves) (now at))
+        × AtHand (causeAt (now first) (now row) (now begins) (now leaves) (now blocks) (now other))
+        (updateNext (now first) (now row) (now begins) (now parts) (now displaced) (now at) (now beside)) (now made) (now targets) (now amounts) ⌝ }
+    ensures { λ r. ⌜ Entered (causeAt (now (first .entry)) (now (row .entry)) (now (begins .entry)) (now (leaves .entry)) (now (blocks .entry)) (now (other .entry)))
+        (updateNext (now (first .entry)) (now (row .entry)) (now (begins .entry)) (now (parts .entry)) (now (displaced .entry)) (now (at .entry)) (now (beside .entry)))
+        (now (made .entry)) w r (now (targets .exit)) (now (amounts .exit)) ⌝ }
 {
-    if is_inside(other, w, first, row, begins) {
-        return elsewhere(refusal(made, w, MAX_WORKERS, first, row, leaves, blocks));
+    if targets[w] < NONE {
+        return 0;
     }
-    pick(
+    let why = refusal(made, w, MAX_WORKERS, first, row, leaves, blocks);
+    if is_inside(other, w, first, row, begins) {
+        return elsewhere(why);
+    }
+    if why != 0 {
+        return why;
+    }
+    look_up(
         made,
-        held,
-        sums,
         w,
-        MAX_WORKERS,
         first,
         row,
         begins,
         parts,
-        leaves,
-        blocks,
         displaced,
         at,
         beside,
-    )
+        targets,
+        amounts,
+    );
+    0
 }

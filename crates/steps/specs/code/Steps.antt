@@ -11,7 +11,7 @@ use Rattle.run.specs.Machine.{reason, Outcome, moved, halted, onward, stepIf}
 use Rattle.run.specs.State.{State}
 use Rattle.plan.specs.Sound.{maxWorkers}
 use Rattle.tables.specs.code.Laid.{maxUpdates, updatesIn, Bounded}
-use Rattle.steps.specs.code.Updates.{entryPlace}
+use Rattle.steps.specs.code.Updates.{entryPlace, updateIn}
 
 abbrev pub stateWith : (made : List ℕ) (held sums : List ℤ) → State
 stateWith made held sums = record { made = made; held = held; sums = sums }
@@ -29,6 +29,10 @@ rowNext first row made w = getD row (placeNext first made w) 0
 -- its number among the row's
 abbrev pub numberNext : (first row begins made : List ℕ) → ℕ → ℕ
 numberNext first row begins made w = placeNext first made w - getD begins (rowNext first row made w) 0
+
+-- the update
+abbrev pub updateNext : (first row begins parts : List ℕ) (displaced : List ℤ) (at : List ℕ) (beside : List ℤ) (made : List ℕ) → ℕ → Update
+updateNext first row begins parts displaced at beside made w = updateIn parts displaced at beside (rowNext first row made w) (numberNext first row begins made w)
 
 -- why a step is refused, 10 before 12 before 13; 0: it is taken
 abbrev pub reasonAt : (workers : ℕ) (first row leaves blocks made : List ℕ) → ℕ → ℕ

@@ -9,13 +9,14 @@ use Rattle.plan.specs.Groups.{Group}
 use Rattle.plan.specs.code.Checks.{recordAt}
 use Rattle.crews.specs.Crews.{crew0, crew1}
 use Rattle.steps.specs.code.Steps.{stateWith}
+use Rattle.steps.proofs.TableSteps.{pick-refused}
 use Rattle.turns.proofs.CrewTurns.{named-low}
-use Rattle.turns.proofs.SharedLoop.{Sharing, sharing-start, sharing-none, sharing-misnamed, sharing-halt, sharing-renewed, sharing-on}
+use Rattle.turns.proofs.SharedLoop.{Sharing, sharing-start, sharing-none, sharing-ready, sharing-picks, sharing-keeps, sharing-misnamed, sharing-halt, sharing-renewed, sharing-on}
 use Rattle.turns.proofs.Crews.walk.Statement.{statement}
 use Rattle.turns.proofs.Crews.walk.Tie as tie
 
 abbrev Inv-loop : tie.InvT-loop
-Inv-loop sums0₀ sums1₀ schedule groups row begins parts leaves displaced0 displaced1 at beside made0₀ held0₀ made1₀ held1₀ first ends count workers blocks0₀ stops0₀ blocks1₀ stops1₀ k₀ sums0 sums1 made0 held0 made1 held1 blocks0 stops0 blocks1 stops1 k =
+Inv-loop sums0₀ sums1₀ schedule groups row begins parts leaves displaced0 displaced1 at beside made0₀ held0₀ made1₀ held1₀ first ends count workers blocks0₀ stops0₀ blocks1₀ stops1₀ targets0₀ amounts0₀ targets1₀ amounts1₀ k₀ sums0 sums1 made0 held0 made1 held1 blocks0 stops0 blocks1 stops1 targets0 amounts0 targets1 amounts1 k =
     (k ≤ length schedule) × (length sums0 ≡ length sums0₀) × (length sums1 ≡ length sums1₀)
     × Sharing (record {
       workers = workers;
@@ -31,10 +32,10 @@ Inv-loop sums0₀ sums1₀ schedule groups row begins parts leaves displaced0 di
       at = at;
       beside = beside;
     }) (record { of0 = stateWith made0₀ held0₀ sums0₀; of1 = stateWith made1₀ held1₀ sums1₀ }) schedule k (record { of0 = stateWith made0 held0 sums0; of1 = stateWith made1 held1 sums1 })
-    (record { of0 = blocks0; of1 = blocks1 }) (record { of0 = stops0; of1 = stops1 })
+    (record { of0 = blocks0; of1 = blocks1 }) (record { of0 = stops0; of1 = stops1 }) (record { of0 = targets0; of1 = targets1 }) (record { of0 = amounts0; of1 = amounts1 })
 
 abbrev μ-loop : tie.MeasureT-loop
-μ-loop sums0₀ sums1₀ schedule groups row begins parts leaves displaced0 displaced1 at beside made0₀ held0₀ made1₀ held1₀ first ends count workers blocks0₀ stops0₀ blocks1₀ stops1₀ k₀ sums0 sums1 made0 held0 made1 held1 blocks0 stops0 blocks1 stops1 k =
+μ-loop sums0₀ sums1₀ schedule groups row begins parts leaves displaced0 displaced1 at beside made0₀ held0₀ made1₀ held1₀ first ends count workers blocks0₀ stops0₀ blocks1₀ stops1₀ targets0₀ amounts0₀ targets1₀ amounts1₀ k₀ sums0 sums1 made0 held0 made1 held1 blocks0 stops0 blocks1 stops1 targets0 amounts0 targets1 amounts1 k =
     length schedule - k
 
 -- ---- before the loop
@@ -79,7 +80,7 @@ loop-holds c = let r = c .before .before .before .before .before .before .before
       refl,
       sharing-start (crew r)
           (record { long = search needs; blocked = c .before .before .before .before .before .before .before .before .before .blocked-groups .ensures; ahead = c .before .before .before .before .before .before .next-ends .ensures })
-          (record { long = search needs; blocked = c .before .before .before .blocked-groups2 .ensures; ahead = c .next-ends2 .ensures }),
+          (record { long = search needs; blocked = c .before .before .before .blocked-groups2 .ensures; ahead = c .next-ends2 .ensures }) (search needs) (search needs),
     )
 
 shared-slice-read-byte : tie.Need-shared-slice-read-byte Inv-loop μ-loop
@@ -122,150 +123,237 @@ named e = let z : e .before .refused-name .result ≡ 0 = search needs in named-
 
 -- ---- a pick for crew 0
 
--- from the pick back to the byte's name
-abbrev name0 : tie.After-turn Inv-loop μ-loop → tie.Else1 Inv-loop μ-loop
-name0 t = t .before .before .before .before .before .before .before .before
+-- from the update at hand back to the byte's name
+abbrev name0 : tie.After-begin Inv-loop μ-loop → tie.Else1 Inv-loop μ-loop
+name0 b = b .before .before .before .before .before .before .before .before
 
-first : (t : tie.After-turn Inv-loop μ-loop) → byteAt (head (name0 t .before)) / 16 ≡ 0
-first t = omega (arith, t .before .before .before .before .before .before .before .if2 .taken)
+first : (b : tie.After-begin Inv-loop μ-loop) → byteAt (head (name0 b .before)) / 16 ≡ 0
+first b = omega (arith, b .before .before .before .before .before .before .before .if2 .taken)
 
-turn-requires : tie.Need-turn-requires Inv-loop μ-loop
-turn-requires c κs = let l = head (c .before .before .before .before .before .before .before .before) in
-    (omega arith, rw (l .loop .inv .1) (entry l .pre .2))
+begin-requires : tie.Need-begin-requires Inv-loop μ-loop
+begin-requires c κs = let l = head (c .before .before .before .before .before .before .before .before) in
+    (omega arith, (_, entry l .pre .2), l .loop .inv .3 .hand crew0)
 
 ended-requires-2 : tie.Need-ended-requires-2 Inv-loop μ-loop
 ended-requires-2 c κs = search needs
 
 same-length-3 : tie.Need-same-length-3 Inv-loop μ-loop
-same-length-3 c = let t = c .before .before .before in t .turn .kept .1 .1 .0 ∙ head (name0 t .before) .loop .inv .1
+same-length-3 c = head (name0 (c .before .before) .before) .loop .inv .1
 
 same-length-4 : tie.Need-same-length-4 Inv-loop μ-loop
-same-length-4 c = head (name0 (c .before .before .before) .before) .loop .inv .2
+same-length-4 c = head (name0 (c .before .before) .before) .loop .inv .2
 
 returns-2 : tie.Need-returns-2 Inv-loop μ-loop
-returns-2 c = let t = c .before .before .before in
-    let l = head (name0 t .before) in
+returns-2 c = let b = c .before .before in
+    let l = head (name0 b .before) in
+    let d = c .before .if3 .taken in
     rw (c .ended2 .ensures)
-    (sharing-halt (l .loop .inv .3) (entry l .pre .1) (name0 t .before .before .before .loop-test .taken) (few (whole l)) crew0 (first t) (named (name0 t) .1) (t .turn .ensures) (c .before .if3 .taken))
+    (sharing-halt (l .loop .inv .3) (entry l .pre .1) (name0 b .before .before .before .loop-test .taken) (few (whole l)) crew0 (first b) (named (name0 b) .1) (pick-refused _ (b .begin .result) _ _ _ (b .begin .ensures .told) d) d)
 
-mul-if4 : tie.Need-mul-if4 Inv-loop μ-loop
-mul-if4 c = search needs
+none0 : (e : tie.Else3 Inv-loop μ-loop) → e .before .begin .result ≡ 0
+none0 e = search needs
 
-array-read-if4 : tie.Need-array-read-if4 Inv-loop μ-loop
-array-read-if4 c = search needs
+access-requires : tie.Need-access-requires Inv-loop μ-loop
+access-requires c κs = let e = c .before .before .before .before .before in
+    let b = e .before in
+    let l = head (name0 b .before) in
+    let h = sharing-ready (l .loop .inv .3) crew0 (omega arith) (b .begin .ensures) (none0 e) (entry l .pre .2) in
+    (omega arith, h .0, omega (arith, h .1, l .loop .inv .1))
 
-mul-if4-2 : tie.Need-mul-if4-2 Inv-loop μ-loop
-mul-if4-2 c = search needs
-
-array-read-if4-2 : tie.Need-array-read-if4-2 Inv-loop μ-loop
-array-read-if4-2 c = search needs
-
-blocked-groups-requires-3 : tie.Need-blocked-groups-requires-3 Inv-loop μ-loop
-blocked-groups-requires-3 c κs = entry (head (name0 (c .before .before .before .before .before) .before)) .pre .1
-
-next-ends-requires-3 : tie.Need-next-ends-requires-3 Inv-loop μ-loop
-next-ends-requires-3 c κs = entry (head (name0 (c .before .before .before .before .before .before .before .before) .before)) .pre .1
-
-add-k : tie.Need-add-k Inv-loop μ-loop
-add-k c = let t = name0 (c .before .before .before) .before .before .before in let s = entry (t .before) in omega (arith, t .loop-test .taken, s .good)
-
-loop-less : tie.Need-loop-less Inv-loop μ-loop
-loop-less c = let t = name0 (c .before .before .before) .before .before .before in omega (arith, t .loop-test .taken)
-
-loop-again : tie.Need-loop-again Inv-loop μ-loop
-loop-again c = let t = c .before .before .before in
-    let l = head (name0 t .before) in
-    let s = entry l in
-    let test = name0 t .before .before .before .loop-test .taken in
-    let none : t .turn .result ≡ 0 = search needs in (
-      omega (arith, test),
-      t .turn .kept .1 .1 .0 ∙ l .loop .inv .1,
-      l .loop .inv .2,
-      ⊎-elim
-          (λ r. rw (r .7, r .8) (sharing-renewed (l .loop .inv .3) (s .pre .1) test (few (whole l)) crew0 (first t) (named (name0 t) .1) (t .turn .ensures) none (r .3 .ensures) (r .6 .ensures)))
-          (λ r. rw (r .1, r .2) (sharing-on (l .loop .inv .3) (s .pre .1) test (few (whole l)) crew0 (first t) (named (name0 t) .1) (t .turn .ensures) none (omega (arith, l .loop .inv .3 .side crew0 .long)) (r .0 .left)))
-          (c .if4 .came),
-    )
-
--- ---- a pick for crew 1
-
-abbrev name1 : tie.After-turn2 Inv-loop μ-loop → tie.Else1 Inv-loop μ-loop
-name1 t = t .before .before .before .before .before .before .before .before
-
-second : (t : tie.After-turn2 Inv-loop μ-loop) → byteAt (head (name1 t .before)) / 16 ≡ 1
-second t = omega (arith, named (name1 t) .0, t .before .before .before .before .before .before .before .if2 .left)
-
-turn-requires-2 : tie.Need-turn-requires-2 Inv-loop μ-loop
-turn-requires-2 c κs = let l = head (c .before .before .before .before .before .before .before .before) in
-    (omega arith, rw (l .loop .inv .2 ∙ entry l .pre .3) (entry l .pre .2))
+-- from an access back to its update
+abbrev enter0 : tie.After-access Inv-loop μ-loop → tie.Else3 Inv-loop μ-loop
+enter0 t = t .before .before .before .before .before .before
 
 ended-requires-3 : tie.Need-ended-requires-3 Inv-loop μ-loop
 ended-requires-3 c κs = search needs
 
 same-length-5 : tie.Need-same-length-5 Inv-loop μ-loop
-same-length-5 c = head (name1 (c .before .before .before) .before) .loop .inv .1
+same-length-5 c = let t = c .before .before .before in t .access .kept .1 .1 .0 ∙ head (name0 (enter0 t .before) .before) .loop .inv .1
 
 same-length-6 : tie.Need-same-length-6 Inv-loop μ-loop
-same-length-6 c = let t = c .before .before .before in t .turn2 .kept .1 .1 .0 ∙ head (name1 t .before) .loop .inv .2
+same-length-6 c = head (name0 (enter0 (c .before .before .before) .before) .before) .loop .inv .2
 
 returns-3 : tie.Need-returns-3 Inv-loop μ-loop
 returns-3 c = let t = c .before .before .before in
-    let l = head (name1 t .before) in
+    let e = enter0 t in
+    let b = e .before in
+    let l = head (name0 b .before) in
+    let made = sharing-picks (l .loop .inv .3) crew0 (omega arith) (b .begin .ensures) (none0 e) (t .access .ensures) in
     rw (c .ended3 .ensures)
-    (sharing-halt (l .loop .inv .3) (entry l .pre .1) (name1 t .before .before .before .loop-test .taken) (few (whole l)) crew1 (second t) (named (name1 t) .1) (t .turn2 .ensures) (c .before .if5 .taken))
+    (sharing-halt (l .loop .inv .3) (entry l .pre .1) (name0 b .before .before .before .loop-test .taken) (few (whole l)) crew0 (first b) (named (name0 b) .1) made (c .before .if4 .taken))
 
-mul-if6 : tie.Need-mul-if6 Inv-loop μ-loop
-mul-if6 c = search needs
+mul-targets1 : tie.Need-mul-targets1 Inv-loop μ-loop
+mul-targets1 c = search needs
 
-array-read-if6 : tie.Need-array-read-if6 Inv-loop μ-loop
-array-read-if6 c = search needs
+array-write-targets1 : tie.Need-array-write-targets1 Inv-loop μ-loop
+array-write-targets1 c = search needs
 
-mul-if6-2 : tie.Need-mul-if6-2 Inv-loop μ-loop
-mul-if6-2 c = search needs
+mul-if5 : tie.Need-mul-if5 Inv-loop μ-loop
+mul-if5 c = search needs
 
-array-read-if6-2 : tie.Need-array-read-if6-2 Inv-loop μ-loop
-array-read-if6-2 c = search needs
+array-read-if5 : tie.Need-array-read-if5 Inv-loop μ-loop
+array-read-if5 c = search needs
 
-blocked-groups-requires-4 : tie.Need-blocked-groups-requires-4 Inv-loop μ-loop
-blocked-groups-requires-4 c κs = entry (head (name1 (c .before .before .before .before .before) .before)) .pre .1
+mul-if5-2 : tie.Need-mul-if5-2 Inv-loop μ-loop
+mul-if5-2 c = search needs
 
-next-ends-requires-4 : tie.Need-next-ends-requires-4 Inv-loop μ-loop
-next-ends-requires-4 c κs = entry (head (name1 (c .before .before .before .before .before .before .before .before) .before)) .pre .1
+array-read-if5-2 : tie.Need-array-read-if5-2 Inv-loop μ-loop
+array-read-if5-2 c = search needs
 
-add-k-2 : tie.Need-add-k-2 Inv-loop μ-loop
-add-k-2 c = let t = name1 (c .before .before .before) .before .before .before in let s = entry (t .before) in omega (arith, t .loop-test .taken, s .good)
+blocked-groups-requires-3 : tie.Need-blocked-groups-requires-3 Inv-loop μ-loop
+blocked-groups-requires-3 c κs = entry (head (name0 (enter0 (c .before .before .before .before .before) .before) .before)) .pre .1
 
-loop-less-2 : tie.Need-loop-less-2 Inv-loop μ-loop
-loop-less-2 c = let t = name1 (c .before .before .before) .before .before .before in omega (arith, t .loop-test .taken)
+next-ends-requires-3 : tie.Need-next-ends-requires-3 Inv-loop μ-loop
+next-ends-requires-3 c κs = entry (head (name0 (enter0 (c .before .before .before .before .before .before .before .before) .before) .before)) .pre .1
 
-loop-again-2 : tie.Need-loop-again-2 Inv-loop μ-loop
-loop-again-2 c = let t = c .before .before .before in
-    let l = head (name1 t .before) in
+add-k : tie.Need-add-k Inv-loop μ-loop
+add-k c = let t = name0 (enter0 (c .before .before .before) .before) .before .before .before in let s = entry (t .before) in omega (arith, t .loop-test .taken, s .good)
+
+loop-less : tie.Need-loop-less Inv-loop μ-loop
+loop-less c = let t = name0 (enter0 (c .before .before .before) .before) .before .before .before in omega (arith, t .loop-test .taken)
+
+loop-again : tie.Need-loop-again Inv-loop μ-loop
+loop-again c = let t = c .before .before .before in
+    let e = enter0 t in
+    let b = e .before in
+    let l = head (name0 b .before) in
     let s = entry l in
-    let test = name1 t .before .before .before .loop-test .taken in
-    let none : t .turn2 .result ≡ 0 = search needs in (
+    let test = name0 b .before .before .before .loop-test .taken in
+    let made = sharing-picks (l .loop .inv .3) crew0 (omega arith) (b .begin .ensures) (none0 e) (t .access .ensures) in
+    let hand = sharing-keeps (l .loop .inv .3) crew0 (omega arith) (b .begin .ensures) (none0 e) (t .access .ensures) in
+    let none : t .access .result ≡ 0 = search needs in (
       omega (arith, test),
-      l .loop .inv .1,
-      t .turn2 .kept .1 .1 .0 ∙ l .loop .inv .2,
+      t .access .kept .1 .1 .0 ∙ l .loop .inv .1,
+      l .loop .inv .2,
       ⊎-elim
-          (λ r. rw (r .7, r .8) (sharing-renewed (l .loop .inv .3) (s .pre .1) test (few (whole l)) crew1 (second t) (named (name1 t) .1) (t .turn2 .ensures) none (r .3 .ensures) (r .6 .ensures)))
-          (λ r. rw (r .1, r .2) (sharing-on (l .loop .inv .3) (s .pre .1) test (few (whole l)) crew1 (second t) (named (name1 t) .1) (t .turn2 .ensures) none (omega (arith, l .loop .inv .3 .side crew1 .long)) (r .0 .left)))
-          (c .if6 .came),
+          (λ r. rw (r .7, r .8, r .9) (sharing-renewed (l .loop .inv .3) (s .pre .1) test (few (whole l)) crew0 (first b) (named (name0 b) .1) made none (r .3 .ensures) (r .6 .ensures) hand))
+          (λ r. rw (r .1, r .2, r .3) (sharing-on (l .loop .inv .3) (s .pre .1) test (few (whole l)) crew0 (first b) (named (name0 b) .1) made none (omega (arith, l .loop .inv .3 .side crew0 .long)) (r .0 .left) hand))
+          (c .if5 .came),
     )
 
--- ---- after the loop
+-- ---- a pick for crew 1
+
+-- from the update at hand back to the byte's name
+abbrev name1 : tie.After-begin2 Inv-loop μ-loop → tie.Else1 Inv-loop μ-loop
+name1 b = b .before .before .before .before .before .before .before .before
+
+second : (b : tie.After-begin2 Inv-loop μ-loop) → byteAt (head (name1 b .before)) / 16 ≡ 1
+second b = omega (arith, named (name1 b) .0, b .before .before .before .before .before .before .before .if2 .left)
+
+begin-requires-2 : tie.Need-begin-requires-2 Inv-loop μ-loop
+begin-requires-2 c κs = let l = head (c .before .before .before .before .before .before .before .before) in
+    (omega arith, (_, entry l .pre .2), l .loop .inv .3 .hand crew1)
 
 ended-requires-4 : tie.Need-ended-requires-4 Inv-loop μ-loop
 ended-requires-4 c κs = search needs
 
 same-length-7 : tie.Need-same-length-7 Inv-loop μ-loop
-same-length-7 c = search needs
+same-length-7 c = head (name1 (c .before .before) .before) .loop .inv .1
 
 same-length-8 : tie.Need-same-length-8 Inv-loop μ-loop
-same-length-8 c = search needs
+same-length-8 c = head (name1 (c .before .before) .before) .loop .inv .2
 
 returns-4 : tie.Need-returns-4 Inv-loop μ-loop
-returns-4 c = rw (c .ended4 .ensures) (sharing-none (c .before .before .loop .inv .3) (search needs))
+returns-4 c = let b = c .before .before in
+    let l = head (name1 b .before) in
+    let d = c .before .if6 .taken in
+    rw (c .ended4 .ensures)
+    (sharing-halt (l .loop .inv .3) (entry l .pre .1) (name1 b .before .before .before .loop-test .taken) (few (whole l)) crew1 (second b) (named (name1 b) .1) (pick-refused _ (b .begin2 .result) _ _ _ (b .begin2 .ensures .told) d) d)
+
+none1 : (e : tie.Else6 Inv-loop μ-loop) → e .before .begin2 .result ≡ 0
+none1 e = search needs
+
+access-requires-2 : tie.Need-access-requires-2 Inv-loop μ-loop
+access-requires-2 c κs = let e = c .before .before .before .before .before in
+    let b = e .before in
+    let l = head (name1 b .before) in
+    let h = sharing-ready (l .loop .inv .3) crew1 (omega arith) (b .begin2 .ensures) (none1 e) (entry l .pre .2) in
+    (omega arith, h .0, omega (arith, h .1, l .loop .inv .2, entry l .pre .3))
+
+-- from an access back to its update
+abbrev enter1 : tie.After-access2 Inv-loop μ-loop → tie.Else6 Inv-loop μ-loop
+enter1 t = t .before .before .before .before .before .before
+
+ended-requires-5 : tie.Need-ended-requires-5 Inv-loop μ-loop
+ended-requires-5 c κs = search needs
+
+same-length-9 : tie.Need-same-length-9 Inv-loop μ-loop
+same-length-9 c = head (name1 (enter1 (c .before .before .before) .before) .before) .loop .inv .1
+
+same-length-10 : tie.Need-same-length-10 Inv-loop μ-loop
+same-length-10 c = let t = c .before .before .before in t .access2 .kept .1 .1 .0 ∙ head (name1 (enter1 t .before) .before) .loop .inv .2
+
+returns-5 : tie.Need-returns-5 Inv-loop μ-loop
+returns-5 c = let t = c .before .before .before in
+    let e = enter1 t in
+    let b = e .before in
+    let l = head (name1 b .before) in
+    let made = sharing-picks (l .loop .inv .3) crew1 (omega arith) (b .begin2 .ensures) (none1 e) (t .access2 .ensures) in
+    rw (c .ended5 .ensures)
+    (sharing-halt (l .loop .inv .3) (entry l .pre .1) (name1 b .before .before .before .loop-test .taken) (few (whole l)) crew1 (second b) (named (name1 b) .1) made (c .before .if7 .taken))
+
+mul-targets0 : tie.Need-mul-targets0 Inv-loop μ-loop
+mul-targets0 c = search needs
+
+array-write-targets0 : tie.Need-array-write-targets0 Inv-loop μ-loop
+array-write-targets0 c = search needs
+
+mul-if8 : tie.Need-mul-if8 Inv-loop μ-loop
+mul-if8 c = search needs
+
+array-read-if8 : tie.Need-array-read-if8 Inv-loop μ-loop
+array-read-if8 c = search needs
+
+mul-if8-2 : tie.Need-mul-if8-2 Inv-loop μ-loop
+mul-if8-2 c = search needs
+
+array-read-if8-2 : tie.Need-array-read-if8-2 Inv-loop μ-loop
+array-read-if8-2 c = search needs
+
+blocked-groups-requires-4 : tie.Need-blocked-groups-requires-4 Inv-loop μ-loop
+blocked-groups-requires-4 c κs = entry (head (name1 (enter1 (c .before .before .before .before .before) .before) .before)) .pre .1
+
+next-ends-requires-4 : tie.Need-next-ends-requires-4 Inv-loop μ-loop
+next-ends-requires-4 c κs = entry (head (name1 (enter1 (c .before .before .before .before .before .before .before .before) .before) .before)) .pre .1
+
+add-k-2 : tie.Need-add-k-2 Inv-loop μ-loop
+add-k-2 c = let t = name1 (enter1 (c .before .before .before) .before) .before .before .before in let s = entry (t .before) in omega (arith, t .loop-test .taken, s .good)
+
+loop-less-2 : tie.Need-loop-less-2 Inv-loop μ-loop
+loop-less-2 c = let t = name1 (enter1 (c .before .before .before) .before) .before .before .before in omega (arith, t .loop-test .taken)
+
+loop-again-2 : tie.Need-loop-again-2 Inv-loop μ-loop
+loop-again-2 c = let t = c .before .before .before in
+    let e = enter1 t in
+    let b = e .before in
+    let l = head (name1 b .before) in
+    let s = entry l in
+    let test = name1 b .before .before .before .loop-test .taken in
+    let made = sharing-picks (l .loop .inv .3) crew1 (omega arith) (b .begin2 .ensures) (none1 e) (t .access2 .ensures) in
+    let hand = sharing-keeps (l .loop .inv .3) crew1 (omega arith) (b .begin2 .ensures) (none1 e) (t .access2 .ensures) in
+    let none : t .access2 .result ≡ 0 = search needs in (
+      omega (arith, test),
+      l .loop .inv .1,
+      t .access2 .kept .1 .1 .0 ∙ l .loop .inv .2,
+      ⊎-elim
+          (λ r. rw (r .7, r .8, r .9) (sharing-renewed (l .loop .inv .3) (s .pre .1) test (few (whole l)) crew1 (second b) (named (name1 b) .1) made none (r .3 .ensures) (r .6 .ensures) hand))
+          (λ r. rw (r .1, r .2, r .3) (sharing-on (l .loop .inv .3) (s .pre .1) test (few (whole l)) crew1 (second b) (named (name1 b) .1) made none (omega (arith, l .loop .inv .3 .side crew1 .long)) (r .0 .left) hand))
+          (c .if8 .came),
+    )
+
+-- ---- after the loop
+
+ended-requires-6 : tie.Need-ended-requires-6 Inv-loop μ-loop
+ended-requires-6 c κs = search needs
+
+same-length-11 : tie.Need-same-length-11 Inv-loop μ-loop
+same-length-11 c = search needs
+
+same-length-12 : tie.Need-same-length-12 Inv-loop μ-loop
+same-length-12 c = search needs
+
+returns-6 : tie.Need-returns-6 Inv-loop μ-loop
+returns-6 c = rw (c .ended6 .ensures) (sharing-none (c .before .before .loop .inv .3) (search needs))
 
 pub walk-spec : {M : Type 1} → statement M
 walk-spec =
@@ -286,35 +374,49 @@ walk-spec =
     same-length
     same-length-2
     returns
-    turn-requires
+    begin-requires
     ended-requires-2
     same-length-3
     same-length-4
     returns-2
-    mul-if4
-    array-read-if4
-    mul-if4-2
-    array-read-if4-2
+    access-requires
+    ended-requires-3
+    same-length-5
+    same-length-6
+    returns-3
+    mul-targets1
+    array-write-targets1
+    mul-if5
+    array-read-if5
+    mul-if5-2
+    array-read-if5-2
     blocked-groups-requires-3
     next-ends-requires-3
     add-k
     loop-less
     loop-again
-    turn-requires-2
-    ended-requires-3
-    same-length-5
-    same-length-6
-    returns-3
-    mul-if6
-    array-read-if6
-    mul-if6-2
-    array-read-if6-2
+    begin-requires-2
+    ended-requires-4
+    same-length-7
+    same-length-8
+    returns-4
+    access-requires-2
+    ended-requires-5
+    same-length-9
+    same-length-10
+    returns-5
+    mul-targets0
+    array-write-targets0
+    mul-if8
+    array-read-if8
+    mul-if8-2
+    array-read-if8-2
     blocked-groups-requires-4
     next-ends-requires-4
     add-k-2
     loop-less-2
     loop-again-2
-    ended-requires-4
-    same-length-7
-    same-length-8
-    returns-4)
+    ended-requires-6
+    same-length-11
+    same-length-12
+    returns-6)

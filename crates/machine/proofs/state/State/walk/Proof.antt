@@ -15,7 +15,7 @@ use Rattle.machine.proofs.state.State.walk.Statement.{statement}
 use Rattle.machine.proofs.state.State.walk.Tie as tie
 
 abbrev Inv-loop : tie.InvT-loop
-Inv-loop sums₀ schedule rule groups ends first row begins parts leaves displaced at beside made₀ held₀ count workers blocks₀ stops₀ taken₀ k₀ sums made held blocks stops taken k =
+Inv-loop sums₀ schedule rule groups ends first row begins parts leaves displaced at beside made₀ held₀ count workers blocks₀ stops₀ targets₀ amounts₀ taken₀ k₀ sums made held blocks stops targets amounts taken k =
     (k ≤ length schedule) × (taken ≤ k) × (length sums ≡ length sums₀)
     × Running (record {
       crew = workers;
@@ -30,10 +30,10 @@ Inv-loop sums₀ schedule rule groups ends first row begins parts leaves displac
       displaced = displaced;
       at = at;
       beside = beside;
-    }) rule (stateWith made₀ held₀ sums₀) schedule taken k (stateWith made held sums) blocks stops
+    }) rule (stateWith made₀ held₀ sums₀) schedule taken k (stateWith made held sums) blocks stops targets amounts
 
 abbrev μ-loop : tie.MeasureT-loop
-μ-loop sums₀ schedule rule groups ends first row begins parts leaves displaced at beside made₀ held₀ count workers blocks₀ stops₀ taken₀ k₀ sums made held blocks stops taken k =
+μ-loop sums₀ schedule rule groups ends first row begins parts leaves displaced at beside made₀ held₀ count workers blocks₀ stops₀ targets₀ amounts₀ taken₀ k₀ sums made held blocks stops targets amounts taken k =
     length schedule - k
 
 -- from a turn back to the function's entry, and to the whole group; from a pick back to its turn
@@ -44,7 +44,7 @@ abbrev whole : tie.In-loop Inv-loop μ-loop → tie.After-record-at Inv-loop μ-
 whole t = t .before .before .before .before .before .before
 
 abbrev turn : tie.After-pick Inv-loop μ-loop → tie.In-loop Inv-loop μ-loop
-turn p = p .before .before .before .before .before .before
+turn p = p .before .before .before .before .before .before .before .before
 
 -- the whole has all workers, of whom there are at most sixteen
 crew : (r : tie.After-record-at Inv-loop μ-loop) → r .record-at .result .workers ≡ recordAt (r .before .before .before .before .before .args .groups .now) 0 .workers
@@ -65,7 +65,7 @@ next-ends-requires c κs = search needs
 loop-holds : tie.Need-loop-holds Inv-loop μ-loop
 loop-holds c =
     let r = c .before .before .before .before in
-    (search needs, search needs, refl, running-start (crew r) (let g = r .before .before .before .before .before .good in search needs) (c .before .before .blocked-groups .ensures) (c .next-ends .ensures))
+    (search needs, search needs, refl, running-start (crew r) (let g = r .before .before .before .before .before .good in search needs) (c .before .before .blocked-groups .ensures) (c .next-ends .ensures) (search needs))
 
 shared-slice-read-w : tie.Need-shared-slice-read-w Inv-loop μ-loop
 shared-slice-read-w c = search needs
@@ -75,8 +75,8 @@ cast-w c = omega (arith, c .shared-slice-known3 .given (c .before .before .loop 
 
 pick-requires : tie.Need-pick-requires Inv-loop μ-loop
 pick-requires c κs =
-    let t = c .before .before .before .before .before in
-    (few (whole t), rw (t .before .loop .inv .2) (entry t .pre .2))
+    let t = c .before .before .before .before .before .before .before in
+    (few (whole t), rw (t .before .loop .inv .2) (entry t .pre .2), t .before .loop .inv .3 .hand)
 
 -- ---- a pick that is refused
 
@@ -98,7 +98,7 @@ returns c =
     let q = refused p in
     let t = turn q in
     rw (c .ended .ensures)
-    (running-halt (t .before .loop .inv .3) (few (whole t)) (entry t .pre .1) (t .loop-test .taken) (q .pick .ensures) (p .before .if1 .taken) (fails (p .passes .ensures) (c .before .if2 .taken)))
+    (running-halt (t .before .loop .inv .3) (few (whole t)) (entry t .pre .1) (t .loop-test .taken) (q .pick .ensures .0) (q .pick .ensures .1) (p .before .if1 .taken) (fails (p .passes .ensures) (c .before .if2 .taken)))
 
 add-k : tie.Need-add-k Inv-loop μ-loop
 add-k c = let t = turn (refused (c .before)) in omega (arith, t .loop-test .taken, entry t .good .1 .1 .0 .0)
@@ -115,7 +115,7 @@ loop-again c =
       omega (arith, t .loop-test .taken),
       omega (arith, l .loop .inv .1),
       q .pick .kept .1 .1 .0 ∙ l .loop .inv .2,
-      running-past (l .loop .inv .3) (few (whole t)) (entry t .pre .1) (t .loop-test .taken) (q .pick .ensures) (p .before .if1 .taken) (holds (p .passes .ensures) (c .if2 .left)),
+      running-past (l .loop .inv .3) (few (whole t)) (entry t .pre .1) (t .loop-test .taken) (q .pick .ensures .0) (q .pick .ensures .1) (p .before .if1 .taken) (holds (p .passes .ensures) (c .if2 .left)),
     )
 
 -- ---- a pick that is taken
@@ -129,7 +129,7 @@ worker c =
     let q = c .before .before in
     let t = turn q in
     let a = entry t .args in
-    pick-worker (a .first .now) (a .row .now) (a .leaves .now) (t .before .loop .blocks) (few (whole t)) (q .pick .ensures) (none c)
+    pick-worker (a .first .now) (a .row .now) (a .leaves .now) (t .before .loop .blocks) (few (whole t)) (q .pick .ensures .0) (none c)
 
 add-taken : tie.Need-add-taken Inv-loop μ-loop
 add-taken c = let t = turn (c .before .before) in omega (arith, t .loop-test .taken, t .before .loop .inv .1, entry t .good .1 .1 .0 .0)
@@ -169,8 +169,8 @@ loop-again-2 c =
       omega (arith, l .loop .inv .1),
       q .pick .kept .1 .1 .0 ∙ l .loop .inv .2,
       ⊎-elim
-          (λ r. rw (r .5, r .6) (running-renewed (l .loop .inv .3) (few (whole t)) (s .pre .1) (t .loop-test .taken) (q .pick .ensures) (none o) (r .2 .ensures) (r .4 .ensures)))
-          (λ r. rw (r .1, r .2) (running-on (l .loop .inv .3) (few (whole t)) (s .pre .1) (t .loop-test .taken) (q .pick .ensures) (none o) (omega (arith, worker o, l .loop .inv .3 .long)) (r .0 .left)))
+          (λ r. rw (r .5, r .6, r .7) (running-renewed (l .loop .inv .3) (few (whole t)) (s .pre .1) (t .loop-test .taken) (q .pick .ensures .0) (q .pick .ensures .1) (none o) (r .2 .ensures) (r .4 .ensures)))
+          (λ r. rw (r .1, r .2, r .3) (running-on (l .loop .inv .3) (few (whole t)) (s .pre .1) (t .loop-test .taken) (q .pick .ensures .0) (q .pick .ensures .1) (none o) (omega (arith, worker o, l .loop .inv .3 .long)) (r .0 .left)))
           (c .if3 .came),
     )
 
