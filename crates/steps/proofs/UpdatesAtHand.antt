@@ -1,11 +1,9 @@
 -- Updates at hand: looked up, kept by accesses of other workers and by a load, gone with a store.
-use mathlib.Core.Path.{_≡_, refl, sym, ap, _∙_, subst}
+use mathlib.Core.Path.{_≡_, refl, ap, _∙_}
 use mathlib.Core.Logic.{_⊎_, inl, inr, _≢_}
-use mathlib.Core.Bool.{Bool, true, false}
 use mathlib.Core.List.{List}
-use Prim.Native.Nat.{ℕ, zero, suc, _+_, _*_, _/_, _%_, _≤_, _<_}
+use Prim.Native.Nat.{ℕ, suc, _*_, _/_, _%_, _<_}
 use native.Mathlib.Omega.{arith}
-use lib.Dec.{eqb, leb, ltb}
 use lib.IntN.{ℤ, pos}
 use lib.ListN.{length, getD, set, replicate, length-set, length-replicate, getD-replicate}
 use lib.Seq.{getD-set-same, getD-set-other}
@@ -18,7 +16,7 @@ use Rattle.run.specs.Machine.{reason, onward}
 use Rattle.run.specs.State.{State}
 use Rattle.tables.specs.code.Laid.{updatesIn}
 use Rattle.steps.specs.code.Steps.{rowNext, numberNext, reasonAt, updateNext, StepTables, PickMade}
-use Rattle.steps.specs.code.AtHand.{Known, AtHand, Entered, AccessMade}
+use Rattle.steps.specs.code.AtHand.{Known, AtHand, AccessMade}
 use Rattle.steps.proofs.TableUpdates.{by-low}
 use Rattle.steps.proofs.TableSteps.{reason-none}
 

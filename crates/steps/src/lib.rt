@@ -97,8 +97,8 @@ pub fn look_up(
     amounts[w] = amount_of(parts, displaced, at, beside, p, k);
 }
 
-// Worker w loads or stores the sum of the update at hand, which a store ends. 0, or 14 if the sum to store would pass 64
-// bits: then all is as it was.
+// Worker w loads or stores the sum of the update at hand, which a store ends. 0, or 14 if the sum to store would pass
+// 64 bits: then all is as it was.
 pub fn access(
     made: &mut [u32; MAX_WORKERS],
     held: &mut [i64; MAX_WORKERS],

@@ -1,15 +1,15 @@
 -- `look_up` meets its contract.
 use mathlib.Core.Path.{_≡_, refl, ap, _∙_}
-use Prim.Native.Nat.{ℕ, _+_, _*_, _-_, _/_, _≤_, _<_}
+use Prim.Native.Nat.{ℕ, _+_, _-_, _/_, _≤_, _<_}
 use native.Mathlib.Omega.{arith}
-use lib.ListN.{length, getD}
+use lib.ListN.{getD}
 use mir.Syntax.{w64}
 use mir.Val.{SFits}
 use mir.Facts.{toZ-ofZ}
 use borrow.Author.Needs.{needs}
 use Rattle.tables.specs.code.Laid.{updatesIn}
 use Rattle.steps.specs.code.Steps.{placeNext, rowNext}
-use Rattle.steps.specs.code.Updates.{entryPlace, Readable}
+use Rattle.steps.specs.code.Updates.{entryPlace}
 use Rattle.steps.proofs.look_up.Statement.{statement}
 use Rattle.steps.proofs.look_up.Tie as tie
 

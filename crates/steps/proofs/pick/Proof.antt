@@ -1,13 +1,12 @@
 -- `pick` meets its contract.
-use mathlib.Core.Path.{_≡_, sym, _∙_}
+use mathlib.Core.Path.{_≡_}
 use Prim.Native.Nat.{_+_, _*_, _<_}
 use native.Mathlib.Omega.{arith}
-use lib.ListN.{length, getD}
+use lib.ListN.{getD}
 use borrow.Author.Tests.{le-ltb}
 use borrow.Author.Needs.{needs}
 use Rattle.run.specs.Machine.{reason}
 use Rattle.tables.specs.code.Laid.{updatesIn}
-use Rattle.steps.specs.code.AtHand.{Known}
 use Rattle.steps.proofs.TableSteps.{reason-none, pick-refused}
 use Rattle.steps.proofs.UpdatesAtHand.{access-picks, access-keeps, steps-steady, target-low}
 use Rattle.steps.proofs.pick.Statement.{statement}
