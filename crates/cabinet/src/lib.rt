@@ -14,23 +14,182 @@ use matrix::limits::MAX_STARTS;
 use plan::fields::MAX_FIELDS;
 use words::load::load_i64;
 ghost use mathlib.Core.Path.{_≡_};
-ghost use mathlib.Core.Bool.{cond};
-ghost use Prim.Native.Nat.{_/_};
+ghost use mathlib.Core.Bool.{true, cond};
+ghost use mathlib.Core.List.{List};
+ghost use Prim.Native.Nat.{ℕ, _/_, _≤_};
 ghost use lib.Dec.{eqb};
-ghost use lib.ListN.{length};
-ghost use Rattle.matrix.specs.code.Room.{maxStarts};
+ghost use lib.ListN.{length, take};
+ghost use Rattle.matrix.specs.code.Room.{maxStarts, maxCells};
 ghost use Rattle.run.specs.Calls.{afterLent};
 ghost use Rattle.calls.specs.Performed.{asCall};
 ghost use Rattle.words.specs.LittleEndian.{unsigned, signed};
 ghost use Rattle.lent.specs.Bytes.{matrixIn};
 ghost use Rattle.answers.specs.Runs.{stateBytes, stateIn, answerIn};
 ghost use Rattle.answers.specs.code.Ran.{Ran};
+ghost use Rattle.cabinet.specs.code.Few.{fewCells};
+
+// The size of smaller arrays for columns and values: they take less time to clear.
+const FEW_CELLS: usize = 16384;
 
 // How many of the sums are lent on: none where the bytes are no state, so that it is refused as one without n sums.
 fn lent_sums(state: &[u8], size: usize) -> usize
     ensures { λ r. ⌜ r ≡ cond (eqb (length (now (state .entry))) stateBytes) size 0 ⌝ }
 {
     if state.len() == STATE_BYTES { size } else { 0 }
+}
+
+// Whether columns and values fit the smaller arrays.
+fn are_short(columns: &[u8], values: &[u8]) -> bool
+    ensures { λ r. ⌜ (r ≡ true → (length (now (columns .entry)) / 4 ≤ fewCells) × (length (now (values .entry)) / 4 ≤ fewCells)) ⌝ }
+{
+    if FEW_CELLS < columns.len() / 4 {
+        return false;
+    }
+    values.len() / 4 <= FEW_CELLS
+}
+
+// Columns and values are decoded already; the other lists are here, as far as any job can reach, the sums into `new`,
+// where they are left. Forces are stored.
+fn perform_on(
+    n: u32,
+    row_starts: &[u8],
+    columns: &[u32],
+    values: &[i32],
+    movements: &[u8],
+    order: &[u8],
+    groups: &[u8],
+    group_count: u32,
+    schedule: &[u8],
+    forces: &mut [u8],
+    state: &[u8],
+    sums: &[u8],
+    new: &mut [i64],
+    call: Call,
+) -> Done
+    requires { ⌜ length (now new) ≡ maxStarts ⌝ }
+    ensures { λ r. ⌜ ((cs vs : List ℕ) → now (columns .entry) ≡ take maxCells (unsigned 4 cs) → now (values .entry) ≡ take maxCells (signed 4 vs) → Ran n (asCall call (now (schedule .entry)) (length (now (forces .entry)) / 8))
+        (answerIn (matrixIn n (now («row_starts» .entry)) cs vs) (signed 4 (now (movements .entry))) (unsigned 4 (now (order .entry))) (unsigned 4 (now (groups .entry))) «group_count»
+        (now (state .entry)) (now (sums .entry)) (asCall call (now (schedule .entry)) (length (now (forces .entry)) / 8)))
+        (afterLent (matrixIn n (now («row_starts» .entry)) cs vs) (signed 4 (now (movements .entry))) (unsigned 4 (now (order .entry))) (unsigned 4 (now (groups .entry))) «group_count»
+        (stateIn (now (state .entry)) (now (sums .entry))) (asCall call (now (schedule .entry)) (length (now (forces .entry)) / 8)))
+        (now (state .entry)) (now (sums .entry)) (now (forces .entry)) (r .answer) (r .state) (now (new .exit)) (now (forces .exit))) ⌝ }
+{
+    let mut starts = [0u32; MAX_STARTS];
+    let mut displacements = [0i32; MAX_STARTS];
+    let mut order_list = [0u32; MAX_ROWS];
+    let mut group_list = [0u32; MAX_FIELDS];
+    let size = load_i64(sums, new);
+    let kept = lent_sums(state, size);
+    let mut made = [0i64; MAX_ROWS];
+    let room = least(forces.len() / 8, MAX_ROWS);
+    let done = perform(
+        n,
+        load_unsigned(row_starts, &mut starts),
+        columns,
+        values,
+        load_signed(movements, &mut displacements),
+        load_unsigned(order, &mut order_list),
+        load_unsigned(groups, &mut group_list),
+        group_count,
+        load_state(state),
+        &mut new[..kept],
+        schedule,
+        &mut made[..room],
+        call,
+    );
+    let answer = done.answer;
+    store_forces(n, answer, &made, forces);
+    done
+}
+
+// A call whose columns and values fit the smaller arrays.
+fn perform_few(
+    n: u32,
+    row_starts: &[u8],
+    columns: &[u8],
+    values: &[u8],
+    movements: &[u8],
+    order: &[u8],
+    groups: &[u8],
+    group_count: u32,
+    schedule: &[u8],
+    forces: &mut [u8],
+    state: &[u8],
+    sums: &[u8],
+    new: &mut [i64],
+    call: Call,
+) -> Done
+    requires { ⌜ (length (now new) ≡ maxStarts) × (length (now columns) / 4 ≤ fewCells) × (length (now values) / 4 ≤ fewCells) ⌝ }
+    ensures { λ r. ⌜ Ran n (asCall call (now (schedule .entry)) (length (now (forces .entry)) / 8))
+        (answerIn (matrixIn n (now («row_starts» .entry)) (now (columns .entry)) (now (values .entry))) (signed 4 (now (movements .entry))) (unsigned 4 (now (order .entry))) (unsigned 4 (now (groups .entry))) «group_count»
+        (now (state .entry)) (now (sums .entry)) (asCall call (now (schedule .entry)) (length (now (forces .entry)) / 8)))
+        (afterLent (matrixIn n (now («row_starts» .entry)) (now (columns .entry)) (now (values .entry))) (signed 4 (now (movements .entry))) (unsigned 4 (now (order .entry))) (unsigned 4 (now (groups .entry))) «group_count»
+        (stateIn (now (state .entry)) (now (sums .entry))) (asCall call (now (schedule .entry)) (length (now (forces .entry)) / 8)))
+        (now (state .entry)) (now (sums .entry)) (now (forces .entry)) (r .answer) (r .state) (now (new .exit)) (now (forces .exit)) ⌝ }
+{
+    let mut column_list = [0u32; FEW_CELLS];
+    let mut value_list = [0i32; FEW_CELLS];
+    perform_on(
+        n,
+        row_starts,
+        load_unsigned(columns, &mut column_list),
+        load_signed(values, &mut value_list),
+        movements,
+        order,
+        groups,
+        group_count,
+        schedule,
+        forces,
+        state,
+        sums,
+        new,
+        call,
+    )
+}
+
+// .. or not.
+fn perform_many(
+    n: u32,
+    row_starts: &[u8],
+    columns: &[u8],
+    values: &[u8],
+    movements: &[u8],
+    order: &[u8],
+    groups: &[u8],
+    group_count: u32,
+    schedule: &[u8],
+    forces: &mut [u8],
+    state: &[u8],
+    sums: &[u8],
+    new: &mut [i64],
+    call: Call,
+) -> Done
+    requires { ⌜ length (now new) ≡ maxStarts ⌝ }
+    ensures { λ r. ⌜ Ran n (asCall call (now (schedule .entry)) (length (now (forces .entry)) / 8))
+        (answerIn (matrixIn n (now («row_starts» .entry)) (now (columns .entry)) (now (values .entry))) (signed 4 (now (movements .entry))) (unsigned 4 (now (order .entry))) (unsigned 4 (now (groups .entry))) «group_count»
+        (now (state .entry)) (now (sums .entry)) (asCall call (now (schedule .entry)) (length (now (forces .entry)) / 8)))
+        (afterLent (matrixIn n (now («row_starts» .entry)) (now (columns .entry)) (now (values .entry))) (signed 4 (now (movements .entry))) (unsigned 4 (now (order .entry))) (unsigned 4 (now (groups .entry))) «group_count»
+        (stateIn (now (state .entry)) (now (sums .entry))) (asCall call (now (schedule .entry)) (length (now (forces .entry)) / 8)))
+        (now (state .entry)) (now (sums .entry)) (now (forces .entry)) (r .answer) (r .state) (now (new .exit)) (now (forces .exit)) ⌝ }
+{
+    let mut column_list = [0u32; MAX_CELLS];
+    let mut value_list = [0i32; MAX_CELLS];
+    perform_on(
+        n,
+        row_starts,
+        load_unsigned(columns, &mut column_list),
+        load_signed(values, &mut value_list),
+        movements,
+        order,
+        groups,
+        group_count,
+        schedule,
+        forces,
+        state,
+        sums,
+        new,
+        call,
+    )
 }
 
 // The lists are decoded, as far as any job can reach; the sums into `new`, where they are left. Forces are stored.
@@ -58,32 +217,38 @@ pub fn perform_in(
         (stateIn (now (state .entry)) (now (sums .entry))) (asCall call (now (schedule .entry)) (length (now (forces .entry)) / 8)))
         (now (state .entry)) (now (sums .entry)) (now (forces .entry)) (r .answer) (r .state) (now (new .exit)) (now (forces .exit)) ⌝ }
 {
-    let mut starts = [0u32; MAX_STARTS];
-    let mut column_list = [0u32; MAX_CELLS];
-    let mut value_list = [0i32; MAX_CELLS];
-    let mut displacements = [0i32; MAX_STARTS];
-    let mut order_list = [0u32; MAX_ROWS];
-    let mut group_list = [0u32; MAX_FIELDS];
-    let size = load_i64(sums, new);
-    let kept = lent_sums(state, size);
-    let mut made = [0i64; MAX_ROWS];
-    let room = least(forces.len() / 8, MAX_ROWS);
-    let done = perform(
+    if are_short(columns, values) {
+        return perform_few(
+            n,
+            row_starts,
+            columns,
+            values,
+            movements,
+            order,
+            groups,
+            group_count,
+            schedule,
+            forces,
+            state,
+            sums,
+            new,
+            call,
+        );
+    }
+    perform_many(
         n,
-        load_unsigned(row_starts, &mut starts),
-        load_unsigned(columns, &mut column_list),
-        load_signed(values, &mut value_list),
-        load_signed(movements, &mut displacements),
-        load_unsigned(order, &mut order_list),
-        load_unsigned(groups, &mut group_list),
+        row_starts,
+        columns,
+        values,
+        movements,
+        order,
+        groups,
         group_count,
-        load_state(state),
-        &mut new[..kept],
         schedule,
-        &mut made[..room],
+        forces,
+        state,
+        sums,
+        new,
         call,
-    );
-    let answer = done.answer;
-    store_forces(n, answer, &made, forces);
-    done
+    )
 }
