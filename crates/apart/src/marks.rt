@@ -9,16 +9,17 @@ ghost use lib.ListN.{length, getD};
 ghost use Rattle.apart.specs.code.Marks.{OfMatrix, closed, touchedBy, Touched};
 ghost use Rattle.matrix.specs.Limits.{maxRows};
 
-// Row z gets the mark mine, unless it has another child's mark.
+// Row z gets the mark mine, unless it has another child's mark. Many rows have it already.
 fn touch(marks: &mut [u32; MAX_ROWS], z: usize, low: u32, mine: u32) -> bool
     requires { ⌜ (length (now marks) ≡ maxRows) × (z < maxRows) ⌝ }
     ensures { λ r. ⌜ Touched low mine (z ∷ []) (now (marks .entry)) (now (marks .exit)) r ⌝ }
 {
     let m = marks[z];
+    if m == mine {
+        return true;
+    }
     if low < m {
-        if m != mine {
-            return false;
-        }
+        return false;
     }
     marks[z] = mine;
     true

@@ -1,6 +1,11 @@
 -- `marks::touch`: one row.
-use mathlib.Core.Logic.{inl, inr, ⊎-elim}
+use mathlib.Core.Path.{_≡_, sym, ap, _∙_}
+use mathlib.Core.Logic.{inl, inr}
+use mathlib.Core.List.{List}
 use native.Mathlib.Omega.{arith}
+use Prim.Native.Nat.{ℕ}
+use lib.ListN.{getD, set}
+use lib.Seq.{set-getD}
 use borrow.Author.Needs.{needs}
 use Rattle.apart.proofs.Touching.{touched-clash, touched-free}
 use Rattle.apart.proofs.marks.touch.Statement.{statement}
@@ -12,10 +17,19 @@ mul-m c = search needs
 element-copy-out-m : tie.Need-element-copy-out-m
 element-copy-out-m c = search needs
 
+-- a row that has the mark keeps it
 returns : tie.Need-returns
 returns c =
+    let s = c .before .before in
+    let a = s .args in
+    let e : getD (a .marks .now) (a .z) 0 ≡ a .mine = c .if1 .taken in
+    let same : set (a .marks .now) (a .z) (a .mine) ≡ a .marks .now = ap (set (a .marks .now) (a .z)) (sym e) ∙ set-getD (a .marks .now) (a .z) 0 in
+    rw same at (touched-free (a .low) (a .mine) (a .marks .now) (a .z) (omega (arith, s .pre .0)) (inr e))
+
+returns-2 : tie.Need-returns-2
+returns-2 c =
     let a = c .before .before .before .args in
-    touched-clash (a .low) (a .mine) (a .marks .now) (a .marks .now) (a .z) (c .before .if1 .taken) (c .if2 .taken)
+    touched-clash (a .low) (a .mine) (a .marks .now) (a .marks .now) (a .z) (c .if2 .taken) (c .before .if1 .left)
 
 mul-marks : tie.Need-mul-marks
 mul-marks c = search needs
@@ -23,12 +37,12 @@ mul-marks c = search needs
 element-write-marks : tie.Need-element-write-marks
 element-write-marks c = search needs
 
-returns-2 : tie.Need-returns-2
-returns-2 c =
-    let s = c .before .before in
+returns-3 : tie.Need-returns-3
+returns-3 c =
+    let s = c .before .before .before in
     let a = s .args in
-    touched-free (a .low) (a .mine) (a .marks .now) (a .z) (omega (arith, s .pre .0)) (⊎-elim (λ w. inr (w .1 .left)) (λ w. inl (w .left)) (c .if1 .came))
+    touched-free (a .low) (a .mine) (a .marks .now) (a .z) (omega (arith, s .pre .0)) (inl (c .if2 .left))
 
 pub touch-spec : {M : Type 1} → statement M
 touch-spec =
-    tie.close (tie.spec mul-m element-copy-out-m returns mul-marks element-write-marks returns-2)
+    tie.close (tie.spec mul-m element-copy-out-m returns returns-2 mul-marks element-write-marks returns-3)
