@@ -19,7 +19,7 @@ use Rattle.crews.specs.TwoCrews.{bothFresh, bothState, bothAnswers, pass
 
 module _ (m : Matrix) (x : Two (List ℤ)) (order groups : List ℕ) (count : ℕ) (h : passedBoth m x order groups count ≡ true) where
   -- each crew's lists pass by themselves
-  own-passed : (c : Crew) → passed m (ownOf x c) order groups count ≡ true
+  pub own-passed : (c : Crew) → passed m (ownOf x c) order groups count ≡ true
   unfolding passedBoth passed roofChecks jobChecks
   own-passed crew0 = let e = each-holds (roofChecks m x order groups count) h in rw (e .0, e .1 .0, e .1 .1 .1 .0) refl
   own-passed crew1 = let e = each-holds (roofChecks m x order groups count) h in rw (e .0, e .1 .1 .0, e .1 .1 .1 .0) refl

@@ -1,12 +1,12 @@
 // The calls for two crews on one set of cores.
-use stage::picks_both_in;
-use stage::ready_both_in;
+use quarters::picks_both_in;
+use quarters::ready_both_in;
 ghost use mathlib.Core.Path.{_≡_};
 ghost use Rattle.crews.specs.Calls.{picksBoth, readySets, afterBothLent};
 ghost use Rattle.words.specs.LittleEndian.{unsigned, signed};
 ghost use Rattle.lent.specs.Bytes.{matrixIn};
 ghost use Rattle.lent.specs.Word.{word};
-ghost use Rattle.stage.specs.Both.{statesIn, answerBothIn, replyToBoth, PicksBothAnswered};
+ghost use Rattle.quarters.specs.Both.{statesIn, answerBothIn, replyToBoth, PicksBothAnswered};
 
 // A list of picks for both, made one load or store at a time.
 #[no_mangle]

@@ -9,23 +9,22 @@ use Rattle.matrix.specs.Matrix.{Matrix}
 use Rattle.run.specs.Job.{jobOf}
 use Rattle.run.specs.Machine.{isState}
 use Rattle.run.specs.State.{State}
-use Rattle.run.specs.Calls.{pickedOf, jobChecks}
+use Rattle.run.specs.Calls.{pickedOf}
 use Rattle.run.specs.Answers.{picks, forceList}
 use Rattle.run.specs.Sequence.{stateAfter}
 use Rattle.run.specs.EveryRun.{runState}
 use Rattle.run.specs.LentRuns.{passed}
-use Rattle.run.proofs.LentRuns.{each-holds}
 use Rattle.run.proofs.Sequence.{all-answered, all-left}
 use Rattle.words.specs.LittleEndian.{signedBytes}
 use Rattle.answers.specs.Runs.{stateBytes, bytesIn, leftBy}
 use Rattle.answers.proofs.StateBytes.{stored-over}
 use Rattle.crews.specs.Crews.{Crew, crew0, crew1, Two, ownOf, Roof, jobFor, turns}
-use Rattle.crews.specs.Calls.{BothCall, picksBoth, readySets, forcesFor, one, deniedBoth, answerBoth, afterBoth, roofOf, roofChecks}
+use Rattle.crews.specs.Calls.{BothCall, picksBoth, readySets, forcesFor, one, deniedBoth, answerBoth, afterBoth, roofOf}
 use Rattle.crews.specs.TwoCrews.{bothFresh, bothState, bothAnswers, passedBoth, takenFor, LentBoth}
-use Rattle.crews.proofs.LentBoth.{lent-both}
+use Rattle.crews.proofs.LentBoth.{own-passed, lent-both}
 use Rattle.crews.proofs.TwoCrews.{two-crews}
 use Rattle.shared.proofs.Sharing.{areStates, states-fine}
-use Rattle.stage.specs.Both.{statesIn, areWhole, ifWhole, answerBothIn, bytesLeft}
+use Rattle.quarters.specs.Both.{statesIn, areWhole, ifWhole, answerBothIn, bytesLeft}
 use Rattle.meaning.specs.ByteRuns.{inBytes, byteAnswer}
 use Rattle.meaning.specs.BothRuns.{bothInBytes, bothZeros, bothLeave, bytesAfter, bothByteAnswers, bothBytes, BothInBytes, BothByteRuns}
 use Rattle.meaning.proofs.StateBack.{Sized, state-length, state-back, sums-length, zeros-fresh}
@@ -44,12 +43,6 @@ module _ (m : Matrix) (x : Two (List ℤ)) (order groups : List ℕ) (count : �
   same : LentBoth m x order groups count
   same = lent-both m x order groups count pass
 
-  -- each crew's lists pass by themselves
-  own-passed : (c : Crew) → passed m (ownOf x c) order groups count ≡ true
-  unfolding passedBoth passed roofChecks jobChecks
-  own-passed crew0 = let e = each-holds (roofChecks m x order groups count) pass in rw (e .0, e .1 .0, e .1 .1 .1 .0) refl
-  own-passed crew1 = let e = each-holds (roofChecks m x order groups count) pass in rw (e .0, e .1 .1 .0, e .1 .1 .1 .0) refl
-
   -- states that calls for both lead to from fresh
   record Reached (s : Two State) : Type 0 where
     calls : List BothCall
@@ -66,7 +59,7 @@ module _ (m : Matrix) (x : Two (List ℤ)) (order groups : List ℕ) (count : �
   -- each crew's is one that a run of its own meets
   module _ (s : Two State) (k : Reached s) (c : Crew) where
     abbrev pass-own : passed m (ownOf x c) order groups count ≡ true
-    pass-own = own-passed c
+    pass-own = own-passed m x order groups count pass c
 
     met : own.Met m (ownOf x c) order groups count pass-own (ownOf s c)
     unfolding roofOf jobOf

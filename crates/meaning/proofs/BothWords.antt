@@ -30,9 +30,9 @@ use Rattle.crews.specs.Calls.{picksBoth, readySets, BothAnswer, deniedBoth, rea
 use Rattle.crews.specs.TwoCrews.{AcceptedRoof, passedBoth}
 use Rattle.crews.proofs.LentBoth.{lent-both}
 use Rattle.shared.proofs.Sharing.{crew-passing}
-use Rattle.stage.specs.Both.{statesIn, areWhole, ifWhole, answerBothIn, replyToBoth}
-use Rattle.stage.proofs.TurnsFew.{Sixteen, turns-few}
-use Rattle.stage.proofs.ReadyFew.{crew-few}
+use Rattle.quarters.specs.Both.{statesIn, areWhole, ifWhole, answerBothIn, replyToBoth}
+use Rattle.quarters.proofs.TurnsFew.{Sixteen, turns-few}
+use Rattle.quarters.proofs.ReadyFew.{crew-few}
 use Rattle.meaning.specs.Words.{Told, SetsTold, BothWords}
 use Rattle.meaning.proofs.Words.{told-refused, turn, last, place-low, picked-tells}
 

@@ -12,7 +12,7 @@ use Rattle.answers.specs.Runs.{Bytes}
 use Rattle.crews.specs.Crews.{Two}
 use Rattle.crews.specs.Calls.{BothCall, picksBoth, readySets, forcesFor, BothAnswer, roofOf, afterBothLent}
 use Rattle.crews.specs.TwoCrews.{bothState, bothAnswers, passedBoth}
-use Rattle.stage.specs.Both.{statesIn, answerBothIn, bytesLeft}
+use Rattle.quarters.specs.Both.{statesIn, answerBothIn, bytesLeft}
 use Rattle.meaning.specs.ByteRuns.{inBytes, zeros}
 
 abbrev pub bothInBytes : Two State → Two Bytes

@@ -26,7 +26,7 @@ use Rattle.joined.specs.Joined.{joinReply}
 use Rattle.answers.specs.Runs.{Bytes, answerIn, replyTo, previewWord, roundWord}
 use Rattle.crews.specs.Crews.{Two}
 use Rattle.crews.specs.Calls.{picksBoth, readySets, ReadySet, BothAnswer, one, sets}
-use Rattle.stage.specs.Both.{answerBothIn, replyToBoth}
+use Rattle.quarters.specs.Both.{answerBothIn, replyToBoth}
 
 -- "an accepted call has number 0"
 unfoldable pub numberIn : Reply → ℕ

@@ -4,8 +4,8 @@ use shared::Sets;
 ghost use mathlib.Core.Path.{_≡_};
 ghost use Rattle.lent.specs.Word.{word};
 ghost use Rattle.shared.specs.Performed.{asSets};
-ghost use Rattle.stage.specs.Both.{replyToBoth};
-ghost use Rattle.stage.specs.code.Loaded.{FewReady};
+ghost use Rattle.quarters.specs.Both.{replyToBoth};
+ghost use Rattle.quarters.specs.code.Loaded.{FewReady};
 
 // The value of the lowest bit of crew 1's bits, of crew 0's count and of crew 1's.
 const BITS1: u64 = 65536;

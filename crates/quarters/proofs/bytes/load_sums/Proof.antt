@@ -6,8 +6,8 @@ use lib.ListN.{length}
 use Rattle.words.specs.LittleEndian.{signedNumber}
 use Rattle.lent.proofs.Loads.{loaded-fits, loaded-is}
 use Rattle.answers.specs.Runs.{stateBytes}
-use Rattle.stage.proofs.bytes.load_sums.Statement.{statement}
-use Rattle.stage.proofs.bytes.load_sums.Tie as tie
+use Rattle.quarters.proofs.bytes.load_sums.Statement.{statement}
+use Rattle.quarters.proofs.bytes.load_sums.Tie as tie
 
 returns : tie.Need-returns
 returns c = let a = c .before .before .before .args in record { fit = omega arith; are = rw (ne-eqb (length (a .state .now)) stateBytes (λ e. omega (arith, e, c .if1 .taken))) }

@@ -3,10 +3,10 @@ use borrow.Author.Needs.{needs}
 use mathlib.Core.List.{[]}
 use lib.ListN.{take}
 use Rattle.turns.specs.Records.{statesOf}
-use Rattle.stage.specs.Both.{replyToBoth}
-use Rattle.stage.proofs.BothIn.{stored-left}
-use Rattle.stage.proofs.bytes.store_both.Statement.{statement}
-use Rattle.stage.proofs.bytes.store_both.Tie as tie
+use Rattle.quarters.specs.Both.{replyToBoth}
+use Rattle.quarters.proofs.BothIn.{stored-left}
+use Rattle.quarters.proofs.bytes.store_both.Statement.{statement}
+use Rattle.quarters.proofs.bytes.store_both.Tie as tie
 
 store-picks-requires : tie.Need-store-picks-requires
 store-picks-requires c κs = c .before .before .before .before .before .before .before .before .before .pre .fit0

@@ -12,8 +12,8 @@ ghost use lib.ListN.{length, take};
 ghost use Rattle.calls.specs.Performed.{asAnswer};
 ghost use Rattle.crews.specs.Calls.{one};
 ghost use Rattle.turns.specs.Records.{statesOf};
-ghost use Rattle.stage.specs.Both.{PicksBothAnswered};
-ghost use Rattle.stage.specs.code.Loaded.{CrewsAre, SumsAre, BothFit};
+ghost use Rattle.quarters.specs.Both.{PicksBothAnswered};
+ghost use Rattle.quarters.specs.code.Loaded.{CrewsAre, SumsAre, BothFit};
 
 // Where bytes are no state, a fresh one stands in.
 pub(crate) fn load_crews(state0: &[u8], state1: &[u8]) -> Crews

@@ -23,7 +23,7 @@ use Rattle.shared.specs.Performed.{asSets}
 use Rattle.shared.specs.declared.Sets.{Sets}
 use Rattle.shared.proofs.RoofChecked.{roof-given}
 use Rattle.shared.proofs.Sharing.{areStates, states-fine, roofReply, sets-refused, lent-sets-refused, lent-sets}
-use Rattle.stage.specs.code.Loaded.{FewReady}
+use Rattle.quarters.specs.code.Loaded.{FewReady}
 
 pub crew-few : (q : Roof) (s : Two State) (c : Crew) → length (crewReady q s c) ≤ workers (jobFor q c)
 unfolding crewReady ready

@@ -45,9 +45,9 @@ use Rattle.turns.specs.declared.Crews.{Crews}
 use Rattle.shared.specs.Performed.{PicksMade}
 use Rattle.shared.proofs.RoofChecked.{roof-given}
 use Rattle.shared.proofs.Sharing.{areStates, states-fine, states-short0, states-short1, picks-refused, roofReply, lent-refused, lent-answered, sets-refused}
-use Rattle.stage.specs.Both.{statesIn, areWhole, ifWhole, answerBothIn, replyToBoth, bytesLeft, PicksBothAnswered}
-use Rattle.stage.specs.code.Loaded.{state0, state1, CrewsAre, BothFit}
-use Rattle.stage.proofs.TurnsFew.{Sixteen, turns-few}
+use Rattle.quarters.specs.Both.{statesIn, areWhole, ifWhole, answerBothIn, replyToBoth, bytesLeft, PicksBothAnswered}
+use Rattle.quarters.specs.code.Loaded.{state0, state1, CrewsAre, BothFit}
+use Rattle.quarters.proofs.TurnsFew.{Sixteen, turns-few}
 
 -- ---- picks for both are no preview
 

@@ -3,9 +3,9 @@ use borrow.Author.Needs.{needs}
 use native.Mathlib.Omega.{arith}
 use Rattle.lent.specs.Word.{word}
 use Rattle.answers.specs.Runs.{replyTo}
-use Rattle.stage.specs.Both.{replyToBoth}
-use Rattle.stage.proofs.word.word_of_sets.Statement.{statement}
-use Rattle.stage.proofs.word.word_of_sets.Tie as tie
+use Rattle.quarters.specs.Both.{replyToBoth}
+use Rattle.quarters.proofs.word.word_of_sets.Statement.{statement}
+use Rattle.quarters.proofs.word.word_of_sets.Tie as tie
 
 mul-result-2 : tie.Need-mul-result-2
 mul-result-2 c = let few = c .before .before .before .pre _ _ _ _ (c .before .sets .given .1) in omega (arith, few .0, few .1)

@@ -11,10 +11,10 @@ use Rattle.lent.specs.Bytes.{matrixIn}
 use Rattle.lent.proofs.Loads.{loaded-matrix}
 use Rattle.answers.specs.Runs.{Bytes}
 use Rattle.crews.specs.Crews.{Two}
-use Rattle.stage.proofs.CutRoofs.{picks-whole}
-use Rattle.stage.proofs.BothIn.{both-fit, both-answered, array-length}
-use Rattle.stage.proofs.picks_both_in.Statement.{statement}
-use Rattle.stage.proofs.picks_both_in.Tie as tie
+use Rattle.quarters.proofs.CutRoofs.{picks-whole}
+use Rattle.quarters.proofs.BothIn.{both-fit, both-answered, array-length}
+use Rattle.quarters.proofs.picks_both_in.Statement.{statement}
+use Rattle.quarters.proofs.picks_both_in.Tie as tie
 
 -- from the decoded groups back: the states, the sums of crew 1 and of crew 0, the function's entry
 abbrev crews : tie.After-load-unsigned4 → tie.After-load-crews

@@ -11,12 +11,12 @@ use Rattle.lent.proofs.Loads.{loaded-matrix}
 use Rattle.answers.specs.Runs.{Bytes}
 use Rattle.crews.specs.Crews.{Two}
 use Rattle.crews.specs.Calls.{BothAnswer}
-use Rattle.stage.specs.Both.{replyToBoth}
-use Rattle.stage.proofs.CutRoofs.{sets-whole}
-use Rattle.stage.proofs.BothIn.{sets-in}
-use Rattle.stage.proofs.ReadyFew.{few-ready}
-use Rattle.stage.proofs.ready_both_in.Statement.{statement}
-use Rattle.stage.proofs.ready_both_in.Tie as tie
+use Rattle.quarters.specs.Both.{replyToBoth}
+use Rattle.quarters.proofs.CutRoofs.{sets-whole}
+use Rattle.quarters.proofs.BothIn.{sets-in}
+use Rattle.quarters.proofs.ReadyFew.{few-ready}
+use Rattle.quarters.proofs.ready_both_in.Statement.{statement}
+use Rattle.quarters.proofs.ready_both_in.Tie as tie
 
 -- from the decoded groups back: the states, the sums of crew 1 and of crew 0, the function's entry
 abbrev crews : tie.After-load-unsigned4 → tie.After-load-crews

@@ -20,7 +20,7 @@ ghost use Rattle.crews.specs.Calls.{picksBoth, readySets, afterBothLent};
 ghost use Rattle.words.specs.LittleEndian.{unsigned, signed};
 ghost use Rattle.lent.specs.Bytes.{matrixIn};
 ghost use Rattle.lent.specs.Word.{word};
-ghost use Rattle.stage.specs.Both.{statesIn, answerBothIn, replyToBoth, PicksBothAnswered};
+ghost use Rattle.quarters.specs.Both.{statesIn, answerBothIn, replyToBoth, PicksBothAnswered};
 
 // A list of picks for both. The lists are decoded as far as any roof can reach.
 pub fn picks_both_in(
