@@ -17,7 +17,7 @@ use Rattle.plan.specs.Sound.{maxWorkers}
 use Rattle.run.specs.Job.{Job, Accepted, workers}
 use Rattle.run.specs.Updates.{Update, count, updates, accesses, next, waits}
 use Rattle.run.specs.Machine.{reason, refusal, Outcome, moved, halted, onward, total, access, move, stepIf, step, steps, readyBelow, ready, bits}
-use Rattle.run.specs.Schedule.{Passed, pass, oneTaken, oneSkipped, nothing}
+use Rattle.run.specs.Schedule.{Passed, pass, oneTaken, oneSkipped, skipsNone}
 use Rattle.run.specs.Rounds.{skips, round}
 use Rattle.run.specs.State.{State}
 use Rattle.tables.specs.code.Laid.{maxUpdates}
@@ -70,7 +70,7 @@ module _ (j : Job) where
           by false h = rw (pass-end f (step j) s w ws k e h) (halted-low s w k e)
 
   pub number-low : (s : State) (ws : List ℕ) → steps j s ws .number < 2 ^ 8
-  number-low s ws = omega (arith, pass-number nothing s ws, ap (λ (r : Passed State). r .number) (no-skips j s ws))
+  number-low s ws = omega (arith, pass-number skipsNone s ws, ap (λ (r : Passed State). r .number) (no-skips j s ws))
 
   pub round-number-low : (s : State) (ws : List ℕ) → round j s ws .number < 2 ^ 8
   round-number-low s ws = pass-number skips s ws
@@ -140,7 +140,7 @@ module _ (j : Job) (ok : Accepted j) where
   )
 
   pub taken-few : (s : State) (ws : List ℕ) → length (s .made) ≡ maxWorkers → steps j s ws .taken < 2 ^ 24
-  taken-few s ws long = omega (arith, taken-left nothing s ws long, left-few (s .made), ap (λ (r : Passed State). r .taken) (no-skips j s ws))
+  taken-few s ws long = omega (arith, taken-left skipsNone s ws long, left-few (s .made), ap (λ (r : Passed State). r .taken) (no-skips j s ws))
 
   pub moves-few : (s : State) (ws : List ℕ) → length (s .made) ≡ maxWorkers → round j s ws .taken < 2 ^ 24
   moves-few s ws long = omega (arith, taken-left skips s ws long, left-few (s .made))

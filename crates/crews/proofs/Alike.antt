@@ -13,11 +13,11 @@ use Rattle.plan.specs.Groups.{Plan}
 use Rattle.plan.specs.Sound.{maxWorkers}
 use Rattle.run.specs.State.{State}
 use Rattle.run.specs.Machine.{refusal, onward, ready, bits}
-use Rattle.run.specs.Schedule.{Passed, oneTaken, pass, nothing}
+use Rattle.run.specs.Schedule.{Passed, oneTaken, pass, skipsNone}
 use Rattle.run.specs.Calls.{pickedOf}
 use Rattle.run.specs.Sequence.{stateAfter}
 use Rattle.run.proofs.Passes.{pass-on, pass-end}
-use Rattle.crews.specs.Crews.{Crew, crew0, crew1, other, crewNumber, Two, ownOf, put, Roof, jobFor, inRow, isAway, unlessAway, crewRefusal, both, turn, turns, crewReady}
+use Rattle.crews.specs.Crews.{Crew, crew0, crew1, other, crewNumber, Two, ownOf, putFor, Roof, jobFor, inRow, isAway, unlessAway, crewRefusal, forBoth, turn, turns, crewReady}
 use Rattle.crews.specs.Calls.{BothCall, picksBoth, readySets, forcesFor, one, readyFor, readyBoth, deniedBoth, answerBoth, afterBoth}
 use Rattle.crews.specs.TwoCrews.{AcceptedRoof, bothFresh, bothState, picksTaken, allTaken, takenFor}
 use Rattle.crews.proofs.Movements.{refusal-same, away-same, ready-same}
@@ -63,7 +63,7 @@ module _ (m : Matrix) (p : Plan) (x y : Two (List ℤ)) where
     pub there : InvBoth q t
     pub made : SameCounts s t
 
-  put-made : (s t : Two State) → SameCounts s t → (c : Crew) (u v : State) → u .made ≡ v .made → SameCounts (put s c u) (put t c v)
+  put-made : (s t : Two State) → SameCounts s t → (c : Crew) (u v : State) → u .made ≡ v .made → SameCounts (putFor s c u) (putFor t c v)
   put-made s t e crew0 u v h crew0 = h
   put-made s t e crew0 u v h crew1 = e crew1
   put-made s t e crew1 u v h crew0 = e crew0
@@ -71,7 +71,7 @@ module _ (m : Matrix) (p : Plan) (x y : Two (List ℤ)) where
 
   module _ (ok : AcceptedRoof r) (ko : AcceptedRoof q) where
     turns-alike : (s t : Two State) → Like s t → (bs : List ℕ) → Alike (turns r s bs) (turns q t bs)
-    unfolding pass oneTaken both
+    unfolding pass oneTaken forBoth
     turns-alike s t L [] = record { taken = refl; number = refl; made = L .made }
     turns-alike s t L (b ∷ bs) = go (who b) (λ u v K. turns-alike u v K bs)
       where
@@ -79,20 +79,20 @@ module _ (m : Matrix) (p : Plan) (x y : Two (List ℤ)) where
         w = b % maxWorkers
 
         go : ((c : Crew) × (b / maxWorkers ≡ crewNumber c)) ⊎ (2 ≤ b / maxWorkers) → ((u v : Two State) → Like u v → Alike (turns r u bs) (turns q v bs)) → Alike (turns r s (b ∷ bs)) (turns q t (b ∷ bs))
-        go (inr l) ih = rw (pass-end nothing (turn r) s b bs why.noCrew (turn-none r s b l) refl, pass-end nothing (turn q) t b bs why.noCrew (turn-none q t b l) refl) (record { taken = refl; number = refl; made = L .made })
+        go (inr l) ih = rw (pass-end skipsNone (turn r) s b bs why.noCrew (turn-none r s b l) refl, pass-end skipsNone (turn q) t b bs why.noCrew (turn-none q t b l) refl) (record { taken = refl; number = refl; made = L .made })
         go (inl (c, n)) ih = by (crewRefusal r s c w) refl
           where
             by : (k : ℕ) → crewRefusal r s c w ≡ k → Alike (turns r s (b ∷ bs)) (turns q t (b ∷ bs))
             by zero e =
                 let a = step-taken r ok s (L .here) c w e in
                 let d = step-taken q ko t (L .there) c w (sym (refusal-alike s t (L .made) c w) ∙ e) in
-                let k = ih (put s c (a .state)) (put t c (d .state)) (record { here = a .inv; there = d .inv; made = put-made s t (L .made) c (a .state) (d .state) (a .made ∙ ap (λ (l : List ℕ). onward l w) (L .made c) ∙ sym (d .made)) }) in
-                rw (pass-on nothing (turn r) s b bs (put s c (a .state)) (turn-for r s b c n ∙ ap (both s c) (a .is)), pass-on nothing (turn q) t b bs (put t c (d .state)) (turn-for q t b c n ∙ ap (both t c) (d .is)))
+                let k = ih (putFor s c (a .state)) (putFor t c (d .state)) (record { here = a .inv; there = d .inv; made = put-made s t (L .made) c (a .state) (d .state) (a .made ∙ ap (λ (l : List ℕ). onward l w) (L .made c) ∙ sym (d .made)) }) in
+                rw (pass-on skipsNone (turn r) s b bs (putFor s c (a .state)) (turn-for r s b c n ∙ ap (forBoth s c) (a .is)), pass-on skipsNone (turn q) t b bs (putFor t c (d .state)) (turn-for q t b c n ∙ ap (forBoth t c) (d .is)))
                 (record { taken = ap suc (k .taken); number = k .number; made = k .made })
             by (suc k) e =
                 rw (
-                  pass-end nothing (turn r) s b bs (suc k) (turn-for r s b c n ∙ ap (both s c) (crew-end r s c w k e)) refl,
-                  pass-end nothing (turn q) t b bs (suc k) (turn-for q t b c n ∙ ap (both t c) (crew-end q t c w k (sym (refusal-alike s t (L .made) c w) ∙ e))) refl,
+                  pass-end skipsNone (turn r) s b bs (suc k) (turn-for r s b c n ∙ ap (forBoth s c) (crew-end r s c w k e)) refl,
+                  pass-end skipsNone (turn q) t b bs (suc k) (turn-for q t b c n ∙ ap (forBoth t c) (crew-end q t c w k (sym (refusal-alike s t (L .made) c w) ∙ e))) refl,
                 )
                 (record { taken = refl; number = refl; made = L .made })
 

@@ -11,7 +11,7 @@ use Rattle.run.specs.State.{State, fresh}
 use Rattle.run.specs.Machine.{moved}
 use Rattle.run.proofs.Invariant.{zero-count}
 use Rattle.run.proofs.Onward.{onward-other}
-use Rattle.crews.specs.Crews.{Crew, crew0, crew1, Two, ownOf, put, Roof, jobFor, inRow, isAway, crewStep}
+use Rattle.crews.specs.Crews.{Crew, crew0, crew1, Two, ownOf, putFor, Roof, jobFor, inRow, isAway, crewStep}
 use Rattle.crews.specs.Calls.{BothCall}
 use Rattle.crews.specs.TwoCrews.{bothFresh, bothState}
 use Rattle.crews.proofs.Rows.{in-row-same, in-row-begun}
@@ -31,7 +31,7 @@ module _ (r : Roof) where
       in-row-same (jobFor r c) (ownOf s c .made) (t .made) w (sym (ap (λ (l : List ℕ). count l w) (crew-moved r s c v t h .made) ∙ onward-other (ownOf s c .made) v w d)) ∙ x
 
   -- .. and v is not inside the other's row
-  step-alone : (s : Two State) (c : Crew) (v : ℕ) (t : State) → crewStep r s c v ≡ moved t → Alone s → Alone (put s c t)
+  step-alone : (s : Two State) (c : Crew) (v : ℕ) (t : State) → crewStep r s c v ≡ moved t → Alone s → Alone (putFor s c t)
   unfolding isAway
   step-alone s crew0 v t h alone w x y = go (same-or w v)
     where

@@ -9,8 +9,8 @@ use Rattle.plan.specs.Sound.{maxWorkers}
 use Rattle.run.specs.Updates.{next}
 use Rattle.run.specs.State.{State}
 use Rattle.run.specs.Machine.{refusal, stepIf, step, ready}
-use Rattle.crews.specs.Crews.{Crew, crew0, crew1, other, crewNumber, Two, ownOf, Roof, jobFor, inRow, isAway, unlessAway, crewRefusal, crewStep, both, turn, crewReady}
-use Rattle.crews.specs.TwoCrews.{InOrder}
+use Rattle.crews.specs.Crews.{Crew, crew0, crew1, other, crewNumber, Two, ownOf, Roof, jobFor, inRow, isAway, unlessAway, crewRefusal, crewStep, forBoth, turn, crewReady}
+use Rattle.crews.specs.TwoCrews.{PicksInOrder}
 use Rattle.crews.proofs.Turns.{crew-end, turn-for, turn-none}
 
 and-false : (b : Bool) → b && false ≡ false
@@ -22,8 +22,8 @@ and-true true = refl
 and-true false = refl
 
 module _ (r : Roof) (s : Two State) where
-  pub named : (c : Crew) (w : ℕ) → w < maxWorkers → turn r s (maxWorkers * crewNumber c + w) ≡ both s c (crewStep r s c w)
-  named c w l = turn-for r s (maxWorkers * crewNumber c + w) c (crew c) ∙ ap (λ (v : ℕ). both s c (crewStep r s c v)) (worker c)
+  pub named : (c : Crew) (w : ℕ) → w < maxWorkers → turn r s (maxWorkers * crewNumber c + w) ≡ forBoth s c (crewStep r s c w)
+  named c w l = turn-for r s (maxWorkers * crewNumber c + w) c (crew c) ∙ ap (λ (v : ℕ). forBoth s c (crewStep r s c v)) (worker c)
     where
       crew : (c : Crew) → (maxWorkers * crewNumber c + w) / maxWorkers ≡ crewNumber c
       crew crew0 = omega arith
@@ -33,7 +33,7 @@ module _ (r : Roof) (s : Two State) where
       worker crew0 = omega arith
       worker crew1 = omega arith
 
-  pub in-order : InOrder r s
+  pub in-order : PicksInOrder r s
   unfolding crewRefusal unlessAway isAway crewReady crewStep step
   in-order = record {
     named = named;

@@ -14,7 +14,7 @@ use Rattle.run.specs.Job.{Job, workers}
 use Rattle.run.specs.Updates.{count, accesses, waits}
 use Rattle.run.specs.State.{State}
 use Rattle.run.specs.Machine.{reason, moved, refusal, onward}
-use Rattle.run.specs.Schedule.{oneTaken, pass, nothing}
+use Rattle.run.specs.Schedule.{oneTaken, pass, skipsNone}
 use Rattle.run.specs.Answers.{forceList}
 use Rattle.run.specs.Calls.{pickedOf}
 use Rattle.run.specs.Calls as calls
@@ -26,13 +26,13 @@ use Rattle.run.proofs.Taken.{taken}
 use Rattle.run.proofs.AsModel.{fine, call-model}
 use Rattle.run.proofs.Accepted.{facts}
 use Rattle.run.proofs.Consequences.{known, known-call}
-use Rattle.crews.specs.Crews.{Crew, crew0, crew1, crewNumber, Two, ownOf, put, Roof, jobFor, isAway, unlessAway, crewRefusal, crewStep, both, turn, turns}
+use Rattle.crews.specs.Crews.{Crew, crew0, crew1, crewNumber, Two, ownOf, putFor, Roof, jobFor, isAway, unlessAway, crewRefusal, crewStep, forBoth, turn, turns}
 use Rattle.crews.specs.Calls.{BothCall, picksBoth, readySets, forcesFor, one, readyBoth, stateChecks, deniedBoth, answerBoth, afterBoth}
 use Rattle.crews.specs.TwoCrews.{AcceptedRoof, bothFresh, numberOfBoth}
 use Rattle.crews.proofs.Turns.{not-away, crew-end, crew-own, crew-moved, who, turn-for, turn-none, call-keeps}
 
 -- what holds of each crew's, if one gets another thing
-pub put-each : {A : Type 0} (P : Crew → A → Type 0) (s : Two A) (c : Crew) (t : A) → P c t → ((d : Crew) → P d (ownOf s d)) → (d : Crew) → P d (ownOf (put s c t) d)
+pub put-each : {A : Type 0} (P : Crew → A → Type 0) (s : Two A) (c : Crew) (t : A) → P c t → ((d : Crew) → P d (ownOf s d)) → (d : Crew) → P d (ownOf (putFor s c t) d)
 put-each P s crew0 t p h crew0 = p
 put-each P s crew0 t p h crew1 = h crew1
 put-each P s crew1 t p h crew0 = h crew0
@@ -80,7 +80,7 @@ module _ (r : Roof) where
     pub state : State
     pub is : crewStep r s c w ≡ moved state
     pub made : state .made ≡ onward (ownOf s c .made) w
-    pub inv : InvBoth r (put s c state)
+    pub inv : InvBoth r (putFor s c state)
 
   module _ (ok : AcceptedRoof r) where
     -- a step that the counts do not refuse is taken
@@ -91,10 +91,10 @@ module _ (r : Roof) where
         record { state = t .state; is = crew-own r s c w e ∙ t .is; made = t .made; inv = put-each (λ d u. Inv (jobFor r d) u) s c (t .state) (t .inv) I }
 
     -- every step that is taken keeps the invariant
-    step-inv : (s : Two State) (c : Crew) (w : ℕ) (t : State) → crewStep r s c w ≡ moved t → InvBoth r s → InvBoth r (put s c t)
+    step-inv : (s : Two State) (c : Crew) (w : ℕ) (t : State) → crewStep r s c w ≡ moved t → InvBoth r s → InvBoth r (putFor s c t)
     step-inv s c w t h I =
         let k = step-taken s I c w (crew-moved r s c w t h .free) in
-        subst (λ (u : State). InvBoth r (put s c u)) (let e : moved (k .state) ≡ moved t = sym (k .is) ∙ h in let y : k .state ≡ t = cc in y) (k .inv)
+        subst (λ (u : State). InvBoth r (putFor s c u)) (let e : moved (k .state) ≡ moved t = sym (k .is) ∙ h in let y : k .state ≡ t = cc in y) (k .inv)
 
     -- .. and so every call
     pub call-inv : (s : Two State) (c : BothCall) → InvBoth r s → InvBoth r (afterBoth r s c)
@@ -109,20 +109,20 @@ module _ (r : Roof) where
     -- ---- the numbers met
 
     turns-known : (s : Two State) → InvBoth r s → (bs : List ℕ) → bothKnown (turns r s bs .number) ≡ true
-    unfolding pass oneTaken both
+    unfolding pass oneTaken forBoth
     turns-known s I [] = refl
     turns-known s I (b ∷ bs) = go (who b) (λ t K. turns-known t K bs)
       where
         go : ((c : Crew) × (b / maxWorkers ≡ crewNumber c)) ⊎ (2 ≤ b / maxWorkers) → ((t : Two State) → InvBoth r t → bothKnown (turns r t bs .number) ≡ true) → bothKnown (turns r s (b ∷ bs) .number) ≡ true
-        go (inr l) ih = rw (pass-end nothing (turn r) s b bs why.noCrew (turn-none r s b l) refl) refl
+        go (inr l) ih = rw (pass-end skipsNone (turn r) s b bs why.noCrew (turn-none r s b l) refl) refl
         go (inl (c, n)) ih = by (crewRefusal r s c (b % maxWorkers)) refl
           where
             by : (k : ℕ) → crewRefusal r s c (b % maxWorkers) ≡ k → bothKnown (turns r s (b ∷ bs) .number) ≡ true
             by zero e =
                 let t = step-taken s I c (b % maxWorkers) e in
-                rw (pass-on nothing (turn r) s b bs (put s c (t .state)) (turn-for r s b c n ∙ ap (both s c) (t .is))) (ih (put s c (t .state)) (t .inv))
+                rw (pass-on skipsNone (turn r) s b bs (putFor s c (t .state)) (turn-for r s b c n ∙ ap (forBoth s c) (t .is))) (ih (putFor s c (t .state)) (t .inv))
             by (suc k) e =
-                rw (pass-end nothing (turn r) s b bs (suc k) (turn-for r s b c n ∙ ap (both s c) (crew-end r s c (b % maxWorkers) k e)) refl) (subst (λ (y : ℕ). bothKnown y ≡ true) e (known-crew r s c (b % maxWorkers)))
+                rw (pass-end skipsNone (turn r) s b bs (suc k) (turn-for r s b c n ∙ ap (forBoth s c) (crew-end r s c (b % maxWorkers) k e)) refl) (subst (λ (y : ℕ). bothKnown y ≡ true) e (known-crew r s c (b % maxWorkers)))
 
     call-known : (s : Two State) → InvBoth r s → (c : BothCall) → bothKnown (numberOfBoth (answerBoth r s c)) ≡ true
     unfolding answerBoth readyBoth numberOfBoth answer.numberOf pickedOf

@@ -15,7 +15,7 @@ use Rattle.run.specs.Job.{Job, Accepted}
 use Rattle.run.specs.State.{State, fresh}
 use Rattle.run.specs.Machine.{moved, step, Stepped, steps, isState, Outcome, halted}
 use Rattle.run.specs.Machine as machine
-use Rattle.run.specs.Schedule.{oneTaken, pass, nothing}
+use Rattle.run.specs.Schedule.{oneTaken, pass, skipsNone}
 use Rattle.run.specs.Answers.{picks, picked}
 use Rattle.run.specs.Calls.{placeOf, pickedOf, stateCheck, answerOf, afterOf, answer, after}
 use Rattle.run.specs.Sequence.{answersFrom, stateAfter}
@@ -27,7 +27,7 @@ use Rattle.run.proofs.Taken.{walks-taken}
 use Rattle.run.proofs.Passes.{pass-on, pass-end}
 use Rattle.run.proofs.AsModel.{fine}
 use Rattle.run.proofs.Accepted.{facts}
-use Rattle.crews.specs.Crews.{Crew, crew0, crew1, crewNumber, Two, ownOf, put, Roof, jobFor, crewStep, turn, namedFor, turns}
+use Rattle.crews.specs.Crews.{Crew, crew0, crew1, crewNumber, Two, ownOf, putFor, Roof, jobFor, crewStep, turn, namedFor, turns}
 use Rattle.crews.specs.Calls.{BothCall, picksBoth, readySets, forcesFor, BothAnswer, one, deniedBoth, stateChecks, answerBoth, afterBoth}
 use Rattle.crews.specs.TwoCrews.{bothFresh, bothState, takenOfBoth, picksTaken, allTaken, takenFor}
 use Rattle.crews.proofs.Turns.{crew-moved, took}
@@ -50,7 +50,7 @@ named-append c xs ys =
 module _ (r : Roof) where
   -- a pick that is taken for crew d, seen by crew c
   follow-one : (s : Two State) (c d : Crew) (b : ℕ) (t : State) → b / maxWorkers ≡ crewNumber d → crewStep r s d (b % maxWorkers) ≡ moved t
-      → (bs vs : List ℕ) (e : State) → Follows (jobFor r c) (ownOf (put s d t) c) (namedFor c bs ++ vs) e → Follows (jobFor r c) (ownOf s c) (namedFor c (b ∷ bs) ++ vs) e
+      → (bs vs : List ℕ) (e : State) → Follows (jobFor r c) (ownOf (putFor s d t) c) (namedFor c bs ++ vs) e → Follows (jobFor r c) (ownOf s c) (namedFor c (b ∷ bs) ++ vs) e
   unfolding namedFor
   follow-one s crew0 crew0 b t n m bs vs e f = rw n (follows-on (jobFor r crew0) (s .of0) (b % maxWorkers) (namedFor crew0 bs ++ vs) t e (crew-moved r s crew0 (b % maxWorkers) t m .own) f)
   follow-one s crew0 crew1 b t n m bs vs e f = rw n f
@@ -71,10 +71,10 @@ module _ (r : Roof) where
             → Follows j (ownOf (turns r s (b ∷ bs) .state) c) vs e → Follows j (ownOf s c) (namedFor c (take (turns r s (b ∷ bs) .taken) (b ∷ bs)) ++ vs) e
         go (moved t) m ih =
             let k = took r s b t m in
-            rw (pass-on nothing (turn r) s b bs t m)
+            rw (pass-on skipsNone (turn r) s b bs t m)
             (λ f. follow-one s c (k .crew) b (k .state) (k .named) (k .moves) (take (turns r t bs .taken) bs) vs e
             (subst (λ (u : Two State). Follows j (ownOf u c) (namedFor c (take (turns r t bs .taken) bs) ++ vs) e) (k .is) (ih t f)))
-        go (halted k) m ih = rw (pass-end nothing (turn r) s b bs k m refl) (λ f. unfold namedFor in f)
+        go (halted k) m ih = rw (pass-end skipsNone (turn r) s b bs k m refl) (λ f. unfold namedFor in f)
 
     -- a call for both
     follow-call : (s : Two State) (call : BothCall) (vs : List ℕ) (e : State) → Follows j (ownOf (afterBoth r s call) c) vs e → Follows j (ownOf s c) (namedFor c (picksTaken r s call) ++ vs) e

@@ -19,7 +19,7 @@ use Rattle.run.proofs.ReadySet.{ready-in}
 use Rattle.run.proofs.Forest.{WholePlan}
 use Rattle.run.proofs.Progress.{some-able}
 use Rattle.run.proofs.Accepted.{tree-of, facts}
-use Rattle.crews.specs.Crews.{Crew, crew0, crew1, other, Two, ownOf, put, Roof, jobFor, inRow, isAway, unlessAway, crewRefusal, crewStep, crewReady}
+use Rattle.crews.specs.Crews.{Crew, crew0, crew1, other, Two, ownOf, putFor, Roof, jobFor, inRow, isAway, unlessAway, crewRefusal, crewStep, crewReady}
 use Rattle.crews.specs.Calls.{BothCall}
 use Rattle.crews.specs.TwoCrews.{AcceptedRoof, bothFresh, bothState}
 use Rattle.crews.proofs.Rows.{in-row-left, in-row-begun, RowFree, onward-free}
@@ -52,7 +52,7 @@ module _ (r : Roof) (ok : AcceptedRoof r) (cs : List BothCall) where
   abbrev NoneWaits : Crew → State → Type 0
   NoneWaits c t = (length (t .made) ≡ maxWorkers) × RowFree (jobFor r c) (t .made)
 
-  step-free : (s : Two State) (c : Crew) (w : ℕ) (t : State) → crewStep r s c w ≡ moved t → ((d : Crew) → NoneWaits d (ownOf s d)) → (d : Crew) → NoneWaits d (ownOf (put s c t) d)
+  step-free : (s : Two State) (c : Crew) (w : ℕ) (t : State) → crewStep r s c w ≡ moved t → ((d : Crew) → NoneWaits d (ownOf s d)) → (d : Crew) → NoneWaits d (ownOf (putFor s c t) d)
   unfolding crewRefusal
   step-free s c w t h free =
       let m = crew-moved r s c w t h in

@@ -11,10 +11,10 @@ use Rattle.plan.specs.Sound.{maxWorkers}
 use Rattle.run.specs.Updates.{next}
 use Rattle.run.specs.State.{State}
 use Rattle.run.specs.Machine.{Outcome, moved, halted, refusal, onward, stepIf, step}
-use Rattle.run.specs.Schedule.{nothing}
+use Rattle.run.specs.Schedule.{skipsNone}
 use Rattle.run.proofs.Schedule.{step-made}
 use Rattle.run.proofs.Passes.{pass-keeps}
-use Rattle.crews.specs.Crews.{Crew, crew0, crew1, crewNumber, Two, ownOf, put, Roof, jobFor, isAway, unlessAway, crewRefusal, crewStep, both, turnFor, turn, turns}
+use Rattle.crews.specs.Crews.{Crew, crew0, crew1, crewNumber, Two, ownOf, putFor, Roof, jobFor, isAway, unlessAway, crewRefusal, crewStep, forBoth, turnFor, turn, turns}
 use Rattle.run.specs.Sequence.{stateAfter}
 use Rattle.crews.specs.Calls.{BothCall, picksBoth, readySets, forcesFor, stateChecks, afterBoth}
 
@@ -72,7 +72,7 @@ who b = go (b / maxWorkers) refl
     go (suc (suc k)) e = inr (omega arith)
 
 module _ (r : Roof) (s : Two State) (b : ℕ) where
-  pub turn-for : (c : Crew) → b / maxWorkers ≡ crewNumber c → turn r s b ≡ both s c (crewStep r s c (b % maxWorkers))
+  pub turn-for : (c : Crew) → b / maxWorkers ≡ crewNumber c → turn r s b ≡ forBoth s c (crewStep r s c (b % maxWorkers))
   unfolding turn turnFor
   turn-for crew0 e = rw e refl
   turn-for crew1 e = rw e refl
@@ -92,7 +92,7 @@ module _ (r : Roof) (s : Two State) (b : ℕ) where
     pub named : b / maxWorkers ≡ crewNumber crew
     pub state : State
     pub moves : crewStep r s crew (b % maxWorkers) ≡ moved state
-    pub is : t ≡ put s crew state
+    pub is : t ≡ putFor s crew state
 
   pub took : (t : Two State) → turn r s b ≡ moved t → Took t
   took t h = go (who b)
@@ -100,9 +100,9 @@ module _ (r : Roof) (s : Two State) (b : ℕ) where
       none : halted why.noCrew ≡ moved t → Took t
       none e = absurd (let z : _≡_ {A = ℕ} 0 1 = cc in omega arith)
 
-      by : (c : Crew) → b / maxWorkers ≡ crewNumber c → (o : Outcome State) → crewStep r s c (b % maxWorkers) ≡ o → both s c o ≡ moved t → Took t
-      by c e (moved u) m x = record { crew = c; named = e; state = u; moves = m; is = let y : moved (put s c u) ≡ moved t = unfold both in x in cc }
-      by c e (halted k) m x = absurd (let y : halted k ≡ moved t = unfold both in x in let z : _≡_ {A = ℕ} 0 1 = cc in omega arith)
+      by : (c : Crew) → b / maxWorkers ≡ crewNumber c → (o : Outcome State) → crewStep r s c (b % maxWorkers) ≡ o → forBoth s c o ≡ moved t → Took t
+      by c e (moved u) m x = record { crew = c; named = e; state = u; moves = m; is = let y : moved (putFor s c u) ≡ moved t = unfold forBoth in x in cc }
+      by c e (halted k) m x = absurd (let y : halted k ≡ moved t = unfold forBoth in x in let z : _≡_ {A = ℕ} 0 1 = cc in omega arith)
 
       go : ((c : Crew) × (b / maxWorkers ≡ crewNumber c)) ⊎ (2 ≤ b / maxWorkers) → Took t
       go (inl (c, e)) = by c e (crewStep r s c (b % maxWorkers)) refl (sym (turn-for c e) ∙ h)
@@ -110,13 +110,13 @@ module _ (r : Roof) (s : Two State) (b : ℕ) where
 
 -- ---- what every step for a crew keeps, every call for both keeps
 
-module _ (r : Roof) (P : Two State → Type 0) (step-keeps : (s : Two State) (c : Crew) (w : ℕ) (t : State) → crewStep r s c w ≡ moved t → P s → P (put s c t)) where
+module _ (r : Roof) (P : Two State → Type 0) (step-keeps : (s : Two State) (c : Crew) (w : ℕ) (t : State) → crewStep r s c w ≡ moved t → P s → P (putFor s c t)) where
   turn-keeps : (s : Two State) (b : ℕ) (t : Two State) → turn r s b ≡ moved t → P s → P t
   turn-keeps s b t e p = let k = took r s b t e in rw (k .is) (step-keeps s (k .crew) (b % maxWorkers) (k .state) (k .moves) p)
 
   pub call-keeps : (s : Two State) (c : BothCall) → P s → P (afterBoth r s c)
   unfolding afterBoth
-  call-keeps s (picksBoth bs) p = inTurn-either P s (turns r s bs .state) (stateChecks r s) p (pass-keeps nothing (turn r) P turn-keeps s bs p)
+  call-keeps s (picksBoth bs) p = inTurn-either P s (turns r s bs .state) (stateChecks r s) p (pass-keeps skipsNone (turn r) P turn-keeps s bs p)
   call-keeps s readySets p = p
   call-keeps s (forcesFor c room) p = p
 

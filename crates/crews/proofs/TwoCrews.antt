@@ -13,7 +13,7 @@ use Rattle.run.specs.State.{State}
 use Rattle.run.specs.Machine.{bits, over}
 use Rattle.run.specs.Answers.{picks, forceList, forces}
 use Rattle.run.specs.Calls.{pickedOf, placeOf, answer}
-use Rattle.run.specs.Schedule.{pass, oneTaken, nothing}
+use Rattle.run.specs.Schedule.{pass, oneTaken, skipsNone}
 use Rattle.run.specs.Model.{isFinished}
 use Rattle.run.specs.EveryRun.{takenIn, takenOf, runAnswers, finishedRun, EveryRun}
 use Rattle.run.proofs.Invariant.{Inv}
@@ -22,7 +22,7 @@ use Rattle.run.proofs.Passes.{pass-on}
 use Rattle.run.proofs.Book as book
 use Rattle.run.proofs.EveryRun.{inv, counted, every-run}
 use Rattle.run.proofs.Consequences.{over-none}
-use Rattle.crews.specs.Crews.{Crew, crew0, crew1, other, crewNumber, Two, ownOf, put, Roof, jobFor, inRow, crewRefusal, both, turn, crewReady}
+use Rattle.crews.specs.Crews.{Crew, crew0, crew1, other, crewNumber, Two, ownOf, putFor, Roof, jobFor, inRow, crewRefusal, forBoth, turn, crewReady}
 use Rattle.crews.specs.Calls.{BothCall, readySets, BothAnswer, one, sets, readyFor, readyBoth, deniedBoth, answerBoth}
 use Rattle.crews.specs.TwoCrews.{AcceptedRoof, bothFresh, bothState, bothAnswers, finishedFor, takenFor, noneReady, Takes, OwnRun, BothRuns, bring, Unmoved, TwoCrews}
 use Rattle.crews.proofs.Rows.{begun}
@@ -83,11 +83,11 @@ module _ (r : Roof) (ok : AcceptedRoof r) (cs : List BothCall) where
 
   -- a pick that the counts do not refuse is taken
   takes : (c : Crew) (w : ℕ) → w < workers (jobFor r c) → crewRefusal r s c w ≡ 0 → Takes r s c w
-  unfolding answerBoth pass oneTaken both pickedOf placeOf
+  unfolding answerBoth pass oneTaken forBoth pickedOf placeOf
   takes c w l e =
       let t = step-taken r ok s kept c w e in
       both-fine r ok s kept deniedBoth _
-      ∙ rw (pass-on nothing (turn r) s (maxWorkers * crewNumber c + w) [] (put s c (t .state)) (named r s c w (omega (arith, facts (jobFor r c) (ok c) .few)) ∙ ap (both s c) (t .is))) refl
+      ∙ rw (pass-on skipsNone (turn r) s (maxWorkers * crewNumber c + w) [] (putFor s c (t .state)) (named r s c w (omega (arith, facts (jobFor r c) (ok c) .few)) ∙ ap (forBoth s c) (t .is))) refl
 
   can-move : (c : Crew) → finishedFor r cs c ≡ false → (d : Crew) × (w : ℕ) × (w < workers (jobFor r d)) × Takes r s d w
   can-move c o = let m = moving r ok cs c (over-is c ∙ o) in (m .crew, m .worker, m .able .inPlan, takes (m .crew) (m .worker) (m .able .inPlan) (not-refused r ok cs m))

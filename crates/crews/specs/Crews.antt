@@ -14,7 +14,7 @@ use Rattle.run.specs.Job.{Job}
 use Rattle.run.specs.Updates.{count, upTo, accesses, next}
 use Rattle.run.specs.State.{State}
 use Rattle.run.specs.Machine.{Outcome, moved, halted, refusal, stepIf, ready}
-use Rattle.run.specs.Schedule.{Passed, pass, nothing}
+use Rattle.run.specs.Schedule.{Passed, pass, skipsNone}
 
 -- "crew 0 or 1"
 pub data Crew : Type 0 where
@@ -39,9 +39,9 @@ module _ {A : Type 0} where
   ownOf t crew1 = t .of1
 
   -- another thing for one of them
-  abbrev pub put : Two A → Crew → A → Two A
-  put t crew0 a = record { of0 = a; of1 = t .of1 }
-  put t crew1 a = record { of0 = t .of0; of1 = a }
+  abbrev pub putFor : Two A → Crew → A → Two A
+  putFor t crew0 a = record { of0 = a; of1 = t .of1 }
+  putFor t crew1 a = record { of0 = t .of0; of1 = a }
 
 -- "Both halves of a roof load the same matrix and plan but have their own movements"
 pub record Roof : Type 0 where
@@ -75,14 +75,14 @@ unfoldable pub crewStep : Roof → Two State → Crew → ℕ → Outcome State
 crewStep r s c w = stepIf (crewRefusal r s c w) (ownOf s c) w (next (jobFor r c) (ownOf s c .made) w)
 
 -- .. and both states
-unfoldable pub both : Two State → Crew → Outcome State → Outcome (Two State)
-both s c (moved t) = moved (put s c t)
-both s c (halted k) = halted k
+unfoldable pub forBoth : Two State → Crew → Outcome State → Outcome (Two State)
+forBoth s c (moved t) = moved (putFor s c t)
+forBoth s c (halted k) = halted k
 
 -- "18: pick names no crew, before 10"
 unfoldable pub turnFor : Roof → Two State → (crew worker : ℕ) → Outcome (Two State)
-turnFor r s zero w = both s crew0 (crewStep r s crew0 w)
-turnFor r s (suc zero) w = both s crew1 (crewStep r s crew1 w)
+turnFor r s zero w = forBoth s crew0 (crewStep r s crew0 w)
+turnFor r s (suc zero) w = forBoth s crew1 (crewStep r s crew1 w)
 turnFor r s (suc (suc k)) w = halted why.noCrew
 
 -- "a pick byte is 16 × crew + worker"
@@ -91,7 +91,7 @@ turn r s b = turnFor r s (b / maxWorkers) (b % maxWorkers)
 
 -- what a schedule for both comes to
 abbrev pub turns : Roof → Two State → (schedule : List ℕ) → Passed (Two State)
-turns r s bs = pass nothing (turn r) s bs
+turns r s bs = pass skipsNone (turn r) s bs
 
 -- the workers that picks name for a crew
 unfoldable pub namedFor : Crew → (schedule : List ℕ) → List ℕ

@@ -20,7 +20,7 @@ use Rattle.run.specs.Model.{isFinished}
 use Rattle.run.specs.OneAccess.{Walk}
 use Rattle.run.specs.EveryRun.{takenOf, runState, runAnswers, wholeRun, EveryRun}
 use Rattle.run.specs.Consequences.{numberOf}
-use Rattle.crews.specs.Crews.{Crew, other, crewNumber, Two, ownOf, put, Roof, jobFor, inRow, isAway, crewStep, both, turn, namedFor, crewReady}
+use Rattle.crews.specs.Crews.{Crew, other, crewNumber, Two, ownOf, putFor, Roof, jobFor, inRow, isAway, crewStep, forBoth, turn, namedFor, crewReady}
 use Rattle.crews.specs.Calls.{BothCall, picksBoth, readySets, forcesFor, BothAnswer, one, sets, answerBoth, afterBoth, roofOf, answerBothLent, afterBothLent, roofChecks}
 
 -- the roof is "such as document 01 takes", for each crew
@@ -86,9 +86,9 @@ pub record Begun (j : Job) (made : List ℕ) (w : ℕ) : Type 0 where
   pub row : inRow j made w ≡ true → (p : ℕ) × (p < j .matrix .n) × (owner j p ≡ w) × (2 * length (upTo j w p) < count made w) × (count made w < 2 * length (upTo j w (suc p)))
 
 -- in which order a pick is refused by the counts, whatever the states
-pub record InOrder (r : Roof) (s : Two State) : Type 0 where
+pub record PicksInOrder (r : Roof) (s : Two State) : Type 0 where
   -- "a pick byte is 16 × crew + worker"; "18: pick names no crew, before 10"
-  pub named : (c : Crew) (w : ℕ) → w < maxWorkers → turn r s (maxWorkers * crewNumber c + w) ≡ both s c (crewStep r s c w)
+  pub named : (c : Crew) (w : ℕ) → w < maxWorkers → turn r s (maxWorkers * crewNumber c + w) ≡ forBoth s c (crewStep r s c w)
   pub crewless : (b : ℕ) → 2 * maxWorkers ≤ b → turn r s b ≡ halted why.noCrew
   -- "19: worker is inside the other crew's row, after 13"
   pub own-first : (c : Crew) (w k : ℕ) → refusal (jobFor r c) (ownOf s c .made) w ≡ suc k → crewStep r s c w ≡ halted (suc k)
@@ -121,7 +121,7 @@ pub record BothRuns (r : Roof) (cs : List BothCall) : Type 0 where
 
 -- "every movement list .. that the other could bring"
 abbrev pub bring : Roof → Crew → List ℤ → Roof
-bring r c x = record { matrix = r .matrix; displacements = put (r .displacements) (other c) x; plan = r .plan }
+bring r c x = record { matrix = r .matrix; displacements = putFor (r .displacements) (other c) x; plan = r .plan }
 
 -- "for the same matrix, plan, own movements and calls, all answers and sums of one crew are the same": after any calls,
 -- what it may ask next, and its state
@@ -145,7 +145,7 @@ pub record LentBoth (m : Matrix) (x : Two (List ℤ)) (order groups : List ℕ) 
 
 pub record TwoCrews : Type 0 where
   pub begun : (j : Job) (made : List ℕ) (w : ℕ) → Begun j made w
-  pub in-order : (r : Roof) (s : Two State) → InOrder r s
+  pub in-order : (r : Roof) (s : Two State) → PicksInOrder r s
   pub both-runs : (r : Roof) → AcceptedRoof r → (cs : List BothCall) → BothRuns r cs
   pub unmoved : (r : Roof) → AcceptedRoof r → (c : Crew) (x : List ℤ) → areDisplacements (r .matrix .n) x ≡ true → (cs : List BothCall) → Unmoved r (bring r c x) c cs
   pub lent : (m : Matrix) (x : Two (List ℤ)) (order groups : List ℕ) (count : ℕ) → passedBoth m x order groups count ≡ true → LentBoth m x order groups count

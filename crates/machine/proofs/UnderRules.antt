@@ -5,7 +5,7 @@ use mathlib.Core.List.{List}
 use Prim.Native.Nat.{ℕ}
 use Rattle.run.specs.Job.{Job}
 use Rattle.run.specs.Machine.{step, steps}
-use Rattle.run.specs.Schedule.{pass, nothing}
+use Rattle.run.specs.Schedule.{pass, skipsNone}
 use Rattle.run.specs.Rounds.{skips, round}
 use Rattle.run.specs.State.{State}
 use Rattle.run.proofs.Rounds.{allTaken, no-skips}
@@ -18,7 +18,7 @@ module _ (j : Job) (s : State) (ws : List ℕ) where
 
   pub stop-steps : walk Stop j s ws ≡ allTaken (steps j s ws)
   unfolding passesOver
-  stop-steps = under (passesOver Stop) nothing (λ k. refl) ∙ no-skips j s ws
+  stop-steps = under (passesOver Stop) skipsNone (λ k. refl) ∙ no-skips j s ws
 
   pub skip-round : walk Skip j s ws ≡ round j s ws
   unfolding passesOver

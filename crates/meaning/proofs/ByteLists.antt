@@ -53,7 +53,7 @@ use Rattle.lent.specs.Word.{word, Answered}
 use Rattle.survey.specs.Survey.{hasRoom, amount, amountsOf, withSign, farthest, writtenShift}
 use Rattle.survey.proofs.Shifts.{sign-small, farthest-long}
 use Rattle.survey.proofs.SurveyError.{survey-error}
-use Rattle.upkeep.specs.Upkeep.{KeptForces, Change, newDisplacement, newValue, put, matrixAfter, displacementsAfter, changed, changeReply, afterReply, afterChange, afterChanges}
+use Rattle.upkeep.specs.Upkeep.{KeptForces, Change, newDisplacement, newValue, withValue, matrixAfter, displacementsAfter, changed, changeReply, afterReply, afterChange, afterChanges}
 use Rattle.upkeep.specs.KeptCurrent.{Current}
 use Rattle.upkeep.proofs.KeptCurrent.{kept-current}
 use Rattle.joined.specs.Joined.{joinedRows, storedIn, stiffness, joined, inLimits, joinReply}
@@ -65,7 +65,7 @@ use Rattle.desk.specs.Lent.{surveyIn, SurveyAnswered}
 use Rattle.desk.proofs.Surveys.{Surveyed, survey-made, amounts-long}
 use Rattle.site.specs.Lent.{keptBytes, valueCount, MovementAnswered, EntryAnswered}
 use Rattle.shop.specs.Lent.{joinIn, JoinAnswered}
-use Rattle.meaning.specs.ByteLists.{Reading, leftBy, RoomFor, ByteLists}
+use Rattle.meaning.specs.ByteLists.{Reading, matrixRead, RoomFor, ByteLists}
 use Rattle.meaning.proofs.EachIn.{each-made}
 use Rattle.meaning.proofs.SmallMatrix.{small-value, starts-small, columns-small, values-small}
 use Rattle.meaning.proofs.SmallNet.{net-starts-small, net-columns-small}
@@ -123,8 +123,8 @@ module _ (text : List ℕ) (n : ℕ) (es : List Triplet) (t : parse text ≡ mat
 
 module _ (text : List ℕ) (r : Reading text) (k : ℕ) (ok : readIn text (r .starts) (r .columns) (r .values) ≡ accepted k) where
   -- an accepted text, and what its call left
-  text-left : (n : ℕ) (es : List Triplet) → parse text ≡ matrixText n es → n ≡ k → SameRows (leftBy k r) (readMatrix (parse text))
-  unfolding leftBy
+  text-left : (n : ℕ) (es : List Triplet) → parse text ≡ matrixText n es → n ≡ k → SameRows (matrixRead k r) (readMatrix (parse text))
+  unfolding matrixRead
   text-left n es t e =
       let a = accepted-es text n es t in
       let is : readMatrix (parse text) ≡ ofTriplets n es = unfold readMatrix in ap readMatrix t in
@@ -142,10 +142,10 @@ module _ (text : List ℕ) (r : Reading text) (k : ℕ) (ok : readIn text (r .st
       let told : accepted n ≡ accepted k = rw (all .0, all .1 .0, all .1 .1 .0) at e in
       cc
 
-  reads : SameRows (leftBy k r) (readMatrix (parse text))
+  reads : SameRows (matrixRead k r) (readMatrix (parse text))
   reads = go (parse text) refl ok
     where
-      go : (t : Parsed) → parse text ≡ t → readReply t (length (r .starts) / 4) (length (r .columns) / 4) (length (r .values) / 4) ≡ accepted k → SameRows (leftBy k r) (readMatrix (parse text))
+      go : (t : Parsed) → parse text ≡ t → readReply t (length (r .starts) / 4) (length (r .columns) / 4) (length (r .values) / 4) ≡ accepted k → SameRows (matrixRead k r) (readMatrix (parse text))
       go (matrixText n es) t e = text-left n es t (matrix-count n es _ _ _ e)
       go (rejected q p) t e = unfold readReply in absurd (let z : _≡_ {A = ℕ} 0 1 = cc in omega arith)
 
@@ -173,7 +173,7 @@ module _ (m : Matrix) (ok : isMatrix m ≡ true) where
   unfolding columnsOf valuesOf exactly
   rows-of s = record { matrix = s .matrix; columns = λ i. s .columns i ∙ part-exactly (m .columns) i; values = λ i. s .values i ∙ part-exactly (m .values) i }
 
-  reads-back : (text : List ℕ) → text ≡ written m → (r : Reading text) → RoomFor m r → (r .returned ≡ m .n) × SameRows (leftBy (m .n) r) m
+  reads-back : (text : List ℕ) → text ≡ written m → (r : Reading text) → RoomFor m r → (r .returned ≡ m .n) × SameRows (matrixRead (m .n) r) m
   unfolding word
   reads-back text e r room =
       let same = write-then-read .every m ok in
@@ -182,7 +182,7 @@ module _ (m : Matrix) (ok : isMatrix m ≡ true) where
       (r .answered .returns ∙ ap word taken, rows-of (rw back at (reads text r (m .n) taken)))
 
   written-read : (old : List ℕ) (returned : ℕ) (new : List ℕ) → length (written m) ≤ length old → Answered (writeReply m (length old)) (written m) old returned new
-      → (r : Reading (take returned new)) → RoomFor m r → (r .returned ≡ m .n) × SameRows (leftBy (m .n) r) m
+      → (r : Reading (take returned new)) → RoomFor m r → (r .returned ≡ m .n) × SameRows (matrixRead (m .n) r) m
   unfolding word
   written-read old returned new room a =
       let w = write-then-read .every m ok .writes old room in
@@ -294,7 +294,7 @@ module _ (k : KeptForces) (c : Change) (n : ℕ) (ok : changeReply k c ≡ accep
   is = rw ok at (kept-current .sequence k was (c ∷ []))
 
   rows-same : changed k c .matrix .n ≡ k .matrix .n
-  unfolding changed matrixAfter put
+  unfolding changed matrixAfter withValue
   rows-same = go c
     where
       go : (c : Change) → matrixAfter (k .matrix) c .n ≡ k .matrix .n
@@ -339,11 +339,11 @@ module _ (n : ℕ) (starts columns values : List ℕ) (i j : ℕ) (v : ℤ) (mov
   current = is kept (newValue i j v) count ok
 
   list-same : left ≡ record { n = new .n; starts = new .starts; columns = new .columns; values = signed 4 newValues }
-  unfolding changed matrixAfter put
+  unfolding changed matrixAfter withValue
   list-same = refl
 
   ends : valueCount (matrixIn n starts columns values) ≡ size new
-  unfolding changed matrixAfter put size
+  unfolding changed matrixAfter withValue size
   ends = refl
 
   whole : Shape new
@@ -370,7 +370,7 @@ module _ (n : ℕ) (starts columns values : List ℕ) (i j : ℕ) (v : ℤ) (mov
   long-enough = rw (begins-same, length-append) (omega (arith, values-long))
 
   altered-left : SameRows left new × (signed 8 newForces ≡ changed kept (newValue i j v) .forces)
-  unfolding columnsOf valuesOf partOf changed matrixAfter put size
+  unfolding columnsOf valuesOf partOf changed matrixAfter withValue size
   altered-left = (
     record {
       matrix = alike new (new .starts) (new .columns) (signed 4 newValues) refl (fun-ext values-same) (shape-made left (record {

@@ -38,8 +38,8 @@ pub record Reading (text : List ℕ) : Type 0 where
   pub answered : ReadAnswered text starts columns values returned newStarts newColumns newValues
 
 -- the matrix of n rows that its lists stand for then
-unfoldable pub leftBy : (n : ℕ) {text : List ℕ} → Reading text → Matrix
-leftBy n r = matrixIn n (r .newStarts) (r .newColumns) (r .newValues)
+unfoldable pub matrixRead : (n : ℕ) {text : List ℕ} → Reading text → Matrix
+matrixRead n r = matrixIn n (r .newStarts) (r .newColumns) (r .newValues)
 
 -- there is room in its lists for a matrix
 pub record RoomFor (m : Matrix) {text : List ℕ} (r : Reading text) : Type 0 where
@@ -49,11 +49,11 @@ pub record RoomFor (m : Matrix) {text : List ℕ} (r : Reading text) : Type 0 wh
 
 pub record ByteLists : Type 0 where
   -- a text that is read leaves its matrix, whatever stands past it: no later call refuses the bytes with 5
-  pub read : (text : List ℕ) (r : Reading text) (n : ℕ) → readIn text (r .starts) (r .columns) (r .values) ≡ accepted n → SameRows (leftBy n r) (readMatrix (parse text))
+  pub read : (text : List ℕ) (r : Reading text) (n : ℕ) → readIn text (r .starts) (r .columns) (r .values) ≡ accepted n → SameRows (matrixRead n r) (readMatrix (parse text))
   -- a matrix that is written, as mzk_write promises, and then read, if both lists have
   -- room: the second call returns its rows and leaves them
   pub written-read : (m : Matrix) → isMatrix m ≡ true → (old : List ℕ) (returned : ℕ) (new : List ℕ) → length (written m) ≤ length old
-      → Answered (writeReply m (length old)) (written m) old returned new → (r : Reading (take returned new)) → RoomFor m r → (r .returned ≡ m .n) × SameRows (leftBy (m .n) r) m
+      → Answered (writeReply m (length old)) (written m) old returned new → (r : Reading (take returned new)) → RoomFor m r → (r .returned ≡ m .n) × SameRows (matrixRead (m .n) r) m
   -- a plan that is made at k, as mzk_plan promises, passes the check at k in the bytes where it is left, whatever
   -- stands past it; made at 2, 3 or 4 it is a plan for every run: no later call refuses it with 8
   pub planned : (m : Matrix) (workers p k : ℕ) (order groups : List ℕ) (returned : ℕ) (newOrder newGroups : List ℕ) → PlanAnswered m workers p k order groups returned newOrder newGroups

@@ -8,11 +8,11 @@ use Rattle.plan.specs.Sound.{maxWorkers}
 use Rattle.run.specs.Updates.{count}
 use Rattle.run.specs.Machine.{Outcome, moved, halted, refusal, onward}
 use Rattle.run.specs.State.{State}
-use Rattle.run.specs.Schedule.{nothing, pass, oneTaken}
+use Rattle.run.specs.Schedule.{skipsNone, pass, oneTaken}
 use Rattle.run.proofs.Able.{able}
 use Rattle.run.proofs.Passes.{pass-on, pass-end}
 use Rattle.answers.proofs.TakenFew.{left, one-less, left-few}
-use Rattle.crews.specs.Crews.{Crew, crew0, crew1, Two, ownOf, put, Roof, jobFor, isAway, crewRefusal, turn, turns}
+use Rattle.crews.specs.Crews.{Crew, crew0, crew1, Two, ownOf, putFor, Roof, jobFor, isAway, crewRefusal, turn, turns}
 use Rattle.crews.specs.TwoCrews.{AcceptedRoof}
 use Rattle.crews.proofs.Turns.{not-away, CrewMoved, crew-moved, took}
 
@@ -46,15 +46,15 @@ module _ (r : Roof) (ok : AcceptedRoof r) where
       let k = took r s b t e in
       rw (k .is) (by (k .crew) (k .state) (crew-moved r s (k .crew) (b % maxWorkers) (k .state) (k .moves)))
     where
-      by : (c : Crew) (u : State) → CrewMoved r s c (b % maxWorkers) u → (Sixteen (put s c u)) × (leftToBoth s ≡ leftToBoth (put s c u) + 1)
+      by : (c : Crew) (u : State) → CrewMoved r s c (b % maxWorkers) u → (Sixteen (putFor s c u)) × (leftToBoth s ≡ leftToBoth (putFor s c u) + 1)
       by crew0 u k = (sixteen, omega (arith, own-less s long crew0 (b % maxWorkers) u k))
         where
-          sixteen : Sixteen (put s crew0 u)
+          sixteen : Sixteen (putFor s crew0 u)
           sixteen crew0 = own-long s long crew0 (b % maxWorkers) u k
           sixteen crew1 = long crew1
       by crew1 u k = (sixteen, omega (arith, own-less s long crew1 (b % maxWorkers) u k))
         where
-          sixteen : Sixteen (put s crew1 u)
+          sixteen : Sixteen (putFor s crew1 u)
           sixteen crew0 = long crew0
           sixteen crew1 = own-long s long crew1 (b % maxWorkers) u k
 
@@ -64,8 +64,8 @@ module _ (r : Roof) (ok : AcceptedRoof r) where
   taken-left s (b ∷ bs) long = go (turn r s b) refl (λ t. taken-left t bs)
     where
       go : (o : Outcome (Two State)) → turn r s b ≡ o → ((t : Two State) → Sixteen t → turns r t bs .taken ≤ leftToBoth t) → turns r s (b ∷ bs) .taken ≤ leftToBoth s
-      go (halted k) e ih = rw (pass-end nothing (turn r) s b bs k e refl) (omega arith)
-      go (moved t) e ih = let d = one-turn s long b t e in rw (pass-on nothing (turn r) s b bs t e) (omega (arith, ih t (d .0), d .1))
+      go (halted k) e ih = rw (pass-end skipsNone (turn r) s b bs k e refl) (omega arith)
+      go (moved t) e ih = let d = one-turn s long b t e in rw (pass-on skipsNone (turn r) s b bs t e) (omega (arith, ih t (d .0), d .1))
 
   pub turns-few : (s : Two State) (bs : List ℕ) → Sixteen s → turns r s bs .taken < 2 ^ 32
   turns-few s bs long = omega (arith, taken-left s bs long, left-few (jobFor r crew0) (ok crew0) (s .of0 .made), left-few (jobFor r crew1) (ok crew1) (s .of1 .made))

@@ -11,7 +11,7 @@ use Rattle.base.specs.Refusals as why
 use Rattle.matrix.specs.Product.{product}
 use Rattle.run.specs.Job.{Job, Accepted, workers}
 use Rattle.run.specs.Machine.{halted, step, Stepped, steps}
-use Rattle.run.specs.Schedule.{pass, nothing}
+use Rattle.run.specs.Schedule.{pass, skipsNone}
 use Rattle.run.specs.State.{State}
 use Rattle.run.specs.Rounds.{skips, round, takenBy}
 use Rattle.run.specs.Calls.{answer}
@@ -39,7 +39,7 @@ pub record Rounds (j : Job) (cs : List Call) : Type 0 where
 -- stand, with the state that the round leaves; and what stopped it refuses the pick at its place there, and is no skip
 pub record Skipping (j : Job) (s : State) (ws : List ℕ) : Type 0 where
   -- a list of picks is a round that skips nothing: each pick met is taken
-  pub no-skips : pass nothing (step j) s ws ≡ record { state = steps j s ws .state; taken = steps j s ws .taken; met = steps j s ws .taken; number = steps j s ws .number }
+  pub no-skips : pass skipsNone (step j) s ws ≡ record { state = steps j s ws .state; taken = steps j s ws .taken; met = steps j s ws .taken; number = steps j s ws .number }
   pub as-picks : steps j s (takenBy (step j) s ws) ≡ record { state = round j s ws .state; taken = round j s ws .taken; number = 0 }
   pub all-taken : length (takenBy (step j) s ws) ≡ round j s ws .taken
   pub stopped : (k : ℕ) → round j s ws .number ≡ suc k

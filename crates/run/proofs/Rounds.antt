@@ -6,7 +6,7 @@ use mathlib.Core.List.{List, [], _∷_}
 use Prim.Native.Nat.{ℕ, zero, suc}
 use Rattle.run.specs.Job.{Job}
 use Rattle.run.specs.Machine.{Outcome, moved, halted, refusal, onward, step, Stepped, oneMore, steps}
-use Rattle.run.specs.Schedule.{Passed, oneTaken, oneSkipped, pass, nothing}
+use Rattle.run.specs.Schedule.{Passed, oneTaken, oneSkipped, pass, skipsNone}
 use Rattle.run.specs.Rounds.{skips, round, takenBy}
 use Rattle.run.specs.State.{State}
 use Rattle.run.specs.Model.{added, ending, noteOne, noteRound}
@@ -22,14 +22,14 @@ use Rattle.run.proofs.Taken.{taken}
 abbrev pub allTaken : Stepped → Passed State
 allTaken r = record { state = r .state; taken = r .taken; met = r .taken; number = r .number }
 
-pub no-skips : (j : Job) (s : State) (ws : List ℕ) → pass nothing (step j) s ws ≡ allTaken (steps j s ws)
+pub no-skips : (j : Job) (s : State) (ws : List ℕ) → pass skipsNone (step j) s ws ≡ allTaken (steps j s ws)
 unfolding pass steps oneTaken oneMore
 no-skips j s [] = refl
 no-skips j s (w ∷ ws) = go (step j s w) refl (λ t. no-skips j t ws)
   where
-    go : (o : Outcome State) → step j s w ≡ o → ((t : State) → pass nothing (step j) t ws ≡ allTaken (steps j t ws)) → pass nothing (step j) s (w ∷ ws) ≡ allTaken (steps j s (w ∷ ws))
-    go (moved t) e ih = rw (pass-on nothing (step j) s w ws t e, steps-on j s w ws t e) (ap oneTaken (ih t))
-    go (halted k) e ih = rw (pass-end nothing (step j) s w ws k e refl, steps-end j s w ws k e) refl
+    go : (o : Outcome State) → step j s w ≡ o → ((t : State) → pass skipsNone (step j) t ws ≡ allTaken (steps j t ws)) → pass skipsNone (step j) s (w ∷ ws) ≡ allTaken (steps j s (w ∷ ws))
+    go (moved t) e ih = rw (pass-on skipsNone (step j) s w ws t e, steps-on j s w ws t e) (ap oneTaken (ih t))
+    go (halted k) e ih = rw (pass-end skipsNone (step j) s w ws k e refl, steps-end j s w ws k e) refl
 
 -- the picks that are taken
 module _ {S : Type 0} (one : S → ℕ → Outcome S) (s : S) (w : ℕ) (ws : List ℕ) where

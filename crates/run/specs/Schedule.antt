@@ -25,5 +25,5 @@ module _ {S : Type 0} where
       elim (step s w) [ moved t ↦ oneTaken (pass skips step t ws) | halted k ↦ elim (skips k) [ true ↦ oneSkipped (pass skips step s ws) | false ↦ record { state = s; taken = 0; met = 0; number = k } ] ]
 
 -- in a call of picks every number ends it
-abbrev pub nothing : (number : ℕ) → Bool
-nothing number = false
+abbrev pub skipsNone : (number : ℕ) → Bool
+skipsNone number = false

@@ -26,7 +26,7 @@ use Rattle.words.specs.LittleEndian.{signedNumber, signedBytesOf, signed, signe
 use Rattle.words.proofs.Blocks.{length-decoded}
 use Rattle.lent.specs.Word.{word}
 use Rattle.lent.proofs.Answers.{answered-same, Begins, begins-stored}
-use Rattle.upkeep.specs.Upkeep.{KeptForces, Change, newDisplacement, newValue, entryPlace, put, matrixAfter, displacementsAfter, changed, areForces, isNamed, isSmall, changeReply, afterReply, afterChange}
+use Rattle.upkeep.specs.Upkeep.{KeptForces, Change, newDisplacement, newValue, entryPlace, withValue, matrixAfter, displacementsAfter, changed, areForces, isNamed, isSmall, changeReply, afterReply, afterChange}
 use Rattle.upkeep.proofs.Altered.{alter-matrix}
 use Rattle.upkeep.proofs.KeptCurrent.{Taken, taken}
 use Rattle.site.specs.Lent.{keptBytes, valueCount, MovementAnswered, EntryAnswered}
@@ -81,12 +81,12 @@ module _ (m : Matrix) (e : columnsOf (cut m) ≡ columnsOf m) (i j : ℕ) (v : �
   unfolding entryPlace
   place-cut = rw (getD-take maxStarts (m .starts) i 0 (omega arith), e)
 
-  put-cut : put (cut m) i j v ≡ cut (put m i j v)
-  unfolding put
+  put-cut : withValue (cut m) i j v ≡ cut (withValue m i j v)
+  unfolding withValue
   put-cut = ap (λ (vs : List ℤ). matrixOf (m .n) (take maxStarts (m .starts)) (take maxCells (m .columns)) vs) (ap (λ (p : ℕ). set (take maxCells (m .values)) p v) place-cut ∙ set-take maxCells (m .values) (entryPlace m i j) v)
 
-  put-columns : columnsOf (cut (put m i j v)) ≡ columnsOf (put m i j v)
-  unfolding put columnsOf partOf
+  put-columns : columnsOf (cut (withValue m i j v)) ≡ columnsOf (withValue m i j v)
+  unfolding withValue columnsOf partOf
   put-columns = e
 
 module _ (m : Matrix) (ok : isMatrix m ≡ true) where
@@ -109,8 +109,8 @@ module _ (m : Matrix) (ok : isMatrix m ≡ true) where
   after-cut (newValue i j v) h =
       let li = column-row m i j h in
       let lj = column-low m ok i j h in
-      ap (λ (q : Matrix). put q j i v) (put-cut m (cut-columns m ok) i j v (omega (arith, few)))
-      ∙ put-cut (put m i j v) (put-columns m (cut-columns m ok) i j v (omega (arith, few))) j i v (omega (arith, few))
+      ap (λ (q : Matrix). withValue q j i v) (put-cut m (cut-columns m ok) i j v (omega (arith, few)))
+      ∙ put-cut (withValue m i j v) (put-columns m (cut-columns m ok) i j v (omega (arith, few))) j i v (omega (arith, few))
 
   after-matrix : (c : Change) → isNamed m c ≡ true → isSmall c ≡ true → isMatrix (matrixAfter m c) ≡ true
   unfolding matrixAfter isNamed isSmall
@@ -200,18 +200,18 @@ moved-long x (newDisplacement i v) = length-set x i v
 moved-long x (newValue i j v) = refl
 
 same-rows : (m : Matrix) (c : Change) → matrixAfter m c .n ≡ m .n
-unfolding matrixAfter put
+unfolding matrixAfter withValue
 same-rows m (newDisplacement i v) = refl
 same-rows m (newValue i j v) = refl
 
-put-long : (m : Matrix) (i j : ℕ) (v : ℤ) → length (put m i j v .values) ≡ length (m .values)
-unfolding put
+put-long : (m : Matrix) (i j : ℕ) (v : ℤ) → length (withValue m i j v .values) ≡ length (m .values)
+unfolding withValue
 put-long m i j v = length-set (m .values) (entryPlace m i j) v
 
 values-long : (m : Matrix) (c : Change) → length (matrixAfter m c .values) ≡ length (m .values)
 unfolding matrixAfter
 values-long m (newDisplacement i v) = refl
-values-long m (newValue i j v) = put-long (put m i j v) j i v ∙ put-long m i j v
+values-long m (newValue i j v) = put-long (withValue m i j v) j i v ∙ put-long m i j v
 
 -- what the whole lists are after an accepted call on those that were decoded
 module _ (m : Matrix) (c : Change) (movements forces : List ℕ) {x fs : List ℤ} (d : Decoded movements forces x fs) where

@@ -22,7 +22,7 @@ use Rattle.steps.specs.code.Updates.{updateIn, Triangle}
 use Rattle.steps.specs.code.Steps.{rowNext, numberNext, reasonAt, outcomeOf, PickMade}
 use Rattle.steps.proofs.TableUpdates.{updates-are, begun-before, begins-is, row-is, row-is-update, table-update}
 use Rattle.machine.proofs.TableWaits.{table-reason}
-use Rattle.crews.specs.Crews.{Crew, other, crewNumber, Two, ownOf, put, Roof, jobFor, inRow, isAway, unlessAway, crewRefusal, crewStep, both, turn}
+use Rattle.crews.specs.Crews.{Crew, other, crewNumber, Two, ownOf, putFor, Roof, jobFor, inRow, isAway, unlessAway, crewRefusal, crewStep, forBoth, turn}
 use Rattle.crews.proofs.Turns.{not-away, crew-end, who, turn-for, turn-none}
 use Rattle.turns.specs.code.Inside.{insideAt, RowTables}
 use Rattle.turns.specs.code.Turned.{misnamed}
@@ -112,21 +112,21 @@ module _ (q : Roof) (S : Two State) (c : Crew) {first row begins leaves ends : L
   turn-answer h = sym step-is ∙ sym (h .is)
 
 -- .. for both
-both-halted : (S : Two State) (c : Crew) (number : ℕ) (t : State) → number ≢ 0 → both S c (outcomeOf number t) ≡ halted number
-unfolding both outcomeOf
+both-halted : (S : Two State) (c : Crew) (number : ℕ) (t : State) → number ≢ 0 → forBoth S c (outcomeOf number t) ≡ halted number
+unfolding forBoth outcomeOf
 both-halted S c zero t d = absurd (d refl)
 both-halted S c (suc k) t d = refl
 
-both-moved : (S : Two State) (c : Crew) (number : ℕ) (t : State) → number ≡ 0 → both S c (outcomeOf number t) ≡ moved (put S c t)
-unfolding both outcomeOf
+both-moved : (S : Two State) (c : Crew) (number : ℕ) (t : State) → number ≡ 0 → forBoth S c (outcomeOf number t) ≡ moved (putFor S c t)
+unfolding forBoth outcomeOf
 both-moved S c number t e = rw e refl
 
 module _ (q : Roof) (S : Two State) (c : Crew) (byte : ℕ) (named : byte / maxWorkers ≡ crewNumber c) {number : ℕ} (new : State) (h : crewStep q S c (byte % maxWorkers) ≡ outcomeOf number new) where
   pub turn-halts : number ≢ 0 → turn q S byte ≡ halted number
-  turn-halts d = turn-for q S byte c named ∙ ap (both S c) h ∙ both-halted S c number new d
+  turn-halts d = turn-for q S byte c named ∙ ap (forBoth S c) h ∙ both-halted S c number new d
 
-  pub turn-moves : number ≡ 0 → turn q S byte ≡ moved (put S c new)
-  turn-moves e = turn-for q S byte c named ∙ ap (both S c) h ∙ both-moved S c number new e
+  pub turn-moves : number ≡ 0 → turn q S byte ≡ moved (putFor S c new)
+  turn-moves e = turn-for q S byte c named ∙ ap (forBoth S c) h ∙ both-moved S c number new e
 
 -- ---- a byte that names no crew, or no worker of the plan
 
@@ -141,7 +141,7 @@ name-halts q S byte crew is d = go (leb (2 * maxWorkers) byte) refl (leb crew (b
       where
         by : ((c : Crew) × (byte / maxWorkers ≡ crewNumber c)) ⊎ (2 ≤ byte / maxWorkers) → turn q S byte ≡ halted why.noWorker
         by (inr l) = absurd (omega (arith, leb-false (2 * maxWorkers) byte x))
-        by (inl (c, n)) = turn-for q S byte c n ∙ ap (both S c) (crew-end q S c (byte % maxWorkers) 9 refused) ∙ unfold both in refl
+        by (inl (c, n)) = turn-for q S byte c n ∙ ap (forBoth S c) (crew-end q S c (byte % maxWorkers) 9 refused) ∙ unfold forBoth in refl
           where
             refused : crewRefusal q S c (byte % maxWorkers) ≡ suc 9
             refused = rw (in-order .every (jobFor q c) (ownOf S c .made) (byte % maxWorkers) .stranger (omega (arith, is c, leb-true crew (byte % maxWorkers) y))) refl

@@ -16,7 +16,7 @@ use Rattle.run.specs.Job.{workers}
 use Rattle.run.specs.Machine.{onward}
 use Rattle.run.specs.Updates.{Update, count}
 use Rattle.run.specs.State.{State}
-use Rattle.run.specs.Schedule.{nothing}
+use Rattle.run.specs.Schedule.{skipsNone}
 use Rattle.run.proofs.Onward.{onward-length}
 use Rattle.run.proofs.Passes.{Left, left-start, left-step, left-halt, left-none}
 use Rattle.tables.specs.code.Laid.{maxUpdates, updatesIn, Laid}
@@ -29,7 +29,7 @@ use Rattle.steps.proofs.UpdatesAtHand.{Steady, none-at-hand, access-picks, acce
 use Rattle.crews.proofs.Turns.{not-away}
 use Rattle.machine.proofs.BlockedLeaves.{whole-crew, waits-of}
 use Rattle.machine.proofs.RunTurns.{blocks-kept, ahead-kept}
-use Rattle.crews.specs.Crews.{Crew, crew0, crew1, other, crewNumber, Two, ownOf, put, Roof, jobFor, crewStep, turn, turns}
+use Rattle.crews.specs.Crews.{Crew, crew0, crew1, other, crewNumber, Two, ownOf, putFor, Roof, jobFor, crewStep, turn, turns}
 use Rattle.crews.specs.TwoCrews.{AcceptedRoof}
 use Rattle.turns.specs.code.Inside.{insideAt, causeAt}
 use Rattle.turns.specs.code.Turned.{misnamed}
@@ -51,7 +51,7 @@ pub record Tables : Type 0 where
   pub at : List ℕ
   pub beside : List ℤ
 
-put-own : (S : Two State) (c : Crew) → put S c (ownOf S c) ≡ S
+put-own : (S : Two State) (c : Crew) → putFor S c (ownOf S c) ≡ S
 put-own S crew0 = refl
 put-own S crew1 = refl
 
@@ -84,7 +84,7 @@ module _ (T : Tables) where
     pub crew : T .workers ≡ recordAt (T .groups) 0 .workers
     pub hand : (c : Crew) → Hand S c (ownOf blocks c) (ownOf targets c) (ownOf amounts c)
     pub side : (c : Crew) → Side (ownOf S c .made) (ownOf blocks c) (ownOf stops c)
-    pub left : EachRoof (λ q. Left nothing (turn q) S₀ schedule k k S)
+    pub left : EachRoof (λ q. Left skipsNone (turn q) S₀ schedule k k S)
 
   -- a pick of worker w for crew c by the tables, with this answer, that leaves this state
   abbrev pub Made : Two State → Crew → (blocks : List ℕ) (w number : ℕ) → State → Type 0
@@ -95,7 +95,7 @@ module _ {T : Tables} {S₀ : Two State} {schedule : List ℕ} where
   pub sharing-start : {blocks stops : Two (List ℕ)} → T .workers ≡ recordAt (T .groups) 0 .workers → Side T (S₀ .of0 .made) (blocks .of0) (stops .of0) → Side T (S₀ .of1 .made) (blocks .of1) (stops .of1)
       → {amounts : Two (List ℤ)} → length (amounts .of0) ≡ maxWorkers → length (amounts .of1) ≡ maxWorkers
       → Sharing T S₀ schedule 0 S₀ blocks stops (record { of0 = replicate maxWorkers maxRows; of1 = replicate maxWorkers maxRows }) amounts
-  sharing-start {blocks} {stops} e a b {amounts} f g = record { crew = e; side = each; hand = nobody; left = λ q ok is laid t u. left-start nothing (turn q) S₀ schedule }
+  sharing-start {blocks} {stops} e a b {amounts} f g = record { crew = e; side = each; hand = nobody; left = λ q ok is laid t u. left-start skipsNone (turn q) S₀ schedule }
     where
       each : (c : Crew) → Side T (ownOf S₀ c .made) (ownOf blocks c) (ownOf stops c)
       each crew0 = a
@@ -108,7 +108,7 @@ module _ {T : Tables} {S₀ : Two State} {schedule : List ℕ} where
   module _ {k : ℕ} {S : Two State} {blocks stops targets : Two (List ℕ)} {amounts : Two (List ℤ)} (r : Sharing T S₀ schedule k S blocks stops targets amounts) where
     -- all picks are taken
     pub sharing-none : k ≡ length schedule → EachRoof T (λ q. record { state = S; taken = k; met = k; number = 0 } ≡ turns q S₀ schedule)
-    sharing-none l q ok is laid t u = left-none nothing (turn q) S₀ schedule k k S (r .left q ok is laid t u) l
+    sharing-none l q ok is laid t u = left-none skipsNone (turn q) S₀ schedule k k S (r .left q ok is laid t u) l
 
     -- the update of a worker is at hand for crew c
     module _ (c : Crew) {w : ℕ} (low : w < maxWorkers) {cause : ℕ} {targets′ : List ℕ} {amounts′ : List ℤ}
@@ -145,7 +145,7 @@ module _ {T : Tables} {S₀ : Two State} {schedule : List ℕ} where
       -- the next one names no crew, or no worker of the plan
       pub sharing-misnamed : misnamed byte (T .workers) ≢ 0 → EachRoof T (λ q. record { state = S; taken = k; met = k; number = misnamed byte (T .workers) } ≡ turns q S₀ schedule)
       sharing-misnamed d q ok is laid t u =
-          left-halt nothing (turn q) S₀ schedule k k S (r .left q ok is laid t u) l (misnamed byte (T .workers)) (name-halts q S byte (T .workers) (crew-is q is) d) refl
+          left-halt skipsNone (turn q) S₀ schedule k k S (r .left q ok is laid t u) l (misnamed byte (T .workers)) (name-halts q S byte (T .workers) (crew-is q is) d) refl
 
       -- .. or is one for crew c
       module _ (few : T .workers ≤ maxWorkers) (c : Crew) (named : byte / maxWorkers ≡ crewNumber c) (low : byte % maxWorkers < T .workers) {number : ℕ} {new : State}
@@ -165,24 +165,24 @@ module _ {T : Tables} {S₀ : Two State} {schedule : List ℕ} where
                 (omega (arith, low, crew-is q is crew1)) h
 
         -- it is refused
-        pub sharing-halt : number ≢ 0 → EachRoof T (λ q. record { state = put S c new; taken = k; met = k; number = number } ≡ turns q S₀ schedule)
+        pub sharing-halt : number ≢ 0 → EachRoof T (λ q. record { state = putFor S c new; taken = k; met = k; number = number } ≡ turns q S₀ schedule)
         sharing-halt d q ok is laid t u =
-            ap (λ (s : Two State). record { state = s; taken = k; met = k; number = number }) (ap (put S c) (h .kept d) ∙ put-own S c)
-            ∙ left-halt nothing (turn q) S₀ schedule k k S (r .left q ok is laid t u) l number (turn-halts q S c byte named new (is-step q ok is laid t u) d) refl
+            ap (λ (s : Two State). record { state = s; taken = k; met = k; number = number }) (ap (putFor S c) (h .kept d) ∙ put-own S c)
+            ∙ left-halt skipsNone (turn q) S₀ schedule k k S (r .left q ok is laid t u) l number (turn-halts q S c byte named new (is-step q ok is laid t u) d) refl
 
         module _ (z : number ≡ 0) where
           next-long : length (new .made) ≡ maxWorkers
           next-long = ap length (h .counted z) ∙ onward-length (ownOf S c .made) w ∙ r .side c .long
 
-          next-left : EachRoof T (λ q. Left nothing (turn q) S₀ schedule (k + 1) (k + 1) (put S c new))
+          next-left : EachRoof T (λ q. Left skipsNone (turn q) S₀ schedule (k + 1) (k + 1) (putFor S c new))
           next-left q ok is laid t u =
-              subst (λ (y : ℕ). Left nothing (turn q) S₀ schedule y y (put S c new)) (sym (add-one k))
-              (left-step nothing (turn q) S₀ schedule k k S (r .left q ok is laid t u) l (put S c new) (turn-moves q S c byte named new (is-step q ok is laid t u) z))
+              subst (λ (y : ℕ). Left skipsNone (turn q) S₀ schedule y y (putFor S c new)) (sym (add-one k))
+              (left-step skipsNone (turn q) S₀ schedule k k S (r .left q ok is laid t u) l (putFor S c new) (turn-moves q S c byte named new (is-step q ok is laid t u) z))
 
-          sides : (blocks′ stops′ : List ℕ) → Side T (new .made) blocks′ stops′ → (d : Crew) → Side T (ownOf (put S c new) d .made) (ownOf (put blocks c blocks′) d) (ownOf (put stops c stops′) d)
+          sides : (blocks′ stops′ : List ℕ) → Side T (new .made) blocks′ stops′ → (d : Crew) → Side T (ownOf (putFor S c new) d .made) (ownOf (putFor blocks c blocks′) d) (ownOf (putFor stops c stops′) d)
           sides blocks′ stops′ s = by c s
             where
-              by : (c : Crew) → Side T (new .made) blocks′ stops′ → (d : Crew) → Side T (ownOf (put S c new) d .made) (ownOf (put blocks c blocks′) d) (ownOf (put stops c stops′) d)
+              by : (c : Crew) → Side T (new .made) blocks′ stops′ → (d : Crew) → Side T (ownOf (putFor S c new) d .made) (ownOf (putFor blocks c blocks′) d) (ownOf (putFor stops c stops′) d)
               by crew0 s crew0 = s
               by crew0 s crew1 = r .side crew1
               by crew1 s crew0 = r .side crew0
@@ -190,11 +190,11 @@ module _ {T : Tables} {S₀ : Two State} {schedule : List ℕ} where
 
           -- what was at hand of the worker for the other crew is gone
           hands : (blocks′ targets′ : List ℕ) (amounts′ : List ℤ) → AtHand (causeOf T blocks′ (ownOf S (other c) .made)) (updateOf T c) (new .made) targets′ amounts′
-              → (d : Crew) → Hand T (put S c new) d (ownOf (put blocks c blocks′) d) (ownOf (put (put targets (other c) (set (ownOf targets (other c)) w maxRows)) c targets′) d) (ownOf (put amounts c amounts′) d)
+              → (d : Crew) → Hand T (putFor S c new) d (ownOf (putFor blocks c blocks′) d) (ownOf (putFor (putFor targets (other c) (set (ownOf targets (other c)) w maxRows)) c targets′) d) (ownOf (putFor amounts c amounts′) d)
           hands blocks′ targets′ amounts′ x = by c x (h .counted z)
             where
               by : (c : Crew) → AtHand (causeOf T blocks′ (ownOf S (other c) .made)) (updateOf T c) (new .made) targets′ amounts′ → new .made ≡ onward (ownOf S c .made) w
-                  → (d : Crew) → Hand T (put S c new) d (ownOf (put blocks c blocks′) d) (ownOf (put (put targets (other c) (set (ownOf targets (other c)) w maxRows)) c targets′) d) (ownOf (put amounts c amounts′) d)
+                  → (d : Crew) → Hand T (putFor S c new) d (ownOf (putFor blocks c blocks′) d) (ownOf (putFor (putFor targets (other c) (set (ownOf targets (other c)) w maxRows)) c targets′) d) (ownOf (putFor amounts c amounts′) d)
               by crew0 x e crew0 = x
               by crew0 x e crew1 = other-moved (T .first) (T .row) (T .begins) (T .leaves) (blocks .of1) (S .of0 .made) w (omega arith) e (r .hand crew1)
               by crew1 x e crew0 = other-moved (T .first) (T .row) (T .begins) (T .leaves) (blocks .of0) (S .of1 .made) w (omega arith) e (r .hand crew0)
@@ -203,19 +203,19 @@ module _ {T : Tables} {S₀ : Two State} {schedule : List ℕ} where
           -- it is taken, and the blocked groups are found anew
           next : {blocks′ stops′ : List ℕ} → Blocks (T .count) (T .groups) (T .ends) (new .made) blocks′ → Ahead (T .count) (T .groups) (T .ends) (new .made) stops′
               → {targets′ : List ℕ} {amounts′ : List ℤ} → AtHand (causeOf T blocks′ (ownOf S (other c) .made)) (updateOf T c) (new .made) targets′ amounts′
-              → Sharing T S₀ schedule (k + 1) (put S c new) (put blocks c blocks′) (put stops c stops′) (put (put targets (other c) (set (ownOf targets (other c)) w maxRows)) c targets′) (put amounts c amounts′)
+              → Sharing T S₀ schedule (k + 1) (putFor S c new) (putFor blocks c blocks′) (putFor stops c stops′) (putFor (putFor targets (other c) (set (ownOf targets (other c)) w maxRows)) c targets′) (putFor amounts c amounts′)
           next {blocks′} {stops′} b a {targets′} {amounts′} x =
               record { crew = r .crew; side = sides blocks′ stops′ (record { long = next-long; blocked = b; ahead = a }); hand = hands blocks′ targets′ amounts′ x; left = next-left }
 
           pub sharing-renewed : {blocks′ stops′ : List ℕ} → Blocks (T .count) (T .groups) (T .ends) (new .made) blocks′ → Ahead (T .count) (T .groups) (T .ends) (new .made) stops′
               → {targets′ : List ℕ} {amounts′ : List ℤ} → AtHand (causeOf T (ownOf blocks c) (ownOf S (other c) .made)) (updateOf T c) (new .made) targets′ amounts′
-              → Sharing T S₀ schedule (k + 1) (put S c new) (put blocks c blocks′) (put stops c stops′) (put (put targets (other c) (set (ownOf targets (other c)) w maxRows)) c (replicate maxWorkers maxRows)) (put amounts c amounts′)
+              → Sharing T S₀ schedule (k + 1) (putFor S c new) (putFor blocks c blocks′) (putFor stops c stops′) (putFor (putFor targets (other c) (set (ownOf targets (other c)) w maxRows)) c (replicate maxWorkers maxRows)) (putFor amounts c amounts′)
           sharing-renewed b a x = next b a (none-at-hand next-long (x .amounts-long))
 
           -- .. or are as they were
           pub sharing-on : w < length (ownOf S c .made) → getD (new .made) w 0 < getD (ownOf stops c) w 0
               → {targets′ : List ℕ} {amounts′ : List ℤ} → AtHand (causeOf T (ownOf blocks c) (ownOf S (other c) .made)) (updateOf T c) (new .made) targets′ amounts′
-              → Sharing T S₀ schedule (k + 1) (put S c new) (put blocks c (ownOf blocks c)) (put stops c (ownOf stops c)) (put (put targets (other c) (set (ownOf targets (other c)) w maxRows)) c targets′) (put amounts c amounts′)
+              → Sharing T S₀ schedule (k + 1) (putFor S c new) (putFor blocks c (ownOf blocks c)) (putFor stops c (ownOf stops c)) (putFor (putFor targets (other c) (set (ownOf targets (other c)) w maxRows)) c targets′) (putFor amounts c amounts′)
           sharing-on inside below x =
               next
               (blocks-kept (T .count) (T .groups) (T .ends) (ownOf S c .made) (new .made) (ownOf stops c) w inside (h .counted z) below (r .side c .ahead) (ownOf blocks c) (r .side c .blocked))

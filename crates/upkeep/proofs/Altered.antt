@@ -12,7 +12,7 @@ use Rattle.matrix.specs.Matrix.{Matrix, partOf, columnsOf, entry, lowerEntries,
 use Rattle.matrix.specs.code.Checks.{shaped}
 use Rattle.matrix.proofs.Checks.{matrix-tidy}
 use Rattle.matrix.proofs.Matrix.{RowFacts, MatrixFacts, matrix-facts, matrix-made, column-row, symmetric}
-use Rattle.upkeep.specs.Upkeep.{put}
+use Rattle.upkeep.specs.Upkeep.{withValue}
 use Rattle.upkeep.proofs.Put.{put-columns, put-shaped, put-entry, put-all}
 
 -- a test and its mirror image
@@ -26,10 +26,10 @@ or-mirror a b c d = or-comm (a && b) (c && d) ∙ ap₂ (λ (s t : Bool). s || t
 
 module _ (m : Matrix) (ok : isMatrix m ≡ true) (i j : ℕ) (v : ℤ) (c : isIn (columnsOf m i) j ≡ true) where
   abbrev one : Matrix
-  one = put m i j v
+  one = withValue m i j v
 
   abbrev both : Matrix
-  both = put one j i v
+  both = withValue one j i v
 
   facts : MatrixFacts m
   facts = matrix-facts m ok
@@ -56,7 +56,7 @@ module _ (m : Matrix) (ok : isMatrix m ≡ true) (i j : ℕ) (v : ℤ) (c : isIn
 
   module _ (small : within maxValue v ≡ true) where
     row-facts : (r : ℕ) → r < m .n → RowFacts both r
-    unfolding put
+    unfolding withValue
     row-facts r l =
         let f = facts .row r l in
         record {
@@ -68,7 +68,7 @@ module _ (m : Matrix) (ok : isMatrix m ≡ true) (i j : ℕ) (v : ℤ) (c : isIn
         }
 
     pub alter-matrix : isMatrix both ≡ true
-    unfolding put lowerEntries columnsOf partOf
+    unfolding withValue lowerEntries columnsOf partOf
     alter-matrix = matrix-made both (record {
       some = facts .some;
       few = facts .few;

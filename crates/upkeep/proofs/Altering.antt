@@ -24,7 +24,7 @@ use Rattle.matrix.proofs.Matrix.{lookup-position, column-row, column-low, symme
 use Rattle.matrix.proofs.Product.{length-product, product-at}
 use Rattle.matrix.proofs.Rows.{values-in, length-columns, length-values, columns-part, values-part}
 use Rattle.matrix.proofs.SmallForces.{small-forces}
-use Rattle.upkeep.specs.Upkeep.{newValue, put, entryPlace, isNamed, isSmall, changed, matrixAfter, displacementsAfter}
+use Rattle.upkeep.specs.Upkeep.{newValue, withValue, entryPlace, isNamed, isSmall, changed, matrixAfter, displacementsAfter}
 use Rattle.upkeep.specs.KeptCurrent.{Current}
 use Rattle.upkeep.specs.code.Sums.{BothIn, BothAdded}
 use Rattle.upkeep.proofs.Deltas.{alter-first, alter-second, alter-none, alter-small}
@@ -97,7 +97,7 @@ module _ (m : Matrix) (ok : isMatrix m ≡ true) where
 
 module _ (m : Matrix) (x fs : List ℤ) (g : Current (record { matrix = m; displacements = x; forces = fs })) (i j : ℕ) (v : ℤ) (c : isIn (columnsOf m i) j ≡ true) where
   abbrev both : Matrix
-  both = put (put m i j v) j i v
+  both = withValue (withValue m i j v) j i v
 
   forces-long : length fs ≡ m .n
   forces-long = ap length (g .forces) ∙ length-product m x
@@ -123,7 +123,7 @@ module _ (m : Matrix) (x fs : List ℤ) (g : Current (record { matrix = m; displ
   }
 
   both-n : both .n ≡ m .n
-  unfolding put
+  unfolding withValue
   both-n = refl
 
   pub altered-forces : {new : List ℤ} → BothAdded i j (step *ℤ getD x j (pos 0)) (step *ℤ getD x i (pos 0)) fs new → new ≡ product both x
@@ -138,7 +138,7 @@ module _ (m : Matrix) (x fs : List ℤ) (g : Current (record { matrix = m; displ
 
   pub alter-values : {p q : ℕ} → p ≡ entryPlace m i j → q ≡ entryPlace m j i
       → set (set (m .values) p v) q v ≡ changed (record { matrix = m; displacements = x; forces = fs }) (newValue i j v) .matrix .values
-  unfolding changed matrixAfter displacementsAfter put entryPlace columnsOf partOf
+  unfolding changed matrixAfter displacementsAfter withValue entryPlace columnsOf partOf
   alter-values e f = rw (e, f)
 
   pub alter-forces : changed (record { matrix = m; displacements = x; forces = fs }) (newValue i j v) .forces ≡ product both x

@@ -20,7 +20,7 @@ use Rattle.matrix.specs.Limits.{maxValue, maxDisplacement}
 use Rattle.matrix.specs.Matrix.{Matrix, columnsOf, entry, adjacent, isMatrix, displacement, areDisplacements}
 use Rattle.matrix.specs.Product.{forceAt}
 use Rattle.matrix.proofs.Matrix.{absent, adjacent-both, column-low, column-row, small-entry, small-displacement}
-use Rattle.upkeep.specs.Upkeep.{put}
+use Rattle.upkeep.specs.Upkeep.{withValue}
 use Rattle.upkeep.proofs.Altered.{alter-entry}
 
 -- ---- a new displacement
@@ -55,11 +55,11 @@ one-entry m other n r s v x l e h =
 
 module _ (m : Matrix) (ok : isMatrix m ≡ true) (i j : ℕ) (v : ℤ) (c : isIn (columnsOf m i) j ≡ true) (x : List ℤ) where
   abbrev both : Matrix
-  both = put (put m i j v) j i v
+  both = withValue (withValue m i j v) j i v
 
   -- the entry's first row: by the difference × the displacement of its column
   pub alter-first : forceAt both x i ≡ forceAt m x i +ℤ (v -ℤ entry m i j) *ℤ displacement x j
-  unfolding forceAt put
+  unfolding forceAt withValue
   alter-first = one-entry m both (m .n) i j v x (column-low m ok i j c) own other
     where
       own : entry both i j ≡ v
@@ -72,7 +72,7 @@ module _ (m : Matrix) (ok : isMatrix m ≡ true) (i j : ℕ) (v : ℤ) (c : isIn
 
   -- .. and its second
   pub alter-second : forceAt both x j ≡ forceAt m x j +ℤ (v -ℤ entry m j i) *ℤ displacement x i
-  unfolding forceAt put
+  unfolding forceAt withValue
   alter-second = one-entry m both (m .n) j i v x (column-row m i j c) own other
     where
       own : entry both j i ≡ v
@@ -85,7 +85,7 @@ module _ (m : Matrix) (ok : isMatrix m ≡ true) (i j : ℕ) (v : ℤ) (c : isIn
 
   -- no other
   pub alter-none : (r : ℕ) → eqb r i || eqb r j ≡ false → forceAt both x r ≡ forceAt m x r
-  unfolding forceAt put
+  unfolding forceAt withValue
   alter-none r e = sum-same (λ t. entry both r t *ℤ displacement x t) (λ t. entry m r t *ℤ displacement x t) (m .n) (λ t l. ap (λ (z : ℤ). z *ℤ displacement x t) (kept t))
     where
       kept : (t : ℕ) → entry both r t ≡ entry m r t

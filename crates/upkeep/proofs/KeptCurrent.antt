@@ -23,7 +23,7 @@ use Rattle.matrix.specs.Matrix.{Matrix, columnsOf, entry, matrixCheck, displace
 use Rattle.matrix.specs.Product.{forceAt, product}
 use Rattle.matrix.proofs.Matrix.{displacements-many}
 use Rattle.matrix.proofs.Product.{length-product, product-at}
-use Rattle.upkeep.specs.Upkeep.{KeptForces, Change, newDisplacement, newValue, put, matrixAfter, displacementsAfter, changed, areForces, isNamed, isSmall, changeReply, afterReply, afterChange, afterChanges}
+use Rattle.upkeep.specs.Upkeep.{KeptForces, Change, newDisplacement, newValue, withValue, matrixAfter, displacementsAfter, changed, areForces, isNamed, isSmall, changeReply, afterReply, afterChange, afterChanges}
 use Rattle.upkeep.specs.KeptCurrent.{Current, entryAfter, displacementAfter, isTouched, Writes, KeptCurrent}
 use Rattle.upkeep.proofs.Altered.{alter-columns, alter-entry, alter-matrix}
 use Rattle.upkeep.proofs.Deltas.{move-none, no-entry, alter-none}
@@ -77,7 +77,7 @@ set-displacements n x i v h s =
 
 -- what it leaves is current
 changed-current : (k : KeptForces) (c : Change) → Taken k c → Current (changed k c)
-unfolding changed matrixAfter displacementsAfter isNamed isSmall put
+unfolding changed matrixAfter displacementsAfter isNamed isSmall withValue
 changed-current k (newDisplacement i v) t = record { matrix = t .current .matrix; moved = set-displacements (k .matrix .n) (k .displacements) i v (t .current .moved) (t .small); forces = refl }
 changed-current k (newValue i j v) t = record { matrix = alter-matrix (k .matrix) (t .current .matrix) i j v (t .named) (t .small); moved = t .current .moved; forces = refl }
 

@@ -35,13 +35,13 @@ unfoldable pub entryPlace : Matrix → (i j : ℕ) → ℕ
 entryPlace m i j = getD (m .starts) i 0 + positionOf (columnsOf m i) j
 
 -- the matrix with v there
-unfoldable pub put : Matrix → (i j : ℕ) → ℤ → Matrix
-put m i j v = record { n = m .n; starts = m .starts; columns = m .columns; values = set (m .values) (entryPlace m i j) v }
+unfoldable pub withValue : Matrix → (i j : ℕ) → ℤ → Matrix
+withValue m i j v = record { n = m .n; starts = m .starts; columns = m .columns; values = set (m .values) (entryPlace m i j) v }
 
 -- "writes it there": the matrix after a change of "a stored entry and its mirror"
 unfoldable pub matrixAfter : Matrix → Change → Matrix
 matrixAfter m (newDisplacement i v) = m
-matrixAfter m (newValue i j v) = put (put m i j v) j i v
+matrixAfter m (newValue i j v) = withValue (withValue m i j v) j i v
 
 -- .. and the displacements after one of a displacement
 unfoldable pub displacementsAfter : List ℤ → Change → List ℤ
