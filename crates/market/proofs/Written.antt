@@ -9,31 +9,19 @@ use lib.Dec.{eqb}
 use lib.IntN.{ℤ, pos, negsuc, natAbs}
 use lib.ListN.{length, getD, drop, length-append}
 use lib.Seq.{drop-append-seam, drop-drop}
-use borrow.Author.Tests.{le-ltb, le-leb, eqb-true, eq-eqb, ne-eqb}
+use borrow.Author.Tests.{le-ltb, le-leb, eq-eqb, ne-eqb}
 use Rattle.base.specs.Lists.{concat}
 use Rattle.base.proofs.Begins.{begins-append}
 use Rattle.market.specs.Bytes.{classOf, header, isDigit, isSpace}
-use Rattle.market.specs.Fields.{got, is, line, spaces, field, value, valueField, fields}
+use Rattle.market.specs.Fields.{got, is, line, numeral, spaces, field, value, valueField, fields}
 use Rattle.market.specs.Parse.{Triplet, matrixText, isAmong, isEntry, entries, sizeLine, place, comments, parse}
 use Rattle.market.specs.Text.{natural, integer, lineOf, entryLine, textOf}
-use Rattle.market.proofs.Decimal.{AllDigits, decimal-digits, decimal-some, decimal-length, number-natural}
+use Rattle.market.proofs.Decimal.{digit-class, starts-digit, decimal-length, number-natural, signed-decimal}
 use Rattle.market.proofs.Inside.{inside}
 
--- the first byte of a number is a digit, and so of no other class
-first-digit : (n : ℕ) (xs : List ℕ) → isDigit (getD (natural n ++ xs) 0 0) ≡ true
-first-digit n xs = go (natural n) (decimal-some 9 n) (decimal-digits 10 n)
-  where
-    go : (ds : List ℕ) → 1 ≤ length ds → AllDigits ds → isDigit (getD (ds ++ xs) 0 0) ≡ true
-    go [] h a = absurd (omega arith)
-    go (d ∷ ds) h a = a .0
-
-digit-class : (b : ℕ) → isDigit b ≡ true → classOf b ≡ 1
-digit-class b h = eqb-true (classOf b) 1 h
-
 value-integer : (v : ℤ) (b : ℕ) (xs : List ℕ) → natAbs v < 10 ^ 10 → isDigit b ≡ false → value (integer v ++ b ∷ xs) ≡ is v (length (integer v))
-unfolding value classOf
-value-integer (pos n) b xs h e = rw (digit-class _ (first-digit n (b ∷ xs)), number-natural n b xs h e)
-value-integer (negsuc n) b xs h e = rw (number-natural (suc n) b xs h e)
+unfolding value
+value-integer = signed-decimal numeral 9 number-natural
 
 -- a single space
 space-one : (xs : List ℕ) → isSpace (getD xs 0 0) ≡ false → spaces (32 ∷ xs) ≡ 1
@@ -44,11 +32,11 @@ space-one (b ∷ bs) e = rw e
 field-natural : (n b : ℕ) (xs : List ℕ) → n < 10 ^ 10 → isDigit b ≡ false → field (32 ∷ (natural n ++ b ∷ xs)) ≡ got n (1 + length (natural n))
 unfolding field
 field-natural n b xs h e =
-    rw (space-one (natural n ++ b ∷ xs) (rw (digit-class _ (first-digit n (b ∷ xs)))), number-natural n b xs h e)
+    rw (space-one (natural n ++ b ∷ xs) (rw (digit-class _ (starts-digit 9 n (b ∷ xs)))), number-natural n b xs h e)
 
 first-value : (v : ℤ) (xs : List ℕ) → isSpace (getD (integer v ++ xs) 0 0) ≡ false
 unfolding classOf
-first-value (pos n) xs = rw (digit-class _ (first-digit n xs))
+first-value (pos n) xs = rw (digit-class _ (starts-digit 9 n xs))
 first-value (negsuc n) xs = refl
 
 field-integer : (v : ℤ) (b : ℕ) (xs : List ℕ) → natAbs v < 10 ^ 10 → isDigit b ≡ false → valueField (32 ∷ (integer v ++ b ∷ xs)) ≡ is v (1 + length (integer v))
@@ -136,6 +124,6 @@ parse-text-of n es h1 hn hm g =
     omega (arith, length-append header rest, length-append (lineOf n n (pos (length es))) (concat (map entryLine es)), line-length n n (pos (length es)) hn hn (omega arith), lines-length n hn es [] g, header-length) in
     let tail : List ℕ = 32 ∷ (natural n ++ (32 ∷ (integer (pos (length es)) ++ (10 ∷ concat (map entryLine es))))) in
     let head : rest ≡ natural n ++ tail = simp append-assoc in
-    let first : eqb (getD rest 0 0) 37 ≡ false = rw head (digit-no-comment _ (first-digit n tail)) in
+    let first : eqb (getD rest 0 0) 37 ≡ false = rw head (digit-no-comment _ (starts-digit 9 n tail)) in
     rw (split, le-ltb 1048576 (length (header ++ rest)) long, begins-append header rest, drop-append-seam header rest, comments-none 2 rest first)
     (size-written n es h1 hn hm g 2)

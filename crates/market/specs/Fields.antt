@@ -17,17 +17,25 @@ unfoldable pub digits : List ℕ → List ℕ
 digits [] = []
 digits (b ∷ bs) = let more = b ∷ digits bs in cond (isDigit b) more []
 
+-- "no needless leading zero"
+abbrev pub isNeeded : List ℕ → Bool
+isNeeded ds = leb (length ds) 1 || not (eqb (getD ds 0 0) digit0)
+
 -- "A number has 1 to 10 decimal digits and no needless leading zero"
 unfoldable pub isNumber : List ℕ → Bool
-isNumber ds = leb 1 (length ds) && leb (length ds) 10 && (leb (length ds) 1 || not (eqb (getD ds 0 0) digit0))
+isNumber ds = leb 1 (length ds) && leb (length ds) 10 && isNeeded ds
 
 -- the value of decimal digits that come after v
 unfoldable pub valueOf : ℕ → List ℕ → ℕ
 valueOf v [] = v
 valueOf v (d ∷ ds) = valueOf (v * 10 + (d - digit0)) ds
 
+-- the number of these digits, if they are one
+abbrev pub numeralIf : (List ℕ → Bool) → List ℕ → Scan
+numeralIf isGood ds = cond (isGood ds) (got (valueOf 0 ds) (length ds)) none
+
 abbrev pub numeralOf : List ℕ → Scan
-numeralOf ds = cond (isNumber ds) (got (valueOf 0 ds) (length ds)) none
+numeralOf ds = numeralIf isNumber ds
 
 unfoldable pub numeral : List ℕ → Scan
 numeral xs = numeralOf (digits xs)
@@ -61,9 +69,13 @@ negative (got zero k) = no
 negative (got (suc v) k) = is (negsuc v) (suc k)
 negative none = no
 
+-- a number as `scan` reads it, which may carry `-`
+abbrev pub signedBy : (scan : List ℕ → Scan) → List ℕ → Signed
+signedBy scan xs = cond (isSign (getD xs 0 0)) (negative (scan (drop 1 xs))) (positive (scan xs))
+
 -- "only a value may carry `-`"
 unfoldable pub value : List ℕ → Signed
-value xs = cond (isSign (getD xs 0 0)) (negative (numeral (drop 1 xs))) (positive (numeral xs))
+value xs = signedBy numeral xs
 
 abbrev pub shiftedSigned : ℕ → Signed → Signed
 shiftedSigned g (is v k) = is v (g + k)

@@ -20,9 +20,13 @@ decimal (suc f) n = cond (ltb n 10) ((digit0 + n) ∷ []) (decimal f (n / 10) ++
 abbrev pub natural : ℕ → List ℕ
 natural n = decimal 10 n
 
+-- a whole number of at most f digits
+abbrev pub signedDecimal : (f : ℕ) → ℤ → List ℕ
+signedDecimal f (pos n) = decimal f n
+signedDecimal f (negsuc n) = minus ∷ decimal f (suc n)
+
 abbrev pub integer : ℤ → List ℕ
-integer (pos n) = natural n
-integer (negsuc n) = minus ∷ natural (suc n)
+integer z = signedDecimal 10 z
 
 -- three fields "with single spaces", and the line feed
 abbrev pub lineOf : ℕ → ℕ → ℤ → List ℕ
