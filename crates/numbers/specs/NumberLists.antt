@@ -1,0 +1,19 @@
+-- "Written, then read": what holds of every list of whole numbers and of every text.
+use mathlib.Core.Path.{_≡_}
+use mathlib.Core.Bool.{true}
+use mathlib.Core.List.{List, [], _∷_, _++_}
+use Prim.Native.Nat.{ℕ, _^_, _<_}
+use lib.IntN.{ℤ, natAbs}
+use Rattle.base.specs.Lists.{all}
+use Rattle.base.specs.Integers.{fits64}
+use Rattle.market.specs.Bytes.{lineFeed}
+use Rattle.market.specs.Text.{integer}
+use Rattle.numbers.specs.Lines.{numbers, numberLine, numbersText, listed}
+
+pub record NumberLists : Type 0 where
+  -- a list that is written and then read is the same list
+  pub back : (zs : List ℤ) → all fits64 zs ≡ true → listed (numbersText zs) ≡ numbers zs
+  -- a text that is read is the text of its list, which has numbers of 64 bits: no other text is read as that list
+  pub only : (text : List ℕ) (zs : List ℤ) → listed text ≡ numbers zs → (text ≡ numbersText zs) × (all fits64 zs ≡ true)
+  -- numbers are spelled as in a matrix text, as far as those go
+  pub alike : (z : ℤ) → natAbs z < 10 ^ 10 → numberLine z ≡ integer z ++ lineFeed ∷ []
