@@ -1,3 +1,5 @@
+pub mod Bits
+pub mod Filled
 pub mod Spelled
 pub mod Split
 pub mod NumberLists

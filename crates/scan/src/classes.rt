@@ -5,9 +5,9 @@ ghost use Rattle.market.specs.Bytes.{classOf};
 
 const OTHER: u8 = 0;
 
-pub(crate) const DIGIT: u8 = 1;
+pub const DIGIT: u8 = 1;
 
-pub(crate) const SIGN: u8 = 2;
+pub const SIGN: u8 = 2;
 
 pub(crate) const SPACE: u8 = 3;
 

@@ -1,0 +1,4 @@
+pub mod Told
+pub mod Judging
+pub mod Filling
+pub mod Replies

@@ -1,0 +1,108 @@
+-- `measure` meets its contract: a turn measures one line.
+use borrow.Author.Needs.{needs}
+use mathlib.Core.Path.{_≡_, _∙_}
+use Prim.Native.Nat.{_-_}
+use native.Mathlib.Omega.{arith}
+use lib.Dec.{ltb}
+use lib.IntN.{pos}
+use lib.ListN.{length, getD}
+use Rattle.words.specs.LittleEndian.{signedNumber, signed}
+use Rattle.words.proofs.Blocks.{length-decoded}
+use Rattle.numbers.specs.Lines.{numberLine}
+use Rattle.numbers.proofs.width.Widths.{bool-small, line-few}
+use Rattle.numbers.proofs.write.Measuring.{Measuring, number-here, measure-start, measure-more, measure-short, measure-fits, measure-left}
+use Rattle.numbers.proofs.write.measure.Statement.{statement}
+use Rattle.numbers.proofs.write.measure.Tie as tie
+
+abbrev Inv-loop : tie.InvT-loop
+Inv-loop numbers room count needed₀ left₀ over₀ k₀ needed left over k = Measuring (signed 8 numbers) room needed left over k
+
+abbrev μ-loop : tie.MeasureT-loop
+μ-loop numbers room count needed₀ left₀ over₀ k₀ needed left over k = count - k
+
+-- the line's bytes
+line : (c : tie.After-line-width Inv-loop μ-loop) → let l = c .before .before .before in c .line-width .result ≡ length (numberLine (getD (signed 8 (l .before .before .args .numbers .now)) (l .loop .k) (pos 0)))
+line c =
+    let l = c .before .before .before in
+    c .line-width .ensures ∙ rw (c .before .read-u64 .ensures, number-here (l .before .before .args .numbers .now) (l .loop .k) (c .before .before .loop-test .taken))
+
+loop-holds : tie.Need-loop-holds Inv-loop μ-loop
+loop-holds c = let a = c .before .args in measure-start (signed 8 (a .numbers .now)) (a .room)
+
+mul-read-u64 : tie.Need-mul-read-u64 Inv-loop μ-loop
+mul-read-u64 c = search needs
+
+read-u64-requires : tie.Need-read-u64-requires Inv-loop μ-loop
+read-u64-requires c κs = search needs
+
+line-width-requires : tie.Need-line-width-requires Inv-loop μ-loop
+line-width-requires c κs = search needs
+
+cast-wrapping-add-u32 : tie.Need-cast-wrapping-add-u32 Inv-loop μ-loop
+cast-wrapping-add-u32 c = omega (arith, c .line-width .ensures, line-few (c .before .read-u64 .result))
+
+wrapping-add-u32-requires : tie.Need-wrapping-add-u32-requires Inv-loop μ-loop
+wrapping-add-u32-requires c κs = search needs
+
+cast-over : tie.Need-cast-over Inv-loop μ-loop
+cast-over c = search needs
+
+add-over : tie.Need-add-over Inv-loop μ-loop
+add-over c = let l = c .before .before .before .before in omega (arith, l .loop .inv .few, bool-small (ltb (l .loop .left) (c .before .line-width .result)))
+
+least-requires : tie.Need-least-requires Inv-loop μ-loop
+least-requires c κs = search needs
+
+sub-left : tie.Need-sub-left Inv-loop μ-loop
+sub-left c = omega (arith, c .least .ensures)
+
+add-k : tie.Need-add-k Inv-loop μ-loop
+add-k c = search needs
+
+loop-less : tie.Need-loop-less Inv-loop μ-loop
+loop-less c = search needs
+
+loop-again : tie.Need-loop-again Inv-loop μ-loop
+loop-again c =
+    let w = c .before in
+    let l = w .before .before .before .before in
+    let b = l .before .before .args .numbers .now in
+    rw (c .least .ensures) (measure-more (signed 8 b) _ (l .loop .inv) (omega (arith, length-decoded (signedNumber 8) 8 b, w .before .before .before .loop-test .taken)) (line (w .before)) (w .wrapping-add-u32 .ensures))
+
+returns : tie.Need-returns Inv-loop μ-loop
+returns c =
+    let l = c .before .before in
+    let b = l .before .before .args .numbers .now in
+    measure-short (signed 8 b) _ (l .loop .inv) (omega (arith, length-decoded (signedNumber 8) 8 b, c .before .loop-test .left)) (c .if1 .taken)
+
+sub-t9 : tie.Need-sub-t9 Inv-loop μ-loop
+sub-t9 c = let l = c .before .before in omega (arith, measure-left (signed 8 (l .before .before .args .numbers .now)) _ (l .loop .inv) (c .if1 .left))
+
+returns-2 : tie.Need-returns-2 Inv-loop μ-loop
+returns-2 c =
+    let l = c .before .before in
+    let b = l .before .before .args .numbers .now in
+    measure-fits (signed 8 b) _ (l .loop .inv) (omega (arith, length-decoded (signedNumber 8) 8 b, c .before .loop-test .left)) (c .if1 .left)
+
+pub measure-spec : {M : Type 1} → statement M
+measure-spec =
+    tie.close
+    (tie.spec
+    Inv-loop
+    μ-loop
+    loop-holds
+    mul-read-u64
+    read-u64-requires
+    line-width-requires
+    cast-wrapping-add-u32
+    wrapping-add-u32-requires
+    cast-over
+    add-over
+    least-requires
+    sub-left
+    add-k
+    loop-less
+    loop-again
+    returns
+    sub-t9
+    returns-2)

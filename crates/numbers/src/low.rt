@@ -1,0 +1,9 @@
+// What 32 bits keep.
+ghost use mathlib.Core.Path.{_≡_};
+ghost use Prim.Native.Nat.{_%_, _^_};
+
+pub(crate) fn low(n: usize) -> u32
+    ensures { λ r. ⌜ r ≡ n % 2 ^ 32 ⌝ }
+{
+    (n % 4294967296) as u32
+}
