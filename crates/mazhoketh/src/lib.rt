@@ -5,6 +5,7 @@ pub mod changes;
 pub mod control_number;
 pub mod join;
 pub mod nets;
+pub mod number_lists;
 pub mod preview;
 pub mod read_plan;
 pub mod rounds;

@@ -11,7 +11,7 @@ use lib.ListN.{length, getD, take, drop, length-drop, length-take}
 use lib.Seq.{length-take-le}
 use borrow.Author.Tests.{eqb-true, ltb-false, leb-true}
 use Rattle.base.specs.Lists.{isEmpty, begins, bit}
-use Rattle.base.specs.Integers.{within}
+use Rattle.base.specs.Integers.{within, fits64}
 use Rattle.base.specs.Refusals as why
 use Rattle.base.specs.Replies.{Reply, accepted, refused, Check, inTurn}
 use Rattle.base.proofs.Booleans.{and-right}
@@ -21,12 +21,14 @@ use Rattle.matrix.specs.Matrix.{Matrix, matrixCheck, firstPast, displacementChe
 use Rattle.matrix.specs.Product.{productReply}
 use Rattle.matrix.proofs.Matrix.{matrix-facts}
 use Rattle.market.specs.Bytes.{isEnd, percent, header}
-use Rattle.market.specs.Fields.{Line, line, broken, fields}
+use Rattle.market.specs.Fields.{Signed, is, no, Line, line, broken, fields}
 use Rattle.market.specs.Parse.{Triplet, triplet, Parsed, matrixText, rejected, isEntry, isAmong, onLine, entries, sized, sizeLine, place, comments, body, parse}
 use Rattle.market.specs.FullRows.{full, readReply}
 use Rattle.market.specs.Text.{written, writeReply}
 use Rattle.market.proofs.Accepted.{parse-accepted}
 use Rattle.market.proofs.WriteThenRead.{write-then-read}
+use Rattle.numbers.specs.Lines.{numbersText, linesIn, numberOf, faulty, onNumberOf, listedFrom, listed}
+use Rattle.numbers.specs.Calls.{in32, filled, readNumbersReply, writeNumbersReply}
 use Rattle.survey.specs.Survey.{hasRoom, writtenShift, surveyReply}
 use Rattle.desk.proofs.Surveys.{written-few}
 use Rattle.upkeep.specs.Upkeep.{KeptForces, Change, changeReply}
@@ -441,6 +443,37 @@ module _ (unit : List ℕ) where
         turn Told refused _ [] _ (told-refused why.tooShort unitSize (omega arith) (omega arith)) (λ f.
         last Told refused _ (told-accepted (unitIn unit .releases) count-small))
 
+-- ---- lists of numbers: what 32 bits keep
+
+filled-told : (needed room : ℕ) → Told (filled needed room)
+unfolding in32
+filled-told needed room =
+    turn (λ (r : Reply). Told (in32 r)) refused _ [] _ (told-refused why.tooShort (needed % 2 ^ 32) (omega arith) (omega arith)) (λ e.
+    last (λ (r : Reply). Told (in32 r)) refused _ (told-accepted (needed % 2 ^ 32) (omega arith)))
+
+-- a line is refused with 2 or 4
+lines-told : (done : List ℤ) (ls : List (List ℕ)) (room : ℕ) → Told (readNumbersReply (listedFrom done ls) room)
+unfolding readNumbersReply listedFrom in32
+lines-told done [] room = filled-told (length done) room
+lines-told done (l ∷ ls) room = of (numberOf l) (λ z. lines-told (done ++ z ∷ []) ls room)
+  where
+    fit : (z : ℤ) (b : Bool) → Told (readNumbersReply (listedFrom (done ++ z ∷ []) ls) room) → Told (readNumbersReply (cond b (listedFrom (done ++ z ∷ []) ls) (faulty why.badEntry (suc (length done)))) room)
+    fit z true ih = ih
+    fit z false ih = told-refused why.badEntry (suc (length done) % 2 ^ 32) (omega arith) (omega arith)
+
+    of : (s : Signed) → ((z : ℤ) → Told (readNumbersReply (listedFrom (done ++ z ∷ []) ls) room))
+        → Told (readNumbersReply (onNumberOf s (faulty why.badForm (suc (length done))) (λ z. cond (fits64 z) (listedFrom (done ++ z ∷ []) ls) (faulty why.badEntry (suc (length done))))) room)
+    of (is z k) ih = fit z (fits64 z) (ih z)
+    of no ih = told-refused why.badForm (suc (length done) % 2 ^ 32) (omega arith) (omega arith)
+
+read-numbers-told : (text : List ℕ) (room : ℕ) → Told (readNumbersReply (listed text) room)
+unfolding listed
+read-numbers-told text room = lines-told [] (linesIn text) room
+
+write-numbers-told : (zs : List ℤ) (room : ℕ) → Told (writeNumbersReply zs room)
+unfolding writeNumbersReply
+write-numbers-told zs room = filled-told (length (numbersText zs)) room
+
 -- the theorem
 pub words : Words
-words = record { read = λ text starts columns values. read-told text _ _ _; write = write-told; product = product-told; survey = survey-told; set = λ k c. set-told (k .matrix) (k .displacements) (k .forces) c; join = join-told; plan = λ m w p k order groups. plan-told m w p k _ _; check = check-told; write-plan = write-plan-told; read-plan = read-plan-told; write-unit = write-unit-told; read-unit = λ unit address bytes. read-unit-told unit bytes address; line = line-told; releases = releases-told; control = λ forces. told-accepted (controlNumber (signed 8 forces)) (control-numbers .small (signed 8 forces)); run = run-tells; preview = preview-foretold; rounds = rounds-told; one = one }
+words = record { read = λ text starts columns values. read-told text _ _ _; write = write-told; product = product-told; survey = survey-told; set = λ k c. set-told (k .matrix) (k .displacements) (k .forces) c; join = join-told; plan = λ m w p k order groups. plan-told m w p k _ _; check = check-told; write-plan = write-plan-told; read-plan = read-plan-told; write-unit = write-unit-told; read-unit = λ unit address bytes. read-unit-told unit bytes address; line = line-told; releases = releases-told; read-numbers = read-numbers-told; write-numbers = write-numbers-told; control = λ forces. told-accepted (controlNumber (signed 8 forces)) (control-numbers .small (signed 8 forces)); run = run-tells; preview = preview-foretold; rounds = rounds-told; one = one }

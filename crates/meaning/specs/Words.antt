@@ -16,6 +16,8 @@ use Rattle.run.specs.Answers.{Call, preview, rounds, Answer, bitsTold, countTol
 use Rattle.run.specs.EveryRun.{takenOf}
 use Rattle.words.specs.LittleEndian.{signed}
 use Rattle.control.specs.ControlNumber.{controlNumber}
+use Rattle.numbers.specs.Lines.{listed}
+use Rattle.numbers.specs.Calls.{readNumbersReply, writeNumbersReply}
 use Rattle.lent.specs.Word.{word}
 use Rattle.texts.specs.Lent.{readIn}
 use Rattle.office.specs.Lent.{planIn}
@@ -75,6 +77,8 @@ pub record Words : Type 0 where
   pub read-unit : (unit : List ℕ) (address : ℕ) → areBytes unit ≡ true → Told (readUnitReply unit address)
   pub line : (unit : List ℕ) → Told (lineReply unit)
   pub releases : (unit : List ℕ) → areBytes unit ≡ true → Told (releasesReply unit)
+  pub read-numbers : (text : List ℕ) (room : ℕ) → Told (readNumbersReply (listed text) room)
+  pub write-numbers : (zs : List ℤ) (room : ℕ) → Told (writeNumbersReply zs room)
   pub control : (forces : List ℕ) → Told (accepted (controlNumber (signed 8 forces)))
   pub run : (m : Matrix) (x : List ℤ) (order groups : List ℕ) (count : ℕ) (state sums : List ℕ) (c : Call) → ((ws : List ℕ) → c ≢ rounds ws) → Told (replyTo (answerIn m x order groups count state sums c))
   pub preview : (m : Matrix) (x : List ℤ) (order groups : List ℕ) (count : ℕ) (state sums ws : List ℕ) → Foretold (answerIn m x order groups count state sums (preview ws))

@@ -3,23 +3,29 @@ use mathlib.Core.Path.{_≡_, refl, sym, ap, _∙_}
 use mathlib.Core.Logic.{_⊎_, inl, inr}
 use mathlib.Core.Bool.{Bool, true, false, _&&_, cond}
 use mathlib.Core.List.{List, [], _∷_, _++_, append-assoc, append-nil}
-use Prim.Native.Nat.{ℕ, zero, suc, _^_, _≤_, _<_}
+use Prim.Native.Nat.{ℕ, zero, suc, _/_, _%_, _^_, _≤_, _<_}
 use native.Mathlib.Numerals.{add-one}
 use native.Mathlib.Omega.{arith}
 use lib.Dec.{leb, eqb}
 use lib.IntN.{ℤ, pos, negsuc, natAbs}
-use lib.ListN.{length, getD, drop, length-append, length-drop}
-use lib.Seq.{append-snoc, drop-append-seam, getD-append-seam}
+use lib.ListN.{length, getD, take, drop, length-append, length-drop}
+use lib.Seq.{append-snoc, take-append-seam, drop-append-seam, getD-append-seam}
 use borrow.Author.Tests.{ltb-true, eqb-true}
 use Rattle.base.specs.Lists.{all}
 use Rattle.base.specs.Integers.{fits64}
+use Rattle.base.specs.Replies.{lent}
+use Rattle.base.proofs.Each.{all-each}
 use Rattle.base.proofs.Booleans.{and-left, and-right}
 use Rattle.market.specs.Bytes.{classOf, isDigit, isSign, isEnd}
 use Rattle.market.specs.Fields.{is, no, Signed, digits}
 use Rattle.market.specs.Text.{decimal, signedDecimal, integer}
 use Rattle.market.proofs.Decimal.{decimal-same, signed-decimal}
 use Rattle.numbers.specs.Lines.{numberLine, numbersText, linesIn, wholeNumber, numberOf, numbers, faulty, listedFrom, listed}
+use Rattle.words.specs.LittleEndian.{signed, signedBytes}
+use Rattle.words.proofs.Codes.{HoldsSigned, signed-append}
+use Rattle.numbers.specs.Calls.{numbersIn, readNumbersReply, writeNumbersReply}
 use Rattle.numbers.specs.NumberLists.{NumberLists}
+use Rattle.numbers.proofs.Filled.{filled-fits}
 use Rattle.numbers.proofs.Spelled.{all-digits, whole-decimal, whole-only}
 use Rattle.numbers.proofs.Split.{Digits, Plain, Negative, number-spelled, listed-number, listed-broken, listed-done}
 
@@ -158,6 +164,27 @@ pub text-only : (n : ℕ) → Only n
 text-only zero = only-none
 text-only (suc n) = only-more n (text-only n)
 
+-- ---- in bytes
+
+holds : (z : ℤ) → fits64 z ≡ true → HoldsSigned 8 z
+unfolding fits64
+holds (pos n) h = omega (arith, ltb-true n (2 ^ 63) h)
+holds (negsuc n) h = omega (arith, ltb-true n (2 ^ 63) h)
+
+text-left : (zs : List ℤ) (old : List ℕ) → length (numbersText zs) ≤ length old
+    → take (length (numbersText zs)) (lent (writeNumbersReply zs (length old)) (numbersText zs) old) ≡ numbersText zs
+unfolding writeNumbersReply lent
+text-left zs old h = rw (sym (filled-fits (length (numbersText zs)) (length old) (length (numbersText zs) % 2 ^ 32) refl h)) (take-append-seam (numbersText zs) _)
+
+list-left : (text : List ℕ) (zs : List ℤ) → listed text ≡ numbers zs → (old : List ℕ) → length zs ≤ length old / 8
+    → take (length zs) (signed 8 (lent (readNumbersReply (listed text) (length old / 8)) (signedBytes 8 (numbersIn (listed text))) old)) ≡ zs
+unfolding readNumbersReply numbersIn lent listed
+list-left text zs e old h =
+    let fit = text-only (length text) [] text zs (omega arith) e in
+    let each : all fits64 zs ≡ true = rw (fit .after) (fit .fit) in
+    rw (e, sym (filled-fits (length zs) (length old / 8) (length zs % 2 ^ 32) refl h), signed-append 8 (omega arith) zs (all-each (HoldsSigned 8) fits64 holds zs each) (drop (length (signedBytes 8 zs)) old))
+    (take-append-seam zs _)
+
 -- ---- spelled as in a matrix text
 
 line-alike : (z : ℤ) → natAbs z < 10 ^ 10 → numberLine z ≡ integer z ++ 10 ∷ []
@@ -171,5 +198,7 @@ unfolding listed
 number-lists = record {
   back = text-read [];
   only = λ text zs h. (let r = text-only (length text) [] text zs (omega arith) h in (rw (r .after) (r .text), rw (r .after) (r .fit)));
+  text-left = text-left;
+  list-left = list-left;
   alike = line-alike;
 }

@@ -1,4 +1,4 @@
--- The one spelling of a number: its decimal digits are read as the number, and digits that are read are its decimal ones.
+-- The one spelling of a number: its decimal digits are read as the number, and digits that are read are its own.
 use mathlib.Core.Path.{_≡_, refl, _∙_}
 use mathlib.Core.Bool.{Bool, true, false, not, cond}
 use mathlib.Core.List.{List, [], _∷_, _++_, append-nil}
