@@ -17,9 +17,9 @@
  *
  * Stack: mzk_join uses up to 2.5 MiB, mzk_read up to 2.2 MiB, mzk_picks_both and mzk_ready_both up to 1.5 MiB,
  * mzk_picks, mzk_rounds and mzk_preview up to 1.4 MiB, mzk_ready and mzk_forces up to 1.3 MiB, mzk_plan up to 1 MiB,
- * mzk_set_movement and mzk_set_entry up to 0.7 MiB, mzk_write_plan, mzk_read_plan, mzk_control and the calls on a
- * barrier unit up to 8 KiB, the others up to 0.6 MiB. A thread with MZK_STACK_BYTES and its own needs can make any
- * call. */
+ * mzk_set_movement and mzk_set_entry up to 0.7 MiB, mzk_write_plan, mzk_read_plan, mzk_numbers_read,
+ * mzk_numbers_write, mzk_control and the calls on a barrier unit up to 8 KiB, the others up to 0.6 MiB. A thread with
+ * MZK_STACK_BYTES and its own needs can make any call. */
 #ifndef MAZHOKETH_H
 #define MAZHOKETH_H
 
@@ -233,6 +233,23 @@ uint64_t mzk_write_plan(uint32_t n,
 uint64_t mzk_read_plan(const uint8_t *file, size_t file_bytes,
                        uint8_t *order, size_t order_bytes,
                        uint8_t *groups, size_t groups_bytes);
+
+/* A text of whole numbers has one a line, each line ended by one line feed: decimal digits with no needless zero, `-`
+ * before a negative number, and no `-0`; nothing else. The empty text is the empty list. Numbers are 64 bits in two's
+ * complement, from -9,223,372,036,854,775,808 to 9,223,372,036,854,775,807, so a list has eight bytes for each. A text
+ * and a list may have any length; of a count or a place past 32 bits the word has the low 32. A list that is written
+ * and then read is the same list, and a text that is read is the text of its list: each list has one.
+ *
+ * MZK_LINE_BYTES for each number are always room enough for a text. */
+enum { MZK_LINE_BYTES = 21 };
+
+/* The list of a text; returns how many numbers it has. Refused, by the first line that is wrong: 2 (its line) if it
+ * breaks the form, as a last line without a line feed does, or 4 (its line) if its number passes 64 bits; then 9, at
+ * how many numbers need room. */
+uint64_t mzk_numbers_read(const uint8_t *text, size_t text_bytes, uint8_t *list, size_t list_bytes);
+
+/* The text of a list; returns its length in bytes. Refused: 9. */
+uint64_t mzk_numbers_write(const uint8_t *list, size_t list_bytes, uint8_t *text, size_t text_bytes);
 
 /* The control number of a list of forces, of any length, to be read out before lists are compared: the sum over the
  * rows of (row + 1) times its force, modulo 4,294,967,296, a negative one counted as its remainder. Returns it, and

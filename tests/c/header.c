@@ -1,7 +1,8 @@
 /* mazhoketh.h from C and from C++: its macros against real words, its sizes against what calls take and need.
  *
  * Document 01's chain of eight rows is planned, filed, surveyed, changed, sewn to another and run, by one crew and by
- * two; a control number is asked for, a barrier unit written and read; then the longest text that is written is read. */
+ * two; a control number is asked for, numbers are read and written, a barrier unit too; then the longest text that is
+ * written is read. */
 
 #include <stdio.h>
 #include <stdlib.h>
@@ -255,6 +256,26 @@ static void check_control(void)
     CHECK(is(mzk_control(list, 7), MZK_ACCEPTED, 0));
 }
 
+/* Three numbers, from their text and back; too little room, a number past 64 bits, a line without its end. */
+static void check_numbers(void)
+{
+    uint8_t lines[] = "5\n-3\n-9223372036854775808\n", written[3 * MZK_LINE_BYTES], numbers[24], list[24] = { 5 };
+    const uint32_t length = sizeof lines - 1;
+    memset(list + 8, 0xff, 8);
+    list[8] = 0xfd;
+    list[23] = 0x80;
+    CHECK(is(mzk_numbers_read(lines, length, numbers, 23), MZK_TOO_SHORT, 3));
+    CHECK(is(mzk_numbers_read(lines, length, numbers, 24), MZK_ACCEPTED, 3));
+    CHECK(memcmp(numbers, list, sizeof list) == 0);
+    CHECK(is(mzk_numbers_write(list, 24, written, length - 1), MZK_TOO_SHORT, length));
+    CHECK(is(mzk_numbers_write(list, 24, written, sizeof written), MZK_ACCEPTED, length));
+    CHECK(memcmp(written, lines, length) == 0);
+    lines[length - 2] = '9';
+    CHECK(is(mzk_numbers_read(lines, length, numbers, 24), MZK_ENTRY, 3));
+    CHECK(is(mzk_numbers_read(lines, length - 1, numbers, 24), MZK_FORM, 3));
+    CHECK(is(mzk_numbers_read(lines, 0, numbers, 0), MZK_ACCEPTED, 0));
+}
+
 /* A barrier unit of two members, from all zeros to a release. */
 static void check_unit(void)
 {
@@ -314,6 +335,7 @@ int main(void)
     check_run();
     check_crews();
     check_control();
+    check_numbers();
     check_unit();
     check_longest();
     check_text_bytes();

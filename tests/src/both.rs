@@ -395,6 +395,20 @@ pub fn barrier_releases(unit: &Twin) -> u64 {
     alike("barrier_releases", ours, theirs, vec![], &[unit])
 }
 
+/// Reads a list of numbers from its text.
+pub fn numbers_read(text: &Twin, list: &mut Twin) -> u64 {
+    let ours = library::numbers_read(text.ours(), list.ours_mut());
+    let theirs = calls::numbers_read(&text.theirs, &mut list.theirs);
+    alike("numbers_read", ours, theirs, vec![], &[text, list])
+}
+
+/// Writes a list of numbers as text.
+pub fn numbers_write(list: &Twin, text: &mut Twin) -> u64 {
+    let ours = library::numbers_write(list.ours(), text.ours_mut());
+    let theirs = calls::numbers_write(&list.theirs, &mut text.theirs);
+    alike("numbers_write", ours, theirs, vec![], &[list, text])
+}
+
 /// Asks for the control number of forces.
 pub fn control(forces: &Twin) -> u64 {
     let ours = library::control(forces.ours());

@@ -4,7 +4,8 @@ use crate::lists::{bytes, Altered, CrewLists, MatrixLists, PatternLists, PlanLis
 use crate::oracle::leaves::{leaves_of, Leaves};
 use crate::oracle::matrix::Matrix;
 use crate::oracle::planner::Plan;
-use crate::oracle::{calls, plan_file, planner, text, WORKERS};
+use crate::oracle::prng::Prng;
+use crate::oracle::{calls, numbers, plan_file, planner, text, WORKERS};
 
 /// The lists that a whole run is cut into.
 const LISTS: usize = 1_000;
@@ -85,6 +86,19 @@ pub struct Given {
     pub movements1: Vec<u8>,
     pub schedule_both: Vec<u8>,
     pub halfway_both: [At; 2],
+    /// A number for each row, of the sizes of movements and of forces by turns, and their text.
+    pub list: Vec<u8>,
+    pub lines: Vec<u8>,
+}
+
+/// So many numbers, of the sizes of movements and of forces by turns.
+fn mixed_numbers(count: usize) -> Vec<i64> {
+    let mut rng = Prng::new(7);
+    let sizes = [1_000_000, 1_000_000_000_000].into_iter().cycle();
+    sizes
+        .take(count)
+        .map(|most| rng.between(-most, most))
+        .collect()
 }
 
 impl Given {
@@ -94,6 +108,7 @@ impl Given {
         let movements = vec![-999_999; matrix.n as usize];
         let opposite: Vec<i32> = matrix.values.iter().map(|value| -value).collect();
         let places: Vec<u32> = (0..matrix.n).collect();
+        let list = mixed_numbers(matrix.n as usize);
         let mut given = Given {
             text: text::write(matrix),
             n: matrix.n,
@@ -115,6 +130,8 @@ impl Given {
             movements1: bytes(&vec![123_456; matrix.n as usize], i32::to_le_bytes),
             schedule_both: Vec::new(),
             halfway_both: [(); 2].map(|_| At::fresh(matrix.n)),
+            list: bytes(&list, i64::to_le_bytes),
+            lines: numbers::write(list),
         };
         given.schedule = given.whole_schedule();
         given.halfway = given.after(given.schedule.len() / 2);

@@ -73,6 +73,8 @@ extern "C" {
     fn mzk_barrier_read(unit: In, unit_bytes: usize, address: u32) -> u64;
     fn mzk_barrier_line(unit: In, unit_bytes: usize) -> u64;
     fn mzk_barrier_releases(unit: In, unit_bytes: usize) -> u64;
+    fn mzk_numbers_read(text: In, text_bytes: usize, list: Out, list_bytes: usize) -> u64;
+    fn mzk_numbers_write(list: In, list_bytes: usize, text: Out, text_bytes: usize) -> u64;
     fn mzk_control(forces: In, forces_bytes: usize) -> u64;
     fn mzk_picks(
         n: u32,
@@ -284,6 +286,16 @@ pub fn barrier_line(unit: &[u8]) -> u64 {
 /// The releases of a barrier unit.
 pub fn barrier_releases(unit: &[u8]) -> u64 {
     unsafe { mzk_barrier_releases(unit.as_ptr(), unit.len()) }
+}
+
+/// The list of a text of numbers; counts them.
+pub fn numbers_read(text: &[u8], list: &mut [u8]) -> u64 {
+    unsafe { mzk_numbers_read(text.as_ptr(), text.len(), list.as_mut_ptr(), list.len()) }
+}
+
+/// The text of a list of numbers; counts its bytes.
+pub fn numbers_write(list: &[u8], text: &mut [u8]) -> u64 {
+    unsafe { mzk_numbers_write(list.as_ptr(), list.len(), text.as_mut_ptr(), text.len()) }
 }
 
 /// The control number of a list of forces.

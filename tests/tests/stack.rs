@@ -7,8 +7,8 @@ use std::process::Command;
 const SENTENCE: &str = "mzk_join uses up to 2.5 MiB, mzk_read up to 2.2 MiB, mzk_picks_both and mzk_ready_both up to \
                         1.5 MiB, mzk_picks, mzk_rounds and mzk_preview up to 1.4 MiB, mzk_ready and mzk_forces up to \
                         1.3 MiB, mzk_plan up to 1 MiB, mzk_set_movement and mzk_set_entry up to 0.7 MiB, \
-                        mzk_write_plan, mzk_read_plan, mzk_control and the calls on a barrier unit up to 8 KiB, the \
-                        others up to 0.6 MiB.";
+                        mzk_write_plan, mzk_read_plan, mzk_numbers_read, mzk_numbers_write, mzk_control and the calls \
+                        on a barrier unit up to 8 KiB, the others up to 0.6 MiB.";
 const SMALL: &[&str] = &[
     "write_plan",
     "read_plan",
@@ -16,6 +16,8 @@ const SMALL: &[&str] = &[
     "barrier_read",
     "barrier_line",
     "barrier_releases",
+    "numbers_read",
+    "numbers_write",
     "control",
 ];
 const TENTHS: &[(&str, usize)] = &[

@@ -37,6 +37,7 @@ struct Lent {
     shift: Vec<u8>,
     movements: Vec<u8>,
     kept: Vec<u8>,
+    lines: Vec<u8>,
     at: At,
     at1: At,
 }
@@ -56,6 +57,7 @@ impl Lent {
             shift: vec![0; 4 * given.n as usize],
             movements: given.movements.clone(),
             kept: given.product(),
+            lines: given.lines.clone(),
             at: At::fresh(given.n),
             at1: At::fresh(given.n),
         }
@@ -78,6 +80,8 @@ struct Implementation {
     check: fn(MatrixLists, PlanLists, u32) -> u64,
     write_plan: fn(u32, PlanLists, Out) -> u64,
     read_plan: fn(&[u8], Out, Out) -> u64,
+    numbers_read: fn(&[u8], Out) -> u64,
+    numbers_write: fn(&[u8], Out) -> u64,
     control: fn(&[u8]) -> u64,
     barrier_write: fn(Out, Write) -> u64,
     barrier_releases: fn(&[u8]) -> u64,
@@ -102,6 +106,8 @@ const LIBRARY: Implementation = Implementation {
     check: library::check,
     write_plan: library::write_plan,
     read_plan: library::read_plan,
+    numbers_read: library::numbers_read,
+    numbers_write: library::numbers_write,
     control: library::control,
     barrier_write: library::barrier_write,
     barrier_releases: library::barrier_releases,
@@ -126,6 +132,8 @@ const RUST: Implementation = Implementation {
     check: calls::check,
     write_plan: calls::write_plan,
     read_plan: calls::read_plan,
+    numbers_read: calls::numbers_read,
+    numbers_write: calls::numbers_write,
     control: calls::control,
     barrier_write: calls::barrier_write,
     barrier_releases: calls::barrier_releases,
@@ -170,6 +178,8 @@ const WORKS: &[(&str, Work)] = &[
     ("check, at 4", |by, given, _| (by.check)(given.matrix(), given.farther[1].lists(), 4)),
     ("write_plan", |by, given, lent| (by.write_plan)(given.n, given.plan(), &mut lent.file)),
     ("read_plan", |by, given, lent| (by.read_plan)(&given.file, &mut lent.order, &mut lent.groups)),
+    ("numbers_read", |by, given, lent| (by.numbers_read)(&given.lines, &mut lent.forces)),
+    ("numbers_write", |by, given, lent| (by.numbers_write)(&given.list, &mut lent.lines)),
     ("control", |by, given, _| (by.control)(&given.finished.sums)),
     ("barrier, an arrival a pick", |by, given, _| {
         let mut unit = [0xff, 0xff, 0, 0, 0, 0, 0, 0, 0, 0];

@@ -58,6 +58,7 @@ fn make(call: &str, stack: usize, given: &Given) -> Option<u64> {
     let At { state: mut state1, sums: mut sums1 } = At::fresh(given.n);
     let (mut forces, mut shift, mut file) = (blank(&sums), blank(&given.movements), blank(&given.file));
     let (mut movements, mut own, mut kept) = (given.movements.clone(), given.values.clone(), given.product());
+    let mut lines = blank(&given.lines);
     let end = &given.finished;
     Some(match call {
         "read" => on_stack(stack, || library::read(&given.text, &mut starts, &mut columns, &mut values)),
@@ -80,6 +81,8 @@ fn make(call: &str, stack: usize, given: &Given) -> Option<u64> {
         "check" => on_stack(stack, || library::check(given.matrix(), given.farther[1].lists(), 4)),
         "write_plan" => on_stack(stack, || library::write_plan(given.n, given.plan(), &mut file)),
         "read_plan" => on_stack(stack, || library::read_plan(&given.file, &mut order, &mut groups)),
+        "numbers_read" => on_stack(stack, || library::numbers_read(&given.lines, &mut forces)),
+        "numbers_write" => on_stack(stack, || library::numbers_write(&given.list, &mut lines)),
         "control" => on_stack(stack, || library::control(&end.sums)),
         "barrier_write" => on_stack(stack, || library::barrier_write(&mut state, (2, 1))),
         "barrier_read" => on_stack(stack, || library::barrier_read(&state, 2)),
@@ -121,7 +124,7 @@ fn usage() -> ! {
     eprintln!(
         "usage: stack CALL BYTES (read, write, product, survey, set_movement, set_entry, join, plan, check, \
          write_plan, read_plan, picks, rounds, preview, ready, forces, picks_both, ready_both, barrier_write, \
-         barrier_read, barrier_line, barrier_releases or control)"
+         barrier_read, barrier_line, barrier_releases, numbers_read, numbers_write or control)"
     );
     exit(2);
 }

@@ -5,6 +5,7 @@ pub mod control;
 pub mod crews;
 pub mod join;
 pub mod matrix;
+pub mod numbers;
 pub mod plan;
 pub mod plan_file;
 pub mod run;
@@ -210,6 +211,8 @@ const WEIGHTS: &[(u64, fn(&mut Prng, &mut Seen))] = &[
     (1, crews::whole),
     (1, barrier::unit),
     (1, control::control),
+    (2, numbers::read),
+    (1, numbers::write),
 ];
 
 /// How many cases there are when each call has as many as its weight.

@@ -7,7 +7,8 @@ use super::crews::{self, LentBoth};
 use super::machine::{self, Lent, Picked, State};
 use super::matrix::{Matrix, Rows};
 use super::{
-    control, join, plan_file, planner, soundness, survey, text, upkeep, Refusal, FIELDS, WORKERS,
+    control, join, numbers, plan_file, planner, soundness, survey, text, upkeep, Refusal, FIELDS,
+    WORKERS,
 };
 use crate::lists::{Altered, CrewLists, MatrixLists, PatternLists, PlanLists, RunLists};
 
@@ -267,6 +268,29 @@ fn kept(unit: &[u8]) -> Result<Unit, Refusal> {
 pub fn control(forces: &[u8]) -> u64 {
     let forces = forces.as_chunks().0.iter();
     control::number(forces.map(|&word| i64::from_le_bytes(word))).into()
+}
+
+/// The list of a text of numbers; counts them.
+pub fn numbers_read(text: &[u8], list: &mut [u8]) -> u64 {
+    let mut read = || {
+        let numbers = numbers::read(text)?;
+        super::room(list.len() / 8, numbers.len())?;
+        put(list, &numbers, i64::to_le_bytes);
+        Ok(numbers.len() as u32)
+    };
+    word(read())
+}
+
+/// The text of a list of numbers; counts its bytes.
+pub fn numbers_write(list: &[u8], text: &mut [u8]) -> u64 {
+    let numbers = list.as_chunks().0.iter();
+    let written = numbers::write(numbers.map(|&number| i64::from_le_bytes(number)));
+    let mut write = || {
+        super::room(text.len(), written.len())?;
+        text[..written.len()].copy_from_slice(&written);
+        Ok(written.len() as u32)
+    };
+    word(write())
 }
 
 /// Picks of a run; counts those taken.

@@ -12,6 +12,7 @@ pub mod machine;
 pub mod matrix;
 pub mod netplan;
 pub mod nets;
+pub mod numbers;
 pub mod plan_file;
 pub mod planner;
 pub mod plans;
