@@ -27,7 +27,7 @@ use Rattle.market.specs.FullRows.{full, readReply}
 use Rattle.market.specs.Text.{written, writeReply}
 use Rattle.market.proofs.Accepted.{parse-accepted}
 use Rattle.market.proofs.WriteThenRead.{write-then-read}
-use Rattle.numbers.specs.Lines.{numbersText, linesIn, numberOf, faulty, onNumberOf, listedFrom, listed}
+use Rattle.numbers.specs.Lines.{numbersText, linesIn, numberOn, faulty, whenNumber, listedFrom, listed}
 use Rattle.numbers.specs.Calls.{in32, filled, readNumbersReply, writeNumbersReply}
 use Rattle.survey.specs.Survey.{hasRoom, writtenShift, surveyReply}
 use Rattle.desk.proofs.Surveys.{written-few}
@@ -455,14 +455,14 @@ filled-told needed room =
 lines-told : (done : List ℤ) (ls : List (List ℕ)) (room : ℕ) → Told (readNumbersReply (listedFrom done ls) room)
 unfolding readNumbersReply listedFrom in32
 lines-told done [] room = filled-told (length done) room
-lines-told done (l ∷ ls) room = of (numberOf l) (λ z. lines-told (done ++ z ∷ []) ls room)
+lines-told done (l ∷ ls) room = of (numberOn l) (λ z. lines-told (done ++ z ∷ []) ls room)
   where
     fit : (z : ℤ) (b : Bool) → Told (readNumbersReply (listedFrom (done ++ z ∷ []) ls) room) → Told (readNumbersReply (cond b (listedFrom (done ++ z ∷ []) ls) (faulty why.badEntry (suc (length done)))) room)
     fit z true ih = ih
     fit z false ih = told-refused why.badEntry (suc (length done) % 2 ^ 32) (omega arith) (omega arith)
 
     of : (s : Signed) → ((z : ℤ) → Told (readNumbersReply (listedFrom (done ++ z ∷ []) ls) room))
-        → Told (readNumbersReply (onNumberOf s (faulty why.badForm (suc (length done))) (λ z. cond (fits64 z) (listedFrom (done ++ z ∷ []) ls) (faulty why.badEntry (suc (length done))))) room)
+        → Told (readNumbersReply (whenNumber s (faulty why.badForm (suc (length done))) (λ z. cond (fits64 z) (listedFrom (done ++ z ∷ []) ls) (faulty why.badEntry (suc (length done))))) room)
     of (is z k) ih = fit z (fits64 z) (ih z)
     of no ih = told-refused why.badForm (suc (length done) % 2 ^ 32) (omega arith) (omega arith)
 

@@ -20,7 +20,7 @@ use Rattle.market.specs.Bytes.{classOf, isDigit, isSign, isEnd}
 use Rattle.market.specs.Fields.{is, no, Signed, digits}
 use Rattle.market.specs.Text.{decimal, signedDecimal, integer}
 use Rattle.market.proofs.Decimal.{decimal-same, signed-decimal}
-use Rattle.numbers.specs.Lines.{numberLine, numbersText, linesIn, wholeNumber, numberOf, numbers, faulty, listedFrom, listed}
+use Rattle.numbers.specs.Lines.{numberLine, numbersText, linesIn, wholeNumber, numberOn, numbers, faulty, listedFrom, listed}
 use Rattle.words.specs.LittleEndian.{signed, signedBytes}
 use Rattle.words.proofs.Codes.{HoldsSigned, signed-append}
 use Rattle.numbers.specs.Calls.{numbersIn, readNumbersReply, writeNumbersReply}
@@ -45,8 +45,8 @@ line-length : (z : ℤ) → length (numberLine z) ≡ suc (length (signedDecimal
 unfolding numberLine
 line-length z = length-append (signedDecimal 19 z) (10 ∷ []) ∙ add-one (length (signedDecimal 19 z))
 
-line-read : (z : ℤ) (xs : List ℕ) → fits64 z ≡ true → numberOf (numberLine z ++ xs) ≡ is z (length (signedDecimal 19 z))
-unfolding numberOf classOf
+line-read : (z : ℤ) (xs : List ℕ) → fits64 z ≡ true → numberOn (numberLine z ++ xs) ≡ is z (length (signedDecimal 19 z))
+unfolding numberOn classOf
 line-read z xs h =
     rw (line-more z xs, signed-decimal wholeNumber 18 (whole-decimal 18) z 10 xs (few-digits z h) refl, getD-append-seam (signedDecimal 19 z) 10 xs 0)
 
@@ -109,7 +109,7 @@ digits-line ys v m d h =
     digits-then ys (rw (d .size) (d .end)) ∙ ap (λ (k : ℕ). digits ys ++ 10 ∷ drop (suc k) ys) (d .size) ∙ ap (λ (ds : List ℕ). ds ++ 10 ∷ drop (suc m) ys) e
 
 -- a line that is read is the line of its number
-line-only : (xs : List ℕ) (z : ℤ) (k : ℕ) → numberOf xs ≡ is z k → fits64 z ≡ true → xs ≡ numberLine z ++ drop (suc k) xs
+line-only : (xs : List ℕ) (z : ℤ) (k : ℕ) → numberOn xs ≡ is z k → fits64 z ≡ true → xs ≡ numberLine z ++ drop (suc k) xs
 line-only xs z k e f = go (number-spelled xs z k e) ∙ sym (line-more z (drop (suc k) xs))
   where
     go : Plain xs z k ⊎ Negative xs z k → xs ≡ signedDecimal 19 z ++ 10 ∷ drop (suc k) xs
@@ -142,9 +142,9 @@ only-none done (b ∷ bs) out l h = absurd (omega arith)
 only-more : (n : ℕ) → Only n → Only (suc n)
 unfolding numbersText
 only-more n ih done [] out l h = only-none done [] out (omega arith) h
-only-more n ih done (b ∷ bs) out l h = of (numberOf (b ∷ bs)) refl
+only-more n ih done (b ∷ bs) out l h = of (numberOn (b ∷ bs)) refl
   where
-    with-number : (z : ℤ) (k : ℕ) (t : Bool) → numberOf (b ∷ bs) ≡ is z k → fits64 z ≡ t → cond t (listedFrom (done ++ z ∷ []) (linesIn (drop (suc k) (b ∷ bs)))) (faulty 4 (suc (length done))) ≡ numbers out
+    with-number : (z : ℤ) (k : ℕ) (t : Bool) → numberOn (b ∷ bs) ≡ is z k → fits64 z ≡ t → cond t (listedFrom (done ++ z ∷ []) (linesIn (drop (suc k) (b ∷ bs)))) (faulty 4 (suc (length done))) ≡ numbers out
         → Read done (b ∷ bs) out
     with-number z k true e f h =
         let i = ih (done ++ z ∷ []) (drop (suc k) (b ∷ bs)) out (rw length-drop (omega arith)) h in
@@ -156,7 +156,7 @@ only-more n ih done (b ∷ bs) out l h = of (numberOf (b ∷ bs)) refl
         }
     with-number z k false e f h = never h
 
-    of : (s : Signed) → numberOf (b ∷ bs) ≡ s → Read done (b ∷ bs) out
+    of : (s : Signed) → numberOn (b ∷ bs) ≡ s → Read done (b ∷ bs) out
     of (is z k) e = with-number z k (fits64 z) e refl (sym (listed-number done (b ∷ bs) z k e) ∙ h)
     of no e = never (sym (listed-broken done b bs e) ∙ h)
 

@@ -15,11 +15,11 @@ use Rattle.market.specs.Fields.{got, digits, valueOf}
 use Rattle.market.specs.Text.{decimal}
 use Rattle.market.proofs.Decimal.{AllDigits, digit-class, decimal-digits, decimal-some, decimal-needed, decimal-value, decimal-one, decimal-more, decimal-same, digits-append}
 use Rattle.scan.proofs.numbers.Scanning.{digit-range}
-use Rattle.numbers.specs.Lines.{isWhole, wholeNumber}
+use Rattle.numbers.specs.Lines.{isSpelled, wholeNumber}
 
 -- decimal digits, with something after them that is no digit
 pub whole-decimal : (f n b : ℕ) (xs : List ℕ) → n < 10 ^ suc f → isDigit b ≡ false → wholeNumber (decimal (suc f) n ++ b ∷ xs) ≡ got n (length (decimal (suc f) n))
-unfolding wholeNumber isWhole
+unfolding wholeNumber isSpelled
 whole-decimal f n b xs h e =
     rw (digits-append (decimal (suc f) n) b xs (decimal-digits (suc f) n) e, le-leb 1 (length (decimal (suc f) n)) (decimal-some f n), decimal-needed f n h, decimal-value (suc f) n h)
 
@@ -53,8 +53,8 @@ after g v (d ∷ ds) a k h =
     record { small = rw e (i .small); spelled = rw e (i .spelled ∙ rw t (append-snoc (decimal (suc g) v) d ds)) }
 
 -- a number that is read is spelled so
-pub whole-only : (f : ℕ) (ds : List ℕ) → AllDigits ds → isWhole ds ≡ true → valueOf 0 ds < 10 ^ suc f → decimal (suc f) (valueOf 0 ds) ≡ ds
-unfolding isWhole valueOf
+pub whole-only : (f : ℕ) (ds : List ℕ) → AllDigits ds → isSpelled ds ≡ true → valueOf 0 ds < 10 ^ suc f → decimal (suc f) (valueOf 0 ds) ≡ ds
+unfolding isSpelled valueOf
 whole-only f [] a w h = absurd (clash w refl)
 whole-only f (d ∷ []) a w h =
     let r = digit-range d (digit-class d (a .0)) in

@@ -14,7 +14,7 @@ use Rattle.base.proofs.Booleans.{clash}
 use Rattle.market.specs.Bytes.{classOf, isDigit, isSign, isEnd}
 use Rattle.market.specs.Fields.{got, none, is, no, digits, valueOf, numeralIf, positive, negative}
 use Rattle.market.proofs.Decimal.{digit-class}
-use Rattle.numbers.specs.Lines.{lengthened, linesIn, isWhole, wholeNumber, ended, numberOf, onNumberOf, numbers, faulty, listedFrom}
+use Rattle.numbers.specs.Lines.{lengthened, linesIn, isSpelled, wholeNumber, withEnd, numberOn, whenNumber, numbers, faulty, listedFrom}
 
 -- ---- the first line
 
@@ -85,29 +85,29 @@ past-first (b ∷ bs) h = go (isDigit b) refl (past-first bs) h
     go false e ih h = rw h
 
 -- so its number is the text's
-number-first : (b : ℕ) (bs : List ℕ) → numberOf (upTo (b ∷ bs)) ≡ numberOf (b ∷ bs)
-unfolding numberOf wholeNumber
+number-first : (b : ℕ) (bs : List ℕ) → numberOn (upTo (b ∷ bs)) ≡ numberOn (b ∷ bs)
+unfolding numberOn wholeNumber
 number-first b bs = go (isSign b) refl
   where
-    signed : (w : Bool) (v : ℕ) → ended (b ∷ upTo bs) (negative (cond w (got v (length (digits bs))) none)) ≡ ended (b ∷ bs) (negative (cond w (got v (length (digits bs))) none))
+    signed : (w : Bool) (v : ℕ) → withEnd (b ∷ upTo bs) (negative (cond w (got v (length (digits bs))) none)) ≡ withEnd (b ∷ bs) (negative (cond w (got v (length (digits bs))) none))
     signed true zero = refl
     signed true (suc v) = rw (byte-first bs)
     signed false v = refl
 
-    plain : (w : Bool) (v : ℕ) → ended (upTo (b ∷ bs)) (positive (cond w (got v (length (digits (b ∷ bs)))) none)) ≡ ended (b ∷ bs) (positive (cond w (got v (length (digits (b ∷ bs)))) none))
+    plain : (w : Bool) (v : ℕ) → withEnd (upTo (b ∷ bs)) (positive (cond w (got v (length (digits (b ∷ bs)))) none)) ≡ withEnd (b ∷ bs) (positive (cond w (got v (length (digits (b ∷ bs)))) none))
     plain true v = rw (byte-first (b ∷ bs))
     plain false v = refl
 
-    go : (t : Bool) → isSign b ≡ t → ended (upTo (b ∷ bs)) (cond t (negative (numeralIf isWhole (digits (cond (isEnd b) [] (upTo bs))))) (positive (numeralIf isWhole (digits (upTo (b ∷ bs))))))
-        ≡ ended (b ∷ bs) (cond t (negative (numeralIf isWhole (digits bs))) (positive (numeralIf isWhole (digits (b ∷ bs)))))
-    go true e = rw (sign-no-end b e, digits-first bs) (signed (isWhole (digits bs)) (valueOf 0 (digits bs)))
-    go false e = rw (digits-first (b ∷ bs)) (plain (isWhole (digits (b ∷ bs))) (valueOf 0 (digits (b ∷ bs))))
+    go : (t : Bool) → isSign b ≡ t → withEnd (upTo (b ∷ bs)) (cond t (negative (numeralIf isSpelled (digits (cond (isEnd b) [] (upTo bs))))) (positive (numeralIf isSpelled (digits (upTo (b ∷ bs))))))
+        ≡ withEnd (b ∷ bs) (cond t (negative (numeralIf isSpelled (digits bs))) (positive (numeralIf isSpelled (digits (b ∷ bs)))))
+    go true e = rw (sign-no-end b e, digits-first bs) (signed (isSpelled (digits bs)) (valueOf 0 (digits bs)))
+    go false e = rw (digits-first (b ∷ bs)) (plain (isSpelled (digits (b ∷ bs))) (valueOf 0 (digits (b ∷ bs))))
 
 -- ---- a number at the start of a text
 
 -- digits, and a line feed
 pub record Digits (xs : List ℕ) (v k : ℕ) : Type 0 where
-  pub whole : isWhole (digits xs) ≡ true
+  pub whole : isSpelled (digits xs) ≡ true
   pub is : valueOf 0 (digits xs) ≡ v
   pub size : length (digits xs) ≡ k
   pub end : isEnd (getD xs k 0) ≡ true
@@ -129,14 +129,14 @@ pub record Negative (xs : List ℕ) (z : ℤ) (k : ℕ) : Type 0 where
   pub size : k ≡ suc length-rest
   pub has : Digits rest (suc less) length-rest
 
-pub number-spelled : (xs : List ℕ) (z : ℤ) (k : ℕ) → numberOf xs ≡ is z k → Plain xs z k ⊎ Negative xs z k
-unfolding numberOf wholeNumber
+pub number-spelled : (xs : List ℕ) (z : ℤ) (k : ℕ) → numberOn xs ≡ is z k → Plain xs z k ⊎ Negative xs z k
+unfolding numberOn wholeNumber
 number-spelled xs z k e = go xs (isSign (getD xs 0 0)) refl e
   where
     never : {X : Type 0} → no ≡ is z k → X
     never e = let z : _≡_ {A = ℕ} 0 1 = cc in absurd (omega arith)
 
-    plain : (xs : List ℕ) (w t : Bool) → isWhole (digits xs) ≡ w → isEnd (getD xs (length (digits xs)) 0) ≡ t → ended xs (positive (cond w (got (valueOf 0 (digits xs)) (length (digits xs))) none)) ≡ is z k → Plain xs z k
+    plain : (xs : List ℕ) (w t : Bool) → isSpelled (digits xs) ≡ w → isEnd (getD xs (length (digits xs)) 0) ≡ t → withEnd xs (positive (cond w (got (valueOf 0 (digits xs)) (length (digits xs))) none)) ≡ is z k → Plain xs z k
     plain xs true true ew et e =
         let f : z ≡ pos (valueOf 0 (digits xs)) = cc (rw et at e) in
         let g : length (digits xs) ≡ k = cc (rw et at e) in
@@ -144,8 +144,8 @@ number-spelled xs z k e = go xs (isSign (getD xs 0 0)) refl e
     plain xs true false ew et e = never (rw et at e)
     plain xs false t ew et e = never e
 
-    negated : (b : ℕ) (bs : List ℕ) → isSign b ≡ true → (w t : Bool) (v : ℕ) → isWhole (digits bs) ≡ w → isEnd (getD bs (length (digits bs)) 0) ≡ t → valueOf 0 (digits bs) ≡ v
-        → ended (b ∷ bs) (negative (cond w (got v (length (digits bs))) none)) ≡ is z k → Negative (b ∷ bs) z k
+    negated : (b : ℕ) (bs : List ℕ) → isSign b ≡ true → (w t : Bool) (v : ℕ) → isSpelled (digits bs) ≡ w → isEnd (getD bs (length (digits bs)) 0) ≡ t → valueOf 0 (digits bs) ≡ v
+        → withEnd (b ∷ bs) (negative (cond w (got v (length (digits bs))) none)) ≡ is z k → Negative (b ∷ bs) z k
     negated b bs eb true t zero ew et ev e = never e
     negated b bs eb true true (suc v) ew et ev e =
         let f : z ≡ negsuc v = cc (rw et at e) in
@@ -154,14 +154,14 @@ number-spelled xs z k e = go xs (isSign (getD xs 0 0)) refl e
     negated b bs eb true false (suc v) ew et ev e = never (rw et at e)
     negated b bs eb false t v ew et ev e = never e
 
-    go : (xs : List ℕ) (t : Bool) → isSign (getD xs 0 0) ≡ t → ended xs (cond t (negative (numeralIf isWhole (digits (drop 1 xs)))) (positive (numeralIf isWhole (digits xs)))) ≡ is z k → Plain xs z k ⊎ Negative xs z k
-    go (b ∷ bs) true s e = inr (negated b bs s (isWhole (digits bs)) (isEnd (getD bs (length (digits bs)) 0)) (valueOf 0 (digits bs)) refl refl refl e)
+    go : (xs : List ℕ) (t : Bool) → isSign (getD xs 0 0) ≡ t → withEnd xs (cond t (negative (numeralIf isSpelled (digits (drop 1 xs)))) (positive (numeralIf isSpelled (digits xs)))) ≡ is z k → Plain xs z k ⊎ Negative xs z k
+    go (b ∷ bs) true s e = inr (negated b bs s (isSpelled (digits bs)) (isEnd (getD bs (length (digits bs)) 0)) (valueOf 0 (digits bs)) refl refl refl e)
     go [] true s e = absurd (none-signed s)
-    go xs false s e = inl (plain xs (isWhole (digits xs)) (isEnd (getD xs (length (digits xs)) 0)) refl refl e)
+    go xs false s e = inl (plain xs (isSpelled (digits xs)) (isEnd (getD xs (length (digits xs)) 0)) refl refl e)
 
 -- ---- the lines of a text, by their numbers
 
-past-number : (xs : List ℕ) (z : ℤ) (k : ℕ) → numberOf xs ≡ is z k → past xs ≡ drop (suc k) xs
+past-number : (xs : List ℕ) (z : ℤ) (k : ℕ) → numberOn xs ≡ is z k → past xs ≡ drop (suc k) xs
 past-number xs z k e = go (number-spelled xs z k e)
   where
     of : (ys : List ℕ) {v m : ℕ} → Digits ys v m → past ys ≡ drop (suc m) ys
@@ -171,23 +171,23 @@ past-number xs z k e = go (number-spelled xs z k e)
     go (inl p) = of xs (p .has)
     go (inr n) = rw (n .starts, n .size, sign-no-end (n .sign) (n .signed)) (of (n .rest) (n .has))
 
-number-nothing : numberOf [] ≡ no
-unfolding numberOf wholeNumber isWhole digits classOf
+number-nothing : numberOn [] ≡ no
+unfolding numberOn wholeNumber isSpelled digits classOf
 number-nothing = refl
 
 listed-first : (done : List ℤ) (b : ℕ) (bs : List ℕ) → listedFrom done (linesIn (b ∷ bs))
-    ≡ onNumberOf (numberOf (b ∷ bs)) (faulty why.badForm (suc (length done))) (λ z. cond (fits64 z) (listedFrom (done ++ z ∷ []) (linesIn (past (b ∷ bs)))) (faulty why.badEntry (suc (length done))))
+    ≡ whenNumber (numberOn (b ∷ bs)) (faulty why.badForm (suc (length done))) (λ z. cond (fits64 z) (listedFrom (done ++ z ∷ []) (linesIn (past (b ∷ bs)))) (faulty why.badEntry (suc (length done))))
 unfolding listedFrom
 listed-first done b bs = rw (lines-split b bs, number-first b bs)
 
 -- a line that has a number
-pub listed-number : (done : List ℤ) (xs : List ℕ) (z : ℤ) (k : ℕ) → numberOf xs ≡ is z k
+pub listed-number : (done : List ℤ) (xs : List ℕ) (z : ℤ) (k : ℕ) → numberOn xs ≡ is z k
     → listedFrom done (linesIn xs) ≡ cond (fits64 z) (listedFrom (done ++ z ∷ []) (linesIn (drop (suc k) xs))) (faulty why.badEntry (suc (length done)))
 listed-number done [] z k e = let q = e in let p = number-nothing in let z : _≡_ {A = ℕ} 0 1 = cc in absurd (omega arith)
 listed-number done (b ∷ bs) z k e = listed-first done b bs ∙ rw (e, past-number (b ∷ bs) z k e)
 
 -- one that has none
-pub listed-broken : (done : List ℤ) (b : ℕ) (bs : List ℕ) → numberOf (b ∷ bs) ≡ no → listedFrom done (linesIn (b ∷ bs)) ≡ faulty why.badForm (suc (length done))
+pub listed-broken : (done : List ℤ) (b : ℕ) (bs : List ℕ) → numberOn (b ∷ bs) ≡ no → listedFrom done (linesIn (b ∷ bs)) ≡ faulty why.badForm (suc (length done))
 listed-broken done b bs e = listed-first done b bs ∙ rw e
 
 -- none is left

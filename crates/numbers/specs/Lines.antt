@@ -34,28 +34,28 @@ linesIn [] = []
 linesIn (b ∷ bs) = let more = linesIn bs in cond (isEnd b) ((b ∷ []) ∷ more) (lengthened b more)
 
 -- "no needless leading zero"; of as many digits as there are
-unfoldable pub isWhole : List ℕ → Bool
-isWhole ds = leb 1 (length ds) && isNeeded ds
+unfoldable pub isSpelled : List ℕ → Bool
+isSpelled ds = leb 1 (length ds) && isNeeded ds
 
 unfoldable pub wholeNumber : List ℕ → Scan
-wholeNumber xs = numeralIf isWhole (digits xs)
+wholeNumber xs = numeralIf isSpelled (digits xs)
 
-abbrev pub ended : List ℕ → Signed → Signed
-ended l (is z k) = cond (isEnd (getD l k 0)) (is z k) no
-ended l no = no
+abbrev pub withEnd : List ℕ → Signed → Signed
+withEnd l (is z k) = cond (isEnd (getD l k 0)) (is z k) no
+withEnd l no = no
 
 -- the number of a line: `-` for a negative one, "`-0` is not a number", "every line ends in one line feed"
-unfoldable pub numberOf : List ℕ → Signed
-numberOf l = ended l (signedBy wholeNumber l)
+unfoldable pub numberOn : List ℕ → Signed
+numberOn l = withEnd l (signedBy wholeNumber l)
 
 -- what a text holds: a list, or a line that is refused
 pub data Listed : Type 0 where
   numbers : List ℤ → Listed
   faulty : (number place : ℕ) → Listed
 
-abbrev pub onNumberOf : Signed → Listed → (ℤ → Listed) → Listed
-onNumberOf (is z k) b f = f z
-onNumberOf no b f = b
+abbrev pub whenNumber : Signed → Listed → (ℤ → Listed) → Listed
+whenNumber (is z k) b f = f z
+whenNumber no b f = b
 
 -- the lines after those of the numbers `done`: the first that is wrong decides. It breaks the form, or its number
 -- passes 64 bits
@@ -63,7 +63,7 @@ unfoldable pub listedFrom : (done : List ℤ) → List (List ℕ) → Listed
 listedFrom done [] = numbers done
 listedFrom done (l ∷ ls) =
     let place = suc (length done) in
-    onNumberOf (numberOf l) (faulty why.badForm place) (λ z.
+    whenNumber (numberOn l) (faulty why.badForm place) (λ z.
     cond (fits64 z) (listedFrom (done ++ z ∷ []) ls) (faulty why.badEntry place))
 
 unfoldable pub listed : List ℕ → Listed

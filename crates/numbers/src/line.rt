@@ -9,7 +9,7 @@ ghost use Prim.Native.Nat.{_+_, _<_};
 ghost use lib.ListN.{length, getD, drop};
 ghost use Rattle.market.specs.Bytes.{classOf};
 ghost use Rattle.market.specs.Fields.{digits};
-ghost use Rattle.numbers.specs.Lines.{isWhole, numberOf};
+ghost use Rattle.numbers.specs.Lines.{isSpelled, numberOn};
 ghost use Rattle.numbers.specs.code.Lines.{plainOf, negativeOf, lineAt};
 
 // The least number of 64 bits, without its sign.
@@ -36,7 +36,7 @@ fn class_at(text: &[u8], at: usize) -> u8
 // Whether the digits from a position up to the next are a number: one at least, and no needless zero.
 fn is_whole(text: &[u8], at: usize, next: usize) -> bool
     requires { ⌜ next ≡ at + length (digits (drop at (now text))) ⌝ }
-    ensures { λ r. ⌜ r ≡ isWhole (digits (drop at (now (text .entry)))) ⌝ }
+    ensures { λ r. ⌜ r ≡ isSpelled (digits (drop at (now (text .entry)))) ⌝ }
 {
     if next <= at {
         return false;
@@ -71,7 +71,7 @@ fn negated(value: u64, next: usize) -> Line
 }
 
 pub(crate) fn read_line(text: &[u8], at: usize) -> Line
-    ensures { λ r. ⌜ r ≡ lineAt at (numberOf (drop at (now (text .entry)))) ⌝ }
+    ensures { λ r. ⌜ r ≡ lineAt at (numberOn (drop at (now (text .entry)))) ⌝ }
 {
     let signed = class_at(text, at) == SIGN;
     let first = at + signed as usize;

@@ -14,7 +14,7 @@ use Rattle.base.proofs.Booleans.{clash}
 use Rattle.market.specs.Bytes.{classOf, isSign, isEnd}
 use Rattle.market.specs.Fields.{got, none, Signed, is, no, digits, valueOf, positive, negative}
 use Rattle.scan.proofs.Left.{left-cons}
-use Rattle.numbers.specs.Lines.{isWhole, wholeNumber, ended, numberOf}
+use Rattle.numbers.specs.Lines.{isSpelled, wholeNumber, withEnd, numberOn}
 use Rattle.numbers.specs.declared.line.Line.the-variants as line
 use Rattle.numbers.specs.code.Lines.{many, plainOf, negativeOf, lineAt}
 
@@ -43,18 +43,18 @@ module _ (s : List ℕ) (at : ℕ) where
   end-inside h = inside s at (λ e. clash (rw e at h) refl)
 
   number-at : (t : Bool) → isSign (getD s at 0) ≡ t → (ds : List ℕ) → ds ≡ digits (drop (at + boolByte t) s)
-      → numberOf (drop at s) ≡ cond (isWhole ds) (numberBy t (valueOf 0 ds) (length ds) (isEnd (getD s (at + boolByte t + length ds) 0))) no
-  unfolding numberOf wholeNumber numberBy
+      → numberOn (drop at s) ≡ cond (isSpelled ds) (numberBy t (valueOf 0 ds) (length ds) (isEnd (getD s (at + boolByte t + length ds) 0))) no
+  unfolding numberOn wholeNumber numberBy
   number-at false e ds d =
       let z : at + 0 ≡ at = omega arith in
       let here : getD (drop at s) 0 0 ≡ getD s at 0 = getD-drop at s 0 0 ∙ rw z in
-      rw (here, e, d, z) (go (isWhole (digits (drop at s))))
+      rw (here, e, d, z) (go (isSpelled (digits (drop at s))))
     where
-      go : (w : Bool) → ended (drop at s) (positive (cond w (got (valueOf 0 (digits (drop at s))) (length (digits (drop at s)))) none))
+      go : (w : Bool) → withEnd (drop at s) (positive (cond w (got (valueOf 0 (digits (drop at s))) (length (digits (drop at s)))) none))
           ≡ cond w (cond (isEnd (getD s (at + length (digits (drop at s))) 0)) (is (pos (valueOf 0 (digits (drop at s)))) (length (digits (drop at s)))) no) no
       go true = rw (getD-drop at s (length (digits (drop at s))) 0)
       go false = refl
-  number-at true e ds d = rw (left-cons s at (sign-inside e), e, d) (go (isWhole ys) (valueOf 0 ys))
+  number-at true e ds d = rw (left-cons s at (sign-inside e), e, d) (go (isSpelled ys) (valueOf 0 ys))
     where
       ys : List ℕ
       ys = digits (drop (at + 1) s)
@@ -62,7 +62,7 @@ module _ (s : List ℕ) (at : ℕ) where
       byte : getD (drop (at + 1) s) (length ys) 0 ≡ getD s (at + 1 + length ys) 0
       byte = getD-drop (at + 1) s (length ys) 0
 
-      go : (w : Bool) (v : ℕ) → ended (getD s at 0 ∷ drop (at + 1) s) (negative (cond w (got v (length ys)) none)) ≡ cond w (numberBy true v (length ys) (isEnd (getD s (at + 1 + length ys) 0))) no
+      go : (w : Bool) (v : ℕ) → withEnd (getD s at 0 ∷ drop (at + 1) s) (negative (cond w (got v (length ys)) none)) ≡ cond w (numberBy true v (length ys) (isEnd (getD s (at + 1 + length ys) 0))) no
       go true zero = refl
       go true (suc v) = rw byte
       go false v = refl
@@ -107,21 +107,21 @@ abbrev pub digitsAt : List ℕ → ℕ → Bool → List ℕ
 digitsAt s at t = digits (drop (at + boolByte t) s)
 
 module _ (s : List ℕ) (at : ℕ) {t : Bool} (signed : isSign (getD s at 0) ≡ t) {value next : ℕ} (told : value ≡ min (valueOf 0 (digitsAt s at t)) many) (after : next ≡ at + boolByte t + length (digitsAt s at t)) where
-  by-end : isWhole (digitsAt s at t) ≡ true → {e : Bool} → isEnd (getD s next 0) ≡ e → numberOf (drop at s) ≡ numberBy t (valueOf 0 (digitsAt s at t)) (length (digitsAt s at t)) e
+  by-end : isSpelled (digitsAt s at t) ≡ true → {e : Bool} → isEnd (getD s next 0) ≡ e → numberOn (drop at s) ≡ numberBy t (valueOf 0 (digitsAt s at t)) (length (digitsAt s at t)) e
   by-end w {e} end = number-at s at t signed (digitsAt s at t) refl ∙ rw (w, ← after, end)
 
-  pub line-none : isWhole (digitsAt s at t) ≡ false → line.Broken ≡ lineAt at (numberOf (drop at s))
+  pub line-none : isSpelled (digitsAt s at t) ≡ false → line.Broken ≡ lineAt at (numberOn (drop at s))
   line-none w = rw (number-at s at t signed (digitsAt s at t) refl, w)
 
-  pub line-unended : isWhole (digitsAt s at t) ≡ true → isEnd (getD s next 0) ≡ false → line.Broken ≡ lineAt at (numberOf (drop at s))
+  pub line-unended : isSpelled (digitsAt s at t) ≡ true → isEnd (getD s next 0) ≡ false → line.Broken ≡ lineAt at (numberOn (drop at s))
   line-unended w e = rw (by-end w e, number-unended t (valueOf 0 (digitsAt s at t)) (length (digitsAt s at t)))
 
-  pub line-negative : isWhole (digitsAt s at t) ≡ true → isEnd (getD s next 0) ≡ true → t ≡ true → negativeOf value (next + 1) ≡ lineAt at (numberOf (drop at s))
+  pub line-negative : isSpelled (digitsAt s at t) ≡ true → isEnd (getD s next 0) ≡ true → t ≡ true → negativeOf value (next + 1) ≡ lineAt at (numberOn (drop at s))
   line-negative w e h =
       let n : next ≡ at + 1 + length (digitsAt s at t) = after ∙ ap (λ (b : Bool). at + boolByte b + length (digitsAt s at t)) h in
       rw (by-end w e, told, n) (negative-told at (valueOf 0 (digitsAt s at t)) (length (digitsAt s at t)) ∙ rw h)
 
-  pub line-plain : isWhole (digitsAt s at t) ≡ true → isEnd (getD s next 0) ≡ true → t ≡ false → plainOf value (next + 1) ≡ lineAt at (numberOf (drop at s))
+  pub line-plain : isSpelled (digitsAt s at t) ≡ true → isEnd (getD s next 0) ≡ true → t ≡ false → plainOf value (next + 1) ≡ lineAt at (numberOn (drop at s))
   line-plain w e h =
       let z : at + 0 + length (digitsAt s at t) ≡ at + length (digitsAt s at t) = omega arith in
       let n : next ≡ at + length (digitsAt s at t) = after ∙ ap (λ (b : Bool). at + boolByte b + length (digitsAt s at t)) h ∙ z in

@@ -10,19 +10,19 @@ use borrow.Author.Tests.{ltb-true, ltb-false, le-leb, lt-leb, eqb-true, eqb-fals
 use Rattle.market.specs.Bytes.{classOf}
 use Rattle.market.specs.Fields.{digits}
 use Rattle.scan.proofs.numbers.Scanning.{digits-more, digits-stop, digits-end}
-use Rattle.numbers.specs.Lines.{isWhole}
+use Rattle.numbers.specs.Lines.{isSpelled}
 
 module _ (ds : List ℕ) where
-  pub whole-none : length ds ≤ 0 → false ≡ isWhole ds
-  unfolding isWhole
+  pub whole-none : length ds ≤ 0 → false ≡ isSpelled ds
+  unfolding isSpelled
   whole-none h = rw (lt-leb 1 (length ds) (omega arith))
 
-  pub whole-one : 0 < length ds → length ds ≤ 1 → true ≡ isWhole ds
-  unfolding isWhole
+  pub whole-one : 0 < length ds → length ds ≤ 1 → true ≡ isSpelled ds
+  unfolding isSpelled
   whole-one h k = rw (le-leb 1 (length ds) h, le-leb (length ds) 1 k)
 
-  pub whole-more : 1 < length ds → not (eqb (getD ds 0 0) 48) ≡ isWhole ds
-  unfolding isWhole
+  pub whole-more : 1 < length ds → not (eqb (getD ds 0 0) 48) ≡ isSpelled ds
+  unfolding isSpelled
   whole-more h = rw (le-leb 1 (length ds) (omega arith), lt-leb (length ds) 1 h)
 
 -- the first digit is the byte at the position

@@ -15,7 +15,7 @@ use Rattle.words.proofs.Blocks.{Storing, store-none, store-more}
 use Rattle.numbers.specs.declared.line.Line.{Line}
 use Rattle.numbers.specs.declared.line.Line.the-variants.{Number, Past, Broken}
 use Rattle.numbers.specs.code.Lines.{lineAt}
-use Rattle.numbers.specs.Lines.{numberOf, numbers, faulty, listed}
+use Rattle.numbers.specs.Lines.{numberOn, numbers, faulty, listed}
 use Rattle.numbers.specs.Calls.{numbersIn}
 use Rattle.numbers.proofs.line.Line.{the-type}
 use Rattle.numbers.proofs.NumberLists.{text-only}
@@ -33,7 +33,7 @@ pub record Filling (s old now : List ℕ) (k at : ℕ) : Type 0 where
 -- numbers are read from a text that has no others
 module _ (s : List ℕ) (good : listed s ≡ numbers (numbersIn (listed s))) where
   -- those so far, and the next
-  next-number : {k at : ℕ} (j : Judging s k at) {bits next : ℕ} (n : IsNumber at bits next (numberOf (drop at s))) → (k < length (all s)) × (getD (all s) k (pos 0) ≡ n .value)
+  next-number : {k at : ℕ} (j : Judging s k at) {bits next : ℕ} (n : IsNumber at bits next (numberOn (drop at s))) → (k < length (all s)) × (getD (all s) k (pos 0) ≡ n .value)
   next-number {k} {at} j {bits} {next} n =
       let r = text-only (length (drop next s)) (j .done ++ n .value ∷ []) (drop next s) (all s) (omega arith) (sym (judging-next s j n) ∙ good) in
       let e : all s ≡ j .done ++ n .value ∷ r .list = r .after ∙ append-assoc (j .done) (n .value ∷ []) (r .list) in
@@ -43,16 +43,16 @@ module _ (s : List ℕ) (good : listed s ≡ numbers (numbersIn (listed s))) whe
   never : {X : Type 0} {q p : ℕ} → listed s ≡ faulty q p → X
   never e = let z : _≡_ {A = ℕ} 0 1 = cc in absurd (omega arith)
 
-  pub always-number : {k at : ℕ} → Judging s k at → at < length s → (l : Line) → OneOf (1 ∷ 2 ∷ []) (tagOf the-type l) → l ≡ lineAt at (numberOf (drop at s)) → ⊥
+  pub always-number : {k at : ℕ} → Judging s k at → at < length s → (l : Line) → OneOf (1 ∷ 2 ∷ []) (tagOf the-type l) → l ≡ lineAt at (numberOn (drop at s)) → ⊥
   always-number j h (Number bits next) o e = ⊎-elim (λ y. omega arith) (λ y. omega arith) o
-  always-number {at = at} j h Past o e = never (judging-past s j (past-told at (numberOf (drop at s)) e))
-  always-number {at = at} j h Broken o e = never (judging-broken s j h (broken-told at (numberOf (drop at s)) e))
+  always-number {at = at} j h Past o e = never (judging-past s j (past-told at (numberOn (drop at s)) e))
+  always-number {at = at} j h Broken o e = never (judging-broken s j h (broken-told at (numberOn (drop at s)) e))
 
   module _ (old : List ℕ) where
     pub filling-start : Filling s old old 0 0
     filling-start = record { lines = judging-start s; bytes = store-none (signedBytesOf 8) 8 (length-signedBytesOf 8) (all s) old (length (all s)) }
 
-    module _ (room : length (all s) * 8 ≤ length old) {now : List ℕ} {k at : ℕ} (f : Filling s old now k at) {bits next : ℕ} (n : IsNumber at bits next (numberOf (drop at s))) where
+    module _ (room : length (all s) * 8 ≤ length old) {now : List ℕ} {k at : ℕ} (f : Filling s old now k at) {bits next : ℕ} (n : IsNumber at bits next (numberOn (drop at s))) where
       pub filling-room : k * 8 + 8 ≤ length now
       filling-room = omega (arith, room, f .bytes .long, next-number (f .lines) n .0)
 

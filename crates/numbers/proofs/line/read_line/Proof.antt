@@ -12,7 +12,7 @@ use borrow.Author.Tests.{eq-eqb, ne-eqb}
 use Rattle.base.proofs.Booleans.{fails, holds}
 use Rattle.market.specs.Bytes.{isSign, isEnd}
 use Rattle.market.specs.Fields.{digits}
-use Rattle.numbers.specs.Lines.{isWhole}
+use Rattle.numbers.specs.Lines.{isSpelled}
 use Rattle.numbers.proofs.line.Numbers.{sign-inside, end-inside, line-none, line-unended, line-negative, line-plain}
 use Rattle.numbers.proofs.line.read_line.Statement.{statement}
 use Rattle.numbers.proofs.line.read_line.Tie as tie
@@ -22,7 +22,7 @@ signed : (c : tie.After-read-digits) → isSign (getD (c .before .before .before
 signed c = ap (λ (x : ℕ). eqb x 2) (sym (c .before .class-at .ensures))
 
 -- the digits are a number, and the line ends after them
-whole : (c : tie.Else2) → isWhole (digits (drop (c .before .before .before .before .before .before .before .args .at + boolByte (eqb (c .before .before .before .before .before .class-at .result) 2)) (c .before .before .before .before .before .before .before .args .text .now))) ≡ true
+whole : (c : tie.Else2) → isSpelled (digits (drop (c .before .before .before .before .before .before .before .args .at + boolByte (eqb (c .before .before .before .before .before .class-at .result) 2)) (c .before .before .before .before .before .before .before .args .text .now))) ≡ true
 whole c = let w = c .before .before in holds (w .before .is-whole .ensures) (w .if1 .left)
 
 end : (c : tie.Else2) → isEnd (getD (c .before .before .before .before .before .before .before .args .text .now) (c .before .before .before .before .read-digits .result .next) 0) ≡ true

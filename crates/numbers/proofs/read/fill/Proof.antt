@@ -4,7 +4,7 @@ use mathlib.Core.Path.{sym, _∙_}
 use Prim.Native.Nat.{_-_}
 use native.Mathlib.Omega.{arith}
 use lib.ListN.{length, drop}
-use Rattle.numbers.specs.Lines.{numberOf}
+use Rattle.numbers.specs.Lines.{numberOn}
 use Rattle.numbers.proofs.read.Told.{IsNumber, number-told}
 use Rattle.numbers.proofs.read.Filling.{Filling, always-number, filling-start, filling-room, filling-more, filling-done}
 use Rattle.numbers.proofs.read.fill.Statement.{statement}
@@ -18,7 +18,7 @@ abbrev μ-loop : tie.MeasureT-loop
 
 -- the line's number
 number : (c : tie.After-line Inv-loop μ-loop) → let l = c .before .before .before .before in
-    IsNumber (l .loop .at) (c .line .given .0 .0) (c .line .given .0 .1 .0) (numberOf (drop (l .loop .at) (l .before .before .before .args .text .now)))
+    IsNumber (l .loop .at) (c .line .given .0 .0) (c .line .given .0 .1 .0) (numberOn (drop (l .loop .at) (l .before .before .before .args .text .now)))
 number c = number-told _ _ _ _ (sym (c .line .given .1) ∙ c .before .before .read-line .ensures)
 
 -- every line has a number

@@ -4,7 +4,7 @@ use mathlib.Core.Path.{sym, ap, _∙_}
 use Prim.Native.Nat.{_-_}
 use native.Mathlib.Omega.{arith}
 use lib.ListN.{length, drop}
-use Rattle.numbers.specs.Lines.{numberOf}
+use Rattle.numbers.specs.Lines.{numberOn}
 use Rattle.numbers.specs.declared.read.Judged.the-variants as told
 use Rattle.numbers.specs.code.Lines.{judgedOf}
 use Rattle.numbers.proofs.read.Told.{IsNumber, number-told, past-told, broken-told}
@@ -20,7 +20,7 @@ abbrev μ-loop : tie.MeasureT-loop
 
 -- the line's number
 number : (c : tie.After-line Inv-loop μ-loop) → let l = c .before .before .before .before in
-    IsNumber (l .loop .at) (c .line .given .0 .0) (c .line .given .0 .1 .0) (numberOf (drop (l .loop .at) (l .before .before .args .text .now)))
+    IsNumber (l .loop .at) (c .line .given .0 .0) (c .line .given .0 .1 .0) (numberOn (drop (l .loop .at) (l .before .before .args .text .now)))
 number c = number-told _ _ _ _ (sym (c .line .given .1) ∙ c .before .before .read-line .ensures)
 
 loop-holds : tie.Need-loop-holds Inv-loop μ-loop
