@@ -1,4 +1,4 @@
--- "Written, then read": what holds of every list of whole numbers and of every text.
+-- Written, then read: what holds of every list of whole numbers and of every text.
 use mathlib.Core.Path.{_≡_}
 use mathlib.Core.Bool.{true}
 use mathlib.Core.List.{List, [], _∷_, _++_}

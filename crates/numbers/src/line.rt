@@ -15,6 +15,9 @@ ghost use Rattle.numbers.specs.code.Lines.{plainOf, negativeOf, lineAt};
 // The least number of 64 bits, without its sign.
 pub(crate) const LEAST: u64 = 9223372036854775808;
 
+// The largest number of 64 bits that has no sign.
+pub(crate) const LARGEST: u64 = 18446744073709551615;
+
 // A line's number, in two's complement, and where the next line begins; or a number that passes 64 bits; or a line that
 // breaks the form.
 pub(crate) enum Line {
@@ -65,7 +68,7 @@ fn negated(value: u64, next: usize) -> Line
         return Line::Broken;
     }
     if value <= LEAST {
-        return Line::Number(18446744073709551615 - (value - 1), next);
+        return Line::Number(LARGEST - (value - 1), next);
     }
     Line::Past
 }

@@ -1,5 +1,6 @@
 // How many bytes a number's line takes.
 
+use crate::line::LARGEST;
 use crate::line::LEAST;
 ghost use mathlib.Core.Path.{_≡_};
 ghost use Prim.Native.Nat.{_^_, _<_};
@@ -30,7 +31,7 @@ pub(crate) fn magnitude(bits: u64) -> u64
     if bits < LEAST {
         return bits;
     }
-    18446744073709551615 - bits + 1
+    LARGEST - bits + 1
 }
 
 pub(crate) fn line_width(bits: u64) -> usize
