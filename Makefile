@@ -1,8 +1,9 @@
-# Over the two commands of the kit: the proved library and netplan, and the C programs of examples/ linked with it.
+# Over the two commands of the kit: the proved library and netplan, and the C program mzk linked with it.
 #
-#   make           target/staticlib/libmazhoketh.a, and in target/bin netplan and the examples; needs rt and cc
-#   make test      all tests; needs cargo, gcc, g++ and pkg-config too
-#   make install   header, library, pkg-config file and programs under PREFIX (/usr/local), after DESTDIR if it is set
+#   make           target/staticlib/libmazhoketh.a, and in target/bin netplan and mzk; needs rt and cc
+#   make test      all tests; needs cargo, gcc, g++, pkg-config and script too
+#   make install   header, library, pkg-config file, programs and manual page under PREFIX (/usr/local), after DESTDIR
+#                  if it is set
 #   make clean     removes target/
 #
 # What the prover says goes to target/make/*.log, and is shown where a proof fails.
@@ -12,8 +13,7 @@ PREFIX = /usr/local
 CFLAGS = -O2 -Wall -Wextra
 
 LIBRARY = target/staticlib/libmazhoketh.a
-EXAMPLES = $(patsubst examples/%.c,target/bin/%,$(wildcard examples/*.c))
-PROGRAMS = target/bin/netplan $(EXAMPLES)
+PROGRAMS = target/bin/netplan target/bin/mzk
 CRATES = crates.txt $(shell find crates -name '*.rt' -o -name '*.antt' -o -name stdin -o -name stdout)
 
 all: $(LIBRARY) $(PROGRAMS)
@@ -34,13 +34,14 @@ $(LIBRARY): $(CRATES)
 target/bin/netplan: $(CRATES) | $(LIBRARY)
 	$(call prove,netplan,rt check netplan)
 
-$(EXAMPLES): target/bin/%: examples/%.c $(wildcard examples/*.h) include/mazhoketh.h $(LIBRARY)
+target/bin/mzk: $(wildcard mzk/*.c mzk/*.h) include/mazhoketh.h $(LIBRARY) Makefile
 	@mkdir -p target/bin
-	@echo "  CC     $*"
-	@$(CC) $(CFLAGS) -pthread -Iinclude $< $(LIBRARY) $(LDFLAGS) -o $@
+	@echo "  CC     mzk"
+	@$(CC) -std=c11 -D_POSIX_C_SOURCE=200809L -DVERSION='"$(VERSION)"' $(CFLAGS) -pthread -Iinclude \
+		$(filter %.c,$^) $(LIBRARY) $(LDFLAGS) -o $@
 
 test: all
-	@for tool in cargo gcc g++ pkg-config; do command -v $$tool > /dev/null || \
+	@for tool in cargo gcc g++ pkg-config script; do command -v $$tool > /dev/null || \
 		{ echo "make test needs $$tool"; exit 1; }; done
 	@echo "  TEST   the library beside the implementation in tests/"
 	@cargo test --manifest-path tests/Cargo.toml --offline --quiet
@@ -51,10 +52,11 @@ INTO = "$(DESTDIR)$(PREFIX)"
 
 install: all
 	@echo "  INSTALL  $(DESTDIR)$(PREFIX)"
-	@install -d $(INTO)/include $(INTO)/lib/pkgconfig $(INTO)/bin
+	@install -d $(INTO)/include $(INTO)/lib/pkgconfig $(INTO)/bin $(INTO)/share/man/man1
 	@install -m 644 include/mazhoketh.h $(INTO)/include
 	@install -m 644 $(LIBRARY) $(INTO)/lib
 	@install -m 755 $(PROGRAMS) $(INTO)/bin
+	@install -m 644 docs/mzk.1 $(INTO)/share/man/man1
 	@sed 's|@PREFIX@|$(PREFIX)|; s|@VERSION@|$(VERSION)|' mazhoketh.pc.in > $(INTO)/lib/pkgconfig/mazhoketh.pc
 
 clean:

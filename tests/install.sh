@@ -14,10 +14,9 @@ gcc $(pkg-config --cflags mazhoketh) tests/c/header.c $(pkg-config --libs mazhok
 "$into/header"
 "$into/net/bin/netplan" < crates/netplan/stdin | diff - crates/netplan/stdout
 seq 1 135 > "$into/movements"
-"$into/net/bin/stage" data/roof_45.mtx 5 "$into/movements" > "$into/run" 2>> "$into/log"
-"$into/net/bin/force" data/roof_45.mtx "$into/movements" | diff - "$into/run"
-"$into/net/bin/plan" data/roof_45.mtx 5 60 "$into/plan"
-"$into/net/bin/stage" data/roof_45.mtx --plan "$into/plan" "$into/movements" 2>> "$into/log" | diff - "$into/run"
-"$into/net/bin/crews" data/roof_45.mtx 5 "$into/movements" "$into/movements" 2>> "$into/log" > "$into/both"
-paste "$into/run" "$into/run" | diff - "$into/both"
+mzk=$into/net/bin/mzk
+"$mzk" plan data/roof_45.mtx -w 5 -q -o "$into/plan"
+"$mzk" force data/roof_45.mtx "$into/movements" > "$into/forces"
+"$mzk" run data/roof_45.mtx "$into/plan" "$into/movements" -q | "$mzk" diff - "$into/forces"
+grep -q '^.TH MZK 1' "$into/net/share/man/man1/mzk.1"
 echo "installed, built and run"

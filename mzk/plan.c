@@ -1,0 +1,69 @@
+/* Plans: made, listed, checked. */
+
+#include "commands.h"
+#include "work.h"
+
+int plan_command(const struct arguments *arguments)
+{
+    static struct net net;
+    static struct plan plan;
+    const char *path = output_of(arguments);
+    if (is_standard(path) && is_terminal(stdout))
+        refuse_arguments("plan", "a plan file is no text for a terminal: name a file with -o");
+    read_matrix(&net, arguments->operands[0]);
+    struct text text = { .name = net.name };
+    plan.n = net.n;
+    plan.count = accepted(&text, mzk_plan(MATRIX(&net), number_of(arguments, WORKERS), number_of(arguments, CLOSENESS),
+                                          number_of(arguments, DISTANCE), plan.order, sizeof plan.order,
+                                          plan.groups, sizeof plan.groups));
+    write_plan(&plan, path);
+    if (!is_given(arguments, QUIET))
+        tell_plan(net.name, &plan, &net);
+    return GOOD;
+}
+
+/* Prints a plan as netplan does: the order, then a line for each group. */
+static void print_plan(FILE *out, const struct plan *plan)
+{
+    fprintf(out, "order");
+    for (uint32_t position = 0; position < plan->n; position++)
+        fprintf(out, " %u", row_at(plan, position));
+    fprintf(out, "\ngroup start length first workers colour parent depth\n");
+    for (uint32_t index = 0; index < plan->count; index++) {
+        struct group group = group_of(plan, index);
+        fprintf(out, "%u %u %u %u %u %u %u %u\n", index, group.start, group.length, group.first, group.workers,
+                group.colour, group.parent, group.depth);
+    }
+}
+
+/* A plan that is sound for no matrix is listed all the same: its reader looks for what is wrong. */
+int list_command(const struct arguments *arguments)
+{
+    static struct net matrix;
+    static struct plan plan;
+    const char *path = output_of(arguments);
+    const struct net *net = read_planned(&plan, arguments->operands[0], &matrix, arguments->values[MATRIX_FILE]);
+    FILE *out = open_output(path);
+    print_plan(out, &plan);
+    end_output(out, path);
+    if (is_given(arguments, QUIET))
+        return GOOD;
+    if (is_shaped(&plan))
+        tell_plan(plan.name, &plan, net);
+    else
+        fprintf(stderr, "%s: %u rows, %u groups, sound for no matrix\n", plan.name, plan.n, plan.count);
+    return GOOD;
+}
+
+int check_command(const struct arguments *arguments)
+{
+    static struct net net;
+    static struct plan plan;
+    uint32_t distance = number_of(arguments, DISTANCE);
+    read_matrix(&net, arguments->operands[0]);
+    read_plan(&plan, arguments->operands[1]);
+    judge_plan(&plan, &net, distance);
+    printf("%s: sound for %s at distance %u\n", plan.name, net.name, distance);
+    end_output(stdout, "-");
+    return GOOD;
+}

@@ -1,0 +1,38 @@
+/* The run of a plan: threads that serve its workers over one shared list of sums, or rounds. */
+#ifndef THREADS_H
+#define THREADS_H
+
+#include <pthread.h>
+
+#include "plans.h"
+#include "progress.h"
+
+/* A crew: its movements, the state and the sums of its run, its forces, and those that one core finds. */
+struct crew {
+    struct movements movements;
+    uint8_t state[MZK_STATE_BYTES], sums[8 * MZK_ROWS], forces[8 * MZK_ROWS], product[8 * MZK_ROWS];
+};
+
+/* A run of one crew or two. The lock guards states, sums and progress; `moved` tells that they have changed. */
+struct run {
+    struct net net;
+    struct plan plan;
+    struct crew crew[2];
+    int crews;
+    uint8_t workers;
+    struct progress progress;
+    pthread_mutex_t lock;
+    pthread_cond_t moved;
+};
+
+/* The arguments that hand a crew's job, its state and its sums to a call. */
+#define JOB(run, crew) MATRIX(&(run)->net), MOVEMENTS(&(crew)->movements), PLAN(&(run)->plan)
+#define AT(run, crew) (crew)->state, sizeof (crew)->state, FORCES(&(run)->net, (crew)->sums)
+
+/* Runs the plan for all crews by so many threads, which share the workers out. */
+void run_threads(struct run *run, uint8_t threads);
+
+/* Runs it for one crew by rounds: all workers in turn, those passed over that cannot move. */
+void run_rounds(struct run *run);
+
+#endif
