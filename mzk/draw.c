@@ -14,8 +14,8 @@ static void draw_title(FILE *out, const struct plan *plan, const struct work *wo
 {
     fprintf(out, "<text class=\"title\" x=\"%d\" y=\"32\">", LEFT);
     put_name(out, plan->name);
-    fprintf(out, ": %u rows, %u workers, %u groups, depth %u</text>\n", plan->n, work->workers, work->groups,
-            work->depth);
+    fprintf(out, ": %u row%s, %u worker%s, %u group%s, depth %u</text>\n", plan->n, plural(plan->n), work->workers,
+            plural(work->workers), work->groups, plural(work->groups), work->depth);
     put_words(out, "", LEFT, 56, "Longest chain %u of %u %s; %.0f %% of the workers' time used if each makes one a "
               "tick unless it waits.", work->chain, work->updates, unit, used_share(work));
     put_box(out, "red", LEFT, 68, 14, 14, "");

@@ -24,7 +24,7 @@ static const struct command commands[] = {
       "Prints the rows in plan order, numbered from 0, then a line for each group, as\n"
       "netplan does. Only the longest chain and the share of the workers' time in the\n"
       "summary need the matrix.\n" },
-    { "check", "MATRIX PLAN", 2, 2, TAKES(DISTANCE), check_command, "check that a plan is sound for a net",
+    { "check", "MATRIX PLAN", 2, 2, TAKES(DISTANCE), check_command, "check that a plan is sound",
       "Says so on standard output, or refuses the plan. A run checks its plan itself.\n" },
     { "draw", "PLAN", 1, 1, TAKES(OUTPUT) | TAKES(MATRIX_FILE), draw_command, "draw a plan as an SVG picture",
       "Draws plan positions across and a lane for each worker, red and blue groups by\n"
@@ -37,12 +37,12 @@ static const struct command commands[] = {
       "with a line for every row of the matrix.\n" },
     { "run", "MATRIX PLAN MOVEMENTS", 3, 3,
       TAKES(OUTPUT) | TAKES(THREADS) | TAKES(ROUNDS) | TAKES(CREWS) | TAKES(CONTROL) | TAKES(QUIET), run_command,
-      "the same by the workers of a plan",
+      "the same, by a plan's workers",
       "Threads make the plan's moves one load or store at a time, in an order that\n"
       "never repeats. The forces are written if they are those of one core. Progress\n"
       "is shown where standard error is a terminal.\n" },
     { "survey", "MATRIX MOVEMENTS", 2, 2, TAKES(OUTPUT) | TAKES(ERROR) | TAKES(SHIFT), survey_command,
-      "how far a survey error moves forces",
+      "how far survey errors reach",
       "Writes for each row an amount, in mN, beyond which no shift of the movements by\n"
       "at most T moves its force; or, with --shift, the shift that moves the force of\n"
       "ROW, numbered from 0, by just its amount.\n" },
@@ -90,9 +90,9 @@ static void print_overview(void)
     printf("mzk COMMAND ..: plans, runs and force lists of cable nets, by a proved library.\n\n");
     for (size_t k = 0; k < COMMANDS; k++)
         printf("  mzk %-7s %-33s %s\n", commands[k].name, commands[k].operands, commands[k].does);
-    printf("\nMATRIX is a Matrix Market file; MOVEMENTS, FORCES, PLACES and LIST have one whole\n"
-           "number a line. '-' is standard input or output. mzk help COMMAND tells the\n"
-           "options, mzk --version the version.\n"
+    printf("\nMATRIX is a Matrix Market file; MOVEMENTS, FORCES, PLACES and LIST have one\n"
+           "whole number a line. '-' is standard input or output. mzk help COMMAND tells\n"
+           "the options, mzk --version the version.\n"
            "Exit status 0: good. 1: lists differ. 2: refused, or wrong arguments.\n"
            "3: a file cannot be read or written.\n");
 }

@@ -140,7 +140,8 @@ static void judge(const struct arguments *arguments, const struct command *comma
     if (inputs > 1)
         refuse_arguments(command->name, "standard input is named twice");
     if (arguments->count < command->least || arguments->count > command->most)
-        refuse_arguments(command->name, "found %d operands, wanted %s", arguments->count, command->operands);
+        refuse_arguments(command->name, "found %d operand%s, wanted %s", arguments->count, plural(arguments->count),
+                         command->operands);
     for (enum option option = 0; option < OPTIONS; option++)
         if (known[option].most > 0)
             number_of(arguments, option);

@@ -51,7 +51,8 @@ int list_command(const struct arguments *arguments)
     if (is_shaped(&plan))
         tell_plan(plan.name, &plan, net);
     else
-        fprintf(stderr, "%s: %u rows, %u groups, sound for no matrix\n", plan.name, plan.n, plan.count);
+        fprintf(stderr, "%s: %u row%s, %u group%s, sound for no matrix\n", plan.name, plan.n, plural(plan.n),
+                plan.count, plural(plan.count));
     return GOOD;
 }
 

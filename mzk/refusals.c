@@ -53,6 +53,11 @@ static const struct refusal of_lists[] = {
 
 enum { CALLS = sizeof of_calls / sizeof *of_calls, LISTS = sizeof of_lists / sizeof *of_lists };
 
+const char *plural(uint32_t count)
+{
+    return count == 1 ? "" : "s";
+}
+
 void print_found(FILE *out, const void *bytes, size_t length)
 {
     const uint8_t *at = bytes;

@@ -23,6 +23,9 @@ uint32_t accepted_list(const struct text *text, uint64_t word);
 /* Ends the program because a list file has not as many numbers as are wanted, as the call would have it. */
 void refuse_count(const struct text *text, uint32_t found, const char *what, uint32_t wanted, uint32_t refusal);
 
+/* The ending of a word for so many things. */
+const char *plural(uint32_t count);
+
 /* Prints bytes between quotation marks, the first 60 of them, others than ASCII's as `\xNN`. */
 void print_found(FILE *out, const void *bytes, size_t length);
 

@@ -102,9 +102,10 @@ static uint8_t make_moves(struct run *run, const struct arguments *arguments)
 /* Says how a run went. */
 static void tell_run(const struct run *run, uint8_t threads, bool is_same)
 {
-    fprintf(stderr, "%s: %u moves of %u workers ", run->net.name, run->progress.done, run->workers);
+    fprintf(stderr, "%s: %u moves of %u worker%s ", run->net.name, run->progress.done, run->workers,
+            plural(run->workers));
     if (threads > 0)
-        fprintf(stderr, "by %u threads", threads);
+        fprintf(stderr, "by %u thread%s", threads, plural(threads));
     else
         fprintf(stderr, "in rounds");
     fprintf(stderr, is_same ? ", forces as on one core\n" : ", forces NOT as on one core: none are printed\n");

@@ -110,10 +110,10 @@ void tell_plan(const char *name, const struct plan *plan, const struct net *net)
 {
     static struct work work;
     lay_work(&work, plan, net);
-    fprintf(stderr, "%s: %u rows, %u workers, %u groups, depth %u", name, plan->n, work.workers, work.groups,
-            work.depth);
+    fprintf(stderr, "%s: %u row%s, %u worker%s, %u group%s, depth %u", name, plan->n, plural(plan->n), work.workers,
+            plural(work.workers), work.groups, plural(work.groups), work.depth);
     if (net != NULL)
-        fprintf(stderr, ", longest chain %u of %u updates, %.0f %% of the workers' time used", work.chain, work.updates,
-                used_share(&work));
+        fprintf(stderr, ", longest chain %u of %u update%s, %.0f %% of the workers' time used", work.chain,
+                work.updates, plural(work.updates), used_share(&work));
     fprintf(stderr, "\n");
 }

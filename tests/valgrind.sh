@@ -1,17 +1,23 @@
 #!/bin/sh
-# Runs a round of the fuzzing and the examples with threads under valgrind; any error ends it with status 1.
+# Runs a round of the fuzzing and the command with threads under valgrind; any error ends it with status 1.
 # Needs valgrind, and the library: rt staticlib mazhoketh.
 set -eu
 cd "$(dirname "$0")"
 cargo build --offline --bin fuzz
-for example in stage crews; do
-    gcc -g -O1 -pthread -I../include ../examples/$example.c ../target/staticlib/libmazhoketh.a -o target/$example
-done
+gcc -std=c11 -D_POSIX_C_SOURCE=200809L -g -O1 -pthread -I../include ../mzk/*.c ../target/staticlib/libmazhoketh.a \
+    -o target/mzk
+net=../data/roof_45.mtx
 seq 1 135 > target/movements
+target/mzk plan $net -w 5 -q -o target/plan
 valgrind --quiet --error-exitcode=1 target/debug/fuzz 1 0.01
 for tool in memcheck helgrind; do
-    valgrind --quiet --error-exitcode=1 --tool=$tool target/stage ../data/roof_45.mtx 5 --seed 1 > target/forces
-    valgrind --quiet --error-exitcode=1 --tool=$tool target/crews ../data/roof_45.mtx 5 target/movements \
-        target/movements > target/forces
+    for more in "" "--crews target/movements" "--rounds"; do
+        valgrind --quiet --error-exitcode=1 --tool=$tool target/mzk run $net target/plan target/movements $more \
+            > target/forces
+    done
+done
+for command in "plan $net -w 5" "list target/plan -m $net" "draw target/plan -m $net" "force $net target/movements" \
+    "survey $net target/movements -s 3" "control target/movements" "diff target/movements target/movements"; do
+    valgrind --quiet --error-exitcode=1 --leak-check=full target/mzk $command > target/printed
 done
 echo "no errors"

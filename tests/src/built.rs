@@ -7,26 +7,42 @@ use std::process::{Command, Output, Stdio};
 /// The repository.
 const ROOT: &str = concat!(env!("CARGO_MANIFEST_DIR"), "/..");
 
-/// Compiles a C file of the repository and links it with the library. Panics at an error or a warning.
-pub fn compile(compiler: &str, arguments: &[&str], source: &str, program: &Path) {
+/// Compiles C files of the repository and links them with the library. Panics at an error or a warning.
+pub fn compile(compiler: &str, arguments: &[&str], sources: &[String], program: &Path) {
     let built = Command::new(compiler)
         .args(["-Wall", "-Wextra", "-Werror", "-O2", "-pthread"])
         .arg(format!("-I{ROOT}/include"))
         .args(arguments)
-        .arg(format!("{ROOT}/{source}"))
+        .args(sources.iter().map(|source| format!("{ROOT}/{source}")))
         .args(["-x", "none"])
         .arg(format!("{ROOT}/target/staticlib/libmazhoketh.a"))
         .arg("-o")
         .arg(program)
         .status();
     let built = built.unwrap_or_else(|error| panic!("{compiler}: {error}"));
-    assert!(built.success(), "{compiler} builds {source}");
+    assert!(built.success(), "{compiler} builds {sources:?}");
 }
 
-/// Builds an example into a folder, for a test; the program.
-pub fn example(folder: &str, name: &str, test: &str) -> PathBuf {
-    let program = Path::new(folder).join(format!("{name} for {test}"));
-    compile("gcc", &[], &format!("examples/{name}.c"), &program);
+/// Builds an example into a folder; the program.
+pub fn example(folder: &str, name: &str) -> PathBuf {
+    let program = Path::new(folder).join(format!("example {name}"));
+    let arguments = ["-std=c99", "-pedantic"];
+    compile("gcc", &arguments, &[format!("examples/{name}.c")], &program);
+    program
+}
+
+/// Builds `mzk` into a folder, as the Makefile does; the program.
+pub fn mzk(folder: &str, name: &str) -> PathBuf {
+    let program = Path::new(folder).join(name);
+    let files = std::fs::read_dir(format!("{ROOT}/mzk")).expect("the folder of the program");
+    let names = files.map(|file| file.expect("a file of the folder").file_name());
+    let names = names.map(|name| name.to_str().expect("a name of Unicode").to_string());
+    let sources: Vec<String> = names
+        .filter(|name| name.ends_with(".c"))
+        .map(|name| format!("mzk/{name}"))
+        .collect();
+    let arguments = ["-std=c11", "-pedantic", "-D_POSIX_C_SOURCE=200809L"];
+    compile("gcc", &arguments, &sources, &program);
     program
 }
 

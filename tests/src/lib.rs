@@ -9,5 +9,6 @@ pub mod given;
 pub mod guarded;
 pub mod library;
 pub mod lists;
+pub mod mzk;
 pub mod oracle;
 pub mod progress;

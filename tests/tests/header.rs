@@ -8,8 +8,15 @@ use mazhoketh_tests::lists::REFUSALS;
 
 /// Builds a C file of the tests by a compiler with these arguments, and runs it; what it printed.
 fn build_and_run(name: &str, compiler: &str, arguments: &[&str]) -> String {
+    build_with(&[], name, compiler, arguments)
+}
+
+/// The same with further files.
+fn build_with(files: &[&str], name: &str, compiler: &str, arguments: &[&str]) -> String {
     let program = Path::new(env!("CARGO_TARGET_TMPDIR")).join(format!("{name} by {compiler}"));
-    built::compile(compiler, arguments, &format!("tests/c/{name}.c"), &program);
+    let sources = files.iter().map(|file| file.to_string());
+    let sources: Vec<String> = sources.chain([format!("tests/c/{name}.c")]).collect();
+    built::compile(compiler, arguments, &sources, &program);
     let output = Command::new(program).output();
     let output = output.expect("the program can be run");
     let printed = String::from_utf8_lossy(&output.stdout).to_string();
@@ -30,7 +37,9 @@ fn as_cpp() {
 /// Every refusal has a sentence of its own, which ends in its number; a later one is said to be unknown.
 #[test]
 fn sentences() {
-    let printed = build_and_run("refusals", "gcc", &["-std=c99", "-pedantic"]);
+    let files = ["mzk/refusals.c", "mzk/files.c"];
+    let arguments = ["-std=c11", "-pedantic", "-D_POSIX_C_SOURCE=200809L"];
+    let printed = build_with(&files, "refusals", "gcc", &arguments);
     let mut sentences: Vec<&str> = printed.lines().collect();
     assert_eq!(sentences.len(), REFUSALS + 1);
     for (number, sentence) in (1..).zip(&sentences) {
@@ -46,9 +55,10 @@ fn sentences() {
         );
     }
     for (number, place) in [
-        (4, "FILE:7: entry "),
+        (4, "FILE:7: found '7', wanted an entry "),
+        (6, "FILE:8: found '8', wanted a movement "),
         (9, ", it needs 7 "),
-        (13, ", at index 7 "),
+        (13, "FILE: pick 7 is of a worker that waits "),
     ] {
         assert!(
             sentences[number - 1].contains(place),
