@@ -10,7 +10,7 @@ int join_command(const struct arguments *arguments)
     struct list places;
     read_matrix(&first, arguments->operands[0]);
     read_matrix(&second, arguments->operands[1]);
-    read_counted(&places, arguments->operands[2], second.n, "places", MZK_PLACES);
+    read_counted(&places, arguments->operands[2], second.n, "place", MZK_PLACES);
     narrow(narrowed, &places);
     uint64_t word = mzk_join(MATRIX(&first), MATRIX(&second), narrowed, 4 * (size_t)second.n,
                              joined.starts, sizeof joined.starts, joined.columns, sizeof joined.columns,

@@ -73,7 +73,11 @@ static uint64_t numbers_write(const uint8_t *numbers, size_t numbers_bytes, uint
 
 void read_list(struct list *list, const char *path)
 {
-    read_text(&list->text, path, SIZE_MAX - 1);
+    read_text(&list->text, path, UINT32_MAX); /* so that its numbers can be counted in 32 bits */
+    if (list->text.length > UINT32_MAX) {
+        fprintf(stderr, "%s: longer than %u bytes\n", list->text.name, UINT32_MAX);
+        exit(REFUSED);
+    }
     size_t most = WIDTH * (list->text.length / 2); /* a number and its line feed are two bytes at least */
     list->numbers = room(most);
     list->count = accepted_list(&list->text, numbers_read(list->text.bytes, list->text.length, list->numbers, most));

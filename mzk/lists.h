@@ -11,10 +11,10 @@ struct list {
     uint8_t *numbers;
 };
 
-/* Reads a list file of any length. */
+/* Reads a list file of any length up to 4 GiB. */
 void read_list(struct list *list, const char *path);
 
-/* Reads a list file that has to have so many numbers; what they are and the refusal are told where it has not. */
+/* Reads a list file that has to have so many numbers; what one is, and the refusal, are told where it has not. */
 void read_counted(struct list *list, const char *path, uint32_t wanted, const char *what, uint32_t refusal);
 
 /* Gives a list's room back. */

@@ -26,7 +26,7 @@ void write_matrix(const struct net *net, const char *path)
 
 void read_movements(struct movements *movements, const struct net *net, const char *path)
 {
-    read_counted(&movements->list, path, net->n, "movements", MZK_MOVEMENTS);
+    read_counted(&movements->list, path, net->n, "movement", MZK_MOVEMENTS);
     narrow(movements->bytes, &movements->list);
 }
 

@@ -151,7 +151,7 @@ void take_arguments(struct arguments *arguments, const struct command *command, 
 {
     bool is_ended = false;
     arguments->command = command->name;
-    arguments->operands = (const char **)words;
+    arguments->operands = (const char **)words; /* they are gathered in front of the options */
     for (int at = 0; at < count;) {
         bool is_option = !is_ended && words[at][0] == '-' && words[at][1] != '\0';
         if (is_option && strcmp(words[at], "--") == 0) {

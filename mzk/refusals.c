@@ -126,6 +126,7 @@ uint32_t accepted_list(const struct text *text, uint64_t word)
 
 void refuse_count(const struct text *text, uint32_t found, const char *what, uint32_t wanted, uint32_t refusal)
 {
-    fprintf(stderr, "%s: found %u %s, wanted %u (refusal %u)\n", text->name, found, what, wanted, refusal);
+    fprintf(stderr, "%s: found %u %s%s, wanted %u (refusal %u)\n", text->name, found, what, plural(found), wanted,
+            refusal);
     exit(REFUSED);
 }

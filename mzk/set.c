@@ -47,7 +47,7 @@ int set_command(const struct arguments *arguments)
     enum { CHANGES = 3 }; /* the operands before the changes */
     read_matrix(&kept.net, arguments->operands[0]);
     read_movements(&kept.movements, &kept.net, arguments->operands[1]);
-    read_counted(&kept.forces, arguments->operands[2], kept.net.n, "forces", MZK_STALE);
+    read_counted(&kept.forces, arguments->operands[2], kept.net.n, "force", MZK_STALE);
     for (int at = CHANGES; at < arguments->count; at++)
         make_change(&kept, arguments->operands[at]);
     if (is_given(arguments, NEW_MOVEMENTS))

@@ -6,7 +6,8 @@
 enum { LETTER = 7, HEAD = 4, MARKS = 12 };
 
 static const char style[] =
-    "text{font:12px sans-serif;fill:#222}.title{font-size:20px;font-weight:bold}.head{font-size:14px;font-weight:bold}"
+    "text{font-family:sans-serif;font-size:12px;fill:#222}.title{font-size:20px;font-weight:bold}"
+    ".head{font-size:14px;font-weight:bold}"
     ".middle{text-anchor:middle}.end{text-anchor:end}.light{fill:#fff;text-anchor:middle}"
     ".red{fill:#ef8a80;stroke:#fff;stroke-width:.7}.blue{fill:#2b5f9e;stroke:#fff;stroke-width:.7}"
     ".whole{fill:#d5d5d5}.lane{fill:#f3f3f3}.wait{fill:none;stroke:#888;stroke-dasharray:2 2}"
