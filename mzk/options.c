@@ -4,30 +4,36 @@
 #include <stdlib.h>
 #include <string.h>
 
+/* What becomes of the file that an option names. */
+enum use { NO_FILE, IS_READ, IS_WRITTEN };
+
 /* An option: its letter, 0 if it has none, its word, what it takes, NULL if nothing, and what it is for, in brackets if
- * it is not given. The limits of a number, and its default; an option without them takes a file. */
+ * it is not given. The limits of a number, and its default. */
 static const struct known {
     char letter;
     const char *word, *takes, *is;
     int64_t least, most, otherwise;
-    bool is_input;
+    enum use use;
 } known[OPTIONS] = {
-    [OUTPUT] = { 'o', "output", "FILE", "where the result goes (standard output)", 0, 0, 0, false },
-    [WORKERS] = { 'w', "workers", "N", "workers to plan for, 1 to 16 (16)", 1, MZK_WORKERS, 16, false },
-    [CLOSENESS] = { 'p', "closeness", "P", "nearness of loads to whole workers, 50 to 99 (60)", 50, 99, 60, false },
-    [DISTANCE] = { 'k', "distance", "K", "joins between like colours, 1 to 4 (2, for runs)",
-                   1, MZK_DISTANCE, 2, false },
-    [MATRIX_FILE] = { 'm', "matrix", "MATRIX", "the matrix that the plan is for", 0, 0, 0, true },
-    [ERROR] = { 't', "error", "T", "survey error, 0 to 1000000 micrometres (1)", 0, 1000000, 1, false },
-    [SHIFT] = { 's', "shift", "ROW", "the shift for ROW in place of the amounts", 0, UINT32_MAX, 0, false },
-    [THREADS] = { 'j', "threads", "N", "threads, 1 to 16 (one for each worker)", 1, MZK_WORKERS, MZK_WORKERS, false },
-    [ROUNDS] = { 'r', "rounds", NULL, "no threads: workers in turn, waiting ones skipped", 0, 0, 0, false },
-    [CREWS] = { 0, "crews", "MOVEMENTS", "a second crew's movements: two columns of forces", 0, 0, 0, true },
-    [CONTROL] = { 'c', "control", NULL, "the control number in place of the forces", 0, 0, 0, false },
-    [NEW_MOVEMENTS] = { 0, "new-movements", "FILE", "where the changed movements go (nowhere)", 0, 0, 0, false },
-    [NEW_MATRIX] = { 0, "new-matrix", "FILE", "where the changed matrix goes (nowhere)", 0, 0, 0, false },
-    [QUIET] = { 'q', "quiet", NULL, "no summary, no progress", 0, 0, 0, false },
-    [HELP] = { 'h', "help", NULL, "this help", 0, 0, 0, false },
+#define FLAG(letter, word, is) { letter, word, NULL, is, 0, 0, 0, NO_FILE }
+#define NAMED(letter, word, takes, use, is) { letter, word, takes, is, 0, 0, 0, use }
+#define NUMBER(letter, word, takes, least, most, otherwise, is) \
+    { letter, word, takes, is, least, most, otherwise, NO_FILE }
+    [OUTPUT] = NAMED('o', "output", "FILE", IS_WRITTEN, "where the result goes (standard output)"),
+    [WORKERS] = NUMBER('w', "workers", "N", 1, MZK_WORKERS, 16, "workers to plan for, 1 to 16 (16)"),
+    [CLOSENESS] = NUMBER('p', "closeness", "P", 50, 99, 60, "nearness of loads to whole workers, 50 to 99 (60)"),
+    [DISTANCE] = NUMBER('k', "distance", "K", 1, MZK_DISTANCE, 2, "joins between like colours, 1 to 4 (2, for runs)"),
+    [MATRIX_FILE] = NAMED('m', "matrix", "MATRIX", IS_READ, "the matrix that the plan is for"),
+    [ERROR] = NUMBER('t', "error", "T", 0, 1000000, 1, "survey error, 0 to 1000000 micrometres (1)"),
+    [SHIFT] = NUMBER('s', "shift", "ROW", 0, UINT32_MAX, 0, "the shift for ROW in place of the amounts"),
+    [THREADS] = NUMBER('j', "threads", "N", 1, MZK_WORKERS, MZK_WORKERS, "threads, 1 to 16 (one for each worker)"),
+    [ROUNDS] = FLAG('r', "rounds", "no threads: workers in turn, waiting ones skipped"),
+    [CREWS] = NAMED(0, "crews", "MOVEMENTS", IS_READ, "a second crew's movements: two columns of forces"),
+    [CONTROL] = FLAG('c', "control", "the control number in place of the forces"),
+    [NEW_MOVEMENTS] = NAMED(0, "new-movements", "FILE", IS_WRITTEN, "where the changed movements go (nowhere)"),
+    [NEW_MATRIX] = NAMED(0, "new-matrix", "FILE", IS_WRITTEN, "where the changed matrix goes (nowhere)"),
+    [QUIET] = FLAG('q', "quiet", "no summary, no progress"),
+    [HELP] = FLAG('h', "help", "this help"),
 };
 
 void refuse_arguments(const char *command, const char *form, ...)
@@ -129,29 +135,37 @@ static int take_option(struct arguments *arguments, const struct command *comman
     return *rest == '\0' ? 2 : 1;
 }
 
-/* Ends the program where standard input or output would be used twice, or operands are too few or too many. */
+/* How many files of a use are standard input or output. */
+static int standard_files(const struct arguments *arguments, enum use use)
+{
+    int files = use == IS_WRITTEN && !is_given(arguments, OUTPUT); /* where the result goes if nothing is said */
+    for (int k = 0; k < arguments->count && use == IS_READ; k++)
+        files += is_standard(arguments->operands[k]);
+    for (enum option option = 0; option < OPTIONS; option++)
+        files += known[option].use == use && is_given(arguments, option) && is_standard(arguments->values[option]);
+    return files;
+}
+
+/* Ends the program where operands are too few or too many, numbers are none, or a standard file is named twice. */
 static void judge(const struct arguments *arguments, const struct command *command)
 {
-    int inputs = 0;
-    for (int k = 0; k < arguments->count; k++)
-        inputs += is_standard(arguments->operands[k]);
-    for (enum option option = 0; option < OPTIONS; option++)
-        inputs += known[option].is_input && is_given(arguments, option) && is_standard(arguments->values[option]);
-    if (inputs > 1)
-        refuse_arguments(command->name, "standard input is named twice");
     if (arguments->count < command->least || arguments->count > command->most)
         refuse_arguments(command->name, "found %d operand%s, wanted %s", arguments->count, plural(arguments->count),
                          command->operands);
     for (enum option option = 0; option < OPTIONS; option++)
         if (known[option].most > 0)
             number_of(arguments, option);
+    if (standard_files(arguments, IS_READ) > 1)
+        refuse_arguments(command->name, "standard input is named twice");
+    if (standard_files(arguments, IS_WRITTEN) > 1)
+        refuse_arguments(command->name, "standard output is named twice");
 }
 
 void take_arguments(struct arguments *arguments, const struct command *command, int count, char **words)
 {
     bool is_ended = false;
     arguments->command = command->name;
-    arguments->operands = (const char **)words; /* they are gathered in front of the options */
+    arguments->operands = words; /* they are gathered in front of the options */
     for (int at = 0; at < count;) {
         bool is_option = !is_ended && words[at][0] == '-' && words[at][1] != '\0';
         if (is_option && strcmp(words[at], "--") == 0) {

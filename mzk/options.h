@@ -15,7 +15,7 @@ enum option {
 /* What a command was called with. An option that was not given has no value; one that takes none has an empty one. */
 struct arguments {
     const char *command;
-    const char **operands;
+    char **operands;
     int count;
     const char *values[OPTIONS];
 };

@@ -31,8 +31,8 @@ pub fn example(folder: &str, name: &str) -> PathBuf {
     program
 }
 
-/// Builds `mzk` into a folder, as the Makefile does; the program.
-pub fn mzk(folder: &str, name: &str) -> PathBuf {
+/// Builds `mzk` into a folder, as the Makefile does, with further arguments; the program.
+pub fn mzk(folder: &str, name: &str, further: &[&str]) -> PathBuf {
     let program = Path::new(folder).join(name);
     let files = std::fs::read_dir(format!("{ROOT}/mzk")).expect("the folder of the program");
     let names = files.map(|file| file.expect("a file of the folder").file_name());
@@ -42,7 +42,7 @@ pub fn mzk(folder: &str, name: &str) -> PathBuf {
         .map(|name| format!("mzk/{name}"))
         .collect();
     let arguments = ["-std=c11", "-pedantic", "-D_POSIX_C_SOURCE=200809L"];
-    compile("gcc", &arguments, &sources, &program);
+    compile("gcc", &[&arguments, further].concat(), &sources, &program);
     program
 }
 

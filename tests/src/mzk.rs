@@ -24,7 +24,7 @@ impl Mzk {
     pub fn new(folder: &str, name: &str) -> Mzk {
         let folder = built::path_in(folder, name);
         fs::create_dir_all(&folder).expect("a folder can be made");
-        let program = built::mzk(&folder, "mzk");
+        let program = built::mzk(&folder, "mzk", &[]);
         Mzk { program, folder }
     }
 

@@ -3,12 +3,12 @@
 use std::fs;
 use std::sync::OnceLock;
 
-use mazhoketh_tests::files;
 use mazhoketh_tests::lists::Altered;
-use mazhoketh_tests::mzk::{counted, ended, lines, Mzk, SMALL};
+use mazhoketh_tests::mzk::{check_said, counted, ended, lines, Mzk, SMALL};
 use mazhoketh_tests::oracle::matrix::Matrix;
 use mazhoketh_tests::oracle::prng::Prng;
 use mazhoketh_tests::oracle::{control, join, nets, planner, plans, survey, text, upkeep};
+use mazhoketh_tests::{built, files};
 
 /// The nets that lists are made for.
 const LARGE: [&str; 2] = ["bcsstk14.mtx", "roof_1300.mtx"];
@@ -156,6 +156,28 @@ fn run_random() {
             lines(&net.product)
         );
     }
+}
+
+/// Forces of a run that are not those of one core are not printed, and the status is 1.
+#[test]
+fn run_that_is_wrong() {
+    let net = Net::of_file("roof_45.mtx", "a wrong run", 189);
+    let (plan, path) = (net.plan(5), &net.path);
+    let wrong = concat!(env!("CARGO_MANIFEST_DIR"), "/c/wrong_force.c");
+    let further = ["-Wl,--wrap=mzk_forces", wrong];
+    let program = built::mzk(env!("CARGO_TARGET_TMPDIR"), "wrong mzk", &further);
+    let run = ["run", path, &plan, &net.movements_path];
+    let said = "3078 moves of 5 workers by 5 threads, forces NOT as on one core: none are printed";
+    for more in [&[][..], &["-q"], &["--control"]] {
+        let output = built::run(&program, &[&run[..], more].concat());
+        check_said(output, 1, &format!("{path}: {said}"));
+    }
+    let said = "6156 moves of 5 workers by 5 threads, forces NOT as on one core: none are printed";
+    let output = built::run(
+        &program,
+        &[&run[..], &["--crews", &net.movements_path]].concat(),
+    );
+    check_said(output, 1, &format!("{path}: {said}"));
 }
 
 /// Two crews: a column each, the product of its own movements.

@@ -1,6 +1,7 @@
 //! What is wrong with list files, files and arguments of `mzk`, said in a sentence; help, and a terminal.
 
 use std::fs;
+use std::process::Command;
 use std::sync::OnceLock;
 
 use mazhoketh_tests::files;
@@ -259,6 +260,24 @@ fn large_output_that_cannot_be_written() {
     mzk().check_full(&["force", large.to_str().expect("a path of Unicode"), &list]);
 }
 
+/// Standard input and output that are closed.
+#[test]
+fn closed_files() {
+    let list = mzk().list("list of closed files", 1..136);
+    let run = |line: &str, said: &str| {
+        let output = Command::new("sh")
+            .args(["-c", line])
+            .arg(&mzk().program)
+            .args([SMALL, &list])
+            .output();
+        check_said(output.expect("a shell can be run"), 3, said);
+    };
+    let unwritten = "standard output: cannot be written: Bad file descriptor";
+    run("\"$0\" force \"$1\" \"$2\" >&-", unwritten);
+    let unread = "standard input: cannot be read: Bad file descriptor";
+    run("\"$0\" force \"$1\" - <&-", unread);
+}
+
 /// Numbers that options cannot have.
 #[test]
 fn options_refused() {
@@ -397,6 +416,26 @@ fn arguments_refused() {
         (
             &["list", "-", "-m", "-"],
             "list: standard input is named twice",
+        ),
+        (
+            &["set", "a", "b", "c", "0=1", "--new-matrix", "-"],
+            "set: standard output is named twice",
+        ),
+        (
+            &[
+                "set",
+                "a",
+                "b",
+                "c",
+                "0=1",
+                "-o",
+                "d",
+                "--new-matrix",
+                "-",
+                "--new-movements",
+                "-",
+            ],
+            "set: standard output is named twice",
         ),
     ];
     for (arguments, said) in wrong {
