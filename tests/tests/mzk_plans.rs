@@ -234,6 +234,18 @@ fn of_another_net() {
     ] {
         mzk().check_said(arguments, 2, &said);
     }
+    let (_, matrix) = files::read(SMALL.as_ref());
+    let small = mzk().plan("small.plan", &planner::plan(matrix.rows(), 2, 60));
+    let mut longer = planner::plan(chain.rows(), 2, 60);
+    longer.order.push(8);
+    let longer = mzk().plan("longer.plan", &longer);
+    let path = mzk().matrix("chain.mtx", &chain);
+    for (plan, rows) in [(small, 135), (longer, 9)] {
+        let said = format!(
+            "{plan}: found a plan of {rows} rows, wanted one of 8, as {path} has (refusal 8)"
+        );
+        mzk().check_said(&["check", &path, &plan], 2, &said);
+    }
 }
 
 /// Refused matrices: what was found in which line, and what was wanted there.
