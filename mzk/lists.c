@@ -1,74 +1,14 @@
 #include "lists.h"
 
 #include <stdlib.h>
-#include <string.h>
 
-enum {
-    WIDTH = 8,      /* bytes of a number */
-    LONGEST = 21    /* bytes of a line: sign, 19 digits, line feed */
-};
-
-/* The word of a refusal at a place, or of a count. */
-static uint64_t word_of(uint32_t number, size_t count)
-{
-    return (uint64_t)number << 32 | (uint32_t)count;
-}
+enum { WIDTH = 8 }; /* bytes of a number */
 
 /* Puts a number of 64 bits. */
 static void put_wide(uint8_t *bytes, uint64_t number)
 {
     for (int byte = 0; byte < WIDTH; byte++)
         bytes[byte] = number >> 8 * byte;
-}
-
-/* The number of a line: perhaps a minus sign, then digits, no needless leading zero, no -0, and nothing else. Answers
- * 0, or the refusal. */
-static uint32_t read_number(const uint8_t *line, size_t length, uint64_t *number)
-{
-    size_t sign = length > 0 && line[0] == '-';
-    uint64_t most = (uint64_t)INT64_MAX + sign, size = 0;
-    bool passed = false;
-    if (length == sign || (line[sign] == '0' && length > 1))
-        return MZK_FORM;
-    for (size_t i = sign; i < length; i++) {
-        if (line[i] < '0' || line[i] > '9')
-            return MZK_FORM;
-        uint64_t digit = line[i] - '0';
-        passed = passed || size > (most - digit) / 10;
-        size = passed ? 0 : 10 * size + digit;
-    }
-    *number = sign ? 0 - size : size;
-    return passed ? MZK_ENTRY : MZK_ACCEPTED;
-}
-
-/* The numbers of a text, one a line; returns how many, or the refusal at its line. */
-static uint64_t numbers_read(const uint8_t *text, size_t text_bytes, uint8_t *numbers, size_t numbers_bytes)
-{
-    size_t count = 0, at = 0;
-    for (; at < text_bytes; count++) {
-        const uint8_t *feed = memchr(text + at, '\n', text_bytes - at);
-        uint64_t number = 0;
-        if (feed == NULL)
-            return word_of(MZK_FORM, count + 1);
-        uint32_t refusal = read_number(text + at, feed - (text + at), &number);
-        if (refusal != MZK_ACCEPTED)
-            return word_of(refusal, count + 1);
-        if (WIDTH * (count + 1) <= numbers_bytes)
-            put_wide(numbers + WIDTH * count, number);
-        at = feed - text + 1;
-    }
-    return WIDTH * count <= numbers_bytes ? word_of(MZK_ACCEPTED, count) : word_of(MZK_TOO_SHORT, count);
-}
-
-/* The text of numbers, one a line; returns its bytes. There is room for the longest lines. */
-static uint64_t numbers_write(const uint8_t *numbers, size_t numbers_bytes, uint8_t *text, size_t text_bytes)
-{
-    char *at = (char *)text;
-    for (size_t k = 0; WIDTH * k < numbers_bytes; k++) {
-        long long number = (int64_t)number_in(numbers + WIDTH * k, WIDTH);
-        at += snprintf(at, text_bytes - (at - (char *)text), "%lld\n", number);
-    }
-    return word_of(MZK_ACCEPTED, at - (char *)text);
 }
 
 void read_list(struct list *list, const char *path)
@@ -80,7 +20,8 @@ void read_list(struct list *list, const char *path)
     }
     size_t most = WIDTH * (list->text.length / 2); /* a number and its line feed are two bytes at least */
     list->numbers = room(most);
-    list->count = accepted_list(&list->text, numbers_read(list->text.bytes, list->text.length, list->numbers, most));
+    uint64_t word = mzk_numbers_read(list->text.bytes, list->text.length, list->numbers, most);
+    list->count = accepted_list(&list->text, word);
 }
 
 void read_counted(struct list *list, const char *path, uint32_t wanted, const char *what, uint32_t refusal)
@@ -98,9 +39,9 @@ void free_list(struct list *list)
 
 struct text text_of(const uint8_t *numbers, uint32_t count)
 {
-    size_t most = LONGEST * (size_t)count + 1;
+    size_t most = MZK_LINE_BYTES * (size_t)count + 1;
     struct text text = { .name = "list", .bytes = room(most) };
-    text.length = accepted(&text, numbers_write(numbers, WIDTH * (size_t)count, text.bytes, most));
+    text.length = accepted(&text, mzk_numbers_write(numbers, WIDTH * (size_t)count, text.bytes, most));
     return text;
 }
 
