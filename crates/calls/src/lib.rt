@@ -1,6 +1,6 @@
 // A call on a run, by the lists that a caller lends: the checks, then what is asked.
 mod force_list;
-mod picks;
+pub mod picks;
 mod ready_set;
 
 use base::MATRIX;
@@ -67,7 +67,7 @@ pub struct Done {
 }
 
 // 5, 6, 8: whether the lists hold a matrix, its displacements and a plan that is sound for it.
-fn check_job(
+pub fn check_job(
     n: u32,
     starts: &[u32],
     columns: &[u32],

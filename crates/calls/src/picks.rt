@@ -55,7 +55,7 @@ fn rule_of(call: Call) -> Rule
 }
 
 // The place of an ending: the pick's index; 0 if none ended the picks.
-fn place_of(number: u32, past: usize) -> usize
+pub fn place_of(number: u32, past: usize) -> usize
     ensures { λ r. ⌜ r ≡ placeOf number past ⌝ }
 {
     if number == 0 { 0 } else { past }

@@ -84,11 +84,11 @@ module _ (j : Job) (ok : Accepted j) (count : ℕ) (groups : List ℕ) (is : j .
       go zero h = absurd (true≢false (sym h))
       go (suc c) h = sound-facts (apart (neighbours (j .matrix))) (j .matrix .n) (j .plan .order) (ofFields groups) (records c (drop width groups)) h .inOrder
 
-  group-at : (i : ℕ) → i < count → groupAt j i ≡ recordAt groups i
+  pub group-at : (i : ℕ) → i < count → groupAt j i ≡ recordAt groups i
   group-at i l = ap (λ (gs : List Group). getD gs i (ofFields [])) is ∙ record-get count groups i (ofFields []) l
 
   -- a record with no child after it is a leaf
-  leaf-of : (i : ℕ) → i < count → hasChild i (drop (suc i) (records count groups)) ≡ false → Leaf j i
+  pub leaf-of : (i : ℕ) → i < count → hasChild i (drop (suc i) (records count groups)) ≡ false → Leaf j i
   leaf-of i l h = record {
     inside = omega (arith, ap (λ (gs : List Group). length gs) is, length-records count groups);
     childless = ap (λ (gs : List Group). hasChild i (drop 1 gs)) is ∙ has-child i (belowWhole count groups) ∙ ap (λ (gs : List Group). not (isEmpty gs)) (children-later count groups nested i)

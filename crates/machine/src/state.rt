@@ -50,7 +50,7 @@ pub enum Rule {
 }
 
 // Whether a pick that is refused with this number is passed over.
-fn passes(rule: Rule, number: u32) -> bool
+pub fn passes(rule: Rule, number: u32) -> bool
     ensures { λ r. ⌜ r ≡ passesOver rule number ⌝ }
 {
     match rule {
@@ -75,7 +75,7 @@ pub struct Reached {
 }
 
 // A schedule that led to these counts and held numbers.
-fn ended(
+pub fn ended(
     made: [u32; MAX_WORKERS],
     held: [i64; MAX_WORKERS],
     taken: usize,

@@ -1,6 +1,6 @@
 // Steps: one load or store each.
-mod sum;
-mod updates;
+pub mod sum;
+pub mod updates;
 
 use base::DONE;
 use base::OVERFLOW;

@@ -6,13 +6,13 @@ const MOST: i64 = 9223372036854775807;
 
 const LEAST: i64 = -9223372036854775808;
 
-pub(crate) enum Sum {
+pub enum Sum {
     Fits(i64),
     Passes,
 }
 
 // a + b, where that is a signed number of 64 bits.
-pub(crate) fn add_checked(a: i64, b: i64) -> Sum
+pub fn add_checked(a: i64, b: i64) -> Sum
     ensures { λ r. ⌜ r ≡ sumOf a b ⌝ }
 {
     if b < 0 {

@@ -32,12 +32,7 @@ fn entry_place(parts: &[u32; MAX_ROWS], p: usize, k: usize) -> usize
 }
 
 // The position of its sum: the other row's, then the row's own.
-pub(crate) fn target_of(
-    parts: &[u32; MAX_ROWS],
-    at: &[u16; MAX_UPDATES],
-    p: usize,
-    k: usize,
-) -> usize
+pub fn target_of(parts: &[u32; MAX_ROWS], at: &[u16; MAX_UPDATES], p: usize, k: usize) -> usize
     requires { ⌜ (p < maxRows) × (entryPlace (now parts) p k < maxUpdates) ⌝ }
     ensures { λ r. ⌜ r ≡ targetIn (now (parts .entry)) (now (at .entry)) p k ⌝ }
 {
@@ -45,7 +40,7 @@ pub(crate) fn target_of(
 }
 
 // What it adds: the entry times the displacement of the row whose sum it is not.
-pub(crate) fn amount_of(
+pub fn amount_of(
     parts: &[u32; MAX_ROWS],
     displaced: &[i32; MAX_ROWS],
     at: &[u16; MAX_UPDATES],

@@ -1,17 +1,20 @@
--- Bytes of four a number: the bytes of numbers in two parts, and the bytes of the numbers that bytes hold.
+-- The bytes of numbers in two parts, and the bytes of the numbers that bytes hold.
 use mathlib.Core.Path.{_≡_, refl, sym, ap, ap₂, _∙_}
+use mathlib.Core.Bool.{Bool, true, false, cond}
 use mathlib.Core.List.{List, [], _∷_, _++_, map, map-append}
 use Prim.Native.Nat.{ℕ, zero, suc, _+_, _*_, _-_, _/_, _%_, _^_, _≤_, _<_}
-use native.Mathlib.Nat.{zero-add, suc-add, pow-suc}
+use native.Mathlib.Nat.{zero-add, suc-add, pow-suc, mul-zero, mul-suc}
 use native.Mathlib.Omega.{arith}
+use lib.Dec.{ltb}
+use lib.IntN.{pos, negsuc}
 use lib.ListN.{length, getD, take, drop, length-take, length-drop}
 use lib.Seq.{drop-drop, take-add, length-take-le}
 use Rattle.base.proofs.Each.{Each, each-take, each-drop}
 use Rattle.base.proofs.Lists.{concat-append}
-use Rattle.words.specs.LittleEndian.{number, bytesOf, blocks, unsigned, unsignedBytes}
+use Rattle.words.specs.LittleEndian.{number, bytesOf, toSigned, ofSigned, signedNumber, signedBytesOf, blocks, unsigned, unsignedBytes, signed, signedBytes}
 use Rattle.words.specs.code.Places.{fourAt}
 use Rattle.words.proofs.Digits.{length-bytesOf, four-at}
-use Rattle.words.proofs.Blocks.{decoded-at, length-encoded}
+use Rattle.words.proofs.Blocks.{decoded-at, encoded, length-encoded}
 
 -- ---- the bytes of numbers
 
@@ -59,15 +62,37 @@ later (suc i) m bytes =
     let next : 4 + 4 * i ≡ 4 * suc i = omega arith in
     rw (suc-add i m) (later i m (drop 4 bytes) ∙ ap (λ (bs : List ℕ). map number (blocks 4 m bs)) (drop-drop (4 * i) 4 bytes ∙ ap (λ (j : ℕ). drop j bytes) next))
 
-blocks-back : (k : ℕ) (bytes : List ℕ) → 4 * k ≤ length bytes → Each IsByte bytes → unsignedBytes 4 (map number (blocks 4 k bytes)) ≡ take (4 * k) bytes
-unfolding blocks
-blocks-back zero bytes l h = refl
-blocks-back (suc k) bytes l h =
-    let size : length (take 4 bytes) ≡ 4 = length-take-le 4 bytes (omega arith) in
-    let one : bytesOf 4 (number (take 4 bytes)) ≡ take 4 bytes = rw size at (bytesOf-number (take 4 bytes) (each-take IsByte 4 bytes h)) in
-    let rest = blocks-back k (drop 4 bytes) (rw (length-drop 4 bytes) (omega arith)) (each-drop IsByte 4 bytes h) in
-    let next : 4 * suc k ≡ 4 + 4 * k = omega arith in
-    ap₂ (λ (x y : List ℕ). x ++ y) one rest ∙ sym (take-add 4 (4 * k) bytes) ∙ ap (λ (j : ℕ). take j bytes) (sym next)
+-- f writes one number, and g reads it: the bytes of the first blocks' numbers are those that stand there
+module _ {A : Type 0} (f : A → List ℕ) (g : List ℕ → A) (width : ℕ) (same : (bs : List ℕ) → length bs ≡ width → Each IsByte bs → f (g bs) ≡ bs) where
+  pub blocks-back : (k : ℕ) (bytes : List ℕ) → width * k ≤ length bytes → Each IsByte bytes → encoded f (map g (blocks width k bytes)) ≡ take (width * k) bytes
+  unfolding blocks
+  blocks-back zero bytes l h = ap (λ (j : ℕ). take j bytes) (sym (mul-zero width))
+  blocks-back (suc k) bytes l h =
+      let next : width * suc k ≡ width + width * k = mul-suc width k ∙ omega arith in
+      let size : length (take width bytes) ≡ width = length-take-le width bytes (omega arith) in
+      let one : f (g (take width bytes)) ≡ take width bytes = same (take width bytes) size (each-take IsByte width bytes h) in
+      let rest = blocks-back k (drop width bytes) (rw (length-drop width bytes) (omega arith)) (each-drop IsByte width bytes h) in
+      ap₂ (λ (x y : List ℕ). x ++ y) one rest ∙ sym (take-add width (width * k) bytes) ∙ ap (λ (j : ℕ). take j bytes) (sym next)
+
+-- numbers of four bytes
+four-same : (bs : List ℕ) → length bs ≡ 4 → Each IsByte bs → bytesOf 4 (number bs) ≡ bs
+four-same bs e h = ap (λ (w : ℕ). bytesOf w (number bs)) (sym e) ∙ bytesOf-number bs h
+
+-- signed numbers of eight: all that such bytes hold
+ofSigned-toSigned : (v : ℕ) → v < 256 ^ 8 → ofSigned 8 (toSigned 8 v) ≡ v
+unfolding ofSigned toSigned
+ofSigned-toSigned v h = go (ltb (2 * v) (256 ^ 8)) refl
+  where
+    go : (b : Bool) → ltb (2 * v) (256 ^ 8) ≡ b → ofSigned 8 (cond b (pos v) (negsuc (256 ^ 8 - suc v))) ≡ v
+    go true e = refl
+    go false e = omega arith
+
+eight-same : (bs : List ℕ) → length bs ≡ 8 → Each IsByte bs → signedBytesOf 8 (signedNumber 8 bs) ≡ bs
+eight-same bs e h = ap (bytesOf 8) (ofSigned-toSigned (number bs) (number-small 8 bs (omega arith) h)) ∙ ap (λ (w : ℕ). bytesOf w (number bs)) (sym e) ∙ bytesOf-number bs h
+
+-- the bytes of the signed numbers that bytes hold
+pub signed-bytes : (bytes : List ℕ) → Each IsByte bytes → signedBytes 8 (signed 8 bytes) ≡ take (8 * (length bytes / 8)) bytes
+signed-bytes bytes h = blocks-back (signedBytesOf 8) (signedNumber 8) 8 eight-same (length bytes / 8) bytes (omega arith) h
 
 -- the bytes of k numbers from the i-th on are the bytes that stand there
 pub bytes-part : (i k : ℕ) (bytes : List ℕ) → 4 * (i + k) ≤ length bytes → Each IsByte bytes → unsignedBytes 4 (take k (drop i (unsigned 4 bytes))) ≡ take (4 * k) (drop (4 * i) bytes)
@@ -76,7 +101,7 @@ bytes-part i k bytes l h =
     let split : length bytes / 4 ≡ i + more = omega arith in
     let from : drop i (unsigned 4 bytes) ≡ map number (blocks 4 more (drop (4 * i) bytes)) = ap (λ (m : ℕ). drop i (map number (blocks 4 m bytes))) split ∙ later i more bytes in
     rw (from, front k more (drop (4 * i) bytes) (omega arith))
-    (blocks-back k (drop (4 * i) bytes) (rw (length-drop (4 * i) bytes) (omega arith)) (each-drop IsByte (4 * i) bytes h))
+    (blocks-back (bytesOf 4) number 4 four-same k (drop (4 * i) bytes) (rw (length-drop (4 * i) bytes) (omega arith)) (each-drop IsByte (4 * i) bytes h))
 
 -- they fit 32 bits
 pub numbers-small : (bytes : List ℕ) → Each IsByte bytes → Each (λ (v : ℕ). v < 2 ^ 32) (unsigned 4 bytes)

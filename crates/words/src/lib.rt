@@ -2,5 +2,5 @@
 pub mod copy;
 pub mod load;
 pub mod number;
-mod signs;
+pub mod signs;
 pub mod store;
