@@ -1,0 +1,4 @@
+pub mod Gates
+pub mod Tables
+pub mod Format
+pub mod PreparedRuns
