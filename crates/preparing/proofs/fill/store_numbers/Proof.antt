@@ -1,0 +1,85 @@
+-- `store_numbers` meets its contract: k numbers are stored.
+use mathlib.Core.Path.{_≡_, ap, _∙_}
+use mathlib.Core.List.{map}
+use Prim.Native.Nat.{ℕ, _-_}
+use native.Mathlib.Omega.{arith}
+use lib.ListN.{length, getD}
+use lib.Seq.{sets}
+use Rattle.base.specs.Lists.{concat, range}
+use Rattle.words.specs.LittleEndian.{unsignedBytes}
+use Rattle.preparing.proofs.Fills.{Filling, fill-none, fill-more, fourOf, four-long, four-pieces, listed}
+use borrow.Author.Needs.{needs}
+use Rattle.preparing.proofs.fill.store_numbers.Statement.{statement}
+use Rattle.preparing.proofs.fill.store_numbers.Tie as tie
+
+abbrev Inv-loop : tie.InvT-loop
+Inv-loop out₀ from numbers k₀ out k =
+    Filling (fourOf (λ i. getD numbers i 0)) 4 (four-long (λ i. getD numbers i 0)) out₀ from (length numbers) out k
+
+abbrev μ-loop : tie.MeasureT-loop
+μ-loop out₀ from numbers k₀ out k = length numbers - k
+
+loop-holds : tie.Need-loop-holds Inv-loop μ-loop
+loop-holds c =
+    let a = c .before .before .args in
+    fill-none (fourOf (λ i. getD (a .numbers .now) i 0)) 4 (four-long (λ i. getD (a .numbers .now) i 0)) (a .out .now) (a .from) (length (a .numbers .now))
+
+mul-write-u32 : tie.Need-mul-write-u32 Inv-loop μ-loop
+mul-write-u32 c = search needs
+
+add-write-u32 : tie.Need-add-write-u32 Inv-loop μ-loop
+add-write-u32 c = search needs
+
+mul-write-u32-2 : tie.Need-mul-write-u32-2 Inv-loop μ-loop
+mul-write-u32-2 c = search needs
+
+shared-slice-read-write-u32 : tie.Need-shared-slice-read-write-u32 Inv-loop μ-loop
+shared-slice-read-write-u32 c = search needs
+
+write-u32-requires : tie.Need-write-u32-requires Inv-loop μ-loop
+write-u32-requires c κs = search needs
+
+add-k : tie.Need-add-k Inv-loop μ-loop
+add-k c = search needs
+
+loop-less : tie.Need-loop-less Inv-loop μ-loop
+loop-less c = search needs
+
+loop-again : tie.Need-loop-again Inv-loop μ-loop
+loop-again c =
+    let w = c .before .before in
+    let t = w .before .before .before in
+    let l = t .before in
+    let a = l .before .before .before .args in
+    let f : ℕ → ℕ = λ i. getD (a .numbers .now) i 0 in
+    fill-more (fourOf f) 4 (four-long f) (a .out .now) (a .from) (length (a .numbers .now)) (l .loop .out) _ (l .loop .k) (t .loop-test .taken) (w .write-u32 .ensures) (l .loop .inv)
+
+same-length : tie.Need-same-length Inv-loop μ-loop
+same-length c = search needs
+
+returns : tie.Need-returns Inv-loop μ-loop
+returns c =
+    let l = c .before in
+    let a = l .before .before .before .args in
+    let f : ℕ → ℕ = λ i. getD (a .numbers .now) i 0 in
+    let e : l .loop .k ≡ length (a .numbers .now) = omega (arith, c .loop-test .left, l .loop .inv .far) in
+    l .loop .inv .is ∙ ap (λ (k : ℕ). sets (a .out .now) (a .from) (concat (map (fourOf f) (range 0 k)))) e
+    ∙ ap (sets (a .out .now) (a .from)) (four-pieces f (length (a .numbers .now)) ∙ ap (unsignedBytes 4) (listed (a .numbers .now)))
+
+pub store-numbers-spec : {M : Type 1} → statement M
+store-numbers-spec =
+    tie.close
+    (tie.spec
+    Inv-loop
+    μ-loop
+    loop-holds
+    mul-write-u32
+    add-write-u32
+    mul-write-u32-2
+    shared-slice-read-write-u32
+    write-u32-requires
+    add-k
+    loop-less
+    loop-again
+    same-length
+    returns)

@@ -1,0 +1,13 @@
+-- `own_end` meets its contract.
+use borrow.Author.Tests.{eq-eqb, ne-eqb}
+use Rattle.preparing.proofs.gates.own_end.Statement.{statement}
+use Rattle.preparing.proofs.gates.own_end.Tie as tie
+
+returns : tie.Need-returns
+returns c = rw (eq-eqb _ _ (c .if1 .taken))
+
+returns-2 : tie.Need-returns-2
+returns-2 c = rw (ne-eqb _ _ (c .if1 .left))
+
+pub own-end-spec : {M : Type 1} → statement M
+own-end-spec = tie.close (tie.spec returns returns-2)
