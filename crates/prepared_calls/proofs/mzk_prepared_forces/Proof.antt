@@ -1,0 +1,26 @@
+-- `mzk_prepared_forces` meets its contract.
+use mathlib.Core.Path.{ap, _∙_}
+use Rattle.run.specs.Answers.{Answer}
+use Rattle.lent.specs.Word.{word}
+use Rattle.answers.specs.Runs.{replyTo}
+use borrow.Author.Needs.{needs}
+use Rattle.prepared_calls.proofs.mzk_prepared_forces.Statement.{statement}
+use Rattle.prepared_calls.proofs.mzk_prepared_forces.Tie as tie
+
+forces-requires : tie.Need-forces-requires
+forces-requires c κs = search needs
+
+word-of-requires : tie.Need-word-of-requires
+word-of-requires c κs = search needs
+
+same-length : tie.Need-same-length
+same-length c = search needs
+
+returns : tie.Need-returns
+returns c =
+    let g = c .before .before .before .forces .ensures in
+    record { returns = c .word-of .ensures (g .made) ∙ ap (λ (a : Answer). word (replyTo a)) (g .answers); leaves = g .lists }
+
+pub mzk-prepared-forces-spec : {M : Type 1} → statement M
+mzk-prepared-forces-spec =
+    tie.close (tie.spec forces-requires word-of-requires same-length returns)

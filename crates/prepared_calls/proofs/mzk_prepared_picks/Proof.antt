@@ -1,0 +1,32 @@
+-- `mzk_prepared_picks` meets its contract: the picks are taken, then their word is made.
+use mathlib.Core.Path.{ap, _∙_}
+use mathlib.Core.List.{[]}
+use Rattle.run.specs.Answers.{Answer}
+use Rattle.lent.specs.Word.{word}
+use Rattle.answers.specs.Runs.{replyTo}
+use Rattle.rack.specs.code.Taken.{takes}
+use borrow.Author.Needs.{needs}
+use Rattle.prepared_calls.proofs.mzk_prepared_picks.Statement.{statement}
+use Rattle.prepared_calls.proofs.mzk_prepared_picks.Tie as tie
+
+take-requires : tie.Need-take-requires
+take-requires c κs = search needs
+
+word-of-requires : tie.Need-word-of-requires
+word-of-requires c κs = search needs
+
+same-length : tie.Need-same-length
+same-length c = search needs
+
+same-length-2 : tie.Need-same-length-2
+same-length-2 c = search needs
+
+returns : tie.Need-returns
+unfolding takes
+returns c =
+    let t = c .before .before .before .before .before .take .ensures in
+    record { returns = c .word-of .ensures [] ∙ ap (λ (a : Answer). word (replyTo a)) (t .answers); state-left = t .state-left; sums-left = t .sums-left }
+
+pub mzk-prepared-picks-spec : {M : Type 1} → statement M
+mzk-prepared-picks-spec =
+    tie.close (tie.spec take-requires word-of-requires same-length same-length-2 returns)

@@ -1,0 +1,21 @@
+-- `mzk_prepared_ready` meets its contract.
+use mathlib.Core.Path.{ap, _∙_}
+use mathlib.Core.List.{[]}
+use Rattle.run.specs.Answers.{Answer}
+use Rattle.lent.specs.Word.{word}
+use Rattle.answers.specs.Runs.{replyTo}
+use borrow.Author.Needs.{needs}
+use Rattle.prepared_calls.proofs.mzk_prepared_ready.Statement.{statement}
+use Rattle.prepared_calls.proofs.mzk_prepared_ready.Tie as tie
+
+ready-requires : tie.Need-ready-requires
+ready-requires c κs = search needs
+
+word-of-requires : tie.Need-word-of-requires
+word-of-requires c κs = search needs
+
+returns : tie.Need-returns
+returns c = c .word-of .ensures [] ∙ ap (λ (a : Answer). word (replyTo a)) (c .before .ready .ensures .0 [])
+
+pub mzk-prepared-ready-spec : {M : Type 1} → statement M
+mzk-prepared-ready-spec = tie.close (tie.spec ready-requires word-of-requires returns)

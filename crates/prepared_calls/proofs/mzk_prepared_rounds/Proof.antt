@@ -1,0 +1,31 @@
+-- `mzk_prepared_rounds` meets its contract: the picks are taken, then their word is made.
+use mathlib.Core.Path.{ap, _∙_}
+use mathlib.Core.List.{[]}
+use Rattle.run.specs.Answers.{Answer}
+use Rattle.answers.specs.Runs.{roundWord}
+use Rattle.rack.specs.code.Taken.{takes}
+use borrow.Author.Needs.{needs}
+use Rattle.prepared_calls.proofs.mzk_prepared_rounds.Statement.{statement}
+use Rattle.prepared_calls.proofs.mzk_prepared_rounds.Tie as tie
+
+take-requires : tie.Need-take-requires
+take-requires c κs = search needs
+
+word-of-round-requires : tie.Need-word-of-round-requires
+word-of-round-requires c κs = search needs
+
+same-length : tie.Need-same-length
+same-length c = search needs
+
+same-length-2 : tie.Need-same-length-2
+same-length-2 c = search needs
+
+returns : tie.Need-returns
+unfolding takes
+returns c =
+    let t = c .before .before .before .before .before .take .ensures in
+    record { returns = c .word-of-round .ensures [] ∙ ap (λ (a : Answer). roundWord a) (t .answers); state-left = t .state-left; sums-left = t .sums-left }
+
+pub mzk-prepared-rounds-spec : {M : Type 1} → statement M
+mzk-prepared-rounds-spec =
+    tie.close (tie.spec take-requires word-of-round-requires same-length same-length-2 returns)

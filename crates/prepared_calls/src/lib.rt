@@ -1,0 +1,65 @@
+// The C interface: the calls on a prepared list.
+use answers::word::word_of;
+use answers::word::word_of_round;
+use machine::state::Rule;
+use rack::ready;
+use rack::take;
+ghost use mathlib.Core.Path.{_≡_};
+ghost use Prim.Native.Nat.{_/_};
+ghost use lib.ListN.{length};
+ghost use Rattle.run.specs.Answers.{readySet, forceList, rounds};
+ghost use Rattle.run.specs.Answers as calls;
+ghost use Rattle.lent.specs.Word.{word};
+ghost use Rattle.answers.specs.Runs.{replyTo, ForcesAnswered};
+ghost use Rattle.rack.specs.Held.{answerHeld, HeldPicks, HeldRounds};
+
+// A list of picks, made one load or store at a time.
+#[no_mangle]
+pub extern "C" fn mzk_prepared_picks(
+    prepared: &[u8],
+    state: &mut [u8],
+    sums: &mut [u8],
+    picks: &[u8],
+) -> u64
+    ensures { λ r. ⌜ HeldPicks (now (prepared .entry)) (now (state .entry)) (now (sums .entry)) (calls.picks (now (picks .entry))) r (now (state .exit)) (now (sums .exit)) ⌝ }
+{
+    let answer = take(prepared, state, sums, picks, Rule::Stop);
+    word_of(answer)
+}
+
+// .. those whose workers are done or wait are passed over.
+#[no_mangle]
+pub extern "C" fn mzk_prepared_rounds(
+    prepared: &[u8],
+    state: &mut [u8],
+    sums: &mut [u8],
+    picks: &[u8],
+) -> u64
+    ensures { λ r. ⌜ HeldRounds (now (prepared .entry)) (now (state .entry)) (now (sums .entry)) (rounds (now (picks .entry))) r (now (state .exit)) (now (sums .exit)) ⌝ }
+{
+    let answer = take(prepared, state, sums, picks, Rule::Skip);
+    word_of_round(answer)
+}
+
+// The workers whose next pick would be taken.
+#[no_mangle]
+pub extern "C" fn mzk_prepared_ready(prepared: &[u8], state: &[u8], sums: &[u8]) -> u64
+    ensures { λ r. ⌜ r ≡ word (replyTo (answerHeld (now (prepared .entry)) (now (state .entry)) (now (sums .entry)) readySet)) ⌝ }
+{
+    let answer = ready(prepared, state, sums);
+    word_of(answer)
+}
+
+// The forces of a finished run.
+#[no_mangle]
+pub extern "C" fn mzk_prepared_forces(
+    prepared: &[u8],
+    state: &[u8],
+    sums: &[u8],
+    forces: &mut [u8],
+) -> u64
+    ensures { λ r. ⌜ ForcesAnswered (answerHeld (now (prepared .entry)) (now (state .entry)) (now (sums .entry)) (forceList (length (now (forces .entry)) / 8))) (now (forces .entry)) r (now (forces .exit)) ⌝ }
+{
+    let answer = rack::forces(prepared, state, sums, forces);
+    word_of(answer)
+}

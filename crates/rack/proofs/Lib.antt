@@ -1,0 +1,4 @@
+pub mod Refused
+pub mod Takes
+pub mod Gives
+pub mod HeldRuns

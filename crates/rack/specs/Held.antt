@@ -1,0 +1,36 @@
+-- The calls on a prepared list, any whatever, and a run whose state and sums stand in bytes.
+use mathlib.Core.Bool.{cond}
+use mathlib.Core.List.{List}
+use Prim.Native.Nat.{ℕ, _%_, _^_}
+use lib.Dec.{eqb}
+use lib.ListN.{length}
+use Rattle.base.specs.Refusals as why
+use Rattle.base.specs.Replies.{inTurn}
+use Rattle.run.specs.Answers.{Call, Answer, picked, isReady, forces, denied, previewed}
+use Rattle.lent.specs.Word.{word}
+use Rattle.answers.specs.Runs.{stateBytes, stateIn, replyTo, roundWord, Moved}
+use Rattle.prepared.specs.PreparedRuns.{preparedCheck, answerPrepared, afterPrepared}
+
+-- a call's answer: 26 comes before 11, which a state of another length is refused with, too
+unfoldable pub answerHeld : (list state sums : List ℕ) → Call → Answer
+answerHeld list state sums c = cond (eqb (length state) stateBytes) (answerPrepared list (stateIn state sums) c) (inTurn denied (preparedCheck list) (denied why.notState 0))
+
+-- what a word has room for: of more than 24 bits of moves and of more than 32 bits of an index the low ones. The list of
+-- a job never has so many moves.
+unfoldable pub fitting : Answer → Answer
+fitting (picked taken number place) = picked (taken % 2 ^ 24) number (place % 2 ^ 32)
+fitting (isReady bits count) = isReady bits count
+fitting (forces zs) = forces zs
+fitting (denied number place) = denied number place
+fitting (previewed taken number place bits count) = previewed taken number place bits count
+
+-- a call that takes picks: the returned word, and the lent lists after it
+abbrev pub HeldMoved : (told : Answer → ℕ) (list state sums : List ℕ) → Call → (returned : ℕ) (newState newSums : List ℕ) → Type 0
+HeldMoved told list state sums c = Moved (told (fitting (answerHeld list state sums c))) (answerHeld list state sums c) (afterPrepared list (stateIn state sums) c) state sums
+
+-- of picks, and of rounds
+abbrev pub HeldPicks : (list state sums : List ℕ) → Call → (returned : ℕ) (newState newSums : List ℕ) → Type 0
+HeldPicks = HeldMoved (λ a. word (replyTo a))
+
+abbrev pub HeldRounds : (list state sums : List ℕ) → Call → (returned : ℕ) (newState newSums : List ℕ) → Type 0
+HeldRounds = HeldMoved roundWord
