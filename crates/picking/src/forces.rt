@@ -1,10 +1,10 @@
 // The sums of a finished run, from plan order into original order.
-use crate::gates::GATE;
-use crate::places::HEAD;
-use crate::places::UPDATE;
 use crate::places::load_at;
 use crate::places::number_at;
 use crate::places::store_at;
+use prepared::GATE;
+use prepared::HEAD;
+use prepared::UPDATE;
 ghost use mathlib.Core.Path.{_≡_};
 ghost use Prim.Native.Nat.{_*_, _/_, _≤_};
 ghost use lib.ListN.{length};

@@ -1,14 +1,12 @@
 // The gates of a prepared list: whether a row may be worked at these counts.
 use plan::MAX_WORKERS;
+use prepared::GATE;
 use words::number::read_u32;
 ghost use mathlib.Core.Path.{_≡_};
 ghost use Prim.Native.Nat.{_+_, _*_, _≤_};
 ghost use lib.ListN.{length};
 ghost use Rattle.prepared.specs.Gates.{behind};
 ghost use Rattle.picking.specs.code.Reads.{gateAt, shutAt};
-
-// The bytes of a row's sixteen numbers.
-pub(crate) const GATE: usize = 64;
 
 // Some worker has made fewer accesses than its number, which stand from a place on.
 fn is_behind(list: &[u8], at: usize, made: &[u32; MAX_WORKERS]) -> bool

@@ -1,8 +1,11 @@
 // The head of a prepared list, and what it says of counts.
-use crate::places::HEAD;
-use crate::places::UPDATE;
 use crate::places::number_at;
 use plan::MAX_WORKERS;
+use prepared::HEAD;
+use prepared::MARK;
+use prepared::MOST;
+use prepared::ROW;
+use prepared::UPDATE;
 use words::number::read_u32;
 ghost use mathlib.Core.Path.{_≡_};
 ghost use mathlib.Core.Bool.{true};
@@ -12,15 +15,6 @@ ghost use Rattle.prepared.specs.Format.{isPrepared};
 ghost use Rattle.prepared.specs.Tables.{countsFineBy, allMadeBy};
 ghost use Rattle.picking.specs.code.Picks.{tablesIn};
 ghost use Rattle.picking.specs.code.Reads.{Head};
-
-// "MZKP", low byte first.
-const MARK: u32 = 1347115597;
-
-// The bytes of a row's gate and its position.
-const ROW: usize = 68;
-
-// Where the accesses of each worker stand.
-pub(crate) const MOST: usize = 16;
 
 // What a head says: the rows, the workers of the plan, the updates.
 pub struct Sizes {

@@ -1,9 +1,6 @@
 // One pick by a prepared list, any whatever, on the bytes of the sums.
 use crate::gates::is_shut;
-use crate::head::MOST;
 use crate::places::Entry;
-use crate::places::HEAD;
-use crate::places::UPDATE;
 use crate::places::load_at;
 use crate::places::number_at;
 use crate::places::store_at;
@@ -13,6 +10,10 @@ use base::OVERFLOW;
 use base::STRANGER;
 use base::WAITING;
 use plan::MAX_WORKERS;
+use prepared::FIRST;
+use prepared::HEAD;
+use prepared::MOST;
+use prepared::UPDATE;
 use steps::sum::Sum;
 use steps::sum::add_checked;
 use words::number::read_u32;
@@ -27,9 +28,6 @@ ghost use Rattle.prepared.specs.Format.{gatesFrom};
 ghost use Rattle.prepared.specs.Tables.{nextBy, refusalBy};
 ghost use Rattle.picking.specs.code.Reads.{updateOf, updateAt, numberNext, Head};
 ghost use Rattle.picking.specs.code.Picks.{tablesIn, Opened, Seen, SumsKept};
-
-// Where the first update of each worker stands.
-const FIRST: usize = 80;
 
 // The number of the update that a worker's access belongs to, after so many: an update is a load and its store.
 fn update_number(accesses: u32) -> usize

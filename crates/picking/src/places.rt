@@ -1,4 +1,6 @@
 // Numbers at their places: in a prepared list, and in the bytes of the sums.
+use prepared::HEAD;
+use prepared::UPDATE;
 use words::number::read_u32;
 use words::number::read_u64;
 use words::number::write_u64;
@@ -9,11 +11,6 @@ ghost use Prim.Native.Nat.{_+_, _*_, _^_, _≤_, _<_};
 ghost use lib.ListN.{length};
 ghost use Rattle.words.specs.code.Places.{fourAt};
 ghost use Rattle.picking.specs.code.Reads.{loadedAt, storedAt, updateOf, updateAt};
-
-// Where the updates begin, and the bytes of each.
-pub(crate) const HEAD: usize = 144;
-
-pub(crate) const UPDATE: usize = 16;
 
 // An update: what it adds, the position of its sum, and of its row.
 pub struct Entry {

@@ -3,6 +3,7 @@ use crate::table::GATES;
 use base::shorts::wide;
 use matrix::limits::MAX_ROWS;
 use plan::MAX_WORKERS;
+use prepared::UPDATE;
 use steps::updates::amount_of;
 use steps::updates::target_of;
 use tables::MAX_UPDATES;
@@ -85,7 +86,7 @@ pub fn store_updates(
         let c = k - base::numbers::wide(begins[p]);
         let target = target_of(parts, at, p, c);
         let amount = amount_of(parts, displaced, at, beside, p, c);
-        store_update(out, from + k * 16, amount, target, p);
+        store_update(out, from + k * UPDATE, amount, target, p);
         k += 1;
     }
 }

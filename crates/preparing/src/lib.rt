@@ -16,6 +16,9 @@ use plan::MAX_GROUPS;
 use plan::MAX_WORKERS;
 use plan::fields::WIDTH;
 use plan::fields::record_at;
+use prepared::HEAD;
+use prepared::ROW;
+use prepared::UPDATE;
 use rows::head_numbers;
 use rows::put_positions;
 use table::all_gates;
@@ -44,14 +47,6 @@ ghost use Rattle.steps.specs.code.Updates.{Triangle};
 ghost use Rattle.words.specs.LittleEndian.{unsignedBytes};
 ghost use Rattle.prepared.specs.Format.{headBytes, gatesFrom, gateBytes, rowBytes, bytesOfUpdate, headOf, listsOf};
 ghost use Rattle.preparing.specs.code.Prepared.{PreparedIn};
-
-// Where the updates begin, and the bytes of each.
-const HEAD: usize = 144;
-
-const UPDATE: usize = 16;
-
-// The bytes of a row: its gate and its position.
-const ROW: usize = 68;
 
 // Writes the head, by where each worker's updates begin.
 fn store_head(out: &mut [u8], n: u32, crew: u32, first: [u32; FIRSTS])

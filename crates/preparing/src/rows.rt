@@ -2,6 +2,7 @@
 use base::slices::wide_at;
 use matrix::limits::MAX_ROWS;
 use plan::MAX_WORKERS;
+use prepared::MARK;
 use steps::accesses;
 use tables::FIRSTS;
 ghost use mathlib.Core.Path.{_≡_};
@@ -12,9 +13,6 @@ ghost use Rattle.matrix.specs.Limits.{maxRows};
 ghost use Rattle.plan.specs.Sound.{maxWorkers, eachOnce};
 ghost use Rattle.tables.specs.code.Laid.{Rising};
 ghost use Rattle.preparing.specs.code.Rows.{Positions, HeadTo};
-
-// "MZKP", low byte first.
-const MARK: u32 = 1347115597;
 
 // The numbers of a head: four, and two for each worker.
 pub const NUMBERS: usize = 36;
