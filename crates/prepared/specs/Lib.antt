@@ -1,4 +1,5 @@
 pub mod Gates
 pub mod Tables
 pub mod Format
+pub mod Prepare
 pub mod PreparedRuns

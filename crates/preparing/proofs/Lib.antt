@@ -5,3 +5,4 @@ pub mod Heads
 pub mod LeafGates
 pub mod Lists
 pub mod Written
+pub mod Prepares

@@ -20,6 +20,7 @@ use Rattle.prepared.specs.Gates.{gate}
 use Rattle.prepared.specs.Format.{headBytes, updateBytes, gateBytes, rowBytes, gatesFrom, bytesOfUpdate, headOf, bytesOfLists, listsOf, preparedBytes}
 use Rattle.prepared.proofs.ReadBack.{update-code, head-long, gates-long, lists-long}
 use Rattle.prepared.proofs.JobFits.{job-fits}
+use Rattle.prepared.specs.Prepare.{listReply}
 use Rattle.preparing.specs.code.Prepared.{PreparedIn}
 use Rattle.preparing.proofs.Fills.{sets-append}
 
@@ -77,9 +78,9 @@ module _ (j : Job) (ok : Accepted j) where
 
 module _ (j : Job) (old : List ℕ) {size : ℕ} (e : size ≡ length (preparedBytes j)) where
   pub prepare-short : length old < size → PreparedIn j old (refused why.tooShort size) old
-  unfolding inTurn lent
+  unfolding inTurn lent listReply
   prepare-short l = record { replies = rw (e, lt-leb (length (preparedBytes j)) (length old) (omega arith)) refl; leaves = refl }
 
   pub prepare-done : size ≤ length old → {new : List ℕ} → new ≡ preparedBytes j ++ drop (length (preparedBytes j)) old → PreparedIn j old (accepted size) new
-  unfolding inTurn lent
+  unfolding inTurn lent listReply
   prepare-done l w = record { replies = rw (e, le-leb (length (preparedBytes j)) (length old) (omega arith)) refl; leaves = w }

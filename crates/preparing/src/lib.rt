@@ -6,6 +6,7 @@ pub mod table;
 
 use base::SHORT;
 use base::Verdict;
+use calls::check_job;
 use fill::store_gates;
 use fill::store_numbers;
 use fill::store_updates;
@@ -46,6 +47,7 @@ ghost use Rattle.layout.specs.code.UpdateTable.{Given, Planned};
 ghost use Rattle.steps.specs.code.Updates.{Triangle};
 ghost use Rattle.words.specs.LittleEndian.{unsignedBytes};
 ghost use Rattle.prepared.specs.Format.{headBytes, gatesFrom, gateBytes, rowBytes, bytesOfUpdate, headOf, listsOf};
+ghost use Rattle.prepared.specs.Prepare.{PreparedFrom};
 ghost use Rattle.preparing.specs.code.Prepared.{PreparedIn};
 
 // Writes the head, by where each worker's updates begin.
@@ -125,7 +127,7 @@ fn size_of(n: usize, count: u32) -> usize
 }
 
 // Writes the prepared list of an accepted job, if there is room for it.
-pub fn prepare(
+fn store_job(
     n: u32,
     starts: &[u32],
     columns: &[u32],
@@ -178,4 +180,46 @@ pub fn prepare(
     );
     store_places(out, size - 4 * rows, rows, order);
     Verdict::Accepted(size as u32)
+}
+
+// The prepared list of the job in the lent lists, if they hold one and there is room.
+pub fn prepare(
+    n: u32,
+    starts: &[u32],
+    columns: &[u32],
+    values: &[i32],
+    displacements: &[i32],
+    order: &[u32],
+    groups: &[u32],
+    count: u32,
+    out: &mut [u8],
+) -> Verdict
+    ensures { λ r. ⌜ PreparedFrom (matrixOf n (now (starts .entry)) (now (columns .entry)) (now (values .entry))) (now (displacements .entry)) (now (order .entry)) (now (groups .entry)) count
+        (now (out .entry)) (replyOf r) (now (out .exit)) ⌝ }
+{
+    let checked = check_job(
+        n,
+        starts,
+        columns,
+        values,
+        displacements,
+        order,
+        groups,
+        count,
+    );
+    if let Verdict::Refused(number, place) = checked {
+        return Verdict::Refused(number, place);
+    }
+    let size = WIDTH * count as usize;
+    let records = &groups[..size];
+    store_job(
+        n,
+        starts,
+        columns,
+        values,
+        displacements,
+        order,
+        records,
+        out,
+    )
 }
