@@ -10,16 +10,19 @@ use Rattle.base.specs.Refusals as why
 use Rattle.base.specs.Replies.{inTurn}
 use Rattle.base.proofs.Replies.{inTurn-all}
 use Rattle.matrix.specs.Matrix.{Matrix}
-use Rattle.run.specs.Answers.{Call, denied}
-use Rattle.run.specs.Calls.{jobChecks}
+use Rattle.run.specs.Answers.{Call, picks, rounds, Answer, denied}
+use Rattle.run.specs.Calls.{jobChecks, afterLent}
 use Rattle.run.specs.Job.{jobOf}
 use Rattle.run.specs.LentRuns.{passed}
-use Rattle.answers.specs.Runs.{stateBytes, stateIn, answerIn}
+use Rattle.lent.specs.Word.{word}
+use Rattle.answers.specs.Runs.{stateBytes, stateIn, answerIn, replyTo, roundWord, Moved}
+use Rattle.answers.specs.code.Ran.{Plain}
 use Rattle.prepared.specs.Format.{preparedBytes}
-use Rattle.prepared.specs.PreparedRuns.{preparedCheck, PreparedRun}
+use Rattle.prepared.specs.PreparedRuns.{preparedCheck, afterPrepared, PreparedRun}
 use Rattle.prepared.proofs.PreparedRuns.{prepared-runs}
-use Rattle.rack.specs.Held.{answerHeld}
+use Rattle.rack.specs.Held.{fitting, answerHeld, HeldMoved}
 use Rattle.rack.specs.HeldRuns.{HeldRun, HeldRuns}
+use Rattle.rack.proofs.Fitting.{told-fits, fitting-same, round-same}
 
 module _ (m : Matrix) (x : List ℤ) (order groups : List ℕ) (count : ℕ) (ok : passed m x order groups count ≡ true) (rest : List ℕ) where
   run : PreparedRun m x order groups count
@@ -41,8 +44,26 @@ module _ (m : Matrix) (x : List ℤ) (order groups : List ℕ) (count : ℕ) (ok
       go true e = rw e (run .answered rest (stateIn state sums) c)
       go false e = rw e refused
 
+  left : (state sums : List ℕ) (c : Call) → afterPrepared list (stateIn state sums) c ≡ afterLent m x order groups count (stateIn state sums) c
+  left state sums c = run .left rest (stateIn state sums) c
+
+  -- a call that takes picks, whose word has room for what it tells
+  taken : (told : Answer → ℕ) (state sums : List ℕ) (c : Call) → told (fitting (answerIn m x order groups count state sums c)) ≡ told (answerIn m x order groups count state sums c)
+      → {returned : ℕ} {newState newSums : List ℕ} → HeldMoved told list state sums c returned newState newSums
+      → Moved (told (answerIn m x order groups count state sums c)) (answerIn m x order groups count state sums c) (afterLent m x order groups count (stateIn state sums) c) state sums returned newState newSums
+  taken told state sums c room h =
+      let g = rw (answered state sums c, left state sums c) at h in
+      record { returns = g .returns ∙ room; state-left = g .state-left; sums-left = g .sums-left }
+
   held-run : HeldRun m x order groups count rest
-  held-run = record { answered = answered; left = λ state sums c. run .left rest (stateIn state sums) c }
+  unfolding Plain
+  held-run = record {
+    answered = answered;
+    left = left;
+    picked = λ state sums ws returned newState newSums h.
+        taken (λ a. word (replyTo a)) state sums (picks ws) (ap (λ (a : Answer). word (replyTo a)) (fitting-same (picks ws) tt _ (told-fits m x order groups count state sums (picks ws)))) h;
+    rounded = λ state sums ws returned newState newSums h. taken roundWord state sums (rounds ws) (round-same (rounds ws) _ (told-fits m x order groups count state sums (rounds ws))) h;
+  }
 
 -- the theorem
 pub held-runs : HeldRuns

@@ -1,4 +1,5 @@
 pub mod Refused
 pub mod Takes
 pub mod Gives
+pub mod Fitting
 pub mod HeldRuns
