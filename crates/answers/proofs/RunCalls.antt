@@ -66,7 +66,7 @@ module _ {A : Type 0} (refuse : (number place : ℕ) → A) (f : Job → A)
   abbrev made : Matrix → List ℤ → (order groups : List ℕ) → A
   made m x order groups = inTurn refuse (jobChecks m x order groups count) (f (jobOf m x order groups count))
 
-  job-cut : made (cut m) (take maxStarts x) (take maxRows order) (take maxFields groups) ≡ made m x order groups
+  pub job-cut : made (cut m) (take maxStarts x) (take maxRows order) (take maxFields groups) ≡ made m x order groups
   unfolding jobChecks matrixCheck planCheck jobOf
   job-cut =
       rw (cut-matrix m)

@@ -3,3 +3,4 @@ pub mod Takes
 pub mod Gives
 pub mod Fitting
 pub mod HeldRuns
+pub mod Prepares

@@ -1,15 +1,24 @@
--- The calls on a prepared list, any whatever, and a run whose state and sums stand in bytes.
+-- The call that prepares a job; the calls on a prepared list, any whatever, and a run whose state and sums stand in bytes.
 use mathlib.Core.Bool.{cond}
 use mathlib.Core.List.{List}
 use Prim.Native.Nat.{ℕ, _%_, _^_}
 use lib.Dec.{eqb}
+use lib.IntN.{ℤ}
 use lib.ListN.{length}
 use Rattle.base.specs.Refusals as why
 use Rattle.base.specs.Replies.{inTurn}
+use Rattle.matrix.specs.Matrix.{Matrix}
+use Rattle.run.specs.Job.{jobOf}
 use Rattle.run.specs.Answers.{Call, Answer, picked, isReady, forces, denied, previewed}
-use Rattle.lent.specs.Word.{word}
+use Rattle.lent.specs.Word.{word, Answered}
 use Rattle.answers.specs.Runs.{stateBytes, stateIn, replyTo, roundWord, Moved}
+use Rattle.prepared.specs.Format.{preparedBytes}
+use Rattle.prepared.specs.Prepare.{prepareReply}
 use Rattle.prepared.specs.PreparedRuns.{preparedCheck, answerPrepared, afterPrepared}
+
+-- prepare: the returned word, and the lent list after it
+abbrev pub PrepareAnswered : Matrix → List ℤ → (order groups : List ℕ) (count : ℕ) (old : List ℕ) (returned : ℕ) (new : List ℕ) → Type 0
+PrepareAnswered m x order groups count old = Answered (prepareReply m x order groups count (length old)) (preparedBytes (jobOf m x order groups count)) old
 
 -- a call's answer: 26 comes before 11, which a state of another length is refused with, too
 unfoldable pub answerHeld : (list state sums : List ℕ) → Call → Answer

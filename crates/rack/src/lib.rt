@@ -1,4 +1,7 @@
-// The calls on a prepared list and a run whose state and sums stand in bytes: the sums are changed in place.
+// The calls on a prepared list and a run whose state and sums stand in bytes: the sums are changed in place. And
+// how such a list is made.
+pub mod prepare;
+
 use answers::state::STATE_BYTES;
 use answers::state::load_state;
 use answers::state::store_state;
