@@ -6,6 +6,7 @@ pub mod control_number;
 pub mod join;
 pub mod nets;
 pub mod number_lists;
+pub mod prepared_runs;
 pub mod preview;
 pub mod read_plan;
 pub mod rounds;

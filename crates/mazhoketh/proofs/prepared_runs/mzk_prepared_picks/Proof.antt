@@ -6,8 +6,8 @@ use Rattle.lent.specs.Word.{word}
 use Rattle.answers.specs.Runs.{replyTo}
 use Rattle.rack.specs.code.Taken.{takes}
 use borrow.Author.Needs.{needs}
-use Rattle.prepared_calls.proofs.mzk_prepared_picks.Statement.{statement}
-use Rattle.prepared_calls.proofs.mzk_prepared_picks.Tie as tie
+use Rattle.mazhoketh.proofs.prepared_runs.mzk_prepared_picks.Statement.{statement}
+use Rattle.mazhoketh.proofs.prepared_runs.mzk_prepared_picks.Tie as tie
 
 take-requires : tie.Need-take-requires
 take-requires c κs = search needs

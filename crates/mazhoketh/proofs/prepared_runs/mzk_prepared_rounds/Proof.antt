@@ -5,8 +5,8 @@ use Rattle.run.specs.Answers.{Answer}
 use Rattle.answers.specs.Runs.{roundWord}
 use Rattle.rack.specs.code.Taken.{takes}
 use borrow.Author.Needs.{needs}
-use Rattle.prepared_calls.proofs.mzk_prepared_rounds.Statement.{statement}
-use Rattle.prepared_calls.proofs.mzk_prepared_rounds.Tie as tie
+use Rattle.mazhoketh.proofs.prepared_runs.mzk_prepared_rounds.Statement.{statement}
+use Rattle.mazhoketh.proofs.prepared_runs.mzk_prepared_rounds.Tie as tie
 
 take-requires : tie.Need-take-requires
 take-requires c κs = search needs

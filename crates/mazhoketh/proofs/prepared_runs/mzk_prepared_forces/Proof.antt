@@ -4,8 +4,8 @@ use Rattle.run.specs.Answers.{Answer}
 use Rattle.lent.specs.Word.{word}
 use Rattle.answers.specs.Runs.{replyTo}
 use borrow.Author.Needs.{needs}
-use Rattle.prepared_calls.proofs.mzk_prepared_forces.Statement.{statement}
-use Rattle.prepared_calls.proofs.mzk_prepared_forces.Tie as tie
+use Rattle.mazhoketh.proofs.prepared_runs.mzk_prepared_forces.Statement.{statement}
+use Rattle.mazhoketh.proofs.prepared_runs.mzk_prepared_forces.Tie as tie
 
 forces-requires : tie.Need-forces-requires
 forces-requires c κs = search needs

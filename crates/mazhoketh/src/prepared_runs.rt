@@ -1,7 +1,8 @@
-// The C interface: the calls on a prepared list.
+// A job prepared once, and the calls on its list.
 use answers::word::word_of;
 use answers::word::word_of_round;
 use machine::state::Rule;
+use rack::prepare::prepare_in;
 use rack::ready;
 use rack::take;
 ghost use mathlib.Core.Path.{_≡_};
@@ -9,9 +10,40 @@ ghost use Prim.Native.Nat.{_/_};
 ghost use lib.ListN.{length};
 ghost use Rattle.run.specs.Answers.{readySet, forceList, rounds};
 ghost use Rattle.run.specs.Answers as calls;
+ghost use Rattle.words.specs.LittleEndian.{unsigned, signed};
+ghost use Rattle.lent.specs.Bytes.{matrixIn};
 ghost use Rattle.lent.specs.Word.{word};
 ghost use Rattle.answers.specs.Runs.{replyTo, ForcesAnswered};
-ghost use Rattle.rack.specs.Held.{answerHeld, HeldPicks, HeldRounds};
+ghost use Rattle.rack.specs.Held.{PrepareAnswered, answerHeld, HeldPicks, HeldRounds};
+
+// The prepared list of a job.
+#[no_mangle]
+pub extern "C" fn mzk_prepare(
+    n: u32,
+    row_starts: &[u8],
+    columns: &[u8],
+    values: &[u8],
+    movements: &[u8],
+    order: &[u8],
+    groups: &[u8],
+    group_count: u32,
+    prepared: &mut [u8],
+) -> u64
+    ensures { λ r. ⌜ PrepareAnswered (matrixIn n (now («row_starts» .entry)) (now (columns .entry)) (now (values .entry))) (signed 4 (now (movements .entry))) (unsigned 4 (now (order .entry))) (unsigned 4 (now (groups .entry))) «group_count»
+        (now (prepared .entry)) r (now (prepared .exit)) ⌝ }
+{
+    prepare_in(
+        n,
+        row_starts,
+        columns,
+        values,
+        movements,
+        order,
+        groups,
+        group_count,
+        prepared,
+    )
+}
 
 // A list of picks, made one load or store at a time.
 #[no_mangle]

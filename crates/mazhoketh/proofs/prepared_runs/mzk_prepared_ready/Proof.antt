@@ -5,8 +5,8 @@ use Rattle.run.specs.Answers.{Answer}
 use Rattle.lent.specs.Word.{word}
 use Rattle.answers.specs.Runs.{replyTo}
 use borrow.Author.Needs.{needs}
-use Rattle.prepared_calls.proofs.mzk_prepared_ready.Statement.{statement}
-use Rattle.prepared_calls.proofs.mzk_prepared_ready.Tie as tie
+use Rattle.mazhoketh.proofs.prepared_runs.mzk_prepared_ready.Statement.{statement}
+use Rattle.mazhoketh.proofs.prepared_runs.mzk_prepared_ready.Tie as tie
 
 ready-requires : tie.Need-ready-requires
 ready-requires c κs = search needs
