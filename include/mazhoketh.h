@@ -46,6 +46,7 @@ enum {
     MZK_WRITTEN_BYTES = 720963,  /* a text that is written, at most: 51 + 16 + 32,768 x 22 */
     MZK_FILE_BYTES = 28 + 4 * MZK_ROWS + 4 * MZK_GROUP_FIELDS * MZK_GROUPS_LIMIT, /* a plan file, at most */
     MZK_UNIT_BYTES = 10,         /* a barrier unit */
+    MZK_PREPARED_BYTES = 1392784, /* a prepared list, at most */
     MZK_STACK_BYTES = 2621440    /* the stack of a call, at most */
 };
 
@@ -84,7 +85,8 @@ enum {
     MZK_BEYOND = 22,      /* a new movement or value beyond its limit */
     MZK_PLACES = 23,      /* not one place for each row of the second matrix, or a place repeats or leaves a gap */
     MZK_LIMITS = 24,      /* the joined matrix has too many rows or entries, or a value too large */
-    MZK_NO_REGISTER = 25  /* a barrier unit has no register above 5 */
+    MZK_NO_REGISTER = 25, /* a barrier unit has no register above 5 */
+    MZK_UNPREPARED = 26   /* not a prepared list, or less of one than its head says */
 };
 
 /* The matrix of a text, in full rows, into row_starts, columns and values; returns its number of rows. It has one row
@@ -371,6 +373,54 @@ uint64_t mzk_forces(uint32_t n,
                     const uint8_t *state, size_t state_bytes,
                     const uint8_t *sums, size_t sums_bytes,
                     uint8_t *forces, size_t forces_bytes);
+
+/* A job prepared once. What the calls above find anew each time, that matrix, movements and plan are fit and the tables
+ * of updates and waits, stands in one list of bytes: mzk_prepare makes it, and the four calls after it answer with it
+ * just as those above do with the job. The list holds no pointer: it can be copied, filed, and shared by runs and
+ * threads. It stands for its matrix, movements and plan as they were when it was made.
+ * A list that mzk_prepare did not make, or that was changed since, is refused with 26 if its length or its first 16
+ * bytes show it. Otherwise it is taken: whatever stands in it, no byte outside the lent lists is read or written, but
+ * then nothing is said of forces. */
+
+/* The prepared list of a run's matrix, movements and plan; returns its bytes. A list of MZK_PREPARED_BYTES has always
+ * room.
+ * Refused: 5; 6; 8; 9 (prepared: the bytes it needs). */
+uint64_t mzk_prepare(uint32_t n,
+                     const uint8_t *row_starts, size_t row_starts_bytes,
+                     const uint8_t *columns, size_t columns_bytes,
+                     const uint8_t *values, size_t values_bytes,
+                     const uint8_t *movements, size_t movements_bytes,
+                     const uint8_t *order, size_t order_bytes,
+                     const uint8_t *groups, size_t groups_bytes,
+                     uint32_t group_count,
+                     uint8_t *prepared, size_t prepared_bytes);
+
+/* As mzk_picks.
+ * Refused: 26; 11; then pick by pick 10, 12, 13, 14. */
+uint64_t mzk_prepared_picks(const uint8_t *prepared, size_t prepared_bytes,
+                            uint8_t *state, size_t state_bytes,
+                            uint8_t *sums, size_t sums_bytes,
+                            const uint8_t *picks, size_t picks_bytes);
+
+/* As mzk_rounds.
+ * Refused: 26; 11; then pick by pick 10, 14. */
+uint64_t mzk_prepared_rounds(const uint8_t *prepared, size_t prepared_bytes,
+                             uint8_t *state, size_t state_bytes,
+                             uint8_t *sums, size_t sums_bytes,
+                             const uint8_t *picks, size_t picks_bytes);
+
+/* As mzk_ready.
+ * Refused: 26; 11. */
+uint64_t mzk_prepared_ready(const uint8_t *prepared, size_t prepared_bytes,
+                            const uint8_t *state, size_t state_bytes,
+                            const uint8_t *sums, size_t sums_bytes);
+
+/* As mzk_forces.
+ * Refused: 26; 11; 15; 9 (forces). */
+uint64_t mzk_prepared_forces(const uint8_t *prepared, size_t prepared_bytes,
+                             const uint8_t *state, size_t state_bytes,
+                             const uint8_t *sums, size_t sums_bytes,
+                             uint8_t *forces, size_t forces_bytes);
 
 /* Two crews, 0 and 1, may share the workers of one plan: two runs of the same matrix and plan, each with movements,
  * state and sums of its own. A worker that has begun a row for one crew finishes it before it serves the other; between

@@ -43,6 +43,7 @@ static const struct refusal of_calls[] = {
     [MZK_LIMITS] = { NOWHERE, "the joined matrix has more than 4096 rows or 32768 entries, or a value above 1000000000 "
                               "either side of 0" },
     [MZK_NO_REGISTER] = { NOWHERE, "no such register of a barrier unit" },
+    [MZK_UNPREPARED] = { NOWHERE, "not a prepared list" },
 };
 
 /* Those of list files that are others. */

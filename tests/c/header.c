@@ -1,7 +1,7 @@
 /* mazhoketh.h from C and from C++: its macros against real words, its sizes against what calls take and need.
  *
- * Document 01's chain of eight rows is planned, filed, surveyed, changed, sewn to another and run, by one crew and by
- * two; a control number is asked for, numbers are read and written, a barrier unit too; then the longest text that is
+ * Document 01's chain of eight rows is planned, filed, surveyed, changed, sewn to another, run, prepared, and run by two
+ * crews; a control number is asked for, numbers are read and written, a barrier unit too; then the longest text that is
  * written is read. */
 
 #include <stdio.h>
@@ -215,6 +215,28 @@ static void check_run(void)
     CHECK(is(mzk_forces(JOB, state, sizeof state, sums, 64, forces, sizeof forces), MZK_ACCEPTED, 0));
 }
 
+/* The same job prepared: 22 updates and 8 rows. Rounds by its list end with the forces of check_run. */
+static void check_prepared(void)
+{
+    enum { BYTES = 144 + 22 * 16 + 8 * 68 };
+    static uint8_t prepared[MZK_PREPARED_BYTES], begun[MZK_STATE_BYTES], begun_sums[64], ended[64];
+    const uint8_t everyone[2] = { 0, 1 };
+#define PREPARED prepared, BYTES, begun, sizeof begun, begun_sums, 64
+    CHECK(is(mzk_prepare(JOB, prepared, BYTES - 1), MZK_TOO_SHORT, BYTES));
+    CHECK(is(mzk_prepared_ready(PREPARED), MZK_UNPREPARED, 0));
+    CHECK(is(mzk_prepare(JOB, prepared, sizeof prepared), MZK_ACCEPTED, BYTES));
+    CHECK(MZK_READY_SET(mzk_prepared_ready(PREPARED)) == 3);
+    CHECK(is(mzk_prepared_picks(PREPARED, everyone, 2), MZK_ACCEPTED, 2));
+    CHECK(is(mzk_prepared_forces(PREPARED, ended, sizeof ended), MZK_UNFINISHED, 0));
+    uint32_t moves = 2, more = 1;
+    for (; more > 0; moves += more)
+        more = MZK_MOVES(mzk_prepared_rounds(PREPARED, everyone, 2));
+    CHECK(moves == 2 * 8 + 4 * 7);
+    CHECK(is(mzk_prepared_forces(PREPARED, ended, sizeof ended), MZK_ACCEPTED, 0));
+    CHECK(memcmp(ended, forces, sizeof ended) == 0);
+#undef PREPARED
+}
+
 /* Two crews on the chain: its first row has 6 moves, and a worker inside it for one crew is not the other's. */
 static void check_crews(void)
 {
@@ -333,6 +355,7 @@ int main(void)
     check_changes();
     check_join();
     check_run();
+    check_prepared();
     check_crews();
     check_control();
     check_numbers();

@@ -471,6 +471,80 @@ pub fn forces(run: &RunTwins, at: &StateTwins, forces: &mut Twin) -> u64 {
     alike("forces", ours, theirs, run.lists(), &[state, sums, forces])
 }
 
+/// Prepares a run.
+pub fn prepare(run: &RunTwins, list: &mut Twin) -> u64 {
+    let ours = library::prepare(run.ours(), list.ours_mut());
+    let theirs = calls::prepare(run.theirs(), &mut list.theirs);
+    alike("prepare", ours, theirs, run.lists(), &[list])
+}
+
+/// Takes picks by a prepared list.
+pub fn prepared_picks(list: &Twin, at: &mut StateTwins, picks: &Twin) -> u64 {
+    let StateTwins { state, sums } = at;
+    let ours =
+        library::prepared_picks(list.ours(), state.ours_mut(), sums.ours_mut(), picks.ours());
+    let theirs = calls::prepared_picks(
+        &list.theirs,
+        &mut state.theirs,
+        &mut sums.theirs,
+        &picks.theirs,
+    );
+    alike(
+        "prepared_picks",
+        ours,
+        theirs,
+        vec![list],
+        &[state, sums, picks],
+    )
+}
+
+/// Takes picks by a prepared list, and passes over those whose workers cannot move.
+pub fn prepared_rounds(list: &Twin, at: &mut StateTwins, picks: &Twin) -> u64 {
+    let StateTwins { state, sums } = at;
+    let ours =
+        library::prepared_rounds(list.ours(), state.ours_mut(), sums.ours_mut(), picks.ours());
+    let theirs = calls::prepared_rounds(
+        &list.theirs,
+        &mut state.theirs,
+        &mut sums.theirs,
+        &picks.theirs,
+    );
+    alike(
+        "prepared_rounds",
+        ours,
+        theirs,
+        vec![list],
+        &[state, sums, picks],
+    )
+}
+
+/// Asks for the ready set by a prepared list.
+pub fn prepared_ready(list: &Twin, at: &StateTwins) -> u64 {
+    let StateTwins { state, sums } = at;
+    let ours = library::prepared_ready(list.ours(), state.ours(), sums.ours());
+    let theirs = calls::prepared_ready(&list.theirs, &state.theirs, &sums.theirs);
+    alike("prepared_ready", ours, theirs, vec![list], &[state, sums])
+}
+
+/// Asks for the force list by a prepared list.
+pub fn prepared_forces(list: &Twin, at: &StateTwins, forces: &mut Twin) -> u64 {
+    let StateTwins { state, sums } = at;
+    let ours = library::prepared_forces(list.ours(), state.ours(), sums.ours(), forces.ours_mut());
+    let theirs = calls::prepared_forces(
+        &list.theirs,
+        &state.theirs,
+        &sums.theirs,
+        &mut forces.theirs,
+    );
+    alike(
+        "prepared_forces",
+        ours,
+        theirs,
+        vec![list],
+        &[state, sums, forces],
+    )
+}
+
 /// Takes picks for two crews.
 pub fn picks_both(lists: &CrewTwins, at: &mut [StateTwins; 2], picks: &Twin) -> u64 {
     let [at0, at1] = at;

@@ -82,6 +82,8 @@ pub struct Given {
     pub schedule: Vec<u8>,
     pub halfway: At,
     pub finished: At,
+    /// The prepared list.
+    pub prepared: Vec<u8>,
     /// The movements of a second crew, picks that take both from fresh to their ends, and their states halfway.
     pub movements1: Vec<u8>,
     pub schedule_both: Vec<u8>,
@@ -127,12 +129,14 @@ impl Given {
             schedule: Vec::new(),
             halfway: At::fresh(matrix.n),
             finished: At::fresh(matrix.n),
+            prepared: Vec::new(),
             movements1: bytes(&vec![123_456; matrix.n as usize], i32::to_le_bytes),
             schedule_both: Vec::new(),
             halfway_both: [(); 2].map(|_| At::fresh(matrix.n)),
             list: bytes(&list, i64::to_le_bytes),
             lines: numbers::write(list),
         };
+        given.prepared = given.prepared_list();
         given.schedule = given.whole_schedule();
         given.halfway = given.after(given.schedule.len() / 2);
         given.finished = given.after(given.schedule.len());
@@ -206,6 +210,14 @@ impl Given {
             run: self.run(),
             movements1: &self.movements1,
         }
+    }
+
+    /// The prepared list of the run.
+    fn prepared_list(&self) -> Vec<u8> {
+        let bytes = calls::prepare(self.run(), &mut []) as u32;
+        let mut list = vec![0; bytes as usize];
+        calls::prepare(self.run(), &mut list);
+        list
     }
 
     /// The picks of a whole run: all ready workers in turn, until one of them waits or ends, and so on.

@@ -111,6 +111,28 @@ extern "C" {
         order: In, order_bytes: usize, groups: In, groups_bytes: usize, group_count: u32,
         state: In, state_bytes: usize, sums: In, sums_bytes: usize, forces: Out, forces_bytes: usize,
     ) -> u64;
+    fn mzk_prepare(
+        n: u32,
+        row_starts: In, row_starts_bytes: usize, columns: In, columns_bytes: usize, values: In, values_bytes: usize,
+        movements: In, movements_bytes: usize,
+        order: In, order_bytes: usize, groups: In, groups_bytes: usize, group_count: u32,
+        prepared: Out, prepared_bytes: usize,
+    ) -> u64;
+    fn mzk_prepared_picks(
+        prepared: In, prepared_bytes: usize,
+        state: Out, state_bytes: usize, sums: Out, sums_bytes: usize, picks: In, picks_bytes: usize,
+    ) -> u64;
+    fn mzk_prepared_rounds(
+        prepared: In, prepared_bytes: usize,
+        state: Out, state_bytes: usize, sums: Out, sums_bytes: usize, picks: In, picks_bytes: usize,
+    ) -> u64;
+    fn mzk_prepared_ready(
+        prepared: In, prepared_bytes: usize, state: In, state_bytes: usize, sums: In, sums_bytes: usize,
+    ) -> u64;
+    fn mzk_prepared_forces(
+        prepared: In, prepared_bytes: usize,
+        state: In, state_bytes: usize, sums: In, sums_bytes: usize, forces: Out, forces_bytes: usize,
+    ) -> u64;
     fn mzk_picks_both(
         n: u32,
         row_starts: In, row_starts_bytes: usize, columns: In, columns_bytes: usize, values: In, values_bytes: usize,
@@ -374,6 +396,65 @@ pub fn forces(run: RunLists, state: &[u8], sums: &[u8], forces: &mut [u8]) -> u6
             movements.as_ptr(), movements.len(),
             order.as_ptr(), order.len(), groups.as_ptr(), groups.len(), group_count,
             state.as_ptr(), state.len(), sums.as_ptr(), sums.len(), forces.as_mut_ptr(), forces.len(),
+        )
+    }
+}
+
+/// The prepared list of a run; counts the bytes written.
+#[rustfmt::skip]
+pub fn prepare(run: RunLists, list: &mut [u8]) -> u64 {
+    let RunLists { matrix: MatrixLists { n, row_starts, columns, values }, movements, plan } = run;
+    let PlanLists { order, groups, group_count } = plan;
+    unsafe {
+        mzk_prepare(
+            n, row_starts.as_ptr(), row_starts.len(), columns.as_ptr(), columns.len(), values.as_ptr(), values.len(),
+            movements.as_ptr(), movements.len(),
+            order.as_ptr(), order.len(), groups.as_ptr(), groups.len(), group_count,
+            list.as_mut_ptr(), list.len(),
+        )
+    }
+}
+
+/// Picks of a prepared run; counts those taken.
+#[rustfmt::skip]
+pub fn prepared_picks(list: &[u8], state: &mut [u8], sums: &mut [u8], picks: &[u8]) -> u64 {
+    unsafe {
+        mzk_prepared_picks(
+            list.as_ptr(), list.len(), state.as_mut_ptr(), state.len(), sums.as_mut_ptr(), sums.len(),
+            picks.as_ptr(), picks.len(),
+        )
+    }
+}
+
+/// Picks of a prepared run, of which those are passed over whose workers cannot move; the word also has the moves made
+/// × 2^40.
+#[rustfmt::skip]
+pub fn prepared_rounds(list: &[u8], state: &mut [u8], sums: &mut [u8], picks: &[u8]) -> u64 {
+    unsafe {
+        mzk_prepared_rounds(
+            list.as_ptr(), list.len(), state.as_mut_ptr(), state.len(), sums.as_mut_ptr(), sums.len(),
+            picks.as_ptr(), picks.len(),
+        )
+    }
+}
+
+/// The ready set of a prepared run: sixteen bits, plus the count × 65,536.
+#[rustfmt::skip]
+pub fn prepared_ready(list: &[u8], state: &[u8], sums: &[u8]) -> u64 {
+    unsafe {
+        mzk_prepared_ready(
+            list.as_ptr(), list.len(), state.as_ptr(), state.len(), sums.as_ptr(), sums.len(),
+        )
+    }
+}
+
+/// The force list of a finished prepared run.
+#[rustfmt::skip]
+pub fn prepared_forces(list: &[u8], state: &[u8], sums: &[u8], forces: &mut [u8]) -> u64 {
+    unsafe {
+        mzk_prepared_forces(
+            list.as_ptr(), list.len(), state.as_ptr(), state.len(), sums.as_ptr(), sums.len(),
+            forces.as_mut_ptr(), forces.len(),
         )
     }
 }

@@ -66,7 +66,7 @@ pub fn bytes<T: Copy, const W: usize>(numbers: &[T], word: fn(T) -> [u8; W]) -> 
 }
 
 /// The last refusal's number.
-pub const REFUSALS: usize = 25;
+pub const REFUSALS: usize = 26;
 
 /// The refusal's number in an answer word, bits 32 to 39; 0 if the call was accepted.
 pub fn refusal_number(word: u64) -> usize {

@@ -38,6 +38,7 @@ struct Lent {
     movements: Vec<u8>,
     kept: Vec<u8>,
     lines: Vec<u8>,
+    prepared: Vec<u8>,
     at: At,
     at1: At,
 }
@@ -58,6 +59,7 @@ impl Lent {
             movements: given.movements.clone(),
             kept: given.product(),
             lines: given.lines.clone(),
+            prepared: given.prepared.clone(),
             at: At::fresh(given.n),
             at1: At::fresh(given.n),
         }
@@ -90,6 +92,8 @@ struct Implementation {
     preview: fn(RunLists, &[u8], &[u8], &[u8]) -> u64,
     ready: fn(RunLists, &[u8], &[u8]) -> u64,
     forces: fn(RunLists, &[u8], &[u8], Out) -> u64,
+    prepare: fn(RunLists, Out) -> u64,
+    prepared_picks: fn(&[u8], Out, Out, &[u8]) -> u64,
     picks_both: fn(CrewLists, [Out; 2], [Out; 2], &[u8]) -> u64,
     ready_both: fn(CrewLists, [&[u8]; 2], [&[u8]; 2]) -> u64,
 }
@@ -116,6 +120,8 @@ const LIBRARY: Implementation = Implementation {
     preview: library::preview,
     ready: library::ready,
     forces: library::forces,
+    prepare: library::prepare,
+    prepared_picks: library::prepared_picks,
     picks_both: library::picks_both,
     ready_both: library::ready_both,
 };
@@ -142,6 +148,8 @@ const RUST: Implementation = Implementation {
     preview: calls::preview,
     ready: calls::ready,
     forces: calls::forces,
+    prepare: calls::prepare,
+    prepared_picks: calls::prepared_picks,
     picks_both: calls::picks_both,
     ready_both: calls::ready_both,
 };
@@ -210,6 +218,15 @@ const WORKS: &[(&str, Work)] = &[
     ("forces", |by, given, lent| {
         let At { state, sums } = &given.finished;
         (by.forces)(given.run(), state, sums, &mut lent.forces)
+    }),
+    ("prepare", |by, given, lent| (by.prepare)(given.run(), &mut lent.prepared)),
+    ("prepared_picks, a run in 1 list", |by, given, lent| {
+        let At { state, sums } = lent.at.clear();
+        (by.prepared_picks)(&given.prepared, state, sums, &given.schedule)
+    }),
+    ("prepared_picks, a run in 1,000 lists", |by, given, lent| {
+        let At { state, sums } = lent.at.clear();
+        given.lists().map(|picks| (by.prepared_picks)(&given.prepared, state, sums, picks)).sum()
     }),
     ("picks_both, two runs in 1 list", |by, given, lent| {
         let (at0, at1) = (lent.at.clear(), lent.at1.clear());

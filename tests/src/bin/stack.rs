@@ -58,7 +58,7 @@ fn make(call: &str, stack: usize, given: &Given) -> Option<u64> {
     let At { state: mut state1, sums: mut sums1 } = At::fresh(given.n);
     let (mut forces, mut shift, mut file) = (blank(&sums), blank(&given.movements), blank(&given.file));
     let (mut movements, mut own, mut kept) = (given.movements.clone(), given.values.clone(), given.product());
-    let mut lines = blank(&given.lines);
+    let (mut lines, mut list) = (blank(&given.lines), blank(&given.prepared));
     let end = &given.finished;
     Some(match call {
         "read" => on_stack(stack, || library::read(&given.text, &mut starts, &mut columns, &mut values)),
@@ -93,6 +93,17 @@ fn make(call: &str, stack: usize, given: &Given) -> Option<u64> {
         "preview" => on_stack(stack, || library::preview(given.run(), &state, &sums, &given.schedule)),
         "ready" => on_stack(stack, || library::ready(given.run(), &state, &sums)),
         "forces" => on_stack(stack, || library::forces(given.run(), &end.state, &end.sums, &mut forces)),
+        "prepare" => on_stack(stack, || library::prepare(given.run(), &mut list)),
+        "prepared_picks" => on_stack(stack, || {
+            library::prepared_picks(&given.prepared, &mut state, &mut sums, &given.schedule)
+        }),
+        "prepared_rounds" => on_stack(stack, || {
+            library::prepared_rounds(&given.prepared, &mut state, &mut sums, &given.schedule)
+        }),
+        "prepared_ready" => on_stack(stack, || library::prepared_ready(&given.prepared, &state, &sums)),
+        "prepared_forces" => on_stack(stack, || {
+            library::prepared_forces(&given.prepared, &end.state, &end.sums, &mut forces)
+        }),
         "picks_both" => on_stack(stack, || {
             let (states, sums) = ([&mut state[..], &mut state1], [&mut sums[..], &mut sums1]);
             library::picks_both(given.crews(), states, sums, &given.schedule_both)

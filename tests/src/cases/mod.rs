@@ -8,6 +8,7 @@ pub mod matrix;
 pub mod numbers;
 pub mod plan;
 pub mod plan_file;
+pub mod prepared;
 pub mod run;
 pub mod survey;
 pub mod upkeep;
@@ -206,6 +207,12 @@ const WEIGHTS: &[(u64, fn(&mut Prng, &mut Seen))] = &[
     (3, run::ready),
     (3, run::forces),
     (1, run::whole),
+    (1, prepared::prepare),
+    (4, prepared::picks),
+    (2, prepared::rounds),
+    (2, prepared::ready),
+    (2, prepared::forces),
+    (1, prepared::whole),
     (4, crews::picks),
     (2, crews::ready),
     (1, crews::whole),

@@ -75,7 +75,7 @@ pub fn whole(rng: &mut Prng, seen: &mut Seen) {
 
 impl Run {
     /// A run of a random net in any state, finished in so many cases of a hundred; any list is now and then damaged.
-    fn any(rng: &mut Prng, finished: usize) -> Run {
+    pub fn any(rng: &mut Prng, finished: usize) -> Run {
         let most = rng.one_of(&[2, 10, 30]);
         let matrix = nets::random_net(rng, most);
         let plan = plans::random_plan(rng, &matrix);

@@ -6,6 +6,7 @@ use super::barrier::{self, Unit, Write, UNIT_BYTES};
 use super::crews::{self, LentBoth};
 use super::machine::{self, Lent, Picked, State};
 use super::matrix::{Matrix, Rows};
+use super::prepared::Tables;
 use super::{
     control, join, numbers, plan_file, planner, soundness, survey, text, upkeep, Refusal, FIELDS,
     WORKERS,
@@ -295,20 +296,23 @@ pub fn numbers_write(list: &[u8], text: &mut [u8]) -> u64 {
 
 /// Picks of a run; counts those taken.
 pub fn picks(run: RunLists, state: &mut [u8], sums: &mut [u8], picks: &[u8]) -> u64 {
-    match take(run, state, sums, picks, &[]) {
-        Ok(picked) => word(picked.stopped.map_or(Ok(picked.taken), Err)),
-        Err(refusal) => word(Err(refusal)),
-    }
+    picks_word(take(run, state, sums, picks, &[]))
 }
 
 /// Picks of a run, of which 12 and 13 skip those that they refuse; the word also has the moves made × 2^40.
 pub fn rounds(run: RunLists, state: &mut [u8], sums: &mut [u8], picks: &[u8]) -> u64 {
-    match take(run, state, sums, picks, &[12, 13]) {
-        Ok(picked) => {
-            word(picked.stopped.map_or(Ok(picked.taken), Err)) | u64::from(picked.taken) << 40
-        }
-        Err(refusal) => word(Err(refusal)),
-    }
+    rounds_word(take(run, state, sums, picks, &[12, 13]))
+}
+
+/// The word of picks.
+fn picks_word(picked: Result<Picked, Refusal>) -> u64 {
+    word(picked.and_then(|picked| picked.stopped.map_or(Ok(picked.taken), Err)))
+}
+
+/// The word of rounds.
+fn rounds_word(picked: Result<Picked, Refusal>) -> u64 {
+    let moves = picked.map_or(0, |picked| picked.taken);
+    picks_word(picked) | u64::from(moves) << 40
 }
 
 /// Takes picks and leaves state and sums as they are then; 5, 6, 8 and 11 leave them as they were.
@@ -420,6 +424,71 @@ pub fn forces(run: RunLists, state: &[u8], sums: &[u8], forces: &mut [u8]) -> u6
         let mut out = vec![0; (forces.len() / 8).min(lists.n as usize)];
         machine::forces(&lists.lent(), &numbers, &list, &mut out)?;
         put(forces, &out, i64::to_le_bytes);
+        Ok(0)
+    };
+    word(tell())
+}
+
+/// The prepared list of a run; counts the bytes written.
+pub fn prepare(run: RunLists, list: &mut [u8]) -> u64 {
+    let lists = Lists::of_run(run);
+    let mut prepare = || {
+        let bytes = Tables::of(&lists.lent())?.bytes();
+        super::room(list.len(), bytes.len())?;
+        list[..bytes.len()].copy_from_slice(&bytes);
+        Ok(bytes.len() as u32)
+    };
+    word(prepare())
+}
+
+/// Picks of a prepared run; counts those taken.
+pub fn prepared_picks(list: &[u8], state: &mut [u8], sums: &mut [u8], picks: &[u8]) -> u64 {
+    picks_word(take_prepared(list, state, sums, picks, &[]))
+}
+
+/// Picks of a prepared run, of which 12 and 13 skip those that they refuse; the word also has the moves made × 2^40.
+pub fn prepared_rounds(list: &[u8], state: &mut [u8], sums: &mut [u8], picks: &[u8]) -> u64 {
+    rounds_word(take_prepared(list, state, sums, picks, &[12, 13]))
+}
+
+/// Takes picks and leaves state and sums as they are then; 26 and 11 leave them as they were.
+fn take_prepared(
+    list: &[u8],
+    state: &mut [u8],
+    sums: &mut [u8],
+    picks: &[u8],
+    skips: &[u32],
+) -> Result<Picked, Refusal> {
+    let (tables, mut numbers, mut moved) = prepared(list, state, sums)?;
+    let picked = tables.picks(&mut numbers, &mut moved, picks, skips);
+    put_state(state, &numbers);
+    put(sums, &moved, i64::to_le_bytes);
+    Ok(picked)
+}
+
+/// The tables, state and sums of a prepared run, or 26, or 11.
+fn prepared(list: &[u8], state: &[u8], sums: &[u8]) -> Result<(Tables, State, Vec<i64>), Refusal> {
+    let tables = Tables::read(list)?;
+    let state = get_state(state).ok_or(Refusal::at(11, 0))?;
+    let sums = get(sums, usize::MAX, i64::from_le_bytes);
+    tables.judge(&state, &sums)?;
+    Ok((tables, state, sums))
+}
+
+/// The ready set of a prepared run: sixteen bits, plus the count × 65,536.
+pub fn prepared_ready(list: &[u8], state: &[u8], sums: &[u8]) -> u64 {
+    word(prepared(list, state, sums).map(|(tables, state, _)| {
+        let ready = tables.ready(&state);
+        ready.count << 16 | u32::from(ready.set)
+    }))
+}
+
+/// The force list of a finished prepared run.
+pub fn prepared_forces(list: &[u8], state: &[u8], sums: &[u8], forces: &mut [u8]) -> u64 {
+    let mut tell = || {
+        let (tables, state, sums) = prepared(list, state, sums)?;
+        let all = tables.forces(&state, &sums, forces.len() / 8)?;
+        put(forces, &all, i64::to_le_bytes);
         Ok(0)
     };
     word(tell())

@@ -264,14 +264,29 @@ pub fn damage_file(rng: &mut Prng, file: &mut Vec<u8>) {
         2 => file.extend([0; 4]),
         3 if at < file.len() => drop(file.remove(at)),
         4 if at < file.len() => file[at] = rng.one_of(&[0, 1, 2, 3, 0xff]),
-        _ => damage_table(rng, file),
+        _ => {
+            let table = file.len().min(28);
+            damage_word(rng, &mut file[..table]);
+        }
     }
 }
 
-/// Changes a number of a plan file's table: by what a body's length may differ, or to an odd one.
-fn damage_table(rng: &mut Prng, file: &mut [u8]) {
-    let table = file.len().min(28);
-    let words = file[..table].as_chunks_mut::<4>().0;
+/// Damages a prepared list once, often in its head; some damage does no harm.
+pub fn damage_prepared(rng: &mut Prng, list: &mut Vec<u8>) {
+    let at = rng.below(list.len() + 1);
+    let head = list.len().min(144);
+    match rng.below(10) {
+        0 => list.truncate(at),
+        1 => drop(list.pop()),
+        2 if at < list.len() => list[at] = rng.one_of(&[0, 1, 2, 3, 0xff]),
+        3..6 => damage_word(rng, &mut list[..head]),
+        _ => damage_word(rng, &mut list[head..]),
+    }
+}
+
+/// Changes a number among bytes: by what a plan file's length may differ, or to an odd one.
+fn damage_word(rng: &mut Prng, bytes: &mut [u8]) {
+    let words = bytes.as_chunks_mut::<4>().0;
     if words.is_empty() {
         return;
     }

@@ -16,6 +16,7 @@ pub mod numbers;
 pub mod plan_file;
 pub mod planner;
 pub mod plans;
+pub mod prepared;
 pub mod prng;
 pub mod soundness;
 pub mod states;
