@@ -17,10 +17,9 @@ use Rattle.run.specs.Machine.{onward}
 use Rattle.run.specs.Updates.{Update, count}
 use Rattle.run.specs.State.{State}
 use Rattle.run.specs.Schedule.{skipsNone}
-use Rattle.run.proofs.Onward.{onward-length}
 use Rattle.run.proofs.Passes.{Left, left-start, left-step, left-halt, left-none}
 use Rattle.tables.specs.code.Laid.{maxUpdates, updatesIn, Laid}
-use Rattle.waits.specs.code.Waits.{Recorded, Blocks, Ahead}
+use Rattle.waits.specs.code.Waits.{Recorded}
 use Rattle.steps.specs.code.Updates.{Triangle}
 use Rattle.steps.specs.code.Steps.{reasonAt, updateNext, outcomeOf, StepTables, PickMade}
 use Rattle.steps.specs.code.AtHand.{AtHand, Entered, AccessMade}
@@ -28,10 +27,10 @@ use Rattle.steps.proofs.TableSteps.{reason-none}
 use Rattle.steps.proofs.UpdatesAtHand.{Steady, none-at-hand, access-picks, access-keeps, target-low}
 use Rattle.crews.proofs.Turns.{not-away}
 use Rattle.machine.proofs.BlockedLeaves.{whole-crew, waits-of}
-use Rattle.machine.proofs.RunTurns.{blocks-kept, ahead-kept}
 use Rattle.crews.specs.Crews.{Crew, crew0, crew1, other, crewNumber, Two, ownOf, putFor, Roof, jobFor, crewStep, turn, turns}
 use Rattle.crews.specs.TwoCrews.{AcceptedRoof}
 use Rattle.turns.specs.code.Inside.{insideAt, causeAt}
+use Rattle.turns.specs.code.Sides.{Side}
 use Rattle.turns.specs.code.Turned.{misnamed}
 use Rattle.turns.proofs.CrewHands.{crew-steady, other-moved}
 use Rattle.turns.proofs.CrewTurns.{turn-answer, turn-halts, turn-moves, name-halts}
@@ -62,11 +61,8 @@ module _ (T : Tables) where
       (q : Roof) → AcceptedRoof q → q .plan .groups ≡ records (T .count) (T .groups) → ((c : Crew) → Laid (jobFor q c) (T .first) (T .row) (T .begins) (T .leaves) (T .ends))
       → Triangle (jobFor q crew0) (T .parts) (T .displaced .of0) (T .at) (T .beside) → Triangle (jobFor q crew1) (T .parts) (T .displaced .of1) (T .at) (T .beside) → P q
 
-  -- these groups are blocked by a crew's counts, and until a count reaches its stop
-  pub record Side (made blocks stops : List ℕ) : Type 0 where
-    pub long : length made ≡ maxWorkers
-    pub blocked : Blocks (T .count) (T .groups) (T .ends) made blocks
-    pub ahead : Ahead (T .count) (T .groups) (T .ends) made stops
+  abbrev pub SideOf : (made blocks stops : List ℕ) → Type 0
+  SideOf made blocks stops = Side (T .count) (T .groups) (T .ends) made blocks stops
 
   -- why a pick of a worker of the plan is refused, for a crew beside the other's counts, and its update
   abbrev causeOf : (blocks other made : List ℕ) → ℕ → ℕ
@@ -83,7 +79,7 @@ module _ (T : Tables) where
   pub record Sharing (S₀ : Two State) (schedule : List ℕ) (k : ℕ) (S : Two State) (blocks stops targets : Two (List ℕ)) (amounts : Two (List ℤ)) : Type 0 where
     pub crew : T .workers ≡ recordAt (T .groups) 0 .workers
     pub hand : (c : Crew) → Hand S c (ownOf blocks c) (ownOf targets c) (ownOf amounts c)
-    pub side : (c : Crew) → Side (ownOf S c .made) (ownOf blocks c) (ownOf stops c)
+    pub side : (c : Crew) → SideOf (ownOf S c .made) (ownOf blocks c) (ownOf stops c)
     pub left : EachRoof (λ q. Left skipsNone (turn q) S₀ schedule k k S)
 
   -- a pick of worker w for crew c by the tables, with this answer, that leaves this state
@@ -92,12 +88,12 @@ module _ (T : Tables) where
 
 module _ {T : Tables} {S₀ : Two State} {schedule : List ℕ} where
   -- at first
-  pub sharing-start : {blocks stops : Two (List ℕ)} → T .workers ≡ recordAt (T .groups) 0 .workers → Side T (S₀ .of0 .made) (blocks .of0) (stops .of0) → Side T (S₀ .of1 .made) (blocks .of1) (stops .of1)
+  pub sharing-start : {blocks stops : Two (List ℕ)} → T .workers ≡ recordAt (T .groups) 0 .workers → SideOf T (S₀ .of0 .made) (blocks .of0) (stops .of0) → SideOf T (S₀ .of1 .made) (blocks .of1) (stops .of1)
       → {amounts : Two (List ℤ)} → length (amounts .of0) ≡ maxWorkers → length (amounts .of1) ≡ maxWorkers
       → Sharing T S₀ schedule 0 S₀ blocks stops (record { of0 = replicate maxWorkers maxRows; of1 = replicate maxWorkers maxRows }) amounts
   sharing-start {blocks} {stops} e a b {amounts} f g = record { crew = e; side = each; hand = nobody; left = λ q ok is laid t u. left-start skipsNone (turn q) S₀ schedule }
     where
-      each : (c : Crew) → Side T (ownOf S₀ c .made) (ownOf blocks c) (ownOf stops c)
+      each : (c : Crew) → SideOf T (ownOf S₀ c .made) (ownOf blocks c) (ownOf stops c)
       each crew0 = a
       each crew1 = b
 
@@ -171,18 +167,15 @@ module _ {T : Tables} {S₀ : Two State} {schedule : List ℕ} where
             ∙ left-halt skipsNone (turn q) S₀ schedule k k S (r .left q ok is laid t u) l number (turn-halts q S c byte named new (is-step q ok is laid t u) d) refl
 
         module _ (z : number ≡ 0) where
-          next-long : length (new .made) ≡ maxWorkers
-          next-long = ap length (h .counted z) ∙ onward-length (ownOf S c .made) w ∙ r .side c .long
-
           next-left : EachRoof T (λ q. Left skipsNone (turn q) S₀ schedule (k + 1) (k + 1) (putFor S c new))
           next-left q ok is laid t u =
               subst (λ (y : ℕ). Left skipsNone (turn q) S₀ schedule y y (putFor S c new)) (sym (add-one k))
               (left-step skipsNone (turn q) S₀ schedule k k S (r .left q ok is laid t u) l (putFor S c new) (turn-moves q S c byte named new (is-step q ok is laid t u) z))
 
-          sides : (blocks′ stops′ : List ℕ) → Side T (new .made) blocks′ stops′ → (d : Crew) → Side T (ownOf (putFor S c new) d .made) (ownOf (putFor blocks c blocks′) d) (ownOf (putFor stops c stops′) d)
+          sides : (blocks′ stops′ : List ℕ) → SideOf T (new .made) blocks′ stops′ → (d : Crew) → SideOf T (ownOf (putFor S c new) d .made) (ownOf (putFor blocks c blocks′) d) (ownOf (putFor stops c stops′) d)
           sides blocks′ stops′ s = by c s
             where
-              by : (c : Crew) → Side T (new .made) blocks′ stops′ → (d : Crew) → Side T (ownOf (putFor S c new) d .made) (ownOf (putFor blocks c blocks′) d) (ownOf (putFor stops c stops′) d)
+              by : (c : Crew) → SideOf T (new .made) blocks′ stops′ → (d : Crew) → SideOf T (ownOf (putFor S c new) d .made) (ownOf (putFor blocks c blocks′) d) (ownOf (putFor stops c stops′) d)
               by crew0 s crew0 = s
               by crew0 s crew1 = r .side crew1
               by crew1 s crew0 = r .side crew0
@@ -200,23 +193,15 @@ module _ {T : Tables} {S₀ : Two State} {schedule : List ℕ} where
               by crew1 x e crew0 = other-moved (T .first) (T .row) (T .begins) (T .leaves) (blocks .of0) (S .of1 .made) w (omega arith) e (r .hand crew0)
               by crew1 x e crew1 = x
 
-          -- it is taken, and the blocked groups are found anew
-          next : {blocks′ stops′ : List ℕ} → Blocks (T .count) (T .groups) (T .ends) (new .made) blocks′ → Ahead (T .count) (T .groups) (T .ends) (new .made) stops′
-              → {targets′ : List ℕ} {amounts′ : List ℤ} → AtHand (causeOf T blocks′ (ownOf S (other c) .made)) (updateOf T c) (new .made) targets′ amounts′
+          -- it is taken
+          pub sharing-on : {blocks′ stops′ : List ℕ} → (new .made ≡ onward (ownOf S c .made) w → SideOf T (ownOf S c .made) (ownOf blocks c) (ownOf stops c) → SideOf T (new .made) blocks′ stops′)
+              → {at-hand targets′ : List ℕ} → ((cause : (blocks made : List ℕ) → ℕ → ℕ) (update : (made : List ℕ) → ℕ → Update) (amounts : List ℤ) → AtHand (cause (ownOf blocks c)) update (new .made) at-hand amounts → AtHand (cause blocks′) update (new .made) targets′ amounts)
+              → {amounts′ : List ℤ} → AtHand (causeOf T (ownOf blocks c) (ownOf S (other c) .made)) (updateOf T c) (new .made) at-hand amounts′
               → Sharing T S₀ schedule (k + 1) (putFor S c new) (putFor blocks c blocks′) (putFor stops c stops′) (putFor (putFor targets (other c) (set (ownOf targets (other c)) w maxRows)) c targets′) (putFor amounts c amounts′)
-          next {blocks′} {stops′} b a {targets′} {amounts′} x =
-              record { crew = r .crew; side = sides blocks′ stops′ (record { long = next-long; blocked = b; ahead = a }); hand = hands blocks′ targets′ amounts′ x; left = next-left }
-
-          pub sharing-renewed : {blocks′ stops′ : List ℕ} → Blocks (T .count) (T .groups) (T .ends) (new .made) blocks′ → Ahead (T .count) (T .groups) (T .ends) (new .made) stops′
-              → {targets′ : List ℕ} {amounts′ : List ℤ} → AtHand (causeOf T (ownOf blocks c) (ownOf S (other c) .made)) (updateOf T c) (new .made) targets′ amounts′
-              → Sharing T S₀ schedule (k + 1) (putFor S c new) (putFor blocks c blocks′) (putFor stops c stops′) (putFor (putFor targets (other c) (set (ownOf targets (other c)) w maxRows)) c (replicate maxWorkers maxRows)) (putFor amounts c amounts′)
-          sharing-renewed b a x = next b a (none-at-hand next-long (x .amounts-long))
-
-          -- .. or are as they were
-          pub sharing-on : w < length (ownOf S c .made) → getD (new .made) w 0 < getD (ownOf stops c) w 0
-              → {targets′ : List ℕ} {amounts′ : List ℤ} → AtHand (causeOf T (ownOf blocks c) (ownOf S (other c) .made)) (updateOf T c) (new .made) targets′ amounts′
-              → Sharing T S₀ schedule (k + 1) (putFor S c new) (putFor blocks c (ownOf blocks c)) (putFor stops c (ownOf stops c)) (putFor (putFor targets (other c) (set (ownOf targets (other c)) w maxRows)) c targets′) (putFor amounts c amounts′)
-          sharing-on inside below x =
-              next
-              (blocks-kept (T .count) (T .groups) (T .ends) (ownOf S c .made) (new .made) (ownOf stops c) w inside (h .counted z) below (r .side c .ahead) (ownOf blocks c) (r .side c .blocked))
-              (ahead-kept (T .count) (T .groups) (T .ends) (ownOf S c .made) (new .made) (ownOf stops c) w inside (h .counted z) below (r .side c .ahead)) x
+          sharing-on {blocks′} {stops′} renew {at-hand} {targets′} keep {amounts′} x =
+              record {
+                crew = r .crew;
+                side = sides blocks′ stops′ (renew (h .counted z) (r .side c));
+                hand = hands blocks′ targets′ amounts′ (keep (λ b. causeOf T b (ownOf S (other c) .made)) (updateOf T c) amounts′ x);
+                left = next-left;
+              }

@@ -17,20 +17,26 @@ use turn::refused_name;
 use waits::blocked_groups;
 use waits::next_ends;
 ghost use mathlib.Core.Path.{_≡_};
-ghost use Prim.Native.Nat.{_/_, _≤_};
+ghost use mathlib.Core.List.{List};
+ghost use Prim.Native.Nat.{ℕ, _/_, _≤_, _<_};
+ghost use lib.IntN.{ℤ};
 ghost use lib.ListN.{length};
 ghost use Rattle.plan.specs.Sound.{maxWorkers};
 ghost use Rattle.plan.specs.Groups.{width, records};
 ghost use Rattle.plan.specs.code.Checks.{recordAt};
+ghost use Rattle.run.specs.Updates.{Update};
+ghost use Rattle.run.specs.Machine.{onward};
 ghost use Rattle.tables.specs.code.Laid.{Counted, Laid};
 ghost use Rattle.layout.specs.code.UpdateTable.{Planned};
 ghost use Rattle.waits.specs.code.Waits.{Recorded};
 ghost use Rattle.steps.specs.code.Updates.{Triangle};
+ghost use Rattle.steps.specs.code.AtHand.{AtHand};
 ghost use Rattle.steps.specs.code.Steps.{StepTables};
 ghost use Rattle.crews.specs.Crews.{Crew, crew0, crew1, Roof, jobFor, turns};
 ghost use Rattle.crews.specs.TwoCrews.{AcceptedRoof};
 ghost use Rattle.turns.specs.Records.{statesOf};
 ghost use Rattle.turns.specs.code.Turned.{turnedWith, turnedOf};
+ghost use Rattle.turns.specs.code.Sides.{Side};
 
 // The state of each crew's run: accesses made, and the number held, of each of 16 workers.
 pub struct Crews {
@@ -46,12 +52,6 @@ pub struct Turned {
     pub crews: Crews,
     pub taken: usize,
     pub number: u32,
-}
-
-// Where each worker's updates begin, and where each leaf ends.
-pub struct Bounds {
-    pub first: [u32; FIRSTS],
-    pub ends: [u32; MAX_GROUPS],
 }
 
 // A schedule that led to these counts and held numbers.
@@ -77,6 +77,33 @@ fn ended(
     }
 }
 
+// After a pick of worker w: if its count has reached its stop, finds anew which groups are blocked, and each worker's
+// next stop; then no update is at hand.
+fn renew(
+    groups: &[u32],
+    ends: &[u32; MAX_GROUPS],
+    made: &[u32; MAX_WORKERS],
+    w: usize,
+    blocks: &mut [u8; MAX_GROUPS],
+    stops: &mut [u32; MAX_WORKERS],
+    targets: &mut [usize; MAX_WORKERS],
+)
+    requires { ⌜ (w < maxWorkers) × Recorded (length (now groups) / width) (now groups) ⌝ }
+    ensures { λ _. ⌜ ((before : List ℕ) → now (made .entry) ≡ onward before w
+        → Side (length (now (groups .entry)) / width) (now (groups .entry)) (now (ends .entry)) before (now (blocks .entry)) (now (stops .entry))
+        → Side (length (now (groups .entry)) / width) (now (groups .entry)) (now (ends .entry)) (now (made .entry)) (now (blocks .exit)) (now (stops .exit)))
+        × ((cause : (blocks made : List ℕ) → ℕ → ℕ) (update : (made : List ℕ) → ℕ → Update) (amounts : List ℤ)
+        → AtHand (cause (now (blocks .entry))) update (now (made .entry)) (now (targets .entry)) amounts
+        → AtHand (cause (now (blocks .exit))) update (now (made .entry)) (now (targets .exit)) amounts) ⌝ }
+{
+    if stops[w] <= made[w] {
+        let count = groups.len() / WIDTH;
+        *blocks = blocked_groups(groups, count, ends, made);
+        *stops = next_ends(groups, count, ends, made);
+        *targets = [NONE; MAX_WORKERS];
+    }
+}
+
 impl Crews {
     // Takes the picks of a schedule one by one by the tables, up to the first that is refused.
     fn walk(
@@ -85,7 +112,8 @@ impl Crews {
         sums1: &mut [i64],
         schedule: &[u8],
         groups: &[u32],
-        bounds: Bounds,
+        ends: &[u32; MAX_GROUPS],
+        first: &[u32; FIRSTS],
         row: &[u16; MAX_UPDATES],
         begins: &[u32; MAX_ROWS],
         parts: &[u32; MAX_ROWS],
@@ -96,9 +124,9 @@ impl Crews {
         beside: &[i32; MAX_UPDATES],
     ) -> Turned
         requires { ⌜ (recordAt (now groups) 0 .workers ≤ maxWorkers) × Recorded (length (now groups) / width) (now groups)
-            × StepTables (length (now sums0)) (bounds .first) (now row) (now begins) (now parts) (now leaves) (now at) × (length (now sums1) ≡ length (now sums0)) ⌝ }
+            × StepTables (length (now sums0)) (now first) (now row) (now begins) (now parts) (now leaves) (now at) × (length (now sums1) ≡ length (now sums0)) ⌝ }
         ensures { λ r. ⌜ ((q : Roof) → AcceptedRoof q → q .plan .groups ≡ records (length (now (groups .entry)) / width) (now (groups .entry))
-            → ((c : Crew) → Laid (jobFor q c) (bounds .first) (now (row .entry)) (now (begins .entry)) (now (leaves .entry)) (bounds .ends))
+            → ((c : Crew) → Laid (jobFor q c) (now (first .entry)) (now (row .entry)) (now (begins .entry)) (now (leaves .entry)) (now (ends .entry)))
             → Triangle (jobFor q crew0) (now (parts .entry)) (now (displaced0 .entry)) (now (at .entry)) (now (beside .entry))
             → Triangle (jobFor q crew1) (now (parts .entry)) (now (displaced1 .entry)) (now (at .entry)) (now (beside .entry))
             → turnedOf r (now (sums0 .exit)) (now (sums1 .exit)) ≡ turns q (statesOf self (now (sums0 .entry)) (now (sums1 .entry))) (now (schedule .entry))) ⌝ }
@@ -107,15 +135,13 @@ impl Crews {
         let mut held0 = self.held0;
         let mut made1 = self.made1;
         let mut held1 = self.held1;
-        let first = bounds.first;
-        let ends = bounds.ends;
         let count = groups.len() / WIDTH;
         let whole = record_at(groups, 0);
         let workers = whole.workers;
-        let mut blocks0 = blocked_groups(groups, count, &ends, &made0);
-        let mut stops0 = next_ends(groups, count, &ends, &made0);
-        let mut blocks1 = blocked_groups(groups, count, &ends, &made1);
-        let mut stops1 = next_ends(groups, count, &ends, &made1);
+        let mut blocks0 = blocked_groups(groups, count, ends, &made0);
+        let mut stops0 = next_ends(groups, count, ends, &made0);
+        let mut blocks1 = blocked_groups(groups, count, ends, &made1);
+        let mut stops1 = next_ends(groups, count, ends, &made1);
         let mut targets0 = [NONE; MAX_WORKERS];
         let mut amounts0 = [0i64; MAX_WORKERS];
         let mut targets1 = [NONE; MAX_WORKERS];
@@ -133,7 +159,7 @@ impl Crews {
                     &made0,
                     w,
                     &made1,
-                    &first,
+                    first,
                     row,
                     begins,
                     parts,
@@ -153,11 +179,15 @@ impl Crews {
                     return ended(made0, held0, made1, held1, k, number);
                 }
                 targets1[w] = NONE;
-                if stops0[w] <= made0[w] {
-                    blocks0 = blocked_groups(groups, count, &ends, &made0);
-                    stops0 = next_ends(groups, count, &ends, &made0);
-                    targets0 = [NONE; MAX_WORKERS];
-                }
+                renew(
+                    groups,
+                    ends,
+                    &made0,
+                    w,
+                    &mut blocks0,
+                    &mut stops0,
+                    &mut targets0,
+                );
                 k += 1;
                 continue;
             }
@@ -165,7 +195,7 @@ impl Crews {
                 &made1,
                 w,
                 &made0,
-                &first,
+                first,
                 row,
                 begins,
                 parts,
@@ -185,11 +215,15 @@ impl Crews {
                 return ended(made0, held0, made1, held1, k, number);
             }
             targets0[w] = NONE;
-            if stops1[w] <= made1[w] {
-                blocks1 = blocked_groups(groups, count, &ends, &made1);
-                stops1 = next_ends(groups, count, &ends, &made1);
-                targets1 = [NONE; MAX_WORKERS];
-            }
+            renew(
+                groups,
+                ends,
+                &made1,
+                w,
+                &mut blocks1,
+                &mut stops1,
+                &mut targets1,
+            );
             k += 1;
         }
         ended(made0, held0, made1, held1, k, 0)
@@ -231,16 +265,13 @@ impl Crews {
             &mut leaves,
             &mut ends,
         );
-        let bounds = Bounds {
-            first: first,
-            ends: ends,
-        };
         self.walk(
             sums0,
             sums1,
             schedule,
             groups,
-            bounds,
+            &ends,
+            &first,
             &row,
             &begins,
             parts,
