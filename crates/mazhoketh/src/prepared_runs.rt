@@ -14,7 +14,7 @@ ghost use Rattle.words.specs.LittleEndian.{unsigned, signed};
 ghost use Rattle.lent.specs.Bytes.{matrixIn};
 ghost use Rattle.lent.specs.Word.{word};
 ghost use Rattle.answers.specs.Runs.{replyTo, ForcesAnswered};
-ghost use Rattle.rack.specs.Held.{PrepareAnswered, answerHeld, HeldPicks, HeldRounds};
+ghost use Rattle.rack.specs.Kept.{PrepareAnswered, answerKept, KeptPicks, KeptRounds};
 
 // The prepared list of a job.
 #[no_mangle]
@@ -53,7 +53,7 @@ pub extern "C" fn mzk_prepared_picks(
     sums: &mut [u8],
     picks: &[u8],
 ) -> u64
-    ensures { λ r. ⌜ HeldPicks (now (prepared .entry)) (now (state .entry)) (now (sums .entry)) (calls.picks (now (picks .entry))) r (now (state .exit)) (now (sums .exit)) ⌝ }
+    ensures { λ r. ⌜ KeptPicks (now (prepared .entry)) (now (state .entry)) (now (sums .entry)) (calls.picks (now (picks .entry))) r (now (state .exit)) (now (sums .exit)) ⌝ }
 {
     let answer = take(prepared, state, sums, picks, Rule::Stop);
     word_of(answer)
@@ -67,7 +67,7 @@ pub extern "C" fn mzk_prepared_rounds(
     sums: &mut [u8],
     picks: &[u8],
 ) -> u64
-    ensures { λ r. ⌜ HeldRounds (now (prepared .entry)) (now (state .entry)) (now (sums .entry)) (rounds (now (picks .entry))) r (now (state .exit)) (now (sums .exit)) ⌝ }
+    ensures { λ r. ⌜ KeptRounds (now (prepared .entry)) (now (state .entry)) (now (sums .entry)) (rounds (now (picks .entry))) r (now (state .exit)) (now (sums .exit)) ⌝ }
 {
     let answer = take(prepared, state, sums, picks, Rule::Skip);
     word_of_round(answer)
@@ -76,7 +76,7 @@ pub extern "C" fn mzk_prepared_rounds(
 // The workers whose next pick would be taken.
 #[no_mangle]
 pub extern "C" fn mzk_prepared_ready(prepared: &[u8], state: &[u8], sums: &[u8]) -> u64
-    ensures { λ r. ⌜ r ≡ word (replyTo (answerHeld (now (prepared .entry)) (now (state .entry)) (now (sums .entry)) readySet)) ⌝ }
+    ensures { λ r. ⌜ r ≡ word (replyTo (answerKept (now (prepared .entry)) (now (state .entry)) (now (sums .entry)) readySet)) ⌝ }
 {
     let answer = ready(prepared, state, sums);
     word_of(answer)
@@ -90,7 +90,7 @@ pub extern "C" fn mzk_prepared_forces(
     sums: &[u8],
     forces: &mut [u8],
 ) -> u64
-    ensures { λ r. ⌜ ForcesAnswered (answerHeld (now (prepared .entry)) (now (state .entry)) (now (sums .entry)) (forceList (length (now (forces .entry)) / 8))) (now (forces .entry)) r (now (forces .exit)) ⌝ }
+    ensures { λ r. ⌜ ForcesAnswered (answerKept (now (prepared .entry)) (now (state .entry)) (now (sums .entry)) (forceList (length (now (forces .entry)) / 8))) (now (forces .entry)) r (now (forces .exit)) ⌝ }
 {
     let answer = rack::forces(prepared, state, sums, forces);
     word_of(answer)

@@ -35,7 +35,7 @@ use Rattle.words.specs.LittleEndian.{number, toSigned, signedNumber, wholeBlock
 use Rattle.words.proofs.Blocks.{length-decoded}
 use Rattle.answers.specs.Runs.{stateBytes, countBytes, Bytes, stateIn, answerIn, bytesIn, leftBy}
 use Rattle.answers.proofs.RunCalls.{always-refused}
-use Rattle.meaning.specs.ByteRuns.{byteAnswer, stateLeft, bytesMoved, byteAfter, BytePreviews}
+use Rattle.meaning.specs.ByteRuns.{bytesMoved, bytesCalled, byteAnswer, stateLeft, byteAfter, BytePreviews}
 use Rattle.meaning.proofs.StateBack.{Sized, state-left}
 
 -- a refusal is shown as it is
@@ -131,7 +131,7 @@ module _ (m : Matrix) (x : List ℤ) (order groups : List ℕ) (count : ℕ) (b 
 
     -- the state that the picks leave is read back from the bytes that they leave
     taken : isState j s ≡ true → Same
-    unfolding byteAnswer answerIn byteAfter bytesMoved stateLeft leftBy pickedOf
+    unfolding byteAnswer answerIn byteAfter bytesCalled bytesMoved stateLeft leftBy pickedOf
     taken is = on-copy .same m x order groups count s ws ∙ ap (shown (answerLent m x order groups count s (picks ws))) (sym there)
       where
         t : State

@@ -28,7 +28,7 @@ use Rattle.run.proofs.LentRuns.{lent-runs}
 use Rattle.words.specs.LittleEndian.{signedBytes, stored}
 use Rattle.lent.specs.Word.{word}
 use Rattle.answers.specs.Runs.{stateBytes, answerIn, replyTo, forceBytes, ForcesAnswered, bytesIn, leftBy}
-use Rattle.meaning.specs.ByteRuns.{inBytes, byteAnswer, stateLeft, bytesMoved, byteAfter, byteAnswers, runBytes, ByteRun, ByteRuns}
+use Rattle.meaning.specs.ByteRuns.{inBytes, bytesMoved, bytesCalled, byteAnswer, stateLeft, byteAfter, byteAnswers, runBytes, ByteRun, ByteRuns}
 use Rattle.meaning.proofs.StateBack.{Sized, state-length, state-back, sums-length, zeros-fresh}
 use Rattle.answers.proofs.StateBytes.{stored-over}
 
@@ -73,7 +73,8 @@ module _ (m : Matrix) (x : List ℤ) (order groups : List ℕ) (count : ℕ) (pa
   one-left s k c = rw (state-back s (sized s k)) (same .left s c)
 
   -- picks are taken, if only some or none: no check refuses them
-  one-moved : (s : State) → Met s → (c : Call) {t q p : ℕ} → answer job s c ≡ picked t q p → bytesMoved m x order groups count (inBytes s) c ≡ inBytes (after job s c)
+  one-moved : (s : State) → Met s → (c : Call) {t q p : ℕ} → answer job s c ≡ picked t q p
+      → bytesMoved (byteAnswer m x order groups count (inBytes s) c) (stateLeft m x order groups count (inBytes s) c) (inBytes s) ≡ inBytes (after job s c)
   unfolding bytesMoved leftBy
   one-moved s k c e =
       let t = after job s c in
@@ -95,7 +96,7 @@ module _ (m : Matrix) (x : List ℤ) (order groups : List ℕ) (count : ℕ) (pa
   rounds-answer s k ws = rw (is-state s k)
 
   one-after : (s : State) → Met s → (c : Call) → byteAfter m x order groups count (inBytes s) c ≡ inBytes (after job s c)
-  unfolding byteAfter after stateCheck inTurn afterOf pickedOf passedOf
+  unfolding byteAfter bytesCalled after stateCheck inTurn afterOf pickedOf passedOf
   one-after s k (picks ws) = one-moved s k (picks ws) (picks-answer s k ws)
   one-after s k (rounds ws) = one-moved s k (rounds ws) (rounds-answer s k ws)
   one-after s k readySet = rw (is-state s k)

@@ -1,6 +1,7 @@
 pub mod StateBack
 pub mod ByteRuns
 pub mod BytePreviews
+pub mod PreparedByteRuns
 pub mod BothRuns
 pub mod EachIn
 pub mod SmallMatrix

@@ -25,6 +25,18 @@ inBytes s = record { state = bytesIn s; sums = signedBytes 8 (s .sums) }
 unfoldable pub zeros : (n : ℕ) → Bytes
 zeros n = record { state = replicate stateBytes 0; sums = replicate (8 * n) 0 }
 
+-- the bytes after picks or rounds with this answer that leave this state, as PicksAnswered and RoundsAnswered have them
+unfoldable pub bytesMoved : Answer → State → Bytes → Bytes
+bytesMoved a s b = record { state = leftBy a (bytesIn s) (b .state); sums = leftBy a (signedBytes 8 (s .sums)) (b .sums) }
+
+-- .. after any call: the others write neither
+unfoldable pub bytesCalled : Call → Answer → State → Bytes → Bytes
+bytesCalled (picks ws) a s b = bytesMoved a s b
+bytesCalled (rounds ws) a s b = bytesMoved a s b
+bytesCalled readySet a s b = b
+bytesCalled (forceList room) a s b = b
+bytesCalled (preview ws) a s b = b
+
 -- the calls on lent lists
 module _ (m : Matrix) (x : List ℤ) (order groups : List ℕ) (count : ℕ) where
   unfoldable pub byteAnswer : Bytes → Call → Answer
@@ -34,20 +46,8 @@ module _ (m : Matrix) (x : List ℤ) (order groups : List ℕ) (count : ℕ) whe
   unfoldable pub stateLeft : Bytes → Call → State
   stateLeft b c = afterLent m x order groups count (stateIn (b .state) (b .sums)) c
 
-  -- the bytes of it, as PicksAnswered and RoundsAnswered have them
-  unfoldable pub bytesMoved : Bytes → Call → Bytes
-  bytesMoved b c = record {
-    state = leftBy (byteAnswer b c) (bytesIn (stateLeft b c)) (b .state);
-    sums = leftBy (byteAnswer b c) (signedBytes 8 (stateLeft b c .sums)) (b .sums);
-  }
-
-  -- the bytes after a call: picks and rounds leave those of their state, the others write neither
   unfoldable pub byteAfter : Bytes → Call → Bytes
-  byteAfter b (picks ws) = bytesMoved b (picks ws)
-  byteAfter b (rounds ws) = bytesMoved b (rounds ws)
-  byteAfter b readySet = b
-  byteAfter b (forceList room) = b
-  byteAfter b (preview ws) = b
+  byteAfter b c = bytesCalled c (byteAnswer b c) (stateLeft b c) b
 
   -- "Each run begins fresh": the answers to a list of calls, and the bytes after it
   unfoldable pub byteAnswers : List Call → List Answer

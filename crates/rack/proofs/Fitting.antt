@@ -21,7 +21,7 @@ use Rattle.answers.specs.Runs.{countBytes, stateBytes, stateIn, answerIn, round
 use Rattle.answers.specs.code.Ran.{Plain}
 use Rattle.answers.proofs.RunCalls.{always-refused}
 use Rattle.answers.proofs.RunPicks.{picked-low, picked-few}
-use Rattle.rack.specs.Held.{fitting}
+use Rattle.rack.specs.Kept.{fitting}
 
 -- moves, and but for rounds the place of an ending
 pub record Fits (c : Call) (t p : ℕ) : Type 0 where

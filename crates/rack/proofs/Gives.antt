@@ -23,7 +23,7 @@ use Rattle.prepared.specs.Tables.{Tables, readyBelowBy, allMadeBy, originalBy, 
 use Rattle.picking.specs.code.Picks.{tablesIn}
 use Rattle.picking.specs.code.Reads.{Head}
 use Rattle.picking.proofs.Ready.{ready-bits}
-use Rattle.rack.specs.Held.{answerHeld}
+use Rattle.rack.specs.Kept.{answerKept}
 use Rattle.rack.specs.code.Taken.{refusalIn, Gave}
 use Rattle.rack.proofs.Refused.{Fine, refused-all}
 
@@ -43,7 +43,7 @@ module _ (list state sums old : List ℕ) where
   c = forceList (length old / 8)
 
   -- a refusal leaves the list
-  gave-refused : (number place : ℕ) → denied number place ≡ answerHeld list state sums c → Gave list state sums old (Refused number place) old
+  gave-refused : (number place : ℕ) → denied number place ≡ answerKept list state sums c → Gave list state sums old (Refused number place) old
   unfolding lent replyTo
   gave-refused number place told = record {
     made = [];
@@ -61,7 +61,7 @@ module _ {list state sums : List ℕ} (f : Fine list state sums) {rows crew n : 
 
   -- ---- the ready set
 
-  pub ready-told : {b : ℕ} → b ≡ bits (readyBelowBy T (before .made) crew) → isReady b (ones b) ≡ answerHeld list state sums readySet
+  pub ready-told : {b : ℕ} → b ≡ bits (readyBelowBy T (before .made) crew) → isReady b (ones b) ≡ answerKept list state sums readySet
   unfolding answerOfBy tablesOf
   ready-told {b} e =
       ready-bits T (before .made) b (e ∙ ap (λ (k : ℕ). bits (readyBelowBy T (before .made) k)) (h .crew-is))
@@ -70,7 +70,7 @@ module _ {list state sums : List ℕ} (f : Fine list state sums) {rows crew n : 
   -- ---- the forces
 
   module _ (old : List ℕ) (over : Bool) (o : over ≡ allMadeBy T (before .made) crew) where
-    told-by : (long : Bool) → leb rows (length old / 8) ≡ long → forcesOf over long rows (originalBy T (signed 8 sums)) ≡ answerHeld list state sums (forceList (length old / 8))
+    told-by : (long : Bool) → leb rows (length old / 8) ≡ long → forcesOf over long rows (originalBy T (signed 8 sums)) ≡ answerKept list state sums (forceList (length old / 8))
     unfolding answerOfBy tablesOf
     told-by long l =
         ap (λ (b : Bool). forcesOf b long rows (originalBy T (signed 8 sums))) (o ∙ ap (λ (k : ℕ). allMadeBy T (before .made) k) (h .crew-is) ∙ ap (λ (m : List ℕ). allMadeBy T m (T .crew)) (is .made))
@@ -94,7 +94,7 @@ module _ {list state sums : List ℕ} (f : Fine list state sums) {rows crew n : 
       pub gave-forces : rows ≤ length old / 8 → {new : List ℕ} → new ≡ stored (signedBytes 8 (originalBy T (signed 8 sums))) old → Gave list state sums old Forces new
       unfolding forcesOf lent replyTo forceBytes
       gave-forces l {new} e =
-          let told : forces (originalBy T (signed 8 sums)) ≡ answerHeld list state sums (forceList (length old / 8)) = told-by old true o true (le-leb rows (length old / 8) l) in
+          let told : forces (originalBy T (signed 8 sums)) ≡ answerKept list state sums (forceList (length old / 8)) = told-by old true o true (le-leb rows (length old / 8) l) in
           record {
             made = originalBy T (signed 8 sums);
             answers = told;

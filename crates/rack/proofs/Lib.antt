@@ -2,5 +2,5 @@ pub mod Refused
 pub mod Takes
 pub mod Gives
 pub mod Fitting
-pub mod HeldRuns
+pub mod KeptRuns
 pub mod Prepares

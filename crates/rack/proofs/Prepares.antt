@@ -22,7 +22,7 @@ use Rattle.answers.proofs.RunCalls.{job-cut}
 use Rattle.prepared.specs.Gates.{endIn, gate}
 use Rattle.prepared.specs.Format.{listsOf, preparedBytes}
 use Rattle.prepared.specs.Prepare.{listReply, prepareReply, PreparedFrom}
-use Rattle.rack.specs.Held.{PrepareAnswered}
+use Rattle.rack.specs.Kept.{PrepareAnswered}
 
 module _ (m : Matrix) (ok : isMatrix m ≡ true) (x : List ℤ) (p : Plan) where
   abbrev whole : Job

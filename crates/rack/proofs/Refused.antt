@@ -19,7 +19,7 @@ use Rattle.prepared.specs.Format.{tablesOf, listsIn, isPrepared}
 use Rattle.prepared.specs.Tables.{isStateBy, countsFineBy, stateCheckBy, answerOfBy, afterOfBy, answerBy, afterBy}
 use Rattle.prepared.specs.PreparedRuns.{preparedCheck, answerPrepared, afterPrepared}
 use Rattle.picking.specs.code.Picks.{tablesIn}
-use Rattle.rack.specs.Held.{answerHeld}
+use Rattle.rack.specs.Kept.{answerKept}
 use Rattle.rack.specs.code.Taken.{refusalIn}
 
 module _ (list state sums : List ℕ) where
@@ -55,11 +55,11 @@ module _ (list state sums : List ℕ) where
           sym (by-state ∙ rw (eq-eqb (length sums / 8) (listsIn list .rows) e) (ap (λ (t : Bool). cond t 0 11) (ap (λ (l : List ℕ). countsFineBy (tablesIn list) l maxWorkers) (sym m) ∙ sym f)))
 
   -- a refused call
-  pub refused-all : refusalIn list state sums ≢ 0 → (c : Call) → denied (refusalIn list state sums) 0 ≡ answerHeld list state sums c
-  unfolding refusalIn answerHeld answerPrepared preparedCheck answerBy stateCheckBy inTurn
+  pub refused-all : refusalIn list state sums ≢ 0 → (c : Call) → denied (refusalIn list state sums) 0 ≡ answerKept list state sums c
+  unfolding refusalIn answerKept answerPrepared preparedCheck answerBy stateCheckBy inTurn
   refused-all d c = go (isPrepared list) refl isWhole refl isState refl
     where
-      go : (p : Bool) → isPrepared list ≡ p → (w : Bool) → isWhole ≡ w → (t : Bool) → isState ≡ t → denied (refusalIn list state sums) 0 ≡ answerHeld list state sums c
+      go : (p : Bool) → isPrepared list ≡ p → (w : Bool) → isWhole ≡ w → (t : Bool) → isState ≡ t → denied (refusalIn list state sums) 0 ≡ answerKept list state sums c
       go false x true y t z = rw (x, y) refl
       go false x false y t z = rw (x, y) refl
       go true x false y t z = rw (x, y) refl
@@ -75,11 +75,11 @@ module _ (list state sums : List ℕ) where
     pub prepared : isPrepared list ≡ true
     pub whole : length state ≡ stateBytes
     pub rows : listsIn list .rows ≡ length sums / 8
-    pub answers : (c : Call) → answerHeld list state sums c ≡ answerOfBy (tablesIn list) (stateIn state sums) c
+    pub answers : (c : Call) → answerKept list state sums c ≡ answerOfBy (tablesIn list) (stateIn state sums) c
     pub leaves : (c : Call) → afterPrepared list (stateIn state sums) c ≡ afterOfBy (tablesIn list) (stateIn state sums) c
 
   pub fine : refusalIn list state sums ≡ 0 → Fine
-  unfolding refusalIn answerHeld answerPrepared afterPrepared preparedCheck answerBy afterBy stateCheckBy inTurn
+  unfolding refusalIn answerKept answerPrepared afterPrepared preparedCheck answerBy afterBy stateCheckBy inTurn
   fine e = go (isPrepared list) refl isWhole refl isState refl
     where
       go : (p : Bool) → isPrepared list ≡ p → (w : Bool) → isWhole ≡ w → (t : Bool) → isState ≡ t → Fine

@@ -27,7 +27,7 @@ use Rattle.answers.specs.code.Ran.{StateIs, Looks}
 use Rattle.prepared.specs.PreparedRuns.{afterPrepared}
 use Rattle.prepared.specs.Tables.{Tables, passBy, stepBy, answerOfBy, afterOfBy}
 use Rattle.picking.specs.code.Picks.{tablesIn, SumsKept}
-use Rattle.rack.specs.Held.{answerHeld, fitting}
+use Rattle.rack.specs.Kept.{answerKept, fitting}
 use Rattle.rack.specs.code.Taken.{refusalIn, takes, Took}
 use Rattle.rack.proofs.Refused.{Fine, refused-all}
 
@@ -44,7 +44,7 @@ module _ (list state sums : List ℕ) (c : Call) where
   pub took-refused : {why : ℕ} → why ≡ refusalIn list state sums → why ≢ 0 → Took list state sums c (Refused why 0) state sums
   unfolding fitting leftBy
   took-refused {why} e d =
-      let told : denied why 0 ≡ answerHeld list state sums c = ap (λ (k : ℕ). denied k 0) e ∙ refused-all list state sums (λ q. d (e ∙ q)) c in
+      let told : denied why 0 ≡ answerKept list state sums c = ap (λ (k : ℕ). denied k 0) e ∙ refused-all list state sums (λ q. d (e ∙ q)) c in
       record {
         answers = ap fitting told;
         state-left = ap (λ (a : Answer). leftBy a (bytesIn (afterPrepared list (stateIn state sums) c)) state) told;
@@ -94,7 +94,7 @@ module _ {list state sums : List ℕ} (f : Fine list state sums) (rule : Rule) (
   took {before} is w {newState} {newSums} rows all e kept low bytes new =
       let s : stateOf before (signed 8 sums) ≡ stateIn state sums = λ i. record { made = is .made i; held = is .held i; sums = signed 8 sums } in
       let run : passBy T (passesOver rule) (stateIn state sums) ws ≡ walkedOf w (signed 8 newSums) = ap (λ (y : State). passBy T (passesOver rule) y ws) (sym s) ∙ sym e in
-      let answer : answerHeld list state sums c ≡ passedOf (walkedOf w (signed 8 newSums)) = f .answers c ∙ rule-answer T (stateIn state sums) ws rule ∙ ap passedOf run in
+      let answer : answerKept list state sums c ≡ passedOf (walkedOf w (signed 8 newSums)) = f .answers c ∙ rule-answer T (stateIn state sums) ws rule ∙ ap passedOf run in
       let after : afterPrepared list (stateIn state sums) c ≡ stateOf (w .state) (signed 8 newSums) = f .leaves c ∙ rule-after T (stateIn state sums) ws rule ∙ ap (λ (r : Passed State). r .state) run in
       record {
         answers = sym (ap fitting answer);

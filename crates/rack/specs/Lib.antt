@@ -1,3 +1,3 @@
-pub mod Held
-pub mod HeldRuns
+pub mod Kept
+pub mod KeptRuns
 pub mod code

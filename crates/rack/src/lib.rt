@@ -28,7 +28,7 @@ ghost use Rattle.run.specs.Calls.{placeOf};
 ghost use Rattle.calls.specs.Performed.{asAnswer};
 ghost use Rattle.calls.specs.declared.Response.the-variants.{Picked};
 ghost use Rattle.answers.specs.code.Ran.{LowPlace};
-ghost use Rattle.rack.specs.Held.{answerHeld};
+ghost use Rattle.rack.specs.Kept.{answerKept};
 ghost use Rattle.rack.specs.code.Taken.{refusalIn, takes, Took, Gave};
 
 // "not a prepared list".
@@ -97,7 +97,7 @@ pub fn take(list: &[u8], state: &mut [u8], sums: &mut [u8], schedule: &[u8], rul
 
 // Who is ready.
 pub fn ready(list: &[u8], state: &[u8], sums: &[u8]) -> Response
-    ensures { λ r. ⌜ ((zs : List ℤ) → asAnswer r zs ≡ answerHeld (now (list .entry)) (now (state .entry)) (now (sums .entry)) readySet) × LowPlace r ⌝ }
+    ensures { λ r. ⌜ ((zs : List ℤ) → asAnswer r zs ≡ answerKept (now (list .entry)) (now (state .entry)) (now (sums .entry)) readySet) × LowPlace r ⌝ }
 {
     let why = refusal_of(list, state, sums);
     if why != 0 {

@@ -8,7 +8,7 @@ use matrix::limits::MAX_STARTS;
 use plan::fields::MAX_FIELDS;
 ghost use Rattle.words.specs.LittleEndian.{unsigned, signed};
 ghost use Rattle.lent.specs.Bytes.{matrixIn};
-ghost use Rattle.rack.specs.Held.{PrepareAnswered};
+ghost use Rattle.rack.specs.Kept.{PrepareAnswered};
 
 pub fn prepare_in(
     n: u32,

@@ -20,7 +20,7 @@ use Rattle.prepared.specs.Format.{isPrepared}
 use Rattle.prepared.specs.Tables.{isStateBy}
 use Rattle.prepared.specs.PreparedRuns.{notPrepared, afterPrepared}
 use Rattle.picking.specs.code.Picks.{tablesIn}
-use Rattle.rack.specs.Held.{answerHeld, fitting}
+use Rattle.rack.specs.Kept.{answerKept, fitting}
 
 -- why every call is refused, 26 before 11; 0: none is
 unfoldable pub refusalIn : (list state sums : List ℕ) → ℕ
@@ -33,15 +33,15 @@ takes Skip ws = rounds ws
 
 -- .. its answer as a word has room for it, and the lists after it
 pub record Took (list state sums : List ℕ) (c : Call) (answer : Response) (newState newSums : List ℕ) : Type 0 where
-  pub answers : asAnswer answer [] ≡ fitting (answerHeld list state sums c)
-  pub state-left : newState ≡ leftBy (answerHeld list state sums c) (bytesIn (afterPrepared list (stateIn state sums) c)) state
-  pub sums-left : newSums ≡ leftBy (answerHeld list state sums c) (signedBytes 8 (afterPrepared list (stateIn state sums) c .sums)) sums
+  pub answers : asAnswer answer [] ≡ fitting (answerKept list state sums c)
+  pub state-left : newState ≡ leftBy (answerKept list state sums c) (bytesIn (afterPrepared list (stateIn state sums) c)) state
+  pub sums-left : newSums ≡ leftBy (answerKept list state sums c) (signedBytes 8 (afterPrepared list (stateIn state sums) c .sums)) sums
   pub place-low : LowPlace answer
   pub moves-low : LowMoves answer
 
 -- the force list of a run: its answer, with the forces that it may have, and the lent list after it
 pub record Gave (list state sums old : List ℕ) (answer : Response) (new : List ℕ) : Type 0 where
   pub made : List ℤ
-  pub answers : asAnswer answer made ≡ answerHeld list state sums (forceList (length old / 8))
-  pub lists : new ≡ lent (replyTo (answerHeld list state sums (forceList (length old / 8)))) (forceBytes (answerHeld list state sums (forceList (length old / 8)))) old
+  pub answers : asAnswer answer made ≡ answerKept list state sums (forceList (length old / 8))
+  pub lists : new ≡ lent (replyTo (answerKept list state sums (forceList (length old / 8)))) (forceBytes (answerKept list state sums (forceList (length old / 8)))) old
   pub place-low : LowPlace answer

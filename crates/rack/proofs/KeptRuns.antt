@@ -20,8 +20,8 @@ use Rattle.answers.specs.code.Ran.{Plain}
 use Rattle.prepared.specs.Format.{preparedBytes}
 use Rattle.prepared.specs.PreparedRuns.{preparedCheck, afterPrepared, PreparedRun}
 use Rattle.prepared.proofs.PreparedRuns.{prepared-runs}
-use Rattle.rack.specs.Held.{fitting, answerHeld, HeldMoved}
-use Rattle.rack.specs.HeldRuns.{HeldRun, HeldRuns}
+use Rattle.rack.specs.Kept.{fitting, answerKept, KeptMoved}
+use Rattle.rack.specs.KeptRuns.{KeptRun, KeptRuns}
 use Rattle.rack.proofs.Fitting.{told-fits, fitting-same, round-same}
 
 module _ (m : Matrix) (x : List ℤ) (order groups : List ℕ) (count : ℕ) (ok : passed m x order groups count ≡ true) (rest : List ℕ) where
@@ -36,11 +36,11 @@ module _ (m : Matrix) (x : List ℤ) (order groups : List ℕ) (count : ℕ) (ok
   unfolding preparedCheck inTurn passed
   refused = rw (run .prepared rest) (sym (inTurn-all denied (jobChecks m x order groups count) (denied why.notState 0) ok))
 
-  answered : (state sums : List ℕ) (c : Call) → answerHeld list state sums c ≡ answerIn m x order groups count state sums c
-  unfolding answerHeld answerIn
+  answered : (state sums : List ℕ) (c : Call) → answerKept list state sums c ≡ answerIn m x order groups count state sums c
+  unfolding answerKept answerIn
   answered state sums c = go (eqb (length state) stateBytes) refl
     where
-      go : (b : Bool) → eqb (length state) stateBytes ≡ b → answerHeld list state sums c ≡ answerIn m x order groups count state sums c
+      go : (b : Bool) → eqb (length state) stateBytes ≡ b → answerKept list state sums c ≡ answerIn m x order groups count state sums c
       go true e = rw e (run .answered rest (stateIn state sums) c)
       go false e = rw e refused
 
@@ -49,15 +49,15 @@ module _ (m : Matrix) (x : List ℤ) (order groups : List ℕ) (count : ℕ) (ok
 
   -- a call that takes picks, whose word has room for what it tells
   taken : (told : Answer → ℕ) (state sums : List ℕ) (c : Call) → told (fitting (answerIn m x order groups count state sums c)) ≡ told (answerIn m x order groups count state sums c)
-      → {returned : ℕ} {newState newSums : List ℕ} → HeldMoved told list state sums c returned newState newSums
+      → {returned : ℕ} {newState newSums : List ℕ} → KeptMoved told list state sums c returned newState newSums
       → Moved (told (answerIn m x order groups count state sums c)) (answerIn m x order groups count state sums c) (afterLent m x order groups count (stateIn state sums) c) state sums returned newState newSums
   taken told state sums c room h =
       let g = rw (answered state sums c, left state sums c) at h in
       record { returns = g .returns ∙ room; state-left = g .state-left; sums-left = g .sums-left }
 
-  held-run : HeldRun m x order groups count rest
+  kept-run : KeptRun m x order groups count rest
   unfolding Plain
-  held-run = record {
+  kept-run = record {
     answered = answered;
     left = left;
     picked = λ state sums ws returned newState newSums h.
@@ -66,5 +66,5 @@ module _ (m : Matrix) (x : List ℤ) (order groups : List ℕ) (count : ℕ) (ok
   }
 
 -- the theorem
-pub held-runs : HeldRuns
-held-runs = record { every = held-run }
+pub kept-runs : KeptRuns
+kept-runs = record { every = kept-run }

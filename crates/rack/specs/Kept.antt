@@ -21,8 +21,8 @@ abbrev pub PrepareAnswered : Matrix → List ℤ → (order groups : List ℕ) (
 PrepareAnswered m x order groups count old = Answered (prepareReply m x order groups count (length old)) (preparedBytes (jobOf m x order groups count)) old
 
 -- a call's answer: 26 comes before 11, which a state of another length is refused with, too
-unfoldable pub answerHeld : (list state sums : List ℕ) → Call → Answer
-answerHeld list state sums c = cond (eqb (length state) stateBytes) (answerPrepared list (stateIn state sums) c) (inTurn denied (preparedCheck list) (denied why.notState 0))
+unfoldable pub answerKept : (list state sums : List ℕ) → Call → Answer
+answerKept list state sums c = cond (eqb (length state) stateBytes) (answerPrepared list (stateIn state sums) c) (inTurn denied (preparedCheck list) (denied why.notState 0))
 
 -- what a word has room for: of more than 24 bits of moves and of more than 32 bits of an index the low ones. The list of
 -- a job never has so many moves.
@@ -34,12 +34,12 @@ fitting (denied number place) = denied number place
 fitting (previewed taken number place bits count) = previewed taken number place bits count
 
 -- a call that takes picks: the returned word, and the lent lists after it
-abbrev pub HeldMoved : (told : Answer → ℕ) (list state sums : List ℕ) → Call → (returned : ℕ) (newState newSums : List ℕ) → Type 0
-HeldMoved told list state sums c = Moved (told (fitting (answerHeld list state sums c))) (answerHeld list state sums c) (afterPrepared list (stateIn state sums) c) state sums
+abbrev pub KeptMoved : (told : Answer → ℕ) (list state sums : List ℕ) → Call → (returned : ℕ) (newState newSums : List ℕ) → Type 0
+KeptMoved told list state sums c = Moved (told (fitting (answerKept list state sums c))) (answerKept list state sums c) (afterPrepared list (stateIn state sums) c) state sums
 
 -- of picks, and of rounds
-abbrev pub HeldPicks : (list state sums : List ℕ) → Call → (returned : ℕ) (newState newSums : List ℕ) → Type 0
-HeldPicks = HeldMoved (λ a. word (replyTo a))
+abbrev pub KeptPicks : (list state sums : List ℕ) → Call → (returned : ℕ) (newState newSums : List ℕ) → Type 0
+KeptPicks = KeptMoved (λ a. word (replyTo a))
 
-abbrev pub HeldRounds : (list state sums : List ℕ) → Call → (returned : ℕ) (newState newSums : List ℕ) → Type 0
-HeldRounds = HeldMoved roundWord
+abbrev pub KeptRounds : (list state sums : List ℕ) → Call → (returned : ℕ) (newState newSums : List ℕ) → Type 0
+KeptRounds = KeptMoved roundWord
