@@ -31,7 +31,8 @@ fn fuzz() {
 fn bench() {
     let usage = "usage: bench [NAME ..] (read, write, product, survey, set_movement, set_entry, join, plan, check, \
                  write_plan, read_plan, numbers_read, numbers_write, control, barrier, picks, rounds, preview, ready, \
-                 forces, picks_both, ready_both, efficiency, roof, bcsstk14, gr_30_30, chain, unjoined)";
+                 forces, prepare, prepared_picks, prepared_rounds, prepared_ready, prepared_forces, picks_both, \
+                 ready_both, efficiency, roof, bcsstk14, gr_30_30, chain, unjoined)";
     for arguments in [
         &["pick"][..],
         &["picks", "roofs"],

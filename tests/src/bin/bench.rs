@@ -94,6 +94,9 @@ struct Implementation {
     forces: fn(RunLists, &[u8], &[u8], Out) -> u64,
     prepare: fn(RunLists, Out) -> u64,
     prepared_picks: fn(&[u8], Out, Out, &[u8]) -> u64,
+    prepared_rounds: fn(&[u8], Out, Out, &[u8]) -> u64,
+    prepared_ready: fn(&[u8], &[u8], &[u8]) -> u64,
+    prepared_forces: fn(&[u8], &[u8], &[u8], Out) -> u64,
     picks_both: fn(CrewLists, [Out; 2], [Out; 2], &[u8]) -> u64,
     ready_both: fn(CrewLists, [&[u8]; 2], [&[u8]; 2]) -> u64,
 }
@@ -122,6 +125,9 @@ const LIBRARY: Implementation = Implementation {
     forces: library::forces,
     prepare: library::prepare,
     prepared_picks: library::prepared_picks,
+    prepared_rounds: library::prepared_rounds,
+    prepared_ready: library::prepared_ready,
+    prepared_forces: library::prepared_forces,
     picks_both: library::picks_both,
     ready_both: library::ready_both,
 };
@@ -150,9 +156,18 @@ const RUST: Implementation = Implementation {
     forces: calls::forces,
     prepare: calls::prepare,
     prepared_picks: calls::prepared_picks,
+    prepared_rounds: calls::prepared_rounds,
+    prepared_ready: calls::prepared_ready,
+    prepared_forces: calls::prepared_forces,
     picks_both: calls::picks_both,
     ready_both: calls::ready_both,
 };
+
+/// As many picks as a run has moves, of all workers in turn.
+fn everyone_in_turn(given: &Given) -> Vec<u8> {
+    let everyone: Vec<u8> = (0..16).collect();
+    everyone.repeat(given.schedule.len() / 16)
+}
 
 /// What is timed: a call, or all calls of a run.
 type Work = fn(&Implementation, &Given, &mut Lent) -> u64;
@@ -204,11 +219,13 @@ const WORKS: &[(&str, Work)] = &[
         let At { state, sums } = lent.at.clear();
         given.lists().map(|picks| (by.picks)(given.run(), state, sums, picks)).sum()
     }),
+    ("picks, 1 pick", |by, given, lent| {
+        let At { state, sums } = lent.at.clear();
+        (by.picks)(given.run(), state, sums, &given.schedule[..1])
+    }),
     ("rounds", |by, given, lent| {
         let At { state, sums } = lent.at.clear();
-        let everyone: Vec<u8> = (0..16).collect();
-        let picks = everyone.repeat(given.schedule.len() / 16);
-        (by.rounds)(given.run(), state, sums, &picks)
+        (by.rounds)(given.run(), state, sums, &everyone_in_turn(given))
     }),
     ("preview", |by, given, lent| {
         let At { state, sums } = lent.at.clear();
@@ -227,6 +244,23 @@ const WORKS: &[(&str, Work)] = &[
     ("prepared_picks, a run in 1,000 lists", |by, given, lent| {
         let At { state, sums } = lent.at.clear();
         given.lists().map(|picks| (by.prepared_picks)(&given.prepared, state, sums, picks)).sum()
+    }),
+    ("prepared_picks, 1,000 lists of 1 pick", |by, given, lent| {
+        let At { state, sums } = lent.at.clear();
+        let picks = given.schedule[..1_000].chunks(1);
+        picks.map(|pick| (by.prepared_picks)(&given.prepared, state, sums, pick)).sum()
+    }),
+    ("prepared_rounds", |by, given, lent| {
+        let At { state, sums } = lent.at.clear();
+        (by.prepared_rounds)(&given.prepared, state, sums, &everyone_in_turn(given))
+    }),
+    ("prepared_ready", |by, given, _| {
+        let At { state, sums } = &given.halfway;
+        (by.prepared_ready)(&given.prepared, state, sums)
+    }),
+    ("prepared_forces", |by, given, lent| {
+        let At { state, sums } = &given.finished;
+        (by.prepared_forces)(&given.prepared, state, sums, &mut lent.forces)
     }),
     ("picks_both, two runs in 1 list", |by, given, lent| {
         let (at0, at1) = (lent.at.clear(), lent.at1.clear());

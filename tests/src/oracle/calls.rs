@@ -6,7 +6,7 @@ use super::barrier::{self, Unit, Write, UNIT_BYTES};
 use super::crews::{self, LentBoth};
 use super::machine::{self, Lent, Picked, State};
 use super::matrix::{Matrix, Rows};
-use super::prepared::Tables;
+use super::prepared::{Prepared, Tables};
 use super::{
     control, join, numbers, plan_file, planner, soundness, survey, text, upkeep, Refusal, FIELDS,
     WORKERS,
@@ -459,39 +459,38 @@ fn take_prepared(
     picks: &[u8],
     skips: &[u32],
 ) -> Result<Picked, Refusal> {
-    let (tables, mut numbers, mut moved) = prepared(list, state, sums)?;
-    let picked = tables.picks(&mut numbers, &mut moved, picks, skips);
+    let (prepared, mut numbers) = prepared(list, state, sums)?;
+    let picked = prepared.picks(&mut numbers, sums, picks, skips);
     put_state(state, &numbers);
-    put(sums, &moved, i64::to_le_bytes);
     Ok(picked)
 }
 
-/// The tables, state and sums of a prepared run, or 26, or 11.
-fn prepared(list: &[u8], state: &[u8], sums: &[u8]) -> Result<(Tables, State, Vec<i64>), Refusal> {
-    let tables = Tables::read(list)?;
+/// A prepared run and its state, or 26, or 11.
+fn prepared<'a>(
+    list: &'a [u8],
+    state: &[u8],
+    sums: &[u8],
+) -> Result<(Prepared<'a>, State), Refusal> {
+    let prepared = Prepared::read(list)?;
     let state = get_state(state).ok_or(Refusal::at(11, 0))?;
-    let sums = get(sums, usize::MAX, i64::from_le_bytes);
-    tables.judge(&state, &sums)?;
-    Ok((tables, state, sums))
+    prepared.judge(&state, sums)?;
+    Ok((prepared, state))
 }
 
 /// The ready set of a prepared run: sixteen bits, plus the count × 65,536.
 pub fn prepared_ready(list: &[u8], state: &[u8], sums: &[u8]) -> u64 {
-    word(prepared(list, state, sums).map(|(tables, state, _)| {
-        let ready = tables.ready(&state);
+    word(prepared(list, state, sums).map(|(prepared, state)| {
+        let ready = prepared.ready(&state);
         ready.count << 16 | u32::from(ready.set)
     }))
 }
 
 /// The force list of a finished prepared run.
 pub fn prepared_forces(list: &[u8], state: &[u8], sums: &[u8], forces: &mut [u8]) -> u64 {
-    let mut tell = || {
-        let (tables, state, sums) = prepared(list, state, sums)?;
-        let all = tables.forces(&state, &sums, forces.len() / 8)?;
-        put(forces, &all, i64::to_le_bytes);
+    word(prepared(list, state, sums).and_then(|(prepared, state)| {
+        prepared.forces(&state, sums, forces)?;
         Ok(0)
-    };
-    word(tell())
+    }))
 }
 
 /// The answer word.

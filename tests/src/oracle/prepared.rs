@@ -23,7 +23,19 @@ struct Update {
     row: u32,
 }
 
-/// What a prepared list says.
+impl Update {
+    /// The update that sixteen bytes stand for.
+    fn of(bytes: &[u8; UPDATE]) -> Update {
+        let words = bytes.as_chunks().0;
+        Update {
+            amount: i64::from_le_bytes(bytes.as_chunks().0[0]),
+            sum: number(&words[2]),
+            row: number(&words[3]),
+        }
+    }
+}
+
+/// What is prepared of a run.
 pub struct Tables {
     rows: u32,
     workers: u32,
@@ -111,49 +123,55 @@ impl Tables {
         }
         list
     }
+}
 
-    /// The tables in a list, or 26.
-    pub fn read(list: &[u8]) -> Result<Tables, Refusal> {
+/// A number of four bytes.
+fn number(word: &[u8; 4]) -> u32 {
+    u32::from_le_bytes(*word)
+}
+
+/// A prepared list as calls read it: nothing of it is copied.
+pub struct Prepared<'a> {
+    rows: usize,
+    workers: usize,
+    head: &'a [[u8; 4]],
+    updates: &'a [[u8; UPDATE]],
+    gates: &'a [[u8; 4 * WORKERS]],
+    places: &'a [[u8; 4]],
+}
+
+impl Prepared<'_> {
+    /// What a list says, or 26.
+    pub fn read(list: &[u8]) -> Result<Prepared<'_>, Refusal> {
         let none = Refusal::at(26, 0);
         let (head, rest) = list.split_at_checked(HEAD).ok_or(none)?;
-        let (mark, head) = head.split_at(MARK.len());
-        let numbers: Vec<u32> = words(head).collect();
-        let [rows, workers, count] = [numbers[0], numbers[1], numbers[2]];
-        let needed = u128::from(count) * UPDATE as u128 + u128::from(rows) * ROW as u128;
-        if mark != MARK || workers > WORKERS as u32 || (rest.len() as u128) < needed {
+        let head = head.as_chunks().0;
+        let [rows, workers, count] = [1, 2, 3].map(|place| number(&head[place]) as usize);
+        let needed = count as u128 * UPDATE as u128 + rows as u128 * ROW as u128;
+        if head[0] != MARK || workers > WORKERS || (rest.len() as u128) < needed {
             return Err(none);
         }
-        let (updates, rest) = rest.split_at(count as usize * UPDATE);
-        let (gates, rest) = rest.split_at(rows as usize * 4 * WORKERS);
-        let update = |bytes: &[u8; UPDATE]| {
-            let (amount, places) = bytes.split_at(8);
-            let mut places = words(places);
-            Update {
-                amount: i64::from_le_bytes(amount.try_into().expect("eight bytes")),
-                sum: places.next().expect("a sum"),
-                row: places.next().expect("a row"),
-            }
-        };
-        let each_worker = |from: usize| std::array::from_fn(|worker| numbers[from + worker]);
-        Ok(Tables {
+        let (updates, rest) = rest.split_at(count * UPDATE);
+        let (gates, rest) = rest.split_at(rows * 4 * WORKERS);
+        Ok(Prepared {
             rows,
             workers,
-            moves: each_worker(3),
-            first: each_worker(3 + WORKERS),
-            updates: updates.as_chunks().0.iter().map(update).collect(),
-            gates: words(gates).collect::<Vec<u32>>().as_chunks().0.to_vec(),
-            places: words(&rest[..4 * rows as usize]).collect(),
+            head,
+            updates: updates.as_chunks().0,
+            gates: gates.as_chunks().0,
+            places: rest[..4 * rows].as_chunks().0,
         })
     }
 
+    /// The moves that a worker makes.
+    fn moves(&self, worker: usize) -> u32 {
+        number(&self.head[4 + worker])
+    }
+
     /// Refusal 11: not a sum for each row, or a count past its moves.
-    pub fn judge(&self, state: &State, sums: &[i64]) -> Result<(), Refusal> {
-        let past = state
-            .made
-            .iter()
-            .zip(self.moves)
-            .any(|(&made, moves)| made > moves);
-        if sums.len() as u64 != u64::from(self.rows) || past {
+    pub fn judge(&self, state: &State, sums: &[u8]) -> Result<(), Refusal> {
+        let is_past = |worker: usize| state.made[worker] > self.moves(worker);
+        if sums.len() / 8 != self.rows || (0..WORKERS).any(is_past) {
             return Err(Refusal::at(11, 0));
         }
         Ok(())
@@ -161,48 +179,45 @@ impl Tables {
 
     /// The update of a worker's next move; one that does nothing where there is none.
     fn next(&self, made: &[u32; WORKERS], worker: usize) -> Update {
-        let number = u64::from(self.first[worker]) + u64::from(made[worker] / 2);
-        self.updates
-            .get(number as usize)
-            .copied()
-            .unwrap_or_default()
+        let first = number(&self.head[4 + WORKERS + worker]) as usize;
+        let update = self.updates.get(first + made[worker] as usize / 2);
+        update.map_or(Update::default(), Update::of)
     }
 
     /// Refusals 10, 12 and 13 of a worker's next move.
-    fn may_move(&self, made: &[u32; WORKERS], worker: usize) -> Result<(), u32> {
-        if worker >= self.workers as usize {
+    fn may_move(&self, made: &[u32; WORKERS], worker: usize) -> Result<Update, u32> {
+        if worker >= self.workers {
             return Err(10);
         }
-        if made[worker] >= self.moves[worker] {
+        if made[worker] >= self.moves(worker) {
             return Err(12);
         }
-        let row = self.next(made, worker).row as usize;
-        let gate = self.gates.get(row).copied().unwrap_or_default();
-        if made.iter().zip(gate).any(|(&made, needed)| made < needed) {
+        let update = self.next(made, worker);
+        let gate = self.gates.get(update.row as usize);
+        let gate = gate.map_or([].as_slice(), |gate| gate.as_chunks().0);
+        if made
+            .iter()
+            .zip(gate)
+            .any(|(&made, needed)| made < number(needed))
+        {
             return Err(13);
         }
-        Ok(())
+        Ok(update)
     }
 
-    /// Takes picks in turn; the numbers in `skips` skip a pick.
-    pub fn picks(
-        &self,
-        state: &mut State,
-        sums: &mut [i64],
-        picks: &[u8],
-        skips: &[u32],
-    ) -> Picked {
+    /// Takes picks in turn on the bytes of the sums; the numbers in `skips` skip a pick.
+    pub fn picks(&self, state: &mut State, sums: &mut [u8], picks: &[u8], skips: &[u32]) -> Picked {
+        let sums = sums.as_chunks_mut().0;
         Picked::in_turn(picks, skips, |pick| {
             let worker = usize::from(pick);
-            self.may_move(&state.made, worker)?;
-            let update = self.next(&state.made, worker);
+            let update = self.may_move(&state.made, worker)?;
             let sum = sums.get_mut(update.sum as usize);
             if state.made[worker].is_multiple_of(2) {
-                state.held[worker] = sum.map_or(0, |sum| *sum);
+                state.held[worker] = sum.map_or(0, |sum| i64::from_le_bytes(*sum));
             } else {
                 let stored = state.held[worker].checked_add(update.amount).ok_or(14u32)?;
                 if let Some(sum) = sum {
-                    *sum = stored;
+                    *sum = stored.to_le_bytes();
                 }
             }
             state.made[worker] += 1;
@@ -212,28 +227,21 @@ impl Tables {
 
     /// The workers that may move.
     pub fn ready(&self, state: &State) -> Ready {
-        Ready::of(self.workers as usize, |worker| {
+        Ready::of(self.workers, |worker| {
             self.may_move(&state.made, worker).is_ok()
         })
     }
 
     /// The sums of a finished run in original order, or 15, or 9.
-    pub fn forces(&self, state: &State, sums: &[i64], lent: usize) -> Result<Vec<i64>, Refusal> {
-        let workers = self.workers as usize;
-        if (0..workers).any(|worker| state.made[worker] < self.moves[worker]) {
+    pub fn forces(&self, state: &State, sums: &[u8], forces: &mut [u8]) -> Result<(), Refusal> {
+        if (0..self.workers).any(|worker| state.made[worker] < self.moves(worker)) {
             return Err(Refusal::at(15, 0));
         }
-        room(lent, self.rows as usize)?;
-        let sum = |&place: &u32| sums.get(place as usize).copied().unwrap_or(0);
-        Ok(self.places.iter().map(sum).collect())
+        room(forces.len() / 8, self.rows)?;
+        let sums = sums.as_chunks().0;
+        for (force, place) in forces.as_chunks_mut().0.iter_mut().zip(self.places) {
+            *force = sums.get(number(place) as usize).copied().unwrap_or([0; 8]);
+        }
+        Ok(())
     }
-}
-
-/// The numbers of four bytes each.
-fn words(bytes: &[u8]) -> impl Iterator<Item = u32> + '_ {
-    bytes
-        .as_chunks()
-        .0
-        .iter()
-        .map(|&word| u32::from_le_bytes(word))
 }

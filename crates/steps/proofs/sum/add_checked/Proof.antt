@@ -1,132 +1,57 @@
--- `run::sum::add_checked` meets its contract. Each arm's facts are carried to the integers themselves, `neg` to `most`,
--- and omega has the rest.
+-- `add_checked` meets its contract.
 use mathlib.Core.Path.{_≡_}
-use mathlib.Core.Bool.{true, false}
-use Prim.Native.Nat.{_≤_, _<_, _+_, _^_}
+use mathlib.Core.Bool.{true}
+use Prim.Native.Nat.{_^_, _<_}
 use native.Mathlib.Omega.{arith}
-use lib.IntN.{ℤ, pos, negsuc, _+ℤ_, _-ℤ_}
-use lib.Signed.{ltZ}
-use borrow.Author.Tests.{lt-ltb, le-ltb}
-use borrow.Author.Needs.{needs}
+use lib.IntN.{ℤ, pos, negsuc, natAbs, _+ℤ_}
 use mir.Syntax.{w64}
 use mir.Val.{SFits}
 use mir.Facts.{toZ-ofZ}
+use borrow.Author.Needs.{needs}
+use borrow.Author.Tests.{lt-ltb}
 use Rattle.base.specs.Integers.{fits64}
-use Rattle.base.proofs.Integers.{up, down, lin-fits, fits-lin, lin-add, lin-sub, lt-yes, lt-no}
+use Rattle.base.proofs.Booleans.{and-left, and-right}
+use Rattle.base.proofs.Integers.{abs-add, fits-abs}
 use Rattle.steps.proofs.sum.add_checked.Statement.{statement}
 use Rattle.steps.proofs.sum.add_checked.Tie as tie
 
--- the range
-within : (z : ℤ) → SFits w64 z → fits64 z ≡ true
+is-near-requires : tie.Need-is-near-requires
+is-near-requires c κs = search needs
+
+is-near-requires-2 : tie.Need-is-near-requires-2
+is-near-requires-2 c κs = search needs
+
+fits-magnitude : (z : ℤ) → natAbs z < 2 ^ 63 → fits64 z ≡ true
 unfolding fits64
-within (pos n) f = lt-ltb n (2 ^ 63) (omega (arith, f .sfits))
-within (negsuc n) f = lt-ltb n (2 ^ 63) (omega (arith, f .sfits))
+fits-magnitude (pos n) h = lt-ltb n (2 ^ 63) h
+fits-magnitude (negsuc n) h = lt-ltb n (2 ^ 63) (omega arith)
 
-below : (z : ℤ) → 2 ^ 63 + up z < down z → fits64 z ≡ false
-unfolding fits64
-below (pos n) h = absurd (omega arith)
-below (negsuc n) h = le-ltb n (2 ^ 63) (omega arith)
+-- the sum of two numbers near 0
+near : (c : tie.Then1) → let a = c .before .before .before .args in natAbs (a .a +ℤ a .b) < 2 ^ 63
+near c =
+    let s = c .before .before .before in
+    let first = c .before .before .is-near in
+    let second = c .before .is-near2 in
+    let h = rw (toZ-ofZ (s .fits .a)) at (first .ensures (and-left (first .result) (second .result) (c .if1 .taken))) in
+    let k = rw (toZ-ofZ (s .fits .b)) at (second .ensures (and-right (first .result) (second .result) (c .if1 .taken))) in
+    omega (arith, abs-add (s .args .a) (s .args .b), h, k)
 
-above : (z : ℤ) → 2 ^ 63 + down z ≤ up z → fits64 z ≡ false
-unfolding fits64
-above (pos n) h = le-ltb n (2 ^ 63) (omega arith)
-above (negsuc n) h = absurd (omega arith)
+fits : (c : tie.Then1) → let a = c .before .before .before .args in SFits w64 (a .a +ℤ a .b)
+fits c = fits-abs (near c)
 
--- b < 0
-neg : (c : tie.Then1) → ltZ (c .before .args .b) (pos 0) ≡ true
-neg c = simp (toZ-ofZ (c .before .fits .b)) at (c .if1 .taken)
-
-low : (c : tie.Then1) → SFits w64 (negsuc 9223372036854775807 -ℤ c .before .args .b)
-low c =
-    let b = c .before .args .b in
-    let h = lt-yes b (pos 0) (neg c) in
-    let f = fits-lin (c .before .fits .b) in
-    let s = lin-sub (negsuc 9223372036854775807) b in
-    lin-fits (omega arith) (omega arith)
-
--- 0 ≤ b
-nonneg : (c : tie.Else1) → ltZ (c .before .args .b) (pos 0) ≡ false
-nonneg c = simp (toZ-ofZ (c .before .fits .b)) at (c .if1 .left)
-
-high : (c : tie.Else1) → SFits w64 (pos 9223372036854775807 -ℤ c .before .args .b)
-high c =
-    let b = c .before .args .b in
-    let h = lt-no b (pos 0) (nonneg c) in
-    let f = fits-lin (c .before .fits .b) in
-    let s = lin-sub (pos 9223372036854775807) b in
-    lin-fits (omega arith) (omega arith)
-
--- a's test, in each arm
-least : (c : tie.Then2) → ltZ (c .before .before .args .a) (negsuc 9223372036854775807 -ℤ c .before .before .args .b) ≡ true
-least c = simp (toZ-ofZ (c .before .before .fits .a), toZ-ofZ (c .before .before .fits .b), toZ-ofZ (low (c .before))) at (c .if2 .taken)
-
-kept-low : (c : tie.Else2) → ltZ (c .before .before .args .a) (negsuc 9223372036854775807 -ℤ c .before .before .args .b) ≡ false
-kept-low c = simp (toZ-ofZ (c .before .before .fits .a), toZ-ofZ (c .before .before .fits .b), toZ-ofZ (low (c .before))) at (c .if2 .left)
-
-most : (c : tie.Then3) → ltZ (pos 9223372036854775807 -ℤ c .before .before .args .b) (c .before .before .args .a) ≡ true
-most c = simp (toZ-ofZ (c .before .before .fits .a), toZ-ofZ (c .before .before .fits .b), toZ-ofZ (high (c .before))) at (c .if3 .taken)
-
-kept-high : (c : tie.Else3) → ltZ (pos 9223372036854775807 -ℤ c .before .before .args .b) (c .before .before .args .a) ≡ false
-kept-high c = simp (toZ-ofZ (c .before .before .fits .a), toZ-ofZ (c .before .before .fits .b), toZ-ofZ (high (c .before))) at (c .if3 .left)
-
-fit-low : (c : tie.Else2) → SFits w64 (c .before .before .args .a +ℤ c .before .before .args .b)
-fit-low c =
-    let a = c .before .before .args .a in
-    let b = c .before .before .args .b in
-    let h = lt-yes b (pos 0) (neg (c .before)) in
-    let f = fits-lin (c .before .before .fits .a) in
-    let k = lt-no a (negsuc 9223372036854775807 -ℤ b) (kept-low c) in
-    let s = lin-sub (negsuc 9223372036854775807) b in
-    let t = lin-add a b in
-    lin-fits (omega arith) (omega arith)
-
-fit-high : (c : tie.Else3) → SFits w64 (c .before .before .args .a +ℤ c .before .before .args .b)
-fit-high c =
-    let a = c .before .before .args .a in
-    let b = c .before .before .args .b in
-    let h = lt-no b (pos 0) (nonneg (c .before)) in
-    let f = fits-lin (c .before .before .fits .a) in
-    let k = lt-no (pos 9223372036854775807 -ℤ b) a (kept-high c) in
-    let s = lin-sub (pos 9223372036854775807) b in
-    let t = lin-add a b in
-    lin-fits (omega arith) (omega arith)
-
-sub-if2 : tie.Need-sub-if2
-sub-if2 c = let f = low c in search needs
+add-t6 : tie.Need-add-t6
+add-t6 c = let f = fits c in search needs
 
 returns : tie.Need-returns
-returns c =
-    let a = c .before .before .args .a in
-    let b = c .before .before .args .b in
-    let k = lt-yes a (negsuc 9223372036854775807 -ℤ b) (least c) in
-    let s = lin-sub (negsuc 9223372036854775807) b in
-    let t = lin-add a b in
-    rw (below (a +ℤ b) (omega arith))
+returns c = let f = fits c in rw (fits-magnitude _ (near c)) (search needs)
 
-add-t5 : tie.Need-add-t5
-add-t5 c = let f = fit-low c in search needs
-
-sub-if3 : tie.Need-sub-if3
-sub-if3 c = let f = high c in search needs
+add-by-sign-requires : tie.Need-add-by-sign-requires
+add-by-sign-requires c κs = search needs
 
 returns-2 : tie.Need-returns-2
-returns-2 c =
-    let a = c .before .before .args .a in
-    let b = c .before .before .args .b in
-    let k = lt-yes (pos 9223372036854775807 -ℤ b) a (most c) in
-    let s = lin-sub (pos 9223372036854775807) b in
-    let t = lin-add a b in
-    rw (above (a +ℤ b) (omega arith))
-
-add-t7 : tie.Need-add-t7
-add-t7 c = let f = fit-high c in search needs
-
-returns-3 : tie.Need-returns-3
-returns-3 c = let f = fit-low c in rw (within _ f) (search needs)
-
-returns-4 : tie.Need-returns-4
-returns-4 c = let f = fit-high c in rw (within _ f) (search needs)
+returns-2 c = let s = c .before .before .before .before in rw (toZ-ofZ (s .fits .a), toZ-ofZ (s .fits .b)) at (c .add-by-sign .ensures)
 
 pub add-checked-spec : {M : Type 1} → statement M
 add-checked-spec =
-    tie.close (tie.spec sub-if2 returns add-t5 sub-if3 returns-2 add-t7 returns-3 returns-4)
+    tie.close
+    (tie.spec is-near-requires is-near-requires-2 add-t6 returns add-by-sign-requires returns-2)
