@@ -16,10 +16,10 @@
  * No pointer is null, also of an empty list.
  *
  * Stack: mzk_join uses up to 2.5 MiB, mzk_read up to 2.2 MiB, mzk_picks_both and mzk_ready_both up to 1.5 MiB,
- * mzk_picks, mzk_rounds and mzk_preview up to 1.4 MiB, mzk_ready and mzk_forces up to 1.3 MiB, mzk_plan up to 1 MiB,
- * mzk_set_movement and mzk_set_entry up to 0.7 MiB, mzk_write_plan, mzk_read_plan, mzk_numbers_read,
- * mzk_numbers_write, mzk_control and the calls on a barrier unit up to 8 KiB, the others up to 0.6 MiB. A thread with
- * MZK_STACK_BYTES and its own needs can make any call. */
+ * mzk_picks, mzk_rounds and mzk_preview up to 1.4 MiB, mzk_ready, mzk_forces and mzk_prepare up to 1.3 MiB, mzk_plan up
+ * to 1 MiB, mzk_set_movement and mzk_set_entry up to 0.7 MiB, the calls on a prepared list, mzk_write_plan,
+ * mzk_read_plan, mzk_numbers_read, mzk_numbers_write, mzk_control and the calls on a barrier unit up to 8 KiB, the
+ * others up to 0.6 MiB. A thread with MZK_STACK_BYTES and its own needs can make any call. */
 #ifndef MAZHOKETH_H
 #define MAZHOKETH_H
 
@@ -378,6 +378,8 @@ uint64_t mzk_forces(uint32_t n,
  * of updates and waits, stands in one list of bytes: mzk_prepare makes it, and the four calls after it answer with it
  * just as those above do with the job. The list holds no pointer: it can be copied, filed, and shared by runs and
  * threads. It stands for its matrix, movements and plan as they were when it was made.
+ * Take the calls above for a few calls on a job, and these where threads take their picks one by one or in short lists:
+ * preparing takes about as long as two calls above, and a call with a prepared list then no longer than its picks.
  * A list that mzk_prepare did not make, or that was changed since, is refused with 26 if its length or its first 16
  * bytes show it. Otherwise it is taken: whatever stands in it, no byte outside the lent lists is read or written, but
  * then nothing is said of forces. */

@@ -5,11 +5,16 @@ use std::process::Command;
 
 /// The header's sentence, and its figures in tenths of a MiB; beside them, the calls that need next to nothing.
 const SENTENCE: &str = "mzk_join uses up to 2.5 MiB, mzk_read up to 2.2 MiB, mzk_picks_both and mzk_ready_both up to \
-                        1.5 MiB, mzk_picks, mzk_rounds and mzk_preview up to 1.4 MiB, mzk_ready and mzk_forces up to \
-                        1.3 MiB, mzk_plan up to 1 MiB, mzk_set_movement and mzk_set_entry up to 0.7 MiB, \
-                        mzk_write_plan, mzk_read_plan, mzk_numbers_read, mzk_numbers_write, mzk_control and the calls \
-                        on a barrier unit up to 8 KiB, the others up to 0.6 MiB.";
+                        1.5 MiB, mzk_picks, mzk_rounds and mzk_preview up to 1.4 MiB, mzk_ready, mzk_forces and \
+                        mzk_prepare up to 1.3 MiB, mzk_plan up to 1 MiB, mzk_set_movement and mzk_set_entry up to \
+                        0.7 MiB, the calls on a prepared list, mzk_write_plan, mzk_read_plan, mzk_numbers_read, \
+                        mzk_numbers_write, mzk_control and the calls on a barrier unit up to 8 KiB, the others up to \
+                        0.6 MiB.";
 const SMALL: &[&str] = &[
+    "prepared_picks",
+    "prepared_rounds",
+    "prepared_ready",
+    "prepared_forces",
     "write_plan",
     "read_plan",
     "barrier_write",
@@ -30,6 +35,7 @@ const TENTHS: &[(&str, usize)] = &[
     ("preview", 14),
     ("ready", 13),
     ("forces", 13),
+    ("prepare", 13),
     ("plan", 10),
     ("set_movement", 7),
     ("set_entry", 7),
