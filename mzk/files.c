@@ -3,6 +3,7 @@
 #include <errno.h>
 #include <stdlib.h>
 #include <string.h>
+#include <sys/stat.h>
 #include <unistd.h>
 
 #include "refusals.h"
@@ -86,20 +87,54 @@ struct line line_of(const struct text *text, uint32_t number)
     return (struct line){ at, (feed != NULL ? feed : end) - at, feed != NULL, true };
 }
 
+/* The name under which a file is written until it is whole, beside it. NULL for what is no file, as a device or a link
+ * is not: that is written itself. */
+static char *part_of(const char *path)
+{
+    struct stat found;
+    size_t space = strlen(path) + 32;
+    if (is_standard(path) || (lstat(path, &found) == 0 && !S_ISREG(found.st_mode)))
+        return NULL;
+    char *part = room(space);
+    snprintf(part, space, "%s.%ld.part", path, (long)getpid());
+    return part;
+}
+
+/* Ends the program because a file cannot be written; what is written of it is removed. */
+static void fail_written(const char *path, const char *part)
+{
+    int why = errno;
+    if (part != NULL)
+        remove(part);
+    errno = why;
+    fail(is_standard(path) ? "standard output" : path, "written");
+}
+
+/* Gives a file the permissions of the one that it replaces, if there is one; whether it could. */
+static bool take_permissions(FILE *file, const char *path)
+{
+    struct stat found;
+    return stat(path, &found) != 0 || fchmod(fileno(file), found.st_mode & 07777) == 0;
+}
+
 FILE *open_output(const char *path)
 {
-    FILE *file = is_standard(path) ? stdout : fopen(path, "wb");
-    if (file == NULL)
-        fail(path, "written");
+    char *part = part_of(path);
+    FILE *file = is_standard(path) ? stdout : fopen(part != NULL ? part : path, "wb");
+    if (file == NULL || (part != NULL && !take_permissions(file, path)))
+        fail_written(path, part);
+    free(part);
     return file;
 }
 
 void end_output(FILE *file, const char *path)
 {
-    bool standard = file == stdout, failed = ferror(file);
-    int ended = standard ? fflush(file) : fclose(file);
-    if (ended != 0 || failed)
-        fail(standard ? "standard output" : path, "written");
+    char *part = part_of(path);
+    bool is_written = !ferror(file);
+    is_written = (is_standard(path) ? fflush(file) : fclose(file)) == 0 && is_written;
+    if (!is_written || (part != NULL && rename(part, path) != 0))
+        fail_written(path, part);
+    free(part);
 }
 
 void write_bytes(const char *path, const void *bytes, size_t length)

@@ -32,7 +32,8 @@ void free_text(struct text *text);
 /* A line of a text, counted from 1. */
 struct line line_of(const struct text *text, uint32_t number);
 
-/* A file to be written, and its end: output that is not all written ends the program. */
+/* A file to be written, and its end, with which it takes the place of one that was there: it is never half written.
+ * Output that is not all written ends the program. */
 FILE *open_output(const char *path);
 void end_output(FILE *file, const char *path);
 
