@@ -4,20 +4,23 @@
  *     gcc -O2 -pthread -Iinclude examples/threads.c target/staticlib/libmazhoketh.a -o target/threads
  *     target/threads
  *
- * Four threads pick themselves, a hundred moves at a time, in whatever order they come to the lock; one that waits
- * sleeps until another has moved. Says whether the forces are those of one core, as they are proved to be. */
+ * The job is prepared once. Then four threads pick themselves, a load or store at a time, in whatever order they come to
+ * the lock; one that waits sleeps until another has moved. Says whether the forces are those of one core, as they are
+ * proved to be. */
 
 #include <pthread.h>
+#include <sched.h>
 #include <stdio.h>
 #include <string.h>
 
 #include "mazhoketh.h"
 
-enum { ROWS = 1000, ENTRIES = 3 * ROWS - 2, WORKERS = 4, PICKS = 100 };
+enum { ROWS = 1000, ENTRIES = 3 * ROWS - 2, WORKERS = 4 };
 
 static uint8_t starts[4 * (ROWS + 1)], columns[4 * ENTRIES], values[4 * ENTRIES], movements[4 * ROWS];
 static uint8_t order[4 * ROWS], groups[4 * MZK_GROUP_FIELDS * MZK_GROUPS];
-static uint32_t group_count;
+static uint8_t prepared[MZK_PREPARED_BYTES];
+static size_t prepared_bytes;
 
 /* The run, which the lock guards. */
 static uint8_t state[MZK_STATE_BYTES], sums[8 * ROWS];
@@ -25,7 +28,9 @@ static pthread_mutex_t lock = PTHREAD_MUTEX_INITIALIZER;
 static pthread_cond_t moved = PTHREAD_COND_INITIALIZER;
 
 #define MATRIX ROWS, starts, sizeof starts, columns, sizeof columns, values, sizeof values
-#define JOB MATRIX, movements, sizeof movements, order, sizeof order, groups, sizeof groups, group_count
+#define MOVEMENTS movements, sizeof movements
+#define PLAN order, sizeof order, groups, sizeof groups
+#define JOB prepared, prepared_bytes
 #define AT state, sizeof state, sums, sizeof sums
 
 /* Puts a number of 32 bits at an index of a list, low byte first. */
@@ -49,22 +54,23 @@ static void make_chain(void)
     }
 }
 
-/* A worker's thread: it picks itself until all its moves are made. */
-static void *work(void *argument)
+/* Picks a worker once, as soon as it can move; the number of the refusal, 0 if it has moved. */
+static uint32_t pick(const uint8_t *worker)
 {
-    uint8_t picks[PICKS];
     uint32_t number;
-    memset(picks, *(uint8_t *)argument, sizeof picks);
     pthread_mutex_lock(&lock);
-    do {
-        uint64_t word = mzk_picks(JOB, AT, picks, sizeof picks);
-        number = MZK_NUMBER(word);
-        if (MZK_COUNT(word) > 0) /* so many picks were taken, also where the list was stopped */
-            pthread_cond_broadcast(&moved);
-        if (number == MZK_WAITS)
-            pthread_cond_wait(&moved, &lock);
-    } while (number == MZK_ACCEPTED || number == MZK_WAITS);
+    while ((number = MZK_NUMBER(mzk_prepared_picks(JOB, AT, worker, 1))) == MZK_WAITS)
+        pthread_cond_wait(&moved, &lock);
+    pthread_cond_broadcast(&moved);
     pthread_mutex_unlock(&lock);
+    return number;
+}
+
+/* A worker's thread: it picks itself until all its moves are made. */
+static void *work(void *worker)
+{
+    while (pick(worker) == MZK_ACCEPTED)
+        sched_yield(); /* lets the others in */
     return NULL;
 }
 
@@ -75,7 +81,8 @@ int main(void)
     pthread_t threads[WORKERS];
     pthread_attr_t attributes;
     make_chain();
-    group_count = MZK_COUNT(mzk_plan(MATRIX, WORKERS, 60, 2, order, sizeof order, groups, sizeof groups));
+    uint32_t group_count = MZK_COUNT(mzk_plan(MATRIX, WORKERS, 60, 2, PLAN));
+    prepared_bytes = MZK_COUNT(mzk_prepare(MATRIX, MOVEMENTS, PLAN, group_count, prepared, sizeof prepared));
     pthread_attr_init(&attributes);
     pthread_attr_setstacksize(&attributes, 2 * MZK_STACK_BYTES);
     for (int k = 0; k < WORKERS; k++)
@@ -83,8 +90,8 @@ int main(void)
             return 3;
     for (int k = 0; k < WORKERS; k++)
         pthread_join(threads[k], NULL);
-    uint64_t finished = mzk_forces(JOB, AT, forces, sizeof forces);
-    mzk_product(MATRIX, movements, sizeof movements, product, sizeof product);
+    uint64_t finished = mzk_prepared_forces(JOB, AT, forces, sizeof forces);
+    mzk_product(MATRIX, MOVEMENTS, product, sizeof product);
     int same = MZK_NUMBER(finished) == MZK_ACCEPTED && memcmp(forces, product, sizeof forces) == 0;
     printf("%u groups, forces %s on one core\n", group_count, same ? "as" : "NOT as");
     return same ? 0 : 1;
