@@ -29,8 +29,8 @@ void write_list(const char *path, const uint8_t *numbers, uint32_t count);
 /* Writes a list file of so many numbers of 32 bits in two's complement. */
 void write_narrow(const char *path, const uint8_t *narrowed, uint32_t count);
 
-/* Copies numbers into a list of 32 bits in two's complement. A number past it becomes the largest or the least there,
- * which no call takes. */
+/* Copies numbers into a list of 32 bits in two's complement, which may be the list's own room. A number past it becomes
+ * the largest or the least there, which no call takes. */
 void narrow(uint8_t *narrowed, const struct list *list);
 
 /* The number in so many bytes, low byte first; and one of 32 bits put there. */

@@ -36,11 +36,22 @@ static const struct command commands[] = {
       "Writes one force a line, in mN, for one movement a line, in micrometres, each\n"
       "with a line for every row of the matrix.\n" },
     { "run", "MATRIX PLAN MOVEMENTS", 3, 3,
-      TAKES(OUTPUT) | TAKES(THREADS) | TAKES(ROUNDS) | TAKES(CREWS) | TAKES(CONTROL) | TAKES(QUIET), run_command,
-      "the same, by a plan's workers",
+      TAKES(OUTPUT) | TAKES(THREADS) | TAKES(ROUNDS) | TAKES(PICKS_FILE) | TAKES(CREWS) | TAKES(CONTROL) | TAKES(QUIET),
+      run_command, "the same, by a plan's workers",
       "Threads make the plan's moves one load or store at a time, in an order that\n"
-      "never repeats. The forces are written if they are those of one core. Progress\n"
-      "is shown where standard error is a terminal.\n" },
+      "never repeats; or the moves are made in rounds, or by given picks: PICKS has\n"
+      "one a line, a worker, or for two crews 16 times the crew, 0 or 1, and a worker.\n"
+      "The forces are written if they are those of one core. Progress is shown where\n"
+      "standard error is a terminal.\n" },
+    { "prepare", "MATRIX PLAN MOVEMENTS", 3, 3, TAKES(OUTPUT), prepare_command, "a job to be picked, in one file",
+      "Writes what a run needs of matrix, plan and movements, found once for mzk pick.\n" },
+    { "pick", "JOB RUN [PICKS]", 2, 3,
+      TAKES(OUTPUT) | TAKES(FRESH) | TAKES(PREVIEW) | TAKES(ROUNDS) | TAKES(FINISHED), pick_command,
+      "picks on a run kept in a file",
+      "Takes picks on the run of a prepared job that is kept in RUN: PICKS has a worker\n"
+      "a line, who makes its next load or store. Tells how many moves were made, and\n"
+      "which workers can move now. A pick that is refused stops the list, and RUN keeps\n"
+      "what the picks before it made.\n" },
     { "survey", "MATRIX MOVEMENTS", 2, 2, TAKES(OUTPUT) | TAKES(ERROR) | TAKES(SHIFT), survey_command,
       "how far survey errors reach",
       "Writes for each row an amount, in mN, beyond which no shift of the movements by\n"
@@ -55,6 +66,15 @@ static const struct command commands[] = {
       "PLACES has a line for each row of the second matrix: its row, numbered from 0,\n"
       "in the joined one. The first matrix keeps its rows, and those past it are used\n"
       "without a gap. Writes the joined matrix.\n" },
+    { "rows", "STARTS COLUMNS VALUES", 3, 3, TAKES(OUTPUT), rows_command, "a matrix file from full rows",
+      "Writes the matrix of list files: where each row starts, from 0, and where the\n"
+      "last one ends; the columns of all entries, row by row, ascending and from 0; and\n"
+      "their values. Both halves of the matrix are given.\n" },
+    { "barrier", "UNIT ACCESS ..", 2, INT_MAX, TAKES(FRESH), barrier_command, "a barrier unit kept in a file",
+      "UNIT has ten bytes: the registers 0 to 5, and the releases, low byte first.\n"
+      "ACCESS is ADDRESS=BYTE, a write; ADDRESS, a read; line, the interrupt line; or\n"
+      "releases, their count. All but writes print a number a line. If one is refused,\n"
+      "none is made.\n" },
     { "control", "LIST", 1, 1, 0, control_command, "a list's number, to be read out",
       "Prints the sum of line number times force, modulo 4294967296.\n" },
     { "diff", "LIST LIST", 2, 2, 0, diff_command, "compare two lists",
@@ -90,8 +110,8 @@ static void print_overview(void)
     printf("mzk COMMAND ..: plans, runs and force lists of cable nets, by a proved library.\n\n");
     for (size_t k = 0; k < COMMANDS; k++)
         printf("  mzk %-7s %-33s %s\n", commands[k].name, commands[k].operands, commands[k].does);
-    printf("\nMATRIX is a Matrix Market file; MOVEMENTS, FORCES, PLACES and LIST have one\n"
-           "whole number a line. '-' is standard input or output. mzk help COMMAND tells\n"
+    printf("\nMATRIX is a Matrix Market file; MOVEMENTS, PICKS, FORCES, PLACES and LIST have\n"
+           "one whole number a line. '-' is standard input or output. mzk help COMMAND tells\n"
            "the options, mzk --version the version.\n"
            "Exit status 0: good. 1: lists differ. 2: refused, or wrong arguments.\n"
            "3: a file cannot be read or written.\n");

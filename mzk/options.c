@@ -8,7 +8,7 @@
 enum use { NO_FILE, IS_READ, IS_WRITTEN };
 
 /* An option: its letter, 0 if it has none, its word, what it takes, NULL if nothing, and what it is for, in brackets if
- * it is not given. The limits of a number, and its default. */
+ * it is not given. The limits of a number, and its default: narrower limits that a call has are judged there. */
 static const struct known {
     char letter;
     const char *word, *takes, *is;
@@ -20,15 +20,19 @@ static const struct known {
 #define NUMBER(letter, word, takes, least, most, otherwise, is) \
     { letter, word, takes, is, least, most, otherwise, NO_FILE }
     [OUTPUT] = NAMED('o', "output", "FILE", IS_WRITTEN, "where the result goes (standard output)"),
-    [WORKERS] = NUMBER('w', "workers", "N", 1, MZK_WORKERS, 16, "workers to plan for, 1 to 16 (16)"),
-    [CLOSENESS] = NUMBER('p', "closeness", "P", 50, 99, 60, "nearness of loads to whole workers, 50 to 99 (60)"),
-    [DISTANCE] = NUMBER('k', "distance", "K", 1, MZK_DISTANCE, 2, "joins between like colours, 1 to 4 (2, for runs)"),
+    [WORKERS] = NUMBER('w', "workers", "N", 0, UINT32_MAX, MZK_WORKERS, "workers to plan for, 1 to 16 (16)"),
+    [CLOSENESS] = NUMBER('p', "closeness", "P", 0, UINT32_MAX, 60, "nearness of loads to whole workers, 50 to 99 (60)"),
+    [DISTANCE] = NUMBER('k', "distance", "K", 0, UINT32_MAX, 2, "joins between like colours, 1 to 4 (2, for runs)"),
     [MATRIX_FILE] = NAMED('m', "matrix", "MATRIX", IS_READ, "the matrix that the plan is for"),
-    [ERROR] = NUMBER('t', "error", "T", 0, 1000000, 1, "survey error, 0 to 1000000 micrometres (1)"),
+    [ERROR] = NUMBER('t', "error", "T", 0, UINT32_MAX, 1, "survey error, 0 to 1000000 micrometres (1)"),
     [SHIFT] = NUMBER('s', "shift", "ROW", 0, UINT32_MAX, 0, "the shift for ROW in place of the amounts"),
     [THREADS] = NUMBER('j', "threads", "N", 1, MZK_WORKERS, MZK_WORKERS, "threads, 1 to 16 (one for each worker)"),
-    [ROUNDS] = FLAG('r', "rounds", "no threads: workers in turn, waiting ones skipped"),
+    [ROUNDS] = FLAG('r', "rounds", "workers in turn, passed over while they cannot move"),
+    [PICKS_FILE] = NAMED(0, "picks", "PICKS", IS_READ, "the picks of a file in place of threads"),
     [CREWS] = NAMED(0, "crews", "MOVEMENTS", IS_READ, "a second crew's movements: two columns of forces"),
+    [FRESH] = FLAG('f', "fresh", "begin with zeros, whatever the file has"),
+    [PREVIEW] = FLAG('n', "preview", "look only: the file stays as it is"),
+    [FINISHED] = FLAG(0, "forces", "the forces, once all moves are made, instead"),
     [CONTROL] = FLAG('c', "control", "the control number in place of the forces"),
     [NEW_MOVEMENTS] = NAMED(0, "new-movements", "FILE", IS_WRITTEN, "where the changed movements go (nowhere)"),
     [NEW_MATRIX] = NAMED(0, "new-matrix", "FILE", IS_WRITTEN, "where the changed matrix goes (nowhere)"),
@@ -55,6 +59,12 @@ bool is_given(const struct arguments *arguments, enum option option)
 const char *output_of(const struct arguments *arguments)
 {
     return is_given(arguments, OUTPUT) ? arguments->values[OUTPUT] : "-";
+}
+
+void refuse_terminal(const struct arguments *arguments, const char *what)
+{
+    if (is_standard(output_of(arguments)) && is_terminal(stdout))
+        refuse_arguments(arguments->command, "%s is no text for a terminal: name a file with -o", what);
 }
 
 /* Ends the program because a stretch of an argument is no number from least to most. */

@@ -5,8 +5,8 @@
 #include "refusals.h"
 
 enum option {
-    OUTPUT, WORKERS, CLOSENESS, DISTANCE, MATRIX_FILE, ERROR, SHIFT, THREADS, ROUNDS, CREWS, CONTROL, NEW_MOVEMENTS,
-    NEW_MATRIX, QUIET, HELP, OPTIONS
+    OUTPUT, WORKERS, CLOSENESS, DISTANCE, MATRIX_FILE, ERROR, SHIFT, THREADS, ROUNDS, PICKS_FILE, CREWS, FRESH, PREVIEW,
+    FINISHED, CONTROL, NEW_MOVEMENTS, NEW_MATRIX, QUIET, HELP, OPTIONS
 };
 
 /* Options of a command, as a set of bits. */
@@ -41,6 +41,9 @@ const char *output_of(const struct arguments *arguments);
 
 /* The whole number that a stretch of an argument is, from least to most; any other ends the program. */
 int64_t whole_number(const char *where, const char *text, size_t length, int64_t least, int64_t most);
+
+/* Ends the program where the output, which is no text, would go to a terminal. */
+void refuse_terminal(const struct arguments *arguments, const char *what);
 
 /* Ends the program because the arguments are wrong, with a sentence in the form of printf. */
 void refuse_arguments(const char *command, const char *form, ...);

@@ -7,16 +7,17 @@ int plan_command(const struct arguments *arguments)
 {
     static struct net net;
     static struct plan plan;
-    const char *path = output_of(arguments);
-    if (is_standard(path) && is_terminal(stdout))
-        refuse_arguments("plan", "a plan file is no text for a terminal: name a file with -o");
+    uint32_t workers = number_of(arguments, WORKERS), p = number_of(arguments, CLOSENESS);
+    uint32_t k = number_of(arguments, DISTANCE);
+    char asked[80];
+    refuse_terminal(arguments, "a plan file");
     read_matrix(&net, arguments->operands[0]);
-    struct text text = { .name = net.name };
+    snprintf(asked, sizeof asked, "mzk plan: %u worker%s, closeness %u, distance %u", workers, plural(workers), p, k);
+    struct text text = { .name = asked };
     plan.n = net.n;
-    plan.count = accepted(&text, mzk_plan(MATRIX(&net), number_of(arguments, WORKERS), number_of(arguments, CLOSENESS),
-                                          number_of(arguments, DISTANCE), plan.order, sizeof plan.order,
+    plan.count = accepted(&text, mzk_plan(MATRIX(&net), workers, p, k, plan.order, sizeof plan.order,
                                           plan.groups, sizeof plan.groups));
-    write_plan(&plan, path);
+    write_plan(&plan, output_of(arguments));
     if (!is_given(arguments, QUIET))
         tell_plan(net.name, &plan, &net);
     return GOOD;

@@ -32,15 +32,18 @@ void write_plan(const struct plan *plan, const char *path)
     write_bytes(path, bytes, accepted(&text, mzk_write_plan(plan->n, PLAN(plan), bytes, sizeof bytes)));
 }
 
-void judge_plan(const struct plan *plan, const struct net *net, uint8_t distance)
+void judge_plan(const struct plan *plan, const struct net *net, uint32_t distance)
 {
-    struct text text = { .name = plan->name };
+    char asked[40];
+    snprintf(asked, sizeof asked, "mzk check: distance %u", distance);
     if (plan->n != net->n) { /* a longer order is no plan of the matrix, though a call would read its part */
         fprintf(stderr, "%s: found a plan of %u rows, wanted one of %u, as %s has (refusal %d)\n", plan->name, plan->n,
                 net->n, net->name, MZK_UNSOUND);
         exit(REFUSED);
     }
-    accepted(&text, mzk_check(MATRIX(net), PLAN(plan), distance));
+    uint64_t word = mzk_check(MATRIX(net), PLAN(plan), distance);
+    struct text text = { .name = MZK_NUMBER(word) == MZK_PARAMETERS ? asked : plan->name };
+    accepted(&text, word);
 }
 
 bool is_shaped(const struct plan *plan)

@@ -35,7 +35,7 @@ const struct net *read_planned(struct plan *plan, const char *path, struct net *
 void write_plan(const struct plan *plan, const char *path);
 
 /* Ends the program unless a plan is sound for a matrix at a distance. */
-void judge_plan(const struct plan *plan, const struct net *net, uint8_t distance);
+void judge_plan(const struct plan *plan, const struct net *net, uint32_t distance);
 
 /* Whether a plan is sound for a matrix of its rows in which none are joined: what a plan alone can be asked. */
 bool is_shaped(const struct plan *plan);

@@ -4,9 +4,9 @@
 
 enum { SHOWN = 60 };
 
-/* What a refusal's place is: nothing, a line of the text, an index in a list file, whose lines are counted from 1, a
- * pick, or the length that a list needs. */
-enum place { NOWHERE, LINE, INDEX, PICK, NEEDED };
+/* What a refusal's place is: nothing, a line of the text, an index in a list file, whose lines are counted from 1, or
+ * the length that a list needs. */
+enum place { NOWHERE, LINE, INDEX, NEEDED };
 
 /* A refusal in words: what was wanted in the line that it is of, else a sentence. */
 struct refusal {
@@ -21,29 +21,30 @@ static const struct refusal of_calls[] = {
     [MZK_SIZE] = { LINE, "as many columns as rows, 1 to 4096, and 0 to 32768 entries" },
     [MZK_ENTRY] = { LINE, "an entry on or below the diagonal, inside the rows, not given before, of at most 1000000000 "
                           "either side of 0" },
-    [MZK_NO_MATRIX] = { NOWHERE, "the lists are no matrix" },
+    [MZK_NO_MATRIX] = { NOWHERE, "the lists are no matrix: 1 to 4096 rows, columns ascending, each entry and its mirror "
+                                 "the same, of at most 1000000000 either side of 0, 32768 on and below the diagonal" },
     [MZK_MOVEMENTS] = { INDEX, "a movement of at most 1000000 either side of 0" },
-    [MZK_PARAMETERS] = { NOWHERE, "workers, p or distance outside their limits" },
+    [MZK_PARAMETERS] = { NOWHERE, "workers are 1 to 16, closeness is 50 to 99, and distance 1 to 4" },
     [MZK_UNSOUND] = { NOWHERE, "the plan is not sound for this matrix" },
-    [MZK_TOO_SHORT] = { NEEDED, "a list is too short" },
-    [MZK_NO_WORKER] = { PICK, "names no worker of the plan" },
-    [MZK_NO_STATE] = { NOWHERE, "not a state of this run" },
-    [MZK_DONE] = { PICK, "is of a worker that has made all its moves" },
-    [MZK_WAITS] = { PICK, "is of a worker that waits for others" },
-    [MZK_OVERFLOW] = { PICK, "stores a sum that passes 64 bits" },
-    [MZK_UNFINISHED] = { NOWHERE, "a worker has moves left" },
+    [MZK_TOO_SHORT] = { NEEDED, "too short" },
+    [MZK_NO_WORKER] = { INDEX, "a worker of the plan" },
+    [MZK_NO_STATE] = { NOWHERE, "no run of this job: 192 bytes, 8 for each row, and no worker past its moves" },
+    [MZK_DONE] = { INDEX, "a worker that has moves left" },
+    [MZK_WAITS] = { INDEX, "a worker that does not wait for others" },
+    [MZK_OVERFLOW] = { INDEX, "a worker whose sum to store has 64 bits, as every sum has that began with zeros" },
+    [MZK_UNFINISHED] = { NOWHERE, "the run is not finished: a worker has moves left" },
     [MZK_NO_FILE] = { NOWHERE, "no plan file, or a damaged or an older one" },
     [MZK_SURVEY] = { NOWHERE, "the matrix has no such row, or the survey error is above 1000000" },
-    [MZK_NO_CREW] = { PICK, "names no crew" },
-    [MZK_ELSEWHERE] = { PICK, "is of a worker inside a row of the other crew" },
+    [MZK_NO_CREW] = { INDEX, "16 times the crew, 0 or 1, and a worker" },
+    [MZK_ELSEWHERE] = { INDEX, "a worker that is not inside a row of the other crew" },
     [MZK_STALE] = { NOWHERE, "the forces are not those of the matrix and the movements" },
     [MZK_NO_ENTRY] = { NOWHERE, "the matrix has no such row, or no such entry is stored" },
     [MZK_BEYOND] = { NOWHERE, "a movement is at most 1000000, a value at most 1000000000 either side of 0" },
     [MZK_PLACES] = { NOWHERE, "a place repeats, or leaves a gap past the rows of the first matrix" },
     [MZK_LIMITS] = { NOWHERE, "the joined matrix has more than 4096 rows or 32768 entries, or a value above 1000000000 "
                               "either side of 0" },
-    [MZK_NO_REGISTER] = { NOWHERE, "no such register of a barrier unit" },
-    [MZK_UNPREPARED] = { NOWHERE, "not a prepared list" },
+    [MZK_NO_REGISTER] = { NOWHERE, "a barrier unit has the registers 0 to 5" },
+    [MZK_UNPREPARED] = { NOWHERE, "no prepared job, or a damaged one" },
 };
 
 /* Those of list files that are others. */
@@ -90,12 +91,10 @@ static void print_words(FILE *out, const struct text *text, uint64_t word, struc
         print_line(out, text, place, refusal.words);
     else if (refusal.place == INDEX)
         print_line(out, text, place + 1, refusal.words);
-    else if (refusal.place == PICK)
-        fprintf(out, "%s: pick %u %s", text->name, place, refusal.words);
     else
         fprintf(out, "%s: %s", text->name, refusal.words);
     if (refusal.place == NEEDED)
-        fprintf(out, ", it needs %u", place);
+        fprintf(out, ", wanted %u at least", place);
     fprintf(out, " (refusal %u)\n", number);
 }
 

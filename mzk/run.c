@@ -19,25 +19,25 @@ static uint32_t all_moves(const struct net *net)
 /* Ends the program if options do not go together. */
 static void judge_options(const struct arguments *arguments)
 {
-    if (is_given(arguments, ROUNDS) && is_given(arguments, THREADS))
-        refuse_arguments("run", "--rounds takes no threads");
+    if (is_given(arguments, ROUNDS) + is_given(arguments, THREADS) + is_given(arguments, PICKS_FILE) > 1)
+        refuse_arguments("run", "only one of --threads, --rounds and --picks");
     if (is_given(arguments, ROUNDS) && is_given(arguments, CREWS))
         refuse_arguments("run", "--rounds serves one crew");
 }
 
-/* Reads a crew's movements, which the product on one core judges. */
+/* Reads a crew's movements, and prepares its job. */
 static void add_crew(struct run *run, const char *path)
 {
     struct crew *crew = &run->crew[run->crews++];
     read_movements(&crew->movements, &run->net, path);
+    prepare_job(&crew->job, &run->net, &run->plan, &crew->movements);
     find_forces(crew->product, &run->net, &crew->movements);
 }
 
 /* Takes the forces of a finished run; whether they are those of one core. */
 static bool take_forces(struct run *run, struct crew *crew)
 {
-    struct text text = { .name = run->net.name };
-    accepted(&text, mzk_forces(JOB(run, crew), AT(run, crew), FORCES(&run->net, crew->forces)));
+    accepted(&run->picks.list.text, mzk_prepared_forces(PREPARED(&crew->job), AT(run, crew), FORCES(&run->net, crew->forces)));
     return memcmp(crew->forces, crew->product, 8 * (size_t)run->net.n) == 0;
 }
 
@@ -75,39 +75,48 @@ static void prepare(struct run *run, const struct arguments *arguments)
     judge_options(arguments);
     read_matrix(&run->net, arguments->operands[0]);
     read_plan(&run->plan, arguments->operands[1]);
-    judge_plan(&run->plan, &run->net, RUN_DISTANCE);
-    run->workers = group_of(&run->plan, 0).workers;
     add_crew(run, arguments->operands[2]);
     if (is_given(arguments, CREWS))
         add_crew(run, arguments->values[CREWS]);
+    run->workers = group_of(&run->plan, 0).workers;
+    run->picks.list.text.name = run->net.name;
+    if (is_given(arguments, PICKS_FILE))
+        read_picks(&run->picks, arguments->values[PICKS_FILE]);
 }
 
-/* Makes all moves; how many threads made them, 0 for rounds. */
-static uint8_t make_moves(struct run *run, const struct arguments *arguments)
+/* How many threads serve the workers. */
+static uint8_t threads_of(const struct run *run, const struct arguments *arguments)
 {
     uint8_t threads = number_of(arguments, THREADS);
-    if (threads > run->workers)
-        threads = run->workers;
-    begin_progress(&run->progress, run->crews * all_moves(&run->net), is_given(arguments, QUIET));
-    if (is_given(arguments, ROUNDS)) {
-        threads = 0;
+    return threads < run->workers ? threads : run->workers;
+}
+
+/* Makes all moves. Given picks are taken at once, without a bar. */
+static void make_moves(struct run *run, const struct arguments *arguments)
+{
+    bool is_given_picks = is_given(arguments, PICKS_FILE);
+    begin_progress(&run->progress, run->crews * all_moves(&run->net), is_given(arguments, QUIET) || is_given_picks);
+    if (is_given_picks)
+        run_picks(run);
+    else if (is_given(arguments, ROUNDS))
         run_rounds(run);
-    } else {
-        run_threads(run, threads);
-    }
+    else
+        run_threads(run, threads_of(run, arguments));
     end_progress(&run->progress);
-    return threads;
 }
 
 /* Says how a run went. */
-static void tell_run(const struct run *run, uint8_t threads, bool is_same)
+static void tell_run(const struct run *run, const struct arguments *arguments, bool is_same)
 {
+    uint8_t threads = threads_of(run, arguments);
     fprintf(stderr, "%s: %u moves of %u worker%s ", run->net.name, run->progress.done, run->workers,
             plural(run->workers));
-    if (threads > 0)
-        fprintf(stderr, "by %u thread%s", threads, plural(threads));
-    else
+    if (is_given(arguments, PICKS_FILE))
+        fprintf(stderr, "by the picks of %s", run->picks.list.text.name);
+    else if (is_given(arguments, ROUNDS))
         fprintf(stderr, "in rounds");
+    else
+        fprintf(stderr, "by %u thread%s", threads, plural(threads));
     fprintf(stderr, is_same ? ", forces as on one core\n" : ", forces NOT as on one core: none are printed\n");
 }
 
@@ -115,14 +124,15 @@ int run_command(const struct arguments *arguments)
 {
     static struct run run;
     prepare(&run, arguments);
-    uint8_t threads = make_moves(&run, arguments);
+    make_moves(&run, arguments);
     bool is_same = true;
     for (int crew = 0; crew < run.crews; crew++) {
         is_same = take_forces(&run, &run.crew[crew]) && is_same;
         free_list(&run.crew[crew].movements.list);
     }
     if (!is_same || !is_given(arguments, QUIET))
-        tell_run(&run, threads, is_same);
+        tell_run(&run, arguments, is_same);
+    free_picks(&run.picks);
     if (!is_same)
         return DIFFERENT;
     if (run.crews == 2)

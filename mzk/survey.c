@@ -19,13 +19,15 @@ int survey_command(const struct arguments *arguments)
     static struct movements movements;
     static uint8_t amounts[8 * MZK_ROWS], shift[4 * MZK_ROWS];
     bool shifted = is_given(arguments, SHIFT);
-    uint32_t error = number_of(arguments, ERROR);
+    uint32_t error = number_of(arguments, ERROR), row = number_of(arguments, SHIFT);
+    char asked[60];
+    snprintf(asked, sizeof asked, "mzk survey: error %u, row %u", error, row);
     read_matrix(&net, arguments->operands[0]);
     read_movements(&movements, &net, arguments->operands[1]);
-    uint64_t word = mzk_survey(MATRIX(&net), MOVEMENTS(&movements), error, number_of(arguments, SHIFT),
+    uint64_t word = mzk_survey(MATRIX(&net), MOVEMENTS(&movements), error, row,
                                amounts, sizeof amounts, shift, sizeof shift);
-    struct text row = { .name = "mzk survey: --shift" };
-    uint32_t is_written = accepted(MZK_NUMBER(word) == MZK_SURVEY ? &row : &movements.list.text, word);
+    struct text text = { .name = asked };
+    uint32_t is_written = accepted(MZK_NUMBER(word) == MZK_SURVEY ? &text : &movements.list.text, word);
     if (shifted && !is_written)
         refuse_shift(&movements, error);
     if (shifted)

@@ -4,9 +4,10 @@
 #include <stdlib.h>
 #include <string.h>
 
-/* A call judges all its lists anew, so lists of picks are long. It keeps its tables in local arrays, so threads have a
- * stack of twice what a call needs. */
-enum { PICKS = 1000, STACK = 2 * MZK_STACK_BYTES };
+/* How many picks a list has before others are let in. It is odd, so that lists end between a load and its store. A call
+ * for two crews judges all its lists anew, so there it is long. Calls keep tables in local arrays: threads have a stack
+ * of twice what a call needs. */
+enum { PICKS = 15, LONG = 999, STACK = 2 * MZK_STACK_BYTES };
 
 /* A thread, and the picks that it makes: for each of its workers and each crew the byte that names them. */
 struct thread {
@@ -16,23 +17,22 @@ struct thread {
     int left;
 };
 
-/* Ends the program at a refusal that no run should meet. */
-static void judge(const struct run *run, uint64_t word)
+/* Takes picks for all crews; the call's word. */
+static uint64_t take(struct run *run, const uint8_t *picks, size_t count)
 {
-    struct text text = { .name = run->net.name };
-    accepted(&text, word);
+    struct crew *first = &run->crew[0], *second = &run->crew[1];
+    if (run->crews == 1)
+        return mzk_prepared_picks(PREPARED(&first->job), AT(run, first), picks, count);
+    return mzk_picks_both(MATRIX(&run->net), MOVEMENTS(&first->movements), MOVEMENTS(&second->movements),
+                          PLAN(&run->plan), AT(run, first), AT(run, second), picks, count);
 }
 
-/* Picks a worker for a crew, many times; the call's word. */
+/* Picks a worker for a crew, a list of times; the call's word. */
 static uint64_t pick(struct run *run, uint8_t named)
 {
-    uint8_t picks[PICKS];
-    struct crew *first = &run->crew[0], *second = &run->crew[1];
+    uint8_t picks[LONG];
     memset(picks, named, sizeof picks);
-    if (run->crews == 1)
-        return mzk_picks(JOB(run, first), AT(run, first), picks, sizeof picks);
-    return mzk_picks_both(MATRIX(&run->net), MOVEMENTS(&first->movements), MOVEMENTS(&second->movements),
-                          PLAN(&run->plan), AT(run, first), AT(run, second), picks, sizeof picks);
+    return take(run, picks, run->crews == 1 ? PICKS : LONG);
 }
 
 /* Serves each worker and crew of a thread once, and lets go of those that have made all moves; whether one moved. */
@@ -46,7 +46,7 @@ static bool serve_each(struct thread *thread)
         if (number == MZK_DONE)
             thread->picks[k] = thread->picks[--thread->left];
         else if (number != MZK_WAITS && number != MZK_ELSEWHERE)
-            judge(run, word);
+            accepted(&run->picks.list.text, word);
         add_progress(&run->progress, MZK_COUNT(word)); /* accepted or stopped, so many picks were taken */
         has_moved = has_moved || MZK_COUNT(word) > 0;
     }
@@ -109,14 +109,19 @@ void run_threads(struct run *run, uint8_t threads)
 void run_rounds(struct run *run)
 {
     struct crew *crew = &run->crew[0];
-    uint8_t picks[PICKS];
+    uint8_t picks[LONG];
     uint32_t moves;
     for (size_t k = 0; k < sizeof picks; k++)
         picks[k] = k % run->workers;
     do {
-        uint64_t word = mzk_rounds(JOB(run, crew), AT(run, crew), picks, sizeof picks);
-        judge(run, word);
+        uint64_t word = mzk_prepared_rounds(PREPARED(&crew->job), AT(run, crew), picks, sizeof picks);
+        accepted(&run->picks.list.text, word);
         moves = MZK_MOVES(word);
         add_progress(&run->progress, moves);
     } while (moves > 0);
+}
+
+void run_picks(struct run *run)
+{
+    add_progress(&run->progress, accepted(&run->picks.list.text, take(run, PICKED(&run->picks))));
 }

@@ -137,6 +137,27 @@ pub fn check_said(output: Output, status: i32, line: &str) {
     assert!(output.stdout.is_empty(), "printed beside: {told}");
 }
 
+/// What the sentence of a refusal says that was wanted, or was found: of picks, and of what is kept in files.
+pub fn wanted(number: usize) -> &'static str {
+    match number {
+        5 => {
+            "the lists are no matrix: 1 to 4096 rows, columns ascending, each entry and its mirror the same, of at \
+             most 1000000000 either side of 0, 32768 on and below the diagonal"
+        }
+        10 => "a worker of the plan",
+        11 => "no run of this job: 192 bytes, 8 for each row, and no worker past its moves",
+        12 => "a worker that has moves left",
+        13 => "a worker that does not wait for others",
+        14 => "a worker whose sum to store has 64 bits, as every sum has that began with zeros",
+        15 => "the run is not finished: a worker has moves left",
+        18 => "16 times the crew, 0 or 1, and a worker",
+        19 => "a worker that is not inside a row of the other crew",
+        25 => "a barrier unit has the registers 0 to 5",
+        26 => "no prepared job, or a damaged one",
+        _ => panic!("{number} is no refusal of picks"),
+    }
+}
+
 /// So many things of a name.
 pub fn counted(count: u32, name: &str) -> String {
     let ending = if count == 1 { "" } else { "s" };

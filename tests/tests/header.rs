@@ -57,8 +57,8 @@ fn sentences() {
     for (number, place) in [
         (4, "FILE:7: found '7', wanted an entry "),
         (6, "FILE:8: found '8', wanted a movement "),
-        (9, ", it needs 7 "),
-        (13, "FILE: pick 7 is of a worker that waits "),
+        (9, ", wanted 7 at least "),
+        (13, "FILE:8: found '8', wanted a worker that does not wait "),
     ] {
         assert!(
             sentences[number - 1].contains(place),

@@ -164,7 +164,7 @@ fn run_that_is_wrong() {
     let net = Net::of_file("roof_45.mtx", "a wrong run", 189);
     let (plan, path) = (net.plan(5), &net.path);
     let wrong = concat!(env!("CARGO_MANIFEST_DIR"), "/c/wrong_force.c");
-    let further = ["-Wl,--wrap=mzk_forces", wrong];
+    let further = ["-Wl,--wrap=mzk_prepared_forces", wrong];
     let program = built::mzk(env!("CARGO_TARGET_TMPDIR"), "wrong mzk", &further);
     let run = ["run", path, &plan, &net.movements_path];
     let said = "3078 moves of 5 workers by 5 threads, forces NOT as on one core: none are printed";
@@ -237,8 +237,11 @@ fn surveys() {
         }
     }
     let movements = mzk().list("movements of no row", 1..136);
-    let said = "mzk survey: --shift: the matrix has no such row, or the survey error is above 1000000 (refusal 17)";
-    mzk().check_said(&["survey", SMALL, &movements, "-s", "135"], 2, said);
+    let wrong = "the matrix has no such row, or the survey error is above 1000000 (refusal 17)";
+    let said = format!("mzk survey: error 1, row 135: {wrong}");
+    mzk().check_said(&["survey", SMALL, &movements, "-s", "135"], 2, &said);
+    let said = format!("mzk survey: error 1000001, row 0: {wrong}");
+    mzk().check_said(&["survey", SMALL, &movements, "-t", "1000001"], 2, &said);
 }
 
 /// A random change of a net, as an argument; it is made by the other implementation, too.

@@ -13,9 +13,9 @@ const NUMBER: &str =
     "wanted a whole number alone, such as -12, 0 or 345, and a line feed (refusal 2)";
 
 /// The commands.
-const COMMANDS: [&str; 12] = [
-    "plan", "list", "check", "draw", "force", "run", "survey", "set", "join", "control", "diff",
-    "help",
+const COMMANDS: [&str; 16] = [
+    "plan", "list", "check", "draw", "force", "run", "prepare", "pick", "survey", "set", "join",
+    "rows", "barrier", "control", "diff", "help",
 ];
 
 /// The command, built once.
@@ -158,6 +158,10 @@ fn lists_miscounted() {
 #[test]
 fn files_that_cannot_be_read() {
     let (list, plan) = (mzk().list("right", 1..136), plan("right"));
+    let (job, run) = (mzk().path("right job"), mzk().path("right run"));
+    let one = mzk().list("right start", [1]);
+    mzk().ended(&["prepare", SMALL, &plan, &list, "-o", &job]);
+    mzk().ended(&["pick", &job, &run, "--fresh"]);
     let folder = mzk().path("");
     let missing = "no such file: cannot be read: No such file or directory";
     let is_folder = format!("{folder}: cannot be read: Is a directory");
@@ -176,6 +180,13 @@ fn files_that_cannot_be_read() {
             &["run", SMALL, path, &list],
             &["run", SMALL, &plan, path],
             &["run", SMALL, &plan, &list, "--crews", path],
+            &["run", SMALL, &plan, &list, "--picks", path],
+            &["prepare", path, &plan, &list],
+            &["prepare", SMALL, path, &list],
+            &["prepare", SMALL, &plan, path],
+            &["pick", path, &run],
+            &["pick", &job, path],
+            &["pick", &job, &run, path],
             &["survey", path, &list],
             &["survey", SMALL, path],
             &["set", path, &list, &list, "0=1"],
@@ -184,6 +195,10 @@ fn files_that_cannot_be_read() {
             &["join", path, SMALL, &list],
             &["join", SMALL, path, &list],
             &["join", SMALL, SMALL, path],
+            &["rows", path, &list, &list],
+            &["rows", &one, path, &list],
+            &["rows", &one, &one, path],
+            &["barrier", path, "line"],
             &["control", path],
             &["diff", path, &list],
             &["diff", &list, path],
@@ -199,8 +214,11 @@ fn output_that_cannot_be_written() {
     let (list, plan) = (mzk().list("list", 1..136), plan("written"));
     let other = mzk().list("other list", 2..137);
     let places = mzk().list("places", 135..270);
-    let forces = mzk().path("forces");
+    let [forces, job, run] = ["forces", "job", "run"].map(|name| mzk().path(name));
     mzk().ended(&["force", SMALL, &list, "-o", &forces]);
+    mzk().ended(&["prepare", SMALL, &plan, &list, "-o", &job]);
+    let (starts, entry) = (mzk().list("starts", [0, 1]), mzk().list("entry", [0]));
+    let unit = mzk().file("unit", [0; 10]);
     let written = [
         &["plan", SMALL, "-q"][..],
         &["list", &plan, "-q"],
@@ -210,10 +228,13 @@ fn output_that_cannot_be_written() {
         &["run", "-q", SMALL, &plan, &list],
         &["run", "-q", SMALL, &plan, &list, "--crews", &list],
         &["run", "-q", SMALL, &plan, &list, "--crews", &list, "-c"],
+        &["prepare", SMALL, &plan, &list],
+        &["pick", &job, &run, "--fresh"],
         &["survey", SMALL, &list],
         &["survey", SMALL, &list, "-s", "0"],
         &["set", SMALL, &list, &forces, "0=1"],
         &["join", SMALL, SMALL, &places],
+        &["rows", &starts, &entry, &entry],
     ];
     for arguments in written {
         mzk().check_full(arguments);
@@ -227,6 +248,7 @@ fn output_that_cannot_be_written() {
     }
     let alone = [
         &["check", SMALL, &plan][..],
+        &["barrier", &unit, "line"],
         &["control", &list],
         &["diff", &list, &other],
     ];
@@ -250,6 +272,56 @@ fn output_that_cannot_be_written() {
             said,
         );
     }
+}
+
+/// A run and a unit that cannot be kept: nothing is told.
+#[test]
+fn kept_files_that_cannot_be_written() {
+    let (list, plan) = (mzk().list("kept list", 1..136), plan("kept"));
+    let (job, picks) = (mzk().path("kept job"), mzk().list("kept picks", [0]));
+    mzk().ended(&["prepare", SMALL, &plan, &list, "-o", &job]);
+    for (path, why) in [
+        ("/dev/full", "No space left on device"),
+        ("/no/such/folder", "No such file or directory"),
+    ] {
+        let said = format!("{path}: cannot be written: {why}");
+        mzk().check_said(&["pick", &job, path, &picks, "--fresh"], 3, &said);
+        mzk().check_said(&["barrier", path, "line", "--fresh"], 3, &said);
+    }
+}
+
+/// A file that cannot be written whole is left as it was, with nothing beside it.
+#[test]
+fn files_half_written() {
+    let (list, plan) = (mzk().list("half list", 1..136), plan("half"));
+    let (job, picks) = (mzk().path("half job"), mzk().list("half picks", [0]));
+    mzk().ended(&["prepare", SMALL, &plan, &list, "-o", &job]);
+    let folder = mzk().path("half");
+    fs::create_dir_all(&folder).expect("a folder can be made");
+    let [run, unit] = ["half/run", "half/unit"].map(|name| mzk().path(name));
+    mzk().ended(&["pick", &job, &run, "--fresh"]);
+    mzk().ended(&["barrier", &unit, "0=3", "--fresh"]);
+    let before = [&run, &unit].map(|path| fs::read(path).expect("a file"));
+    for arguments in [
+        &["pick", &job, &run, &picks][..],
+        &["barrier", &unit, "0=1"],
+        &["force", SMALL, &list, "-o", &run],
+        &["draw", &plan, "-o", &unit],
+    ] {
+        let path = arguments.iter().find(|&&word| word == run || word == unit);
+        let path = path.expect("one of the files");
+        let said = format!("{path}: cannot be written: File too large");
+        let output = Command::new("sh")
+            .args(["-c", "trap '' XFSZ; ulimit -f 0; exec \"$0\" \"$@\""])
+            .arg(&mzk().program)
+            .args(arguments)
+            .output();
+        check_said(output.expect("a shell can be run"), 3, &said);
+        let after = [&run, &unit].map(|path| fs::read(path).expect("a file"));
+        assert!(before == after, "{arguments:?}");
+    }
+    let files = fs::read_dir(&folder).expect("the folder").count();
+    assert_eq!(files, 2, "the run and the unit alone");
 }
 
 /// A large list is found to be unwritten, too, which is more than a buffer takes.
@@ -284,30 +356,25 @@ fn options_refused() {
     let carried = mzk().path("never written");
     let list = mzk().list("movements of options", 1..136);
     let plan = plan("options");
+    let any = "0 to 4294967295";
     let cases = [
         (
             ["plan", SMALL, "-o", &carried],
             "--workers",
-            "1 to 16",
-            &["0", "17", "", "x", "02", "16x", "5.9", "-1"][..],
+            any,
+            &["", "x", "02", "16x", "5.9", "-1", "4294967296"][..],
         ),
         (
             ["plan", SMALL, "-o", &carried],
             "--closeness",
-            "50 to 99",
-            &["49", "100", "", "-60", "4294967356"],
-        ),
-        (
-            ["plan", SMALL, "-o", &carried],
-            "--distance",
-            "1 to 4",
-            &["0", "5", "", "x"],
+            any,
+            &["", "-60", "4294967356", "60%"],
         ),
         (
             ["check", SMALL, &plan, "--"],
             "--distance",
-            "1 to 4",
-            &["0", "5"],
+            any,
+            &["", "x", "-2", "4294967298"],
         ),
         (
             ["run", SMALL, &plan, &list],
@@ -318,13 +385,13 @@ fn options_refused() {
         (
             ["survey", SMALL, &list, "--"],
             "--error",
-            "0 to 1000000",
-            &["-1", "1000001", "1e3"],
+            any,
+            &["-1", "1e3", "4294967297"],
         ),
         (
             ["survey", SMALL, &list, "--"],
             "--shift",
-            "0 to 4294967295",
+            any,
             &["-1", "4294967296", "x"],
         ),
     ];
@@ -343,6 +410,43 @@ fn options_refused() {
         }
     }
     assert!(!fs::exists(&carried).expect("a path that can be asked"));
+}
+
+/// Workers, closeness and distance outside the library's limits; just inside they are taken.
+#[test]
+fn parameters_refused() {
+    let limits = "workers are 1 to 16, closeness is 50 to 99, and distance 1 to 4 (refusal 7)";
+    let [refused, carried] = ["never planned", "planned"].map(|name| mzk().path(name));
+    let asked = |path: &str, workers: &str, p: &str, k: &str| {
+        let options = ["-w", workers, "-p", p, "-k", k];
+        mzk().run(&[&["plan", "-q", SMALL, "-o", path][..], &options].concat())
+    };
+    for (workers, p, k) in [
+        ("0", "60", "2"),
+        ("17", "60", "2"),
+        ("4294967295", "60", "2"),
+        ("16", "49", "2"),
+        ("16", "100", "2"),
+        ("16", "60", "0"),
+        ("16", "60", "5"),
+        ("272", "316", "258"),
+    ] {
+        let found = format!("{workers} workers, closeness {p}, distance {k}");
+        check_said(
+            asked(&refused, workers, p, k),
+            2,
+            &format!("mzk plan: {found}: {limits}"),
+        );
+    }
+    assert!(!fs::exists(&refused).expect("a path that can be asked"));
+    for (workers, p, k) in [("1", "50", "1"), ("16", "99", "4")] {
+        assert!(asked(&carried, workers, p, k).status.success());
+    }
+    let plan = plan("parameters");
+    for k in ["0", "5", "258"] {
+        let said = format!("mzk check: distance {k}: {limits}");
+        mzk().check_said(&["check", SMALL, &plan, "-k", k], 2, &said);
+    }
 }
 
 /// Arguments that are too few, too many, or do not go together.
@@ -380,7 +484,15 @@ fn arguments_refused() {
         ),
         (
             &["run", SMALL, &plan, "b", "-r", "-j", "2"],
-            "run: --rounds takes no threads",
+            "run: only one of --threads, --rounds and --picks",
+        ),
+        (
+            &["run", SMALL, &plan, "b", "-r", "--picks", "c"],
+            "run: only one of --threads, --rounds and --picks",
+        ),
+        (
+            &["run", SMALL, &plan, "b", "-j2", "--picks", "c"],
+            "run: only one of --threads, --rounds and --picks",
         ),
         (
             &["run", SMALL, &plan, "b", "-r", "--crews", "b"],
@@ -398,6 +510,26 @@ fn arguments_refused() {
             &["join", "a", "b"],
             "join: found 2 operands, wanted FIRST SECOND PLACES",
         ),
+        (
+            &["prepare", "a", "b"],
+            "prepare: found 2 operands, wanted MATRIX PLAN MOVEMENTS",
+        ),
+        (
+            &["pick", "a"],
+            "pick: found 1 operand, wanted JOB RUN [PICKS]",
+        ),
+        (
+            &["rows", "a", "b"],
+            "rows: found 2 operands, wanted STARTS COLUMNS VALUES",
+        ),
+        (
+            &["barrier", "a"],
+            "barrier: found 1 operand, wanted UNIT ACCESS ..",
+        ),
+        (
+            &["barrier", "-", "line"],
+            "barrier: what is kept has a file, found -",
+        ),
         (&["control"], "control: found 0 operands, wanted LIST"),
         (&["diff", "a"], "diff: found 1 operand, wanted LIST LIST"),
         (
@@ -411,6 +543,10 @@ fn arguments_refused() {
         ),
         (
             &["run", SMALL, &plan, "-", "--crews", "-"],
+            "run: standard input is named twice",
+        ),
+        (
+            &["run", SMALL, &plan, "-", "--picks", "-"],
             "run: standard input is named twice",
         ),
         (
