@@ -4,9 +4,9 @@
  *     gcc -O2 -pthread -Iinclude examples/threads.c target/staticlib/libmazhoketh.a -o target/threads
  *     target/threads
  *
- * The job is prepared once. Then four threads pick themselves, a load or store at a time, in whatever order they come to
- * the lock; one that waits sleeps until another has moved. Says whether the forces are those of one core, as they are
- * proved to be. */
+ * The job is prepared once. Then four threads pick themselves, a load or store at a time, in whatever order they come
+ * to the lock; one that waits sleeps until another has moved. Says whether the forces are those of one core, as they
+ * are proved to be. */
 
 #include <pthread.h>
 #include <sched.h>

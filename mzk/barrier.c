@@ -21,8 +21,9 @@ static uint64_t access_register(struct text *unit, const char *access)
     uint32_t address = whole_number(access, access, length, 0, UINT32_MAX);
     if (!is_write(access))
         return mzk_barrier_read(unit->bytes, unit->length, address);
-    const char *byte = access + length + 1;
-    return mzk_barrier_write(unit->bytes, unit->length, address, whole_number(access, byte, strlen(byte), 0, UINT8_MAX));
+    const char *rest = access + length + 1;
+    uint8_t byte = whole_number(access, rest, strlen(rest), 0, UINT8_MAX);
+    return mzk_barrier_write(unit->bytes, unit->length, address, byte);
 }
 
 /* Makes an access, which changes the unit or tells something; what it tells. */

@@ -1,8 +1,9 @@
 #include "entries.h"
 
-#include "svg.h"
-
 #include <string.h>
+
+#include "lanes.h"
+#include "svg.h"
 
 /* The side of the drawing, in units of the page; a large matrix is drawn in cells of several rows, one of up to SINGLE
  * rows entry by entry. */
@@ -10,7 +11,7 @@ enum { HEADING = 30, SIDE = 800, CELLS = 800, SINGLE = 200, END = 20 };
 
 double height_of_entries(void)
 {
-    return HEADING + SIDE + END;
+    return HEADING + STRIP + SIDE + END;
 }
 
 /* Draws a row of cells: a stroke for each stretch of them that has entries, or for each that has one. */
@@ -51,8 +52,9 @@ static void draw_all(FILE *out, const struct plan *plan, const struct net *net, 
 void draw_entries(FILE *out, const struct plan *plan, const struct net *net, const struct work *work, double y)
 {
     static const char *const frames[] = { "frame", "redframe", "blueframe" };
-    double top = y + HEADING, unit = (double)SIDE / net->n;
+    double top = y + HEADING + STRIP, unit = (double)SIDE / net->n;
     put_words(out, "head", LEFT, y + 20, "The matrix in plan order: its entries, and a box around each group's rows");
+    draw_strip(out, work, 1, unit, y + HEADING);
     for (uint32_t index = 0; index < work->groups; index++) {
         const struct group *group = &work->group[index];
         double side = unit * group->length;

@@ -2,7 +2,7 @@
 
 #include "svg.h"
 
-enum { HEADING = 30, STRIP = 20, LANE = 25, BAR = 16, SCALE = 50, WORDS = 14 };
+enum { HEADING = 30, LANE = 25, BAR = 16, SCALE = 50, WORDS = 14 };
 
 /* How boxes and labels of a colour are drawn, by the colour. */
 static const char *const kinds[] = { "whole", "red", "blue" };
@@ -36,21 +36,17 @@ static void describe(char *words, size_t room, const struct work *work, uint32_t
              group->first + group->workers - 1);
 }
 
-/* Draws the groups of every depth, a strip each. */
-static void draw_depths(FILE *out, const struct plan *plan, const struct work *work, double y)
+void draw_strip(FILE *out, const struct work *work, uint32_t depth, double unit, double y)
 {
     char words[160];
-    for (uint32_t depth = 0; depth <= work->depth; depth++)
-        put_words(out, "end", LEFT - 8, y + STRIP * depth + WORDS, "depth %u", depth);
     for (uint32_t index = 0; index < work->groups; index++) {
         const struct group *group = &work->group[index];
-        double x = LEFT + scaled(group->start, plan->n), width = scaled(group->length, plan->n);
-        double top = y + STRIP * group->depth;
-        if (group->length == 0)
+        double x = LEFT + unit * group->start, width = unit * group->length;
+        if (group->depth != depth || group->length == 0)
             continue;
         describe(words, sizeof words, work, index);
-        put_box(out, kinds[group->colour], x, top, width, STRIP - 1, "%s", words);
-        put_label(out, labels[group->colour], x, top + WORDS, width, "%u", index);
+        put_box(out, kinds[group->colour], x, y, width, STRIP - 1, "%s", words);
+        put_label(out, labels[group->colour], x, y + WORDS, width, "%u", index);
     }
 }
 
@@ -58,7 +54,10 @@ double draw_places(FILE *out, const struct plan *plan, const struct work *work, 
 {
     double depths = y + HEADING, lanes = depths + STRIP * (work->depth + 1.0) + HEADING;
     put_words(out, "head", LEFT, y + 20, "Which rows: the groups, by depth, and below them the worker of each");
-    draw_depths(out, plan, work, depths);
+    for (uint32_t depth = 0; depth <= work->depth; depth++) {
+        put_words(out, "end", LEFT - 8, depths + STRIP * depth + WORDS, "depth %u", depth);
+        draw_strip(out, work, depth, (double)ACROSS / plan->n, depths + STRIP * depth);
+    }
     put_scale(out, lanes, LANE * (double)work->workers, plan->n, "position of a row in plan order");
     draw_lanes(out, work->workers, lanes);
     for (uint32_t leaf = 0; leaf < work->leaves; leaf++) {
@@ -91,7 +90,8 @@ static void draw_leaf(FILE *out, const struct work *work, uint32_t index, double
     uint32_t awaited = work->group[work->leaf[leaf->after].group].first;
     put_box(out, "wait", x - waited, top + 3, waited, BAR - 6, "worker %u waits %u ticks, longest for worker %u",
             group->first, leaf->begin - leaf->reached, awaited);
-    put_label(out, "middle", x - waited, top + WORDS - 2, waited, "waits for worker %u", awaited);
+    if (!put_label(out, "middle", x - waited, top + WORDS - 2, waited, "waits for worker %u", awaited))
+        put_label(out, "middle", x - waited, top + WORDS - 2, waited, "for %u", awaited);
 }
 
 /* Draws what a leaf comes after: an arrow from the lane of the worker that it waits for to its own. */
@@ -109,8 +109,8 @@ static void draw_after(FILE *out, const struct work *work, const struct leaf *le
 double draw_times(FILE *out, const struct work *work, double y, const char *what)
 {
     double lanes = y + HEADING;
-    put_words(out, "head", LEFT, y + 20, "When: each worker's groups in time; an arrow comes from the worker that ends "
-              "last of those waited for");
+    put_words(out, "head", LEFT, y + 20, "When: each worker's groups in time, and for whom it waits: an arrow comes from "
+              "the one that ends last");
     put_scale(out, lanes, LANE * (double)work->workers, work->chain, what);
     draw_lanes(out, work->workers, lanes);
     for (uint32_t leaf = 0; leaf < work->leaves; leaf++)

@@ -4,6 +4,12 @@
 
 #include "work.h"
 
+/* The height of a strip of groups. */
+enum { STRIP = 20 };
+
+/* Draws the groups of a depth as a strip, with so many units of the page for a row. */
+void draw_strip(FILE *out, const struct work *work, uint32_t depth, double unit, double y);
+
 /* Draws which rows each worker works, in plan order, below the groups by depth, from a height down; where it ends. */
 double draw_places(FILE *out, const struct plan *plan, const struct work *work, double y);
 

@@ -21,8 +21,9 @@ static const struct refusal of_calls[] = {
     [MZK_SIZE] = { LINE, "as many columns as rows, 1 to 4096, and 0 to 32768 entries" },
     [MZK_ENTRY] = { LINE, "an entry on or below the diagonal, inside the rows, not given before, of at most 1000000000 "
                           "either side of 0" },
-    [MZK_NO_MATRIX] = { NOWHERE, "the lists are no matrix: 1 to 4096 rows, columns ascending, each entry and its mirror "
-                                 "the same, of at most 1000000000 either side of 0, 32768 on and below the diagonal" },
+    [MZK_NO_MATRIX] = { NOWHERE, "the lists are no matrix: 1 to 4096 rows of ascending columns, each entry with its "
+                                 "mirror, at most 32768 on and below the diagonal, of at most 1000000000 either side of "
+                                 "0" },
     [MZK_MOVEMENTS] = { INDEX, "a movement of at most 1000000 either side of 0" },
     [MZK_PARAMETERS] = { NOWHERE, "workers are 1 to 16, closeness is 50 to 99, and distance 1 to 4" },
     [MZK_UNSOUND] = { NOWHERE, "the plan is not sound for this matrix" },

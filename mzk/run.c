@@ -37,7 +37,8 @@ static void add_crew(struct run *run, const char *path)
 /* Takes the forces of a finished run; whether they are those of one core. */
 static bool take_forces(struct run *run, struct crew *crew)
 {
-    accepted(&run->picks.list.text, mzk_prepared_forces(PREPARED(&crew->job), AT(run, crew), FORCES(&run->net, crew->forces)));
+    accepted(&run->picks.list.text,
+             mzk_prepared_forces(PREPARED(&crew->job), AT(run, crew), FORCES(&run->net, crew->forces)));
     return memcmp(crew->forces, crew->product, 8 * (size_t)run->net.n) == 0;
 }
 

@@ -3,17 +3,18 @@
 #include <stdarg.h>
 #include <string.h>
 
-enum { LETTER = 7, HEAD = 4, MARKS = 12 };
+/* The width of a letter of a label, and of a small one, of which there are few; what a label leaves free beside it. */
+enum { LETTER = 7, SMALL = 6, FEW = 6, FREE = 4, HEAD = 4, MARKS = 12 };
 
 static const char style[] =
     "text{font-family:sans-serif;font-size:12px;fill:#222}.title{font-size:20px;font-weight:bold}"
     ".head{font-size:14px;font-weight:bold}"
-    ".middle{text-anchor:middle}.end{text-anchor:end}.light{fill:#fff;text-anchor:middle}"
+    ".middle{text-anchor:middle}.end{text-anchor:end}.light{fill:#fff;text-anchor:middle}.small{font-size:9px}"
     ".red{fill:#ef8a80;stroke:#fff;stroke-width:.7}.blue{fill:#2b5f9e;stroke:#fff;stroke-width:.7}"
     ".whole{fill:#d5d5d5}.lane{fill:#f3f3f3}.wait{fill:none;stroke:#888;stroke-dasharray:2 2}"
     ".mark{stroke:#bbb;stroke-width:.5}.arrow{stroke:#222;stroke-width:1;fill:#222}"
     ".entries{stroke:#333;stroke-width:1;fill:none}.single{stroke:#333;stroke-width:.7;fill:none}"
-    ".redframe{fill:#ef8a80;fill-opacity:.12;stroke:#d9483b}.blueframe{fill:#2b5f9e;fill-opacity:.1;stroke:#2b5f9e}"
+    ".redframe{fill:#fdf0ee;stroke:#d9483b}.blueframe{fill:#e7eef6;stroke:#2b5f9e}"
     ".frame{fill:#fff;stroke:#888}";
 
 void begin_page(FILE *out, double height)
@@ -62,15 +63,20 @@ void put_name(FILE *out, const char *name)
             fputc(*name, out);
 }
 
-void put_label(FILE *out, const char *kind, double x, double y, double width, const char *form, ...)
+bool put_label(FILE *out, const char *kind, double x, double y, double width, const char *form, ...)
 {
-    char words[80];
+    char words[80], small[40];
     va_list values;
     va_start(values, form);
     vsnprintf(words, sizeof words, form, values);
     va_end(values);
-    if (LETTER * (double)strlen(words) < width)
-        put_words(out, kind, x + width / 2, y, "%s", words);
+    snprintf(small, sizeof small, "%s small", kind);
+    size_t letters = strlen(words);
+    bool is_large = LETTER * letters + FREE < width;
+    bool is_small = !is_large && letters <= FEW && SMALL * letters + FREE / 2 < width;
+    if (is_large || is_small)
+        put_words(out, is_small ? small : kind, x + width / 2, is_small ? y - 1 : y, "%s", words);
+    return is_large || is_small;
 }
 
 void put_arrow(FILE *out, double x, double from, double to)

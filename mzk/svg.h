@@ -2,6 +2,7 @@
 #ifndef SVG_H
 #define SVG_H
 
+#include <stdbool.h>
 #include <stdint.h>
 #include <stdio.h>
 
@@ -19,8 +20,8 @@ void put_box(FILE *out, const char *kind, double x, double y, double width, doub
 void put_words(FILE *out, const char *kind, double x, double y, const char *form, ...);
 void put_name(FILE *out, const char *name);
 
-/* Words in the middle of a box of a width, if they fit in it. */
-void put_label(FILE *out, const char *kind, double x, double y, double width, const char *form, ...);
+/* Words in the middle of a box of a width, in small letters if they are few; whether they fit in it. */
+bool put_label(FILE *out, const char *kind, double x, double y, double width, const char *form, ...);
 
 /* An arrow up or down from one height to another. */
 void put_arrow(FILE *out, double x, double from, double to);

@@ -141,8 +141,8 @@ pub fn check_said(output: Output, status: i32, line: &str) {
 pub fn wanted(number: usize) -> &'static str {
     match number {
         5 => {
-            "the lists are no matrix: 1 to 4096 rows, columns ascending, each entry and its mirror the same, of at \
-             most 1000000000 either side of 0, 32768 on and below the diagonal"
+            "the lists are no matrix: 1 to 4096 rows of ascending columns, each entry with its mirror, at most \
+         32768 on and below the diagonal, of at most 1000000000 either side of 0"
         }
         10 => "a worker of the plan",
         11 => "no run of this job: 192 bytes, 8 for each row, and no worker past its moves",

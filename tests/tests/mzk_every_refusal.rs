@@ -27,8 +27,8 @@ const REFUSED: [(&str, &str); REFUSALS] = [
     ),
     (
         "rows starts columns values",
-        "mzk rows: the lists are no matrix: 1 to 4096 rows, columns ascending, each entry and its mirror the same, of \
-         at most 1000000000 either side of 0, 32768 on and below the diagonal",
+        "mzk rows: the lists are no matrix: 1 to 4096 rows of ascending columns, each entry with its mirror, at most \
+         32768 on and below the diagonal, of at most 1000000000 either side of 0",
     ),
     (
         "force chain far",
