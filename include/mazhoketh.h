@@ -288,7 +288,8 @@ uint64_t mzk_barrier_releases(const uint8_t *unit, size_t unit_bytes);
  * plan order. The state has 16 counts of 32 bits without sign, the moves that each worker has made, and then the 16
  * numbers of 64 bits in two's complement that they hold. A run begins with zeros, in state and sums, and is finished
  * after 2 picks a row and 4 a pair of joined rows. Calls on one run are made one at a time, in any order, by any
- * threads. Each checks matrix and plan anew, which takes about as long as three products: make lists of picks long. */
+ * threads. Each checks matrix and plan anew, which takes about as long as three products: make lists of picks long, or
+ * prepare the job (below). */
 
 /* A list of picks, one byte each, the worker that moves: each makes its worker's next load or store on the sums, in
  * turn. Returns how many were taken, all of them. A pick that is refused has its index as place, which is how many were
@@ -378,8 +379,9 @@ uint64_t mzk_forces(uint32_t n,
  * of updates and waits, stands in one list of bytes: mzk_prepare makes it, and the four calls after it answer with it
  * just as those above do with the job. The list holds no pointer: it can be copied, filed, and shared by runs and
  * threads. It stands for its matrix, movements and plan as they were when it was made.
- * Take the calls above for a few calls on a job, and these where threads take their picks one by one or in short lists:
- * preparing takes about as long as two calls above, and a call with a prepared list then no longer than its picks.
+ * To prepare takes about as long as two of the calls above. So prepare a job whose run has more calls than that, as by
+ * threads, which may then pick one move a call; take the calls above for one or two, and for a preview. Picks of two
+ * crews have no prepared call; the forces of each have.
  * A list that mzk_prepare did not make, or that was changed since, is refused with 26 if its length or its first 16
  * bytes show it. Otherwise it is taken: whatever stands in it, no byte outside the lent lists is read or written, but
  * then nothing is said of forces. */
