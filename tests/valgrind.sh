@@ -8,7 +8,7 @@ gcc -std=c11 -D_POSIX_C_SOURCE=200809L -g -O1 -pthread -I../include ../mzk/*.c .
     -o target/mzk
 net=../data/roof_45.mtx
 seq 1 135 > target/movements
-seq 0 4 > target/picks
+printf '0\n0\n0\n' > target/picks
 printf '0\n2\n4\n' > target/starts
 printf '0\n1\n0\n1\n' > target/columns
 printf '2\n-1\n-1\n2\n' > target/values

@@ -663,7 +663,7 @@ fn progress() {
             (bars.first(), bars.last()),
             (Some(&&*dashes), Some(&&*full))
         );
-        assert!(bars.len() > 10, "{} bars", bars.len());
+        assert!(bars.len() > 10 && bars.len() <= 101, "{} bars", bars.len());
         let last = shown.trim_end().rsplit('\r').next();
         let told = format!("{large}: 92664 moves of 16 workers {by}, forces as on one core");
         assert_eq!(last, Some(&*told));
