@@ -1,6 +1,7 @@
 //! What is wrong with list files, files and arguments of `mzk`, said in a sentence; help, and a terminal.
 
-use std::fs;
+use std::fs::{self, Permissions};
+use std::os::unix::fs::{symlink, PermissionsExt};
 use std::process::Command;
 use std::sync::OnceLock;
 
@@ -322,6 +323,28 @@ fn files_half_written() {
     }
     let files = fs::read_dir(&folder).expect("the folder").count();
     assert_eq!(files, 2, "the run and the unit alone");
+}
+
+/// A file that is replaced keeps its permissions, and a link stays one.
+#[test]
+fn files_replaced() {
+    let list = mzk().list("replaced list", 1..136);
+    let (secret, link) = (mzk().file("secret", "old"), mzk().path("link to secret"));
+    fs::set_permissions(&secret, Permissions::from_mode(0o600)).expect("its permissions");
+    _ = fs::remove_file(&link); /* of an earlier run */
+    symlink(&secret, &link).expect("a link can be made");
+    let forces = mzk().printed(&["force", SMALL, &list]);
+    for path in [&secret, &link] {
+        fs::write(&secret, "old").expect("a file can be written");
+        mzk().ended(&["force", SMALL, &list, "-o", path]);
+        assert_eq!(fs::read_to_string(&secret).expect("the forces"), forces);
+        let found = fs::metadata(&secret).expect("the file");
+        assert_eq!(found.permissions().mode() & 0o777, 0o600);
+    }
+    assert!(fs::symlink_metadata(&link).expect("the link").is_symlink());
+    let folder = mzk().path("");
+    let said = format!("{folder}: cannot be written: Is a directory");
+    mzk().check_said(&["force", SMALL, &list, "-o", &folder], 3, &said);
 }
 
 /// A large list is found to be unwritten, too, which is more than a buffer takes.
