@@ -390,7 +390,17 @@ fn rows() {
         }
     }
     assert!(refused >= 20, "{refused} refused");
+    let (starts, two) = (mzk().list("starts", [0, 1]), mzk().list("two", [0, 0]));
     let (none, one) = (mzk().list("none", [0; 0]), mzk().list("one", [0]));
+    for (columns, values, said) in [
+        (&two, &one, format!("{two}: found 2 columns")),
+        (&none, &one, format!("{none}: found 0 columns")),
+        (&one, &two, format!("{two}: found 2 values")),
+        (&one, &none, format!("{none}: found 0 values")),
+    ] {
+        let said = format!("{said}, wanted 1 (refusal 5)");
+        mzk().check_said(&["rows", &starts, columns, values], 2, &said);
+    }
     for starts in [&none, &one] {
         let said = format!("mzk rows: {} (refusal 5)", wanted(5));
         mzk().check_said(&["rows", starts, &none, &none], 2, &said);

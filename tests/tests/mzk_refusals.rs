@@ -298,6 +298,7 @@ fn files_half_written() {
     let (job, picks) = (mzk().path("half job"), mzk().list("half picks", [0]));
     mzk().ended(&["prepare", SMALL, &plan, &list, "-o", &job]);
     let folder = mzk().path("half");
+    _ = fs::remove_dir_all(&folder); /* of an earlier run */
     fs::create_dir_all(&folder).expect("a folder can be made");
     let [run, unit] = ["half/run", "half/unit"].map(|name| mzk().path(name));
     mzk().ended(&["pick", &job, &run, "--fresh"]);
