@@ -90,7 +90,14 @@ impl Mzk {
         check_said(self.run(arguments), status, line);
     }
 
-    /// The same of an output that is always full.
+    /// Panics unless it prints nothing and is refused with a sentence that begins so, and this number.
+    pub fn check_refused(&self, arguments: &[&str], start: &str, number: usize) {
+        let output = self.run(arguments);
+        check_refused(&output, start, number);
+        assert!(output.stdout.is_empty(), "printed beside: {arguments:?}");
+    }
+
+    /// The same as `check_said` of an output that is always full.
     pub fn check_full(&self, arguments: &[&str]) {
         let sentence = "standard output: cannot be written: No space left on device";
         check_said(built::run_full(&self.program, arguments), 3, sentence);
@@ -137,25 +144,12 @@ pub fn check_said(output: Output, status: i32, line: &str) {
     assert!(output.stdout.is_empty(), "printed beside: {told}");
 }
 
-/// What the sentence of a refusal says that was wanted, or was found: of picks, and of what is kept in files.
-pub fn wanted(number: usize) -> &'static str {
-    match number {
-        5 => {
-            "the lists are no matrix: 1 to 4096 rows of ascending columns, each entry with its mirror, at most \
-         32768 on and below the diagonal, of at most 1000000000 either side of 0"
-        }
-        10 => "a worker of the plan",
-        11 => "no run of this job: 192 bytes, 8 for each row, and no worker past its moves",
-        12 => "a worker that has moves left",
-        13 => "a worker that does not wait for others",
-        14 => "a worker whose sum to store has 64 bits, as every sum has that began with zeros",
-        15 => "the run is not finished: a worker has moves left",
-        18 => "16 times the crew, 0 or 1, and a worker",
-        19 => "a worker that is not inside a row of the other crew",
-        25 => "a barrier unit has the registers 0 to 5",
-        26 => "no prepared job, or a damaged one",
-        _ => panic!("{number} is no refusal of picks"),
-    }
+/// Panics unless a program ended with 2 and told one line, which begins so and ends in the number of the refusal.
+pub fn check_refused(output: &Output, start: &str, number: usize) {
+    let told = String::from_utf8_lossy(&output.stderr);
+    let end = format!(" (refusal {number})\n");
+    assert!(told.starts_with(start) && told.ends_with(&end), "{told}");
+    assert_eq!((output.status.code(), told.lines().count()), (Some(2), 1));
 }
 
 /// So many things of a name.

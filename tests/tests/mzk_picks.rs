@@ -1,11 +1,12 @@
 //! `mzk prepare`, `pick`, `run --picks`, `rows` and `barrier`, beside the other implementation.
 
 use std::fs;
+use std::process::Output;
 use std::sync::OnceLock;
 
 use mazhoketh_tests::files;
 use mazhoketh_tests::lists::refusal_number;
-use mazhoketh_tests::mzk::{check_said, lines, wanted, Mzk};
+use mazhoketh_tests::mzk::{check_refused, lines, Mzk};
 use mazhoketh_tests::oracle::book::Book;
 use mazhoketh_tests::oracle::machine::Lent;
 use mazhoketh_tests::oracle::matrix::{Matrix, Rows};
@@ -102,30 +103,41 @@ impl Job {
         format!("ready {}", workers.join(" "))
     }
 
-    /// Picks that take a fresh run to its end, in a random order.
-    fn schedule(&self, rng: &mut Prng) -> Vec<u8> {
-        let mut book = Book::new(&self.matrix, &self.movements, &self.plan);
+    /// The forces.
+    fn product(&self) -> Vec<i64> {
+        self.matrix.rows().product(&self.movements)
+    }
+
+    /// Picks that take the fresh runs of so many crews to their ends, in a random order.
+    fn schedule(&self, rng: &mut Prng, crews: usize) -> Vec<u8> {
+        let mut books: Vec<Book> = (0..crews)
+            .map(|_| Book::new(&self.matrix, &self.movements, &self.plan))
+            .collect();
         let mut schedule = Vec::new();
-        while !book.is_finished() {
-            let set = book.ready().set;
-            let ready: Vec<u8> = (0..16).filter(|worker| set >> worker & 1 == 1).collect();
-            let pick = rng.one_of(&ready);
-            book.picks(&[pick]);
-            schedule.push(pick);
+        while !books.iter().all(Book::is_finished) {
+            let (crew, worker) = (rng.below(crews), rng.below(WORKERS));
+            let mut others = books.iter().enumerate();
+            let is_away = others.any(|(other, book)| other != crew && book.is_inside(worker));
+            if !is_away && books[crew].picks(&[worker as u8]).taken == 1 {
+                schedule.push((WORKERS * crew + worker) as u8);
+            }
         }
         schedule
     }
 }
 
-/// The sentence of a pick that was refused, of a list file; nothing of an accepted call.
-fn said(path: &str, picks: &[u8], word: u64) -> String {
+/// Panics unless a program ended well, or at the pick of a list file that a word refuses.
+fn check_ended(output: &Output, path: &str, picks: &[u8], word: u64) {
     let number = refusal_number(word);
     if number == 0 {
-        return String::new();
+        assert_eq!(output.status.code(), Some(0));
+        assert!(output.stderr.is_empty());
+        return;
     }
     let index = word as u32 as usize;
-    let (line, pick, wanted) = (index + 1, picks[index], wanted(number));
-    format!("{path}:{line}: found '{pick}', wanted {wanted} (refusal {number})\n")
+    let (line, pick) = (index + 1, picks[index]);
+    let start = format!("{path}:{line}: found '{pick}', wanted ");
+    check_refused(output, &start, number);
 }
 
 /// The file of a job is its prepared list, also on standard output, and its parts from standard input.
@@ -166,7 +178,7 @@ fn kept_runs() {
         while job.ready(&kept) != "ready none" {
             check_step(&mut rng, &job, &run, &mut kept);
         }
-        let forces = lines(job.matrix.rows().product(&job.movements));
+        let forces = lines(job.product());
         let printed = mzk().ended(&["pick", &job.path, &run, "--forces"]);
         assert_eq!(printed, (forces, String::new()));
     }
@@ -187,15 +199,12 @@ fn check_step(rng: &mut Prng, job: &Job, run: &str, kept: &mut Vec<u8>) {
         word & 0xffff_ffff
     };
     let printed = format!("moves {moves}\n{}\n", job.ready(kept));
-    let said = said(&path, &picks, word);
-    let status = if said.is_empty() { 0 } else { 2 };
     let more: &[&str] = if is_rounds { &["--rounds"] } else { &[] };
     let pick = [&["pick", &job.path, run, &path][..], more].concat();
     for (left, more) in [(&before, &["--preview"][..]), (kept, &[])] {
         let output = mzk().run(&[&pick[..], more].concat());
         assert_eq!(String::from_utf8_lossy(&output.stdout), printed);
-        assert_eq!(String::from_utf8_lossy(&output.stderr), said);
-        assert_eq!(output.status.code(), Some(status));
+        check_ended(&output, &path, &picks, word);
         assert!(fs::read(run).expect("the run") == *left, "{more:?}");
     }
 }
@@ -219,15 +228,13 @@ fn picks_from_elsewhere() {
     for pick in ["256", "-1", "-256", "4294967296", "9223372036854775807"] {
         let path = mzk().list("no bytes", ["1", pick]);
         let output = mzk().run(&["pick", &job.path, &run, &path, "--preview"]);
-        let wanted = "wanted a worker of the plan (refusal 10)\n";
-        let said = format!("{path}:2: found '{pick}', {wanted}");
-        assert_eq!(String::from_utf8_lossy(&output.stderr), said);
+        check_refused(&output, &format!("{path}:2: found '{pick}', wanted "), 10);
         assert_eq!(output.stdout, b"moves 1\nready 0 1\n");
     }
 }
 
 /// Panics unless a program ended well without a word.
-fn check_said_nothing(output: std::process::Output) {
+fn check_said_nothing(output: Output) {
     assert!(output.status.success());
     assert_eq!((output.stdout, output.stderr), (vec![], vec![]));
 }
@@ -239,21 +246,22 @@ fn kept_runs_refused() {
     let fresh = job.fresh();
     let mut past = fresh.clone();
     past[4] = 21; /* worker 1 has 20 moves */
-    let wrong = wanted(11);
     for content in [&[][..], &fresh[..191], &fresh[..192], &fresh[..255], &past] {
         let run = mzk().file("wrong.run", content);
         for more in [&[][..], &["--forces"], &["--rounds"], &["--preview"]] {
             let pick = [&["pick", &job.path, &run][..], more].concat();
-            mzk().check_said(&pick, 2, &format!("{run}: {wrong} (refusal 11)"));
+            mzk().check_refused(&pick, &format!("{run}: "), 11);
         }
         assert!(fs::read(&run).expect("the run") == content);
     }
     let longer = mzk().file("longer.run", [&fresh[..], b"12345678"].concat());
-    let said = format!("{longer}: {wrong} (refusal 11)");
-    mzk().check_said(&["pick", &job.path, &longer], 2, &said);
+    mzk().check_refused(&["pick", &job.path, &longer], &format!("{longer}: "), 11);
     let run = mzk().file("fresh.run", &fresh);
-    let said = format!("{run}: {} (refusal 15)", wanted(15));
-    mzk().check_said(&["pick", &job.path, &run, "--forces"], 2, &said);
+    mzk().check_refused(
+        &["pick", &job.path, &run, "--forces"],
+        &format!("{run}: "),
+        15,
+    );
     for content in [
         &[][..],
         &job.list[..job.list.len() - 1],
@@ -263,7 +271,7 @@ fn kept_runs_refused() {
         let path = mzk().file("wrong.job", content);
         for more in [&[][..], &["--fresh"]] {
             let pick = [&["pick", &path, &run][..], more].concat();
-            mzk().check_said(&pick, 2, &format!("{path}: {} (refusal 26)", wanted(26)));
+            mzk().check_refused(&pick, &format!("{path}: "), 26);
         }
     }
     assert!(fs::read(&run).expect("the run") == fresh);
@@ -296,51 +304,46 @@ fn prepares_refused() {
     assert_eq!((status, &*shown), (Some(2), said));
 }
 
-/// Whole runs by the picks of a file, of one crew and of two; lists that end too soon, and wrong ones.
+/// Whole runs by the picks of a file; a pick fewer does not finish them.
 #[test]
 fn runs_by_picks() {
     let mut rng = Prng::new(203);
     for _ in 0..30 {
         let job = Job::random(&mut rng, "picked");
-        let schedule = job.schedule(&mut rng);
+        let schedule = job.schedule(&mut rng, 1);
         let path = mzk().list("picked.picks", &schedule);
-        let product = job.matrix.rows().product(&job.movements);
         let (printed, told) = mzk().ended(&job.with("run", &["--picks", &path]));
-        assert_eq!(printed, lines(&product));
+        assert_eq!(printed, lines(job.product()));
         let by = format!("by the picks of {path}, forces as on one core\n");
         assert!(told.ends_with(&by), "{told}");
-        let both = schedule.iter().flat_map(|&pick| [pick, 16 + pick]);
-        let wrong = mzk().list("picked.both", both.clone());
-        let crews = ["--crews", &job.files[2], "--picks", &wrong];
-        let inside = format!(
-            "{wrong}:2: found '{}', wanted {} (refusal 19)",
-            16 + schedule[0],
-            wanted(19)
-        );
-        mzk().check_said(&job.with("run", &crews), 2, &inside);
-        let in_turn = schedule
-            .iter()
-            .copied()
-            .chain(schedule.iter().map(|pick| 16 + pick));
-        let path = mzk().list("picked.both", in_turn);
-        let columns = lines(product.iter().map(|force| format!("{force}\t{force}")));
-        let crews = ["-q", "--crews", &job.files[2], "--picks", &path];
-        assert_eq!(
-            mzk().ended(&job.with("run", &crews)),
-            (columns, String::new())
-        );
-        let short = mzk().list("picked.short", &schedule[1..schedule.len() - 1]);
-        let output = mzk().run(&job.with("run", &["--picks", &short]));
-        let told = String::from_utf8_lossy(&output.stderr);
-        assert!(
-            told.starts_with(&short) && output.status.code() == Some(2),
-            "{told}"
-        );
+        let short = mzk().list("picked.short", &schedule[1..]);
+        let run = job.with("run", &["--picks", &short]);
+        assert_eq!(mzk().run(&run).status.code(), Some(2));
+        let short = mzk().list("picked.short", &schedule[..schedule.len() - 1]);
+        let run = job.with("run", &["--picks", &short]);
+        mzk().check_refused(&run, &format!("{short}: "), 15);
     }
-    let job = Job::chain("picked");
-    let none = mzk().list("picked.none", [0; 0]);
-    let said = format!("{none}: {} (refusal 15)", wanted(15));
-    mzk().check_said(&job.with("run", &["--picks", &none]), 2, &said);
+}
+
+/// The same of two crews that share the workers; one that is inside the other's row is refused.
+#[test]
+fn crews_by_picks() {
+    let mut rng = Prng::new(206);
+    for _ in 0..30 {
+        let job = Job::random(&mut rng, "crews");
+        let columns = job.product().into_iter();
+        let columns = lines(columns.map(|force| format!("{force}\t{force}")));
+        let schedule = job.schedule(&mut rng, 2);
+        let path = mzk().list("crews.picks", &schedule);
+        let crews = ["-q", "--crews", &job.files[2], "--picks", &path];
+        let ended = mzk().ended(&job.with("run", &crews));
+        assert_eq!(ended, (columns, String::new()));
+        let other = schedule[0] ^ 16;
+        let path = mzk().list("crews.inside", [schedule[0], other]);
+        let crews = ["--crews", &job.files[2], "--picks", &path];
+        let start = format!("{path}:2: found '{other}', wanted ");
+        mzk().check_refused(&job.with("run", &crews), &start, 19);
+    }
 }
 
 /// Matrix files of full rows, in list files; damaged ones are refused as by the other implementation.
@@ -385,7 +388,7 @@ fn rows() {
             };
             assert!(output.stdout == text::write(&matrix));
         } else {
-            check_said(output, 2, &format!("mzk rows: {} (refusal 5)", wanted(5)));
+            check_refused(&output, "mzk rows: ", 5);
             refused += 1;
         }
     }
@@ -402,8 +405,7 @@ fn rows() {
         mzk().check_said(&["rows", &starts, columns, values], 2, &said);
     }
     for starts in [&none, &one] {
-        let said = format!("mzk rows: {} (refusal 5)", wanted(5));
-        mzk().check_said(&["rows", starts, &none, &none], 2, &said);
+        mzk().check_refused(&["rows", starts, &none, &none], "mzk rows: ", 5);
     }
 }
 
@@ -477,13 +479,14 @@ fn random_accesses(rng: &mut Prng, unit: &mut barrier::Unit) -> (Vec<String>, Ve
 fn barriers_refused() {
     let content = [3, 0, 1, 0, 0, 1, 7, 0, 0, 0];
     let path = mzk().file("refused unit", content);
-    let register = format!("{} (refusal 25)", wanted(25));
+    for access in ["6", "6=1", "4294967295=1"] {
+        let accesses = ["barrier", &path, "2=2", "line", access, "0=0"];
+        mzk().check_refused(&accesses, &format!("{access}: "), 25);
+        assert_eq!(fs::read(&path).expect("the unit"), content);
+    }
     let form = "wanted ADDRESS=BYTE, ADDRESS, line or releases; see mzk help barrier";
     let number = "wanted a whole number of 0 to";
     for (access, said) in [
-        ("6", format!("6: {register}")),
-        ("6=1", format!("6=1: {register}")),
-        ("4294967295=1", format!("4294967295=1: {register}")),
         ("x", format!("mzk barrier: found 'x', {form}")),
         ("", format!("mzk barrier: found '', {form}")),
         ("=1", format!("mzk barrier: found '=1', {form}")),
