@@ -4,9 +4,8 @@
 
 #include "plans.h"
 
-/* The room of a prepared list. */
+/* A prepared list, in the room that the largest has. */
 struct job {
-    const char *name;
     size_t length;
     uint8_t bytes[MZK_PREPARED_BYTES];
 };

@@ -53,7 +53,7 @@ const REFUSED: [(&str, &str); REFUSALS] = [
     ),
     (
         "pick job unit",
-        "unit: no run of this job: 192 bytes, 8 for each row, and no worker past its moves",
+        "unit: no run of this job: it has 192 bytes and 8 for each row, and no worker past its moves",
     ),
     (
         "pick job run many",
@@ -65,7 +65,7 @@ const REFUSED: [(&str, &str); REFUSALS] = [
     ),
     (
         "pick job full thirteen",
-        "thirteen:2: found '0', wanted a worker whose sum to store has 64 bits, as every sum has that began with zeros",
+        "thirteen:2: found '0', wanted a worker whose next sum fits 64 bits, as all do in a run that began with zeros",
     ),
     (
         "pick job run --forces",
