@@ -379,6 +379,9 @@ uint64_t mzk_forces(uint32_t n,
  * of updates and waits, stands in one list of bytes: mzk_prepare makes it, and the four calls after it answer with it
  * just as those above do with the job. The list holds no pointer: it can be copied, filed, and shared by runs and
  * threads. It stands for its matrix, movements and plan as they were when it was made.
+ * To prepare takes about as long as two of the calls above. So prepare a job whose run has more calls than that, as by
+ * threads, which may then pick one move a call; take the calls above for one or two, and for a preview. Picks of two
+ * crews have no prepared call; the forces of each have.
  * A list that mzk_prepare did not make, or that was changed since, is refused with 26 if its length or its first 16
  * bytes show it. Otherwise it is taken: whatever stands in it, no byte outside the lent lists is read or written, but
  * then nothing is said of forces. */
