@@ -1,5 +1,5 @@
 -- The number of each refusal, here and nowhere else (document 01, "From the input" and "From the state"; document 02 at
--- its requests).
+-- its requests; 26 of prepared jobs).
 use Prim.Native.Nat.{ℕ}
 
 -- "line 1, its line feed included, differs"
@@ -101,3 +101,7 @@ pastLimits = 24
 -- Q-12: "address above 5"
 abbrev pub noRegister : ℕ
 noRegister = 25
+
+-- "not a prepared list (mark, workers or length)"
+abbrev pub notPrepared : ℕ
+notPrepared = 26

@@ -61,3 +61,5 @@ pub const PLACES: u32 = 23;
 pub const LIMITS: u32 = 24;
 
 pub const REGISTER: u32 = 25;
+
+pub const UNPREPARED: u32 = 26;

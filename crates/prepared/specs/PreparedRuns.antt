@@ -5,6 +5,7 @@ use mathlib.Core.List.{List, [], _∷_, _++_}
 use Prim.Native.Nat.{ℕ, _≤_}
 use lib.IntN.{ℤ}
 use lib.ListN.{length}
+use Rattle.base.specs.Refusals as why
 use Rattle.base.specs.Replies.{Check, check, inTurn}
 use Rattle.matrix.specs.Matrix.{Matrix}
 use Rattle.run.specs.Job.{Job, Accepted, jobOf}
@@ -29,12 +30,8 @@ pub record TableRuns : Type 0 where
 
 -- ---- by a list of bytes, any whatever: 26 comes before 11
 
--- "not a prepared list"
-abbrev pub notPrepared : ℕ
-notPrepared = 26
-
 unfoldable pub preparedCheck : List ℕ → List Check
-preparedCheck b = check notPrepared (isPrepared b) ∷ []
+preparedCheck b = check why.notPrepared (isPrepared b) ∷ []
 
 unfoldable pub answerPrepared : List ℕ → State → Call → Answer
 answerPrepared b s c = inTurn denied (preparedCheck b) (answerBy (tablesOf (listsIn b)) s c)

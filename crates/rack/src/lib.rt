@@ -8,6 +8,7 @@ use answers::state::store_state;
 use base::EARLY;
 use base::SHORT;
 use base::STATE;
+use base::UNPREPARED;
 use calls::Response;
 use calls::picks::place_of;
 use machine::state::Rule;
@@ -30,9 +31,6 @@ ghost use Rattle.calls.specs.declared.Response.the-variants.{Picked};
 ghost use Rattle.answers.specs.code.Ran.{LowPlace};
 ghost use Rattle.rack.specs.Kept.{answerKept};
 ghost use Rattle.rack.specs.code.Taken.{refusalIn, takes, Took, Gave};
-
-// "not a prepared list".
-const UNPREPARED: u32 = 26;
 
 // Why every call is refused: 26, 11, or 0 if none is.
 fn refusal_of(list: &[u8], state: &[u8], sums: &[u8]) -> u32

@@ -6,11 +6,10 @@ use Prim.Native.Nat.{ℕ, zero, suc, _+_, _*_, _^_, _≤_, _<_}
 use native.Mathlib.Omega.{arith}
 use lib.ListN.{take}
 use lib.Dec.{eqb}
-use lib.IntN.{ℤ, pos, negsuc, natAbs, _+ℤ_, _*ℤ_}
-use borrow.Author.Tests.{lt-ltb}
+use lib.IntN.{ℤ, pos, natAbs, _+ℤ_, _*ℤ_}
 use Rattle.base.specs.Lists.{sumBelow}
 use Rattle.base.specs.Integers.{sumℤ, fits64}
-use Rattle.base.proofs.Integers.{abs-add, abs-mul-le}
+use Rattle.base.proofs.Integers.{abs-add, abs-mul-le, fits-magnitude}
 use Rattle.base.proofs.Sums.{sum-same, sum-below-le, sum-below-bound, pos-sum, abs-sum}
 use Rattle.matrix.specs.Limits.{maxRows, maxValue, maxDisplacement}
 use Rattle.run.specs.Updates.{Update}
@@ -45,11 +44,6 @@ abs-landed t zero us = omega arith
 abs-landed t (suc k) [] = omega arith
 abs-landed t (suc k) (u ∷ us) =
     omega (arith, abs-add (cond (eqb (u .target) t) (u .amount) (pos 0)) (landed t (take k us)), abs-share (eqb (u .target) t) (u .amount), abs-landed t k us)
-
-fits-magnitude : (z : ℤ) → natAbs z < 2 ^ 63 → fits64 z ≡ true
-unfolding fits64
-fits-magnitude (pos n) h = lt-ltb n (2 ^ 63) h
-fits-magnitude (negsuc n) h = lt-ltb n (2 ^ 63) (omega arith)
 
 -- where all amounts with target t are n terms |a i * x i|, any first updates of each worker make a sum of 64 bits
 pub fitting : (W n t : ℕ) (U : ℕ → List Update) (a x : ℕ → ℤ) → n ≤ maxRows

@@ -18,13 +18,13 @@ use Rattle.answers.specs.Runs.{stateBytes, stateIn, replyTo, forceBytes, bytesI
 use Rattle.answers.specs.code.Ran.{LowPlace, LowMoves}
 use Rattle.prepared.specs.Format.{isPrepared}
 use Rattle.prepared.specs.Tables.{isStateBy}
-use Rattle.prepared.specs.PreparedRuns.{notPrepared, afterPrepared}
+use Rattle.prepared.specs.PreparedRuns.{afterPrepared}
 use Rattle.picking.specs.code.Picks.{tablesIn}
 use Rattle.rack.specs.Kept.{answerKept, fitting}
 
 -- why every call is refused, 26 before 11; 0: none is
 unfoldable pub refusalIn : (list state sums : List ℕ) → ℕ
-refusalIn list state sums = cond (isPrepared list) (cond (eqb (length state) stateBytes && isStateBy (tablesIn list) (stateIn state sums)) 0 why.notState) notPrepared
+refusalIn list state sums = cond (isPrepared list) (cond (eqb (length state) stateBytes && isStateBy (tablesIn list) (stateIn state sums)) 0 why.notState) why.notPrepared
 
 -- the call that takes a schedule under a rule
 unfoldable pub takes : Rule → (schedule : List ℕ) → Call

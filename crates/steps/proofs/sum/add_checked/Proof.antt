@@ -1,17 +1,13 @@
 -- `add_checked` meets its contract.
-use mathlib.Core.Path.{_≡_}
-use mathlib.Core.Bool.{true}
 use Prim.Native.Nat.{_^_, _<_}
 use native.Mathlib.Omega.{arith}
-use lib.IntN.{ℤ, pos, negsuc, natAbs, _+ℤ_}
+use lib.IntN.{natAbs, _+ℤ_}
 use mir.Syntax.{w64}
 use mir.Val.{SFits}
 use mir.Facts.{toZ-ofZ}
 use borrow.Author.Needs.{needs}
-use borrow.Author.Tests.{lt-ltb}
-use Rattle.base.specs.Integers.{fits64}
 use Rattle.base.proofs.Booleans.{and-left, and-right}
-use Rattle.base.proofs.Integers.{abs-add, fits-abs}
+use Rattle.base.proofs.Integers.{abs-add, fits-abs, fits-magnitude}
 use Rattle.steps.proofs.sum.add_checked.Statement.{statement}
 use Rattle.steps.proofs.sum.add_checked.Tie as tie
 
@@ -20,11 +16,6 @@ is-near-requires c κs = search needs
 
 is-near-requires-2 : tie.Need-is-near-requires-2
 is-near-requires-2 c κs = search needs
-
-fits-magnitude : (z : ℤ) → natAbs z < 2 ^ 63 → fits64 z ≡ true
-unfolding fits64
-fits-magnitude (pos n) h = lt-ltb n (2 ^ 63) h
-fits-magnitude (negsuc n) h = lt-ltb n (2 ^ 63) (omega arith)
 
 -- the sum of two numbers near 0
 near : (c : tie.Then1) → let a = c .before .before .before .args in natAbs (a .a +ℤ a .b) < 2 ^ 63
