@@ -1,3 +1,4 @@
+pub mod BothLists
 pub mod CrewTurns
-pub mod SharedLoop
 pub mod CrewHands
+pub mod SharedLoop

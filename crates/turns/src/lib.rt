@@ -1,7 +1,14 @@
 // The machine of two crews: their states, and picks for both taken one by one (document 02, Q-9).
+mod both;
 pub mod inside;
 mod turn;
 
+use both::CREWS;
+use both::access_for;
+use both::begin_for;
+use both::blocked_for;
+use both::renew_for;
+use both::stops_for;
 use layout::lay;
 use matrix::limits::MAX_ROWS;
 use plan::MAX_GROUPS;
@@ -9,34 +16,25 @@ use plan::MAX_WORKERS;
 use plan::fields::WIDTH;
 use plan::fields::record_at;
 use steps::NONE;
-use steps::access;
 use tables::FIRSTS;
 use tables::MAX_UPDATES;
-use turn::begin;
-use turn::refused_name;
-use waits::blocked_groups;
-use waits::next_ends;
 ghost use mathlib.Core.Path.{_≡_};
-ghost use mathlib.Core.List.{List};
-ghost use Prim.Native.Nat.{ℕ, _/_, _≤_, _<_};
-ghost use lib.IntN.{ℤ};
+ghost use mathlib.Core.List.{[], _∷_};
+ghost use Prim.Native.Nat.{_/_, _≤_};
 ghost use lib.ListN.{length};
 ghost use Rattle.plan.specs.Sound.{maxWorkers};
 ghost use Rattle.plan.specs.Groups.{width, records};
 ghost use Rattle.plan.specs.code.Checks.{recordAt};
-ghost use Rattle.run.specs.Updates.{Update};
-ghost use Rattle.run.specs.Machine.{onward};
 ghost use Rattle.tables.specs.code.Laid.{Counted, Laid};
 ghost use Rattle.layout.specs.code.UpdateTable.{Planned};
 ghost use Rattle.waits.specs.code.Waits.{Recorded};
 ghost use Rattle.steps.specs.code.Updates.{Triangle};
-ghost use Rattle.steps.specs.code.AtHand.{AtHand};
 ghost use Rattle.steps.specs.code.Steps.{StepTables};
-ghost use Rattle.crews.specs.Crews.{Crew, crew0, crew1, Roof, jobFor, turns};
+ghost use Rattle.crews.specs.Crews.{Crew, crew0, crew1, ownOf, Roof, jobFor, turns};
 ghost use Rattle.crews.specs.TwoCrews.{AcceptedRoof};
 ghost use Rattle.turns.specs.Records.{statesOf};
-ghost use Rattle.turns.specs.code.Turned.{turnedWith, turnedOf};
-ghost use Rattle.turns.specs.code.Sides.{Side};
+ghost use Rattle.turns.specs.code.Both.{both};
+ghost use Rattle.turns.specs.code.Turned.{crewsIn, turnedWith, turnedOf};
 
 // The state of each crew's run: accesses made, and the number held, of each of 16 workers.
 pub struct Crews {
@@ -56,15 +54,17 @@ pub struct Turned {
 
 // A schedule that led to these counts and held numbers.
 fn ended(
-    made0: [u32; MAX_WORKERS],
-    held0: [i64; MAX_WORKERS],
-    made1: [u32; MAX_WORKERS],
-    held1: [i64; MAX_WORKERS],
+    made: [[u32; MAX_WORKERS]; CREWS],
+    held: [[i64; MAX_WORKERS]; CREWS],
     taken: usize,
     number: u32,
 ) -> Turned
-    ensures { λ r. ⌜ r ≡ turnedWith (record { made0 = made0; held0 = held0; made1 = made1; held1 = held1 }) taken number ⌝ }
+    ensures { λ r. ⌜ r ≡ turnedWith (crewsIn made held) taken number ⌝ }
 {
+    let made0 = made[0];
+    let held0 = held[0];
+    let made1 = made[1];
+    let held1 = held[1];
     Turned {
         crews: Crews {
             made0: made0,
@@ -77,34 +77,25 @@ fn ended(
     }
 }
 
-// After a pick of worker w: if its count has reached its stop, finds anew which groups are blocked, and each worker's
-// next stop; then no update is at hand.
-fn renew(
-    groups: &[u32],
-    ends: &[u32; MAX_GROUPS],
-    made: &[u32; MAX_WORKERS],
-    w: usize,
-    blocks: &mut [u8; MAX_GROUPS],
-    stops: &mut [u32; MAX_WORKERS],
-    targets: &mut [usize; MAX_WORKERS],
-)
-    requires { ⌜ (w < maxWorkers) × Recorded (length (now groups) / width) (now groups) ⌝ }
-    ensures { λ _. ⌜ ((before : List ℕ) → now (made .entry) ≡ onward before w
-        → Side (length (now (groups .entry)) / width) (now (groups .entry)) (now (ends .entry)) before (now (blocks .entry)) (now (stops .entry))
-        → Side (length (now (groups .entry)) / width) (now (groups .entry)) (now (ends .entry)) (now (made .entry)) (now (blocks .exit)) (now (stops .exit)))
-        × ((cause : (blocks made : List ℕ) → ℕ → ℕ) (update : (made : List ℕ) → ℕ → Update) (amounts : List ℤ)
-        → AtHand (cause (now (blocks .entry))) update (now (made .entry)) (now (targets .entry)) amounts
-        → AtHand (cause (now (blocks .exit))) update (now (made .entry)) (now (targets .exit)) amounts) ⌝ }
-{
-    if stops[w] <= made[w] {
-        let count = groups.len() / WIDTH;
-        *blocks = blocked_groups(groups, count, ends, made);
-        *stops = next_ends(groups, count, ends, made);
-        *targets = [NONE; MAX_WORKERS];
-    }
-}
-
 impl Crews {
+    // Both crews' counts.
+    fn counts(self) -> [[u32; MAX_WORKERS]; CREWS]
+        ensures { λ r. ⌜ r ≡ self .made0 ∷ self .made1 ∷ [] ⌝ }
+    {
+        let of0 = self.made0;
+        let of1 = self.made1;
+        [of0, of1]
+    }
+
+    // .. and held numbers.
+    fn numbers(self) -> [[i64; MAX_WORKERS]; CREWS]
+        ensures { λ r. ⌜ r ≡ self .held0 ∷ self .held1 ∷ [] ⌝ }
+    {
+        let of0 = self.held0;
+        let of1 = self.held1;
+        [of0, of1]
+    }
+
     // Takes the picks of a schedule one by one by the tables, up to the first that is refused.
     fn walk(
         self,
@@ -118,8 +109,7 @@ impl Crews {
         begins: &[u32; MAX_ROWS],
         parts: &[u32; MAX_ROWS],
         leaves: &[u16; MAX_ROWS],
-        displaced0: &[i32; MAX_ROWS],
-        displaced1: &[i32; MAX_ROWS],
+        displaced: &[[i32; MAX_ROWS]; CREWS],
         at: &[u16; MAX_UPDATES],
         beside: &[i32; MAX_UPDATES],
     ) -> Turned
@@ -127,106 +117,56 @@ impl Crews {
             × StepTables (length (now sums0)) (now first) (now row) (now begins) (now parts) (now leaves) (now at) × (length (now sums1) ≡ length (now sums0)) ⌝ }
         ensures { λ r. ⌜ ((q : Roof) → AcceptedRoof q → q .plan .groups ≡ records (length (now (groups .entry)) / width) (now (groups .entry))
             → ((c : Crew) → Laid (jobFor q c) (now (first .entry)) (now (row .entry)) (now (begins .entry)) (now (leaves .entry)) (now (ends .entry)))
-            → Triangle (jobFor q crew0) (now (parts .entry)) (now (displaced0 .entry)) (now (at .entry)) (now (beside .entry))
-            → Triangle (jobFor q crew1) (now (parts .entry)) (now (displaced1 .entry)) (now (at .entry)) (now (beside .entry))
+            → ((c : Crew) → Triangle (jobFor q c) (now (parts .entry)) (ownOf (both (now (displaced .entry))) c) (now (at .entry)) (now (beside .entry)))
             → turnedOf r (now (sums0 .exit)) (now (sums1 .exit)) ≡ turns q (statesOf self (now (sums0 .entry)) (now (sums1 .entry))) (now (schedule .entry))) ⌝ }
     {
-        let mut made0 = self.made0;
-        let mut held0 = self.held0;
-        let mut made1 = self.made1;
-        let mut held1 = self.held1;
-        let count = groups.len() / WIDTH;
+        let mut made = self.counts();
+        let mut held = self.numbers();
         let whole = record_at(groups, 0);
-        let workers = whole.workers;
-        let mut blocks0 = blocked_groups(groups, count, ends, &made0);
-        let mut stops0 = next_ends(groups, count, ends, &made0);
-        let mut blocks1 = blocked_groups(groups, count, ends, &made1);
-        let mut stops1 = next_ends(groups, count, ends, &made1);
-        let mut targets0 = [NONE; MAX_WORKERS];
-        let mut amounts0 = [0i64; MAX_WORKERS];
-        let mut targets1 = [NONE; MAX_WORKERS];
-        let mut amounts1 = [0i64; MAX_WORKERS];
+        let mut blocks = blocked_for(groups, ends, &made);
+        let mut stops = stops_for(groups, ends, &made);
+        let mut targets = [[NONE; MAX_WORKERS]; CREWS];
+        let mut amounts = [[0i64; MAX_WORKERS]; CREWS];
         let mut k = 0;
         while k < schedule.len() {
             let byte = schedule[k] as usize;
-            let why = refused_name(byte, workers);
-            if why != 0 {
-                return ended(made0, held0, made1, held1, k, why);
-            }
-            let w = byte % MAX_WORKERS;
-            if byte < MAX_WORKERS {
-                let why = begin(
-                    &made0,
-                    w,
-                    &made1,
-                    first,
-                    row,
-                    begins,
-                    parts,
-                    leaves,
-                    &blocks0,
-                    displaced0,
-                    at,
-                    beside,
-                    &mut targets0,
-                    &mut amounts0,
-                );
-                if why != 0 {
-                    return ended(made0, held0, made1, held1, k, why);
-                }
-                let number = access(&mut made0, &mut held0, sums0, w, &mut targets0, &amounts0);
-                if number != 0 {
-                    return ended(made0, held0, made1, held1, k, number);
-                }
-                targets1[w] = NONE;
-                renew(
-                    groups,
-                    ends,
-                    &made0,
-                    w,
-                    &mut blocks0,
-                    &mut stops0,
-                    &mut targets0,
-                );
-                k += 1;
-                continue;
-            }
-            let why = begin(
-                &made1,
-                w,
-                &made0,
+            let why = begin_for(
+                byte,
+                whole.workers,
+                &made,
                 first,
                 row,
                 begins,
                 parts,
                 leaves,
-                &blocks1,
-                displaced1,
+                &blocks,
+                displaced,
                 at,
                 beside,
-                &mut targets1,
-                &mut amounts1,
+                &mut targets,
+                &mut amounts,
             );
             if why != 0 {
-                return ended(made0, held0, made1, held1, k, why);
+                return ended(made, held, k, why);
             }
-            let number = access(&mut made1, &mut held1, sums1, w, &mut targets1, &amounts1);
-            if number != 0 {
-                return ended(made0, held0, made1, held1, k, number);
-            }
-            targets0[w] = NONE;
-            renew(
-                groups,
-                ends,
-                &made1,
-                w,
-                &mut blocks1,
-                &mut stops1,
-                &mut targets1,
+            let number = access_for(
+                &mut made,
+                &mut held,
+                sums0,
+                sums1,
+                byte,
+                &mut targets,
+                &amounts,
             );
+            if number != 0 {
+                return ended(made, held, k, number);
+            }
+            if renew_for(groups, ends, &made, byte, &mut blocks, &mut stops) {
+                targets = [[NONE; MAX_WORKERS]; CREWS];
+            }
             k += 1;
         }
-        ended(made0, held0, made1, held1, k, 0)
+        ended(made, held, k, 0)
     }
 
     // .. by the upper triangle and its sizes: lays the rows of the updates. There is a sum for each row, for each crew.
@@ -251,6 +191,9 @@ impl Crews {
             → Triangle (jobFor q crew1) (now (parts .entry)) (now (displaced1 .entry)) (now (at .entry)) (now (beside .entry))
             → turnedOf r (now (sums0 .exit)) (now (sums1 .exit)) ≡ turns q (statesOf self (now (sums0 .entry)) (now (sums1 .entry))) (now (schedule .entry))) ⌝ }
     {
+        let of0 = *displaced0;
+        let of1 = *displaced1;
+        let displaced = [of0, of1];
         let mut row = [0u16; MAX_UPDATES];
         let mut begins = [0u32; MAX_ROWS];
         let mut leaves = [0u16; MAX_ROWS];
@@ -276,8 +219,7 @@ impl Crews {
             &begins,
             parts,
             &leaves,
-            displaced0,
-            displaced1,
+            &displaced,
             at,
             beside,
         )

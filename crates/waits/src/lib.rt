@@ -3,9 +3,17 @@ use plan::MAX_GROUPS;
 use plan::MAX_WORKERS;
 use plan::fields::BLUE;
 use plan::fields::RED;
+use plan::fields::WIDTH;
 use plan::fields::record_at;
 ghost use mathlib.Core.Path.{_≡_};
-ghost use Rattle.waits.specs.code.Waits.{Recorded, openIf, openRed, blockedIf, nextEnd, OpenReds, Passed, Blocks, Ahead};
+ghost use mathlib.Core.Bool.{false};
+ghost use mathlib.Core.List.{List};
+ghost use Prim.Native.Nat.{ℕ, _/_, _<_};
+ghost use lib.ListN.{length};
+ghost use Rattle.plan.specs.Sound.{maxWorkers};
+ghost use Rattle.plan.specs.Groups.{width};
+ghost use Rattle.run.specs.Machine.{onward};
+ghost use Rattle.waits.specs.code.Waits.{Recorded, openIf, openRed, blockedIf, nextEnd, OpenReds, Passed, Blocks, Ahead, Current};
 
 // Whether a group is open, 1 or 0: no parent, so a leaf, with a count below its end; or with an open group below.
 fn open_if(parent: u8, below: u8, made: u32, end: u32) -> u8
@@ -124,4 +132,29 @@ pub fn next_ends(
         i += 1;
     }
     stops
+}
+
+// After an access of worker w: if its count has reached its stop, finds anew which groups are blocked, and each worker's
+// next stop. Whether it did.
+pub fn renew(
+    groups: &[u32],
+    ends: &[u32; MAX_GROUPS],
+    made: &[u32; MAX_WORKERS],
+    w: usize,
+    blocks: &mut [u8; MAX_GROUPS],
+    stops: &mut [u32; MAX_WORKERS],
+) -> bool
+    requires { ⌜ (w < maxWorkers) × Recorded (length (now groups) / width) (now groups) ⌝ }
+    ensures { λ r. ⌜ ((before : List ℕ) → now (made .entry) ≡ onward before w
+        → Current (length (now (groups .entry)) / width) (now (groups .entry)) (now (ends .entry)) before (now (blocks .entry)) (now (stops .entry))
+        → Current (length (now (groups .entry)) / width) (now (groups .entry)) (now (ends .entry)) (now (made .entry)) (now (blocks .exit)) (now (stops .exit)))
+        × (r ≡ false → now (blocks .exit) ≡ now (blocks .entry)) ⌝ }
+{
+    if made[w] < stops[w] {
+        return false;
+    }
+    let count = groups.len() / WIDTH;
+    *blocks = blocked_groups(groups, count, ends, made);
+    *stops = next_ends(groups, count, ends, made);
+    true
 }

@@ -1,9 +1,10 @@
 -- What the code makes of a schedule for both, and of a pick's byte.
 use mathlib.Core.Bool.{cond}
-use mathlib.Core.List.{List}
+use mathlib.Core.List.{List, []}
 use Prim.Native.Nat.{ℕ, _*_, _%_}
 use lib.Dec.{leb}
 use lib.IntN.{ℤ}
+use lib.ListN.{getD}
 use Rattle.base.specs.Refusals as why
 use Rattle.plan.specs.Sound.{maxWorkers}
 use Rattle.run.specs.State as run
@@ -16,6 +17,10 @@ use Rattle.turns.specs.declared.Turned as code
 -- a byte that names no crew, or no worker of the plan; 0: it names both
 abbrev pub misnamed : (byte workers : ℕ) → ℕ
 misnamed byte workers = cond (leb (2 * maxWorkers) byte) why.noCrew (cond (leb workers (byte % maxWorkers)) why.noWorker 0)
+
+-- the counts and held numbers of both, each in a list of two
+abbrev pub crewsIn : (made : List (List ℕ)) (held : List (List ℤ)) → Crews
+crewsIn made held = record { made0 = getD made 0 []; held0 = getD held 0 []; made1 = getD made 1 []; held1 = getD held 1 [] }
 
 -- these states, with how many picks led to them, and the number of the one that ended them
 abbrev pub turnedWith : Crews → (taken number : ℕ) → code.Turned

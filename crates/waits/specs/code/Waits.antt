@@ -68,3 +68,9 @@ pub record Blocks (count : ℕ) (groups ends made blocks : List ℕ) : Type 0 wh
 pub record Ahead (k : ℕ) (groups ends made stops : List ℕ) : Type 0 where
   pub long : length stops ≡ maxWorkers
   pub is : (i : ℕ) → i < k → (getD ends i 0 ≤ getD made (recordAt groups i .first) 0) ⊎ (getD stops (recordAt groups i .first) 0 ≤ getD ends i 0)
+
+-- these groups are blocked by these counts, and stay so until a count reaches its stop
+pub record Current (count : ℕ) (groups ends made blocks stops : List ℕ) : Type 0 where
+  pub long : length made ≡ maxWorkers
+  pub blocked : Blocks count groups ends made blocks
+  pub ahead : Ahead count groups ends made stops

@@ -1,0 +1,170 @@
+// The lists of both crews, one after the other, and a pick on them: its byte is 16 × crew + worker.
+use crate::turn::begin;
+use crate::turn::refused_name;
+use matrix::limits::MAX_ROWS;
+use plan::MAX_GROUPS;
+use plan::MAX_WORKERS;
+use plan::fields::WIDTH;
+use steps::NONE;
+use steps::access;
+use tables::FIRSTS;
+use tables::MAX_UPDATES;
+use waits::blocked_groups;
+use waits::next_ends;
+use waits::renew;
+ghost use mathlib.Core.Path.{_≡_};
+ghost use mathlib.Core.Bool.{false};
+ghost use mathlib.Core.List.{List};
+ghost use Prim.Native.Nat.{ℕ, _*_, _/_, _%_, _≤_, _<_};
+ghost use lib.ListN.{length, getD};
+ghost use Rattle.plan.specs.Sound.{maxWorkers};
+ghost use Rattle.plan.specs.Groups.{width};
+ghost use Rattle.run.specs.Updates.{count};
+ghost use Rattle.run.specs.Machine.{onward};
+ghost use Rattle.tables.specs.code.Laid.{maxUpdates};
+ghost use Rattle.waits.specs.code.Waits.{Recorded, Blocks, Ahead, Current};
+ghost use Rattle.steps.specs.code.Steps.{updateNext, StepTables};
+ghost use Rattle.steps.specs.code.AtHand.{AtHand};
+ghost use Rattle.crews.specs.Crews.{Crew, other, crewNumber, ownOf};
+ghost use Rattle.turns.specs.code.Inside.{causeAt};
+ghost use Rattle.turns.specs.code.Both.{both, statesIn, Begun, AccessFor, RenewedFor};
+
+// How many crews there are.
+pub(crate) const CREWS: usize = 2;
+
+// Each crew's groups that are blocked by its counts.
+pub(crate) fn blocked_for(
+    groups: &[u32],
+    ends: &[u32; MAX_GROUPS],
+    made: &[[u32; MAX_WORKERS]; CREWS],
+) -> [[u8; MAX_GROUPS]; CREWS]
+    requires { ⌜ Recorded (length (now groups) / width) (now groups) ⌝ }
+    ensures { λ r. ⌜ ((c : Crew) → Blocks (length (now (groups .entry)) / width) (now (groups .entry)) (now (ends .entry)) (ownOf (both (now (made .entry))) c) (ownOf (both r) c)) ⌝ }
+{
+    let count = groups.len() / WIDTH;
+    let of0 = blocked_groups(groups, count, ends, &made[0]);
+    let of1 = blocked_groups(groups, count, ends, &made[1]);
+    [of0, of1]
+}
+
+// Each crew's next stops.
+pub(crate) fn stops_for(
+    groups: &[u32],
+    ends: &[u32; MAX_GROUPS],
+    made: &[[u32; MAX_WORKERS]; CREWS],
+) -> [[u32; MAX_WORKERS]; CREWS]
+    requires { ⌜ Recorded (length (now groups) / width) (now groups) ⌝ }
+    ensures { λ r. ⌜ ((c : Crew) → Ahead (length (now (groups .entry)) / width) (now (groups .entry)) (now (ends .entry)) (ownOf (both (now (made .entry))) c) (ownOf (both r) c)) ⌝ }
+{
+    let count = groups.len() / WIDTH;
+    let of0 = next_ends(groups, count, ends, &made[0]);
+    let of1 = next_ends(groups, count, ends, &made[1]);
+    [of0, of1]
+}
+
+// Has the update of a pick at hand, unless the pick is refused: 0, or why it is. What the worker has at hand for the
+// other crew is given up.
+pub(crate) fn begin_for(
+    byte: usize,
+    workers: usize,
+    made: &[[u32; MAX_WORKERS]; CREWS],
+    first: &[u32; FIRSTS],
+    row: &[u16; MAX_UPDATES],
+    begins: &[u32; MAX_ROWS],
+    parts: &[u32; MAX_ROWS],
+    leaves: &[u16; MAX_ROWS],
+    blocks: &[[u8; MAX_GROUPS]; CREWS],
+    displaced: &[[i32; MAX_ROWS]; CREWS],
+    at: &[u16; MAX_UPDATES],
+    beside: &[i32; MAX_UPDATES],
+    targets: &mut [[usize; MAX_WORKERS]; CREWS],
+    amounts: &mut [[i64; MAX_WORKERS]; CREWS],
+) -> u32
+    requires { ⌜ ((n : ℕ) × StepTables n (now first) (now row) (now begins) (now parts) (now leaves) (now at))
+        × ((c : Crew) → AtHand (causeAt (now first) (now row) (now begins) (now leaves) (ownOf (both (now blocks)) c) (ownOf (both (now made)) (other c)))
+        (updateNext (now first) (now row) (now begins) (now parts) (ownOf (both (now displaced)) c) (now at) (now beside))
+        (ownOf (both (now made)) c) (ownOf (both (now targets)) c) (ownOf (both (now amounts)) c)) ⌝ }
+    ensures { λ r. ⌜ Begun (λ c. causeAt (now (first .entry)) (now (row .entry)) (now (begins .entry)) (now (leaves .entry)) (ownOf (both (now (blocks .entry))) c) (ownOf (both (now (made .entry))) (other c)))
+        (λ c. updateNext (now (first .entry)) (now (row .entry)) (now (begins .entry)) (now (parts .entry)) (ownOf (both (now (displaced .entry))) c) (now (at .entry)) (now (beside .entry)))
+        (both (now (made .entry))) byte workers r (both (now (targets .entry))) (both (now (amounts .entry))) (both (now (targets .exit))) (both (now (amounts .exit))) ⌝ }
+{
+    let why = refused_name(byte, workers);
+    if why != 0 {
+        return why;
+    }
+    let c = byte / MAX_WORKERS;
+    let w = byte % MAX_WORKERS;
+    targets[1 - c][w] = NONE;
+    begin(
+        &made[c],
+        w,
+        &made[1 - c],
+        first,
+        row,
+        begins,
+        parts,
+        leaves,
+        &blocks[c],
+        &displaced[c],
+        at,
+        beside,
+        &mut targets[c],
+        &mut amounts[c],
+    )
+}
+
+// The access of a pick, by the update at hand.
+pub(crate) fn access_for(
+    made: &mut [[u32; MAX_WORKERS]; CREWS],
+    held: &mut [[i64; MAX_WORKERS]; CREWS],
+    sums0: &mut [i64],
+    sums1: &mut [i64],
+    byte: usize,
+    targets: &mut [[usize; MAX_WORKERS]; CREWS],
+    amounts: &[[i64; MAX_WORKERS]; CREWS],
+) -> u32
+    requires { ⌜ (byte < 2 * maxWorkers) × (1 < length (now made)) × (1 < length (now held)) × (1 < length (now targets)) × ((c : Crew) → byte / maxWorkers ≡ crewNumber c
+        → (count (ownOf (statesIn (now made) (now held) (now sums0) (now sums1)) c .made) (byte % maxWorkers) < 2 * maxUpdates)
+        × (getD (ownOf (both (now targets)) c) (byte % maxWorkers) 0 < length (ownOf (statesIn (now made) (now held) (now sums0) (now sums1)) c .sums))) ⌝ }
+    ensures { λ r. ⌜ AccessFor byte (statesIn (now (made .entry)) (now (held .entry)) (now (sums0 .entry)) (now (sums1 .entry))) (both (now (targets .entry))) (both (now (amounts .entry))) r
+        (statesIn (now (made .exit)) (now (held .exit)) (now (sums0 .exit)) (now (sums1 .exit))) (both (now (targets .exit)))
+        × (length (now (held .exit)) ≡ length (now (held .entry))) ⌝ }
+{
+    let w = byte % MAX_WORKERS;
+    if byte < MAX_WORKERS {
+        return access(
+            &mut made[0],
+            &mut held[0],
+            sums0,
+            w,
+            &mut targets[0],
+            &amounts[0],
+        );
+    }
+    access(
+        &mut made[1],
+        &mut held[1],
+        sums1,
+        w,
+        &mut targets[1],
+        &amounts[1],
+    )
+}
+
+// After the access of a pick: finds anew who is blocked in its crew's run, if its worker's count has reached its stop.
+pub(crate) fn renew_for(
+    groups: &[u32],
+    ends: &[u32; MAX_GROUPS],
+    made: &[[u32; MAX_WORKERS]; CREWS],
+    byte: usize,
+    blocks: &mut [[u8; MAX_GROUPS]; CREWS],
+    stops: &mut [[u32; MAX_WORKERS]; CREWS],
+) -> bool
+    requires { ⌜ (byte < 2 * maxWorkers) × (1 < length (now blocks)) × (1 < length (now stops)) × Recorded (length (now groups) / width) (now groups) ⌝ }
+    ensures { λ r. ⌜ RenewedFor (length (now (groups .entry)) / width) (now (groups .entry)) (now (ends .entry)) (both (now (made .entry))) byte r
+        (both (now (blocks .entry))) (both (now (stops .entry))) (both (now (blocks .exit))) (both (now (stops .exit))) ⌝ }
+{
+    let c = byte / MAX_WORKERS;
+    let w = byte % MAX_WORKERS;
+    renew(groups, ends, &made[c], w, &mut blocks[c], &mut stops[c])
+}

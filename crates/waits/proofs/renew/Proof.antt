@@ -1,0 +1,34 @@
+-- `renew` meets its contract: between two stops nobody's wait changes.
+use mathlib.Core.Path.{refl, sym, ap, _∙_}
+use mathlib.Core.Bool.{true≢false}
+use Prim.Native.Nat.{_<_}
+use native.Mathlib.Omega.{arith}
+use lib.ListN.{length}
+use borrow.Author.Needs.{needs}
+use Rattle.run.proofs.Onward.{onward-length}
+use Rattle.waits.proofs.Kept.{kept}
+use Rattle.waits.proofs.renew.Statement.{statement}
+use Rattle.waits.proofs.renew.Tie as tie
+
+-- the groups are as they were
+returns : tie.Need-returns
+returns c = let a = c .before .before .before .before in (λ before e s. rw e (kept (a .args .w) (a .pre .0) (rw e at (c .if1 .taken)) s), λ q. refl)
+
+blocked-groups-requires : tie.Need-blocked-groups-requires
+blocked-groups-requires c κs = c .before .before .before .before .pre .1
+
+next-ends-requires : tie.Need-next-ends-requires
+next-ends-requires c κs = c .before .before .before .before .before .pre .1
+
+-- .. or are found anew
+returns-2 : tie.Need-returns-2
+returns-2 c = (
+  λ before e s. record { long = ap length e ∙ onward-length before _ ∙ s .long; blocked = c .before .blocked-groups .ensures; ahead = c .next-ends .ensures },
+  λ q. absurd (true≢false q),
+)
+
+pub renew-spec : {M : Type 1} → statement M
+renew-spec =
+    tie.close
+    (tie.spec (search needs) (search needs) (search needs) (search needs) returns blocked-groups-requires next-ends-requires
+    returns-2)
