@@ -1,18 +1,14 @@
 -- One pick, and one turn of the loop over a schedule: the step is the machine's, and who is blocked is as before until
 -- a count reaches its stop.
 use mathlib.Core.Path.{_≡_, refl, sym, ap, _∙_, subst}
-use mathlib.Core.Logic.{_⊎_, inl, inr, _≢_}
+use mathlib.Core.Logic.{_≢_}
 use mathlib.Core.Bool.{true, false}
 use mathlib.Core.List.{List}
-use Prim.Native.Nat.{ℕ, zero, suc, _+_, _/_, _≤_, _<_}
+use Prim.Native.Nat.{ℕ, zero, suc, _+_, _*_, _/_, _≤_, _<_}
 use native.Mathlib.Numerals.{add-one}
 use native.Mathlib.Omega.{arith}
-use lib.Dec.{leb}
 use lib.IntN.{ℤ}
-use lib.ListN.{length, getD, replicate, length-set}
-use lib.Seq.{getD-set-same, getD-set-other}
-use borrow.Author.Tests.{le-leb, lt-leb}
-use Rattle.base.proofs.Booleans.{same-or}
+use lib.ListN.{length, getD, replicate}
 use Rattle.matrix.specs.Limits.{maxRows}
 use Rattle.plan.specs.Sound.{maxWorkers}
 use Rattle.plan.specs.Groups.{records}
@@ -21,17 +17,18 @@ use Rattle.run.specs.Job.{Job, Accepted, workers}
 use Rattle.run.specs.Updates.{Update, count, accesses, next}
 use Rattle.run.specs.Machine.{refusal, halted, onward, stepIf, step}
 use Rattle.run.specs.State.{State}
-use Rattle.tables.specs.code.Laid.{Laid, Waits}
-use Rattle.waits.specs.code.Waits.{Recorded, Blocks, Ahead}
+use Rattle.tables.specs.code.Laid.{maxUpdates, updatesIn, Laid, Waits}
+use Rattle.waits.specs.code.Waits.{Recorded, Current}
 use Rattle.steps.specs.code.Updates.{Triangle}
-use Rattle.steps.specs.code.Steps.{updateNext, reasonAt, outcomeOf, PickMade}
-use Rattle.steps.specs.code.AtHand.{AtHand}
+use Rattle.steps.specs.code.Steps.{updateNext, reasonAt, outcomeOf, StepTables, PickMade}
+use Rattle.steps.specs.code.AtHand.{AtHand, Entered, AccessMade}
 use Rattle.machine.specs.code.Stepped.{passesOver, walk}
 use Rattle.machine.specs.declared.state.Rule.{Rule}
 use Rattle.run.proofs.Able.{able}
 use Rattle.machine.proofs.TableWaits.{table-reason}
 use Rattle.steps.proofs.TableUpdates.{table-update}
-use Rattle.steps.proofs.UpdatesAtHand.{none-at-hand}
+use Rattle.steps.proofs.TableSteps.{reason-none, pick-refused}
+use Rattle.steps.proofs.UpdatesAtHand.{none-at-hand, access-ready, access-picks, access-keeps, steps-steady}
 use Rattle.machine.proofs.BlockedLeaves.{whole-crew, waits-of}
 use Rattle.run.proofs.Passes.{Left, left-start, left-step, left-skip, left-halt, left-none}
 
@@ -65,55 +62,6 @@ unfolding outcomeOf
 outcome-halted zero t d = absurd (d refl)
 outcome-halted (suc k) t d = refl
 
--- ---- who is blocked stays so
-
-module _ (count : ℕ) (groups ends made new stops : List ℕ) (w : ℕ) (inside : w < length made) (is : new ≡ onward made w) (below : getD new w 0 < getD stops w 0) (a : Ahead count groups ends made stops) where
-  here : getD new w 0 ≡ suc (getD made w 0)
-  unfolding onward
-  here = ap (λ (xs : List ℕ). getD xs w 0) is ∙ getD-set-same made w (suc (getD made w 0)) 0 inside
-
-  other : (v : ℕ) → v ≢ w → getD new v 0 ≡ getD made v 0
-  unfolding onward
-  other v d = ap (λ (xs : List ℕ). getD xs v 0) is ∙ getD-set-other made w v (suc (getD made w 0)) 0 d
-
-  grown : (v : ℕ) → getD made v 0 ≤ getD new v 0
-  grown v = go (same-or v w)
-    where
-      go : (v ≡ w) ⊎ (v ≢ w) → getD made v 0 ≤ getD new v 0
-      go (inl q) = subst (λ (y : ℕ). getD made y 0 ≤ getD new y 0) (sym q) (omega (arith, here))
-      go (inr d) = omega (arith, other v d)
-
-  -- no count has reached an end
-  same : (i : ℕ) → i < count → leb (getD ends i 0) (getD new (recordAt groups i .first) 0) ≡ leb (getD ends i 0) (getD made (recordAt groups i .first) 0)
-  same i l = go (same-or (recordAt groups i .first) w) (a .is i l)
-    where
-      v : ℕ
-      v = recordAt groups i .first
-
-      end : ℕ
-      end = getD ends i 0
-
-      go : (v ≡ w) ⊎ (v ≢ w) → (end ≤ getD made v 0) ⊎ (getD stops v 0 ≤ end) → leb end (getD new v 0) ≡ leb end (getD made v 0)
-      go (inr d) x = ap (leb end) (other v d)
-      go (inl q) (inl x) = le-leb end (getD new v 0) (omega (arith, grown v)) ∙ sym (le-leb end (getD made v 0) x)
-      go (inl q) (inr x) = let b : getD new v 0 < getD stops v 0 = subst (λ (y : ℕ). getD new y 0 < getD stops y 0) (sym q) below in
-          lt-leb end (getD new v 0) (omega arith) ∙ sym (lt-leb end (getD made v 0) (omega (arith, grown v)))
-
-  pub blocks-kept : (blocks : List ℕ) → Blocks count groups ends made blocks → Blocks count groups ends new blocks
-  blocks-kept blocks b = record {
-    reds = b .reds;
-    opened = record { long = b .opened .long; is = λ fin e up l. b .opened .is fin (λ i m h. e i m h ∙ same i m) up l };
-    passed = b .passed;
-  }
-
-  pub ahead-kept : Ahead count groups ends new stops
-  ahead-kept = record { long = a .long; is = λ i l. go i (a .is i l) }
-    where
-      go : (i : ℕ) → (getD ends i 0 ≤ getD made (recordAt groups i .first) 0) ⊎ (getD stops (recordAt groups i .first) 0 ≤ getD ends i 0)
-          → (getD ends i 0 ≤ getD new (recordAt groups i .first) 0) ⊎ (getD stops (recordAt groups i .first) 0 ≤ getD ends i 0)
-      go i (inl x) = inl (omega (arith, grown (recordAt groups i .first)))
-      go i (inr x) = inr x
-
 -- ---- the loop
 
 -- the tables that the steps are taken by
@@ -146,36 +94,64 @@ module _ (T : Tables) where
   abbrev causeOf : (blocks made : List ℕ) → ℕ → ℕ
   causeOf blocks = reasonAt (T .crew) (T .first) (T .row) (T .leaves) blocks
 
+  -- a pick of worker w in this state: its answer, and what it leaves
+  pub record Picked (blocks : List ℕ) (s : State) (w number : ℕ) (new : State) (targets : List ℕ) (adds : List ℤ) : Type 0 where
+    pub made : PickMade (causeOf blocks (s .made) w) s w (updateOf (s .made) w) number new
+    pub hand : AtHand (causeOf blocks) updateOf (new .made) targets adds
+
   -- k picks of the schedule, n of them taken, led from s₀ to s; these groups are blocked now, and until a count reaches
   -- its stop; these updates are at hand
-  pub record Running (rule : Rule) (s₀ : State) (schedule : List ℕ) (n k : ℕ) (s : State) (blocks stops targets : List ℕ) (amounts : List ℤ) : Type 0 where
+  pub record Running (rule : Rule) (s₀ : State) (schedule : List ℕ) (n k : ℕ) (s : State) (blocks stops targets : List ℕ) (adds : List ℤ) : Type 0 where
     pub crew : T .crew ≡ recordAt (T .groups) 0 .workers
-    pub long : length (s .made) ≡ maxWorkers
-    pub blocked : Blocks (T .count) (T .groups) (T .ends) (s .made) blocks
-    pub ahead : Ahead (T .count) (T .groups) (T .ends) (s .made) stops
-    pub hand : AtHand (causeOf blocks) updateOf (s .made) targets amounts
+    pub current : Current (T .count) (T .groups) (T .ends) (s .made) blocks stops
+    pub hand : AtHand (causeOf blocks) updateOf (s .made) targets adds
     pub left : EachJob (λ j. Left (passesOver rule) (step j) s₀ schedule k n s)
 
 module _ {T : Tables} {rule : Rule} {s₀ : State} {schedule : List ℕ} where
   -- at first
-  pub running-start : {blocks stops : List ℕ} → T .crew ≡ recordAt (T .groups) 0 .workers → length (s₀ .made) ≡ maxWorkers → Blocks (T .count) (T .groups) (T .ends) (s₀ .made) blocks → Ahead (T .count) (T .groups) (T .ends) (s₀ .made) stops
-      → {amounts : List ℤ} → length amounts ≡ maxWorkers → Running T rule s₀ schedule 0 0 s₀ blocks stops (replicate maxWorkers maxRows) amounts
-  running-start c e b a f = record { crew = c; long = e; blocked = b; ahead = a; hand = none-at-hand e f; left = λ j ok is laid t. left-start (passesOver rule) (step j) s₀ schedule }
+  pub running-start : {blocks stops : List ℕ} → T .crew ≡ recordAt (T .groups) 0 .workers → Current (T .count) (T .groups) (T .ends) (s₀ .made) blocks stops
+      → {adds : List ℤ} → length adds ≡ maxWorkers → Running T rule s₀ schedule 0 0 s₀ blocks stops (replicate maxWorkers maxRows) adds
+  running-start c h f = record { crew = c; current = h; hand = none-at-hand (h .long) f; left = λ j ok is laid t. left-start (passesOver rule) (step j) s₀ schedule }
 
-  module _ {n k : ℕ} {s : State} {blocks stops targets : List ℕ} {amounts : List ℤ} (r : Running T rule s₀ schedule n k s blocks stops targets amounts) where
+  module _ {n k : ℕ} {s : State} {blocks stops targets : List ℕ} {adds : List ℤ} (r : Running T rule s₀ schedule n k s blocks stops targets adds) where
     -- all picks are gone through
-    pub running-none : k ≡ length schedule → EachJob T (λ j. record { state = s; taken = n; met = k; number = 0 } ≡ walk rule j s₀ schedule)
-    running-none l j ok is laid t = left-none (passesOver rule) (step j) s₀ schedule k n s (r .left j ok is laid t) l
+    pub running-none : k ≡ length schedule → EachJob T (λ j. record { state = s; taken = n; met = length schedule; number = 0 } ≡ walk rule j s₀ schedule)
+    running-none l j ok is laid t = ap (λ (y : ℕ). record { state = s; taken = n; met = y; number = 0 }) (sym l) ∙ left-none (passesOver rule) (step j) s₀ schedule k n s (r .left j ok is laid t) l
+
+    -- worker w's step is looked at
+    module _ (few : T .crew ≤ maxWorkers) {w number : ℕ} {targets′ : List ℕ} {adds′ : List ℤ} (e : Entered (causeOf T blocks) (updateOf T) (s .made) w number targets′ adds′) where
+      -- the counts refuse it
+      pub entered-refused : number ≢ 0 → Picked T blocks s w number s targets′ adds′
+      entered-refused d = record { made = pick-refused _ number _ _ _ (e .told) d; hand = e .hand }
+
+      -- .. or do not
+      module _ (z : number ≡ 0) where
+        free : causeOf T blocks (s .made) w ≡ 0
+        free = sym (e .told) ∙ z
+
+        pub entered-worker : w < maxWorkers
+        entered-worker = omega (arith, few, reason-none w (T .crew) (count (s .made) w) (2 * updatesIn (T .first) w) _ free .0)
+
+        -- what its access needs
+        pub entered-ready : {m : ℕ} → StepTables m (T .first) (T .row) (T .begins) (T .parts) (T .leaves) (T .at) → (count (s .made) w < 2 * maxUpdates) × (getD targets′ w 0 < m)
+        entered-ready t =
+            access-ready (T .crew) (T .first) (T .row) (T .begins) (T .parts) (T .leaves) blocks (T .displaced) (T .at) (T .beside) t (s .made) w entered-worker free
+            (e .hand .is w entered-worker (e .known z) .target-is)
+
+        pub entered-made : {number′ : ℕ} {new : State} {targets″ : List ℕ} → AccessMade s w targets′ adds′ number′ new targets″ → Picked T blocks s w number′ new targets″ adds′
+        entered-made a =
+            let steady = steps-steady (T .crew) (T .first) (T .row) (T .begins) (T .parts) (T .leaves) blocks (T .displaced) (T .at) (T .beside) in
+            record { made = access-picks steady entered-worker (e .known z) (e .hand) a; hand = access-keeps steady entered-worker (e .known z) (e .hand) a }
 
     -- the next pick
-    module _ (few : T .crew ≤ maxWorkers) (R : Recorded (T .count) (T .groups)) (l : k < length schedule) {number : ℕ} {new : State}
-        (h : PickMade (causeOf T blocks (s .made) (getD schedule k 0)) s (getD schedule k 0) (updateOf T (s .made) (getD schedule k 0)) number new)
-        {targets′ : List ℕ} {amounts′ : List ℤ} (x : AtHand (causeOf T blocks) (updateOf T) (new .made) targets′ amounts′) where
+    module _ (few : T .crew ≤ maxWorkers) (R : Recorded (T .count) (T .groups)) (l : k < length schedule) {number : ℕ} {new : State} {targets′ : List ℕ} {adds′ : List ℤ}
+        (p : Picked T blocks s (getD schedule k 0) number new targets′ adds′) where
       abbrev w : ℕ
       w = getD schedule k 0
 
       is-step : EachJob T (λ j. step j s w ≡ outcomeOf number new)
-      is-step j ok is laid t = step-answer j laid t (r .crew ∙ whole-crew j (T .count) (T .groups) (R .some) is) few (waits-of j ok (T .count) (T .groups) is laid (s .made) blocks (r .blocked) R) h
+      is-step j ok is laid t =
+          step-answer j laid t (r .crew ∙ whole-crew j (T .count) (T .groups) (R .some) is) few (waits-of j ok (T .count) (T .groups) is laid (s .made) blocks (r .current .blocked) R) (p .made)
 
       module _ (q : number ≢ 0) where
         halts : EachJob T (λ j. step j s w ≡ halted number)
@@ -183,29 +159,24 @@ module _ {T : Tables} {rule : Rule} {s₀ : State} {schedule : List ℕ} where
 
         -- it is refused, and ends the schedule
         pub running-halt : passesOver rule number ≡ false → EachJob T (λ j. record { state = new; taken = n; met = k; number = number } ≡ walk rule j s₀ schedule)
-        running-halt p j ok is laid t =
-            ap (λ (y : State). record { state = y; taken = n; met = k; number = number }) (h .kept q)
-            ∙ left-halt (passesOver rule) (step j) s₀ schedule k n s (r .left j ok is laid t) l number (halts j ok is laid t) p
+        running-halt f j ok is laid t =
+            ap (λ (y : State). record { state = y; taken = n; met = k; number = number }) (p .made .kept q)
+            ∙ left-halt (passesOver rule) (step j) s₀ schedule k n s (r .left j ok is laid t) l number (halts j ok is laid t) f
 
         -- .. or is passed over
-        pub running-past : passesOver rule number ≡ true → Running T rule s₀ schedule n (k + 1) new blocks stops targets′ amounts′
-        running-past p = subst (λ (y : State). Running T rule s₀ schedule n (k + 1) y blocks stops targets′ amounts′) (sym (h .kept q)) (record {
+        pub running-past : passesOver rule number ≡ true → Running T rule s₀ schedule n (k + 1) new blocks stops targets′ adds′
+        running-past f = subst (λ (y : State). Running T rule s₀ schedule n (k + 1) y blocks stops targets′ adds′) (sym (p .made .kept q)) (record {
           crew = r .crew;
-          long = r .long;
-          blocked = r .blocked;
-          ahead = r .ahead;
-          hand = rw (h .kept q) at x;
-          left = λ j ok is laid t. subst (λ (y : ℕ). Left (passesOver rule) (step j) s₀ schedule y n s) (sym (add-one k)) (left-skip (passesOver rule) (step j) s₀ schedule k n s (r .left j ok is laid t) l number (halts j ok is laid t) p);
+          current = r .current;
+          hand = rw (p .made .kept q) at (p .hand);
+          left = λ j ok is laid t. subst (λ (y : ℕ). Left (passesOver rule) (step j) s₀ schedule y n s) (sym (add-one k)) (left-skip (passesOver rule) (step j) s₀ schedule k n s (r .left j ok is laid t) l number (halts j ok is laid t) f);
         })
 
-      module _ (q : number ≡ 0) where
-        -- its worker has made one access more
-        one-more : new .made ≡ onward (s .made) w
-        one-more = h .counted q
-
-        next-long : length (new .made) ≡ maxWorkers
-        unfolding onward
-        next-long = ap length one-more ∙ length-set (s .made) w (suc (getD (s .made) w 0)) ∙ r .long
+      -- it is taken
+      module _ (q : number ≡ 0) {blocks′ stops′ : List ℕ}
+          (renew : (before : List ℕ) → new .made ≡ onward before w → Current (T .count) (T .groups) (T .ends) before blocks stops → Current (T .count) (T .groups) (T .ends) (new .made) blocks′ stops′) where
+        next-current : Current (T .count) (T .groups) (T .ends) (new .made) blocks′ stops′
+        next-current = renew (s .made) (p .made .counted q) (r .current)
 
         next-left : EachJob T (λ j. Left (passesOver rule) (step j) s₀ schedule (k + 1) (n + 1) new)
         unfolding outcomeOf
@@ -213,16 +184,9 @@ module _ {T : Tables} {rule : Rule} {s₀ : State} {schedule : List ℕ} where
             rw (add-one k, add-one n) (left-step (passesOver rule) (step j) s₀ schedule k n s (r .left j ok is laid t) l new (is-step j ok is laid t ∙ ap (λ (y : ℕ). outcomeOf y new) q))
 
         -- the blocked groups are found anew
-        pub running-renewed : {blocks′ stops′ : List ℕ} → Blocks (T .count) (T .groups) (T .ends) (new .made) blocks′ → Ahead (T .count) (T .groups) (T .ends) (new .made) stops′ → Running T rule s₀ schedule (n + 1) (k + 1) new blocks′ stops′ (replicate maxWorkers maxRows) amounts′
-        running-renewed b a = record { crew = r .crew; long = next-long; blocked = b; ahead = a; hand = none-at-hand next-long (x .amounts-long); left = next-left }
+        pub running-renewed : Running T rule s₀ schedule (n + 1) (k + 1) new blocks′ stops′ (replicate maxWorkers maxRows) adds′
+        running-renewed = record { crew = r .crew; current = next-current; hand = none-at-hand (next-current .long) (p .hand .adds-long); left = next-left }
 
         -- .. or are as they were
-        pub running-on : w < length (s .made) → getD (new .made) w 0 < getD stops w 0 → Running T rule s₀ schedule (n + 1) (k + 1) new blocks stops targets′ amounts′
-        running-on inside below = record {
-          crew = r .crew;
-          long = next-long;
-          blocked = blocks-kept (T .count) (T .groups) (T .ends) (s .made) (new .made) stops w inside one-more below (r .ahead) blocks (r .blocked);
-          ahead = ahead-kept (T .count) (T .groups) (T .ends) (s .made) (new .made) stops w inside one-more below (r .ahead);
-          hand = x;
-          left = next-left;
-        }
+        pub running-on : blocks′ ≡ blocks → Running T rule s₀ schedule (n + 1) (k + 1) new blocks′ stops′ targets′ adds′
+        running-on e = record { crew = r .crew; current = next-current; hand = rw e (p .hand); left = next-left }

@@ -9,12 +9,14 @@ use plan::MAX_WORKERS;
 use plan::fields::WIDTH;
 use plan::fields::record_at;
 use steps::NONE;
+use steps::access;
 use steps::accesses;
-use steps::pick;
+use steps::enter;
 use tables::FIRSTS;
 use tables::MAX_UPDATES;
 use waits::blocked_groups;
 use waits::next_ends;
+use waits::renew;
 ghost use mathlib.Core.Path.{_≡_};
 ghost use Prim.Native.Nat.{ℕ, _/_, _≤_, _<_};
 ghost use lib.IntN.{pos};
@@ -133,23 +135,18 @@ impl State {
     {
         let mut made = self.made;
         let mut held = self.held;
-        let count = groups.len() / WIDTH;
         let whole = record_at(groups, 0);
-        let workers = whole.workers;
-        let mut blocks = blocked_groups(groups, count, ends, &made);
-        let mut stops = next_ends(groups, count, ends, &made);
+        let mut blocks = blocked_groups(groups, groups.len() / WIDTH, ends, &made);
+        let mut stops = next_ends(groups, groups.len() / WIDTH, ends, &made);
         let mut targets = [NONE; MAX_WORKERS];
-        let mut amounts = [0i64; MAX_WORKERS];
+        let mut adds = [0i64; MAX_WORKERS];
         let mut taken = 0;
-        let mut k = 0;
-        while k < schedule.len() {
+        for k in 0..schedule.len() {
             let w = schedule[k] as usize;
-            let number = pick(
-                &mut made,
-                &mut held,
-                sums,
+            let mut number = enter(
+                &made,
                 w,
-                workers,
+                whole.workers,
                 first,
                 row,
                 begins,
@@ -160,24 +157,21 @@ impl State {
                 at,
                 beside,
                 &mut targets,
-                &mut amounts,
+                &mut adds,
             );
-            if number != 0 {
-                if !passes(rule, number) {
-                    return ended(made, held, taken, k, number);
+            if number == 0 {
+                number = access(&mut made, &mut held, sums, w, &mut targets, &adds);
+            }
+            if number == 0 {
+                taken += 1;
+                if renew(groups, ends, &made, w, &mut blocks, &mut stops) {
+                    targets = [NONE; MAX_WORKERS];
                 }
-                k += 1;
-                continue;
+            } else if !passes(rule, number) {
+                return ended(made, held, taken, k, number);
             }
-            taken += 1;
-            if stops[w] <= made[w] {
-                blocks = blocked_groups(groups, count, ends, &made);
-                stops = next_ends(groups, count, ends, &made);
-                targets = [NONE; MAX_WORKERS];
-            }
-            k += 1;
         }
-        ended(made, held, taken, k, 0)
+        ended(made, held, taken, schedule.len(), 0)
     }
 
     // .. by the upper triangle and its sizes: lays the rows of the updates, and tells who is ready after the picks.

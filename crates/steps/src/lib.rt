@@ -23,7 +23,7 @@ ghost use lib.ListN.{length, getD, set};
 ghost use Rattle.plan.specs.Sound.{maxWorkers};
 ghost use Rattle.run.specs.Updates.{count};
 ghost use Rattle.tables.specs.code.Laid.{maxUpdates, updatesIn, Rising, Bounded};
-ghost use Rattle.steps.specs.code.Steps.{stateWith, placeNext, reasonAt, updateNext, StepTables, PickMade};
+ghost use Rattle.steps.specs.code.Steps.{stateWith, placeNext, reasonAt, updateNext, StepTables};
 ghost use Rattle.steps.specs.code.AtHand.{AtHand, AccessMade, Entered};
 
 // In the list of the positions of sums: no update of the worker is at hand.
@@ -81,20 +81,20 @@ pub fn look_up(
     at: &[u16; MAX_UPDATES],
     beside: &[i32; MAX_UPDATES],
     targets: &mut [usize; MAX_WORKERS],
-    amounts: &mut [i64; MAX_WORKERS],
+    adds: &mut [i64; MAX_WORKERS],
 )
     requires { ⌜ (w < maxWorkers) × (count (now made) w < 2 * updatesIn (now first) w)
         × ((n : ℕ) × (leaves : List ℕ) × StepTables n (now first) (now row) (now begins) (now parts) leaves (now at)) ⌝ }
     ensures targets { λ _. ⌜ now (targets .exit) ≡ set (now (targets .entry)) w
         (updateNext (now (first .entry)) (now (row .entry)) (now (begins .entry)) (now (parts .entry)) (now (displaced .entry)) (now (at .entry)) (now (beside .entry)) (now (made .entry)) w .target) ⌝ }
-    ensures amounts { λ _. ⌜ now (amounts .exit) ≡ set (now (amounts .entry)) w
+    ensures adds { λ _. ⌜ now (adds .exit) ≡ set (now (adds .entry)) w
         (updateNext (now (first .entry)) (now (row .entry)) (now (begins .entry)) (now (parts .entry)) (now (displaced .entry)) (now (at .entry)) (now (beside .entry)) (now (made .entry)) w .amount) ⌝ }
 {
     let place = next_place(made, w, first);
     let p = wide(row[place]);
     let k = place - begins[p] as usize;
     targets[w] = target_of(parts, at, p, k);
-    amounts[w] = amount_of(parts, displaced, at, beside, p, k);
+    adds[w] = amount_of(parts, displaced, at, beside, p, k);
 }
 
 // Worker w loads or stores the sum of the update at hand, which a store ends. 0, or 14 if the sum to store would pass
@@ -105,10 +105,10 @@ pub fn access(
     sums: &mut [i64],
     w: usize,
     targets: &mut [usize; MAX_WORKERS],
-    amounts: &[i64; MAX_WORKERS],
+    adds: &[i64; MAX_WORKERS],
 ) -> u32
     requires { ⌜ (w < maxWorkers) × (count (now made) w < 2 * maxUpdates) × (getD (now targets) w 0 < length (now sums)) ⌝ }
-    ensures { λ r. ⌜ AccessMade (stateWith (now (made .entry)) (now (held .entry)) (now (sums .entry))) w (now (targets .entry)) (now (amounts .entry)) r
+    ensures { λ r. ⌜ AccessMade (stateWith (now (made .entry)) (now (held .entry)) (now (sums .entry))) w (now (targets .entry)) (now (adds .entry)) r
         (stateWith (now (made .exit)) (now (held .exit)) (now (sums .exit))) (now (targets .exit)) ⌝ }
 {
     let t = targets[w];
@@ -117,7 +117,7 @@ pub fn access(
         made[w] += 1;
         return 0;
     }
-    let Sum::Fits(sum) = add_checked(held[w], amounts[w]) else {
+    let Sum::Fits(sum) = add_checked(held[w], adds[w]) else {
         return OVERFLOW;
     };
     sums[t] = sum;
@@ -126,8 +126,9 @@ pub fn access(
     0
 }
 
-// Has worker w's next update at hand, unless its step is refused: 0, or why it is.
-fn enter(
+// Has worker w's next update at hand, unless its step is refused: 0, or why it is. From its load to its store an update
+// is at hand.
+pub fn enter(
     made: &[u32; MAX_WORKERS],
     w: usize,
     workers: usize,
@@ -141,15 +142,18 @@ fn enter(
     at: &[u16; MAX_UPDATES],
     beside: &[i32; MAX_UPDATES],
     targets: &mut [usize; MAX_WORKERS],
-    amounts: &mut [i64; MAX_WORKERS],
+    adds: &mut [i64; MAX_WORKERS],
 ) -> u32
-    requires { ⌜ (w < maxWorkers) × (workers ≤ maxWorkers) × ((n : ℕ) × StepTables n (now first) (now row) (now begins) (now parts) (now leaves) (now at))
+    requires { ⌜ (workers ≤ maxWorkers) × ((n : ℕ) × StepTables n (now first) (now row) (now begins) (now parts) (now leaves) (now at))
         × AtHand (reasonAt workers (now first) (now row) (now leaves) (now blocks))
-        (updateNext (now first) (now row) (now begins) (now parts) (now displaced) (now at) (now beside)) (now made) (now targets) (now amounts) ⌝ }
+        (updateNext (now first) (now row) (now begins) (now parts) (now displaced) (now at) (now beside)) (now made) (now targets) (now adds) ⌝ }
     ensures { λ r. ⌜ Entered (reasonAt workers (now (first .entry)) (now (row .entry)) (now (leaves .entry)) (now (blocks .entry)))
         (updateNext (now (first .entry)) (now (row .entry)) (now (begins .entry)) (now (parts .entry)) (now (displaced .entry)) (now (at .entry)) (now (beside .entry)))
-        (now (made .entry)) w r (now (targets .exit)) (now (amounts .exit)) ⌝ }
+        (now (made .entry)) w r (now (targets .exit)) (now (adds .exit)) ⌝ }
 {
+    if workers <= w {
+        return STRANGER;
+    }
     if targets[w] < NONE {
         return 0;
     }
@@ -168,63 +172,7 @@ fn enter(
         at,
         beside,
         targets,
-        amounts,
+        adds,
     );
     0
-}
-
-// One pick, in place: worker w loads or stores the sum of its next update. 0, or why it is refused: then all is as it
-// was. From its load to its store an update is at hand.
-pub fn pick(
-    made: &mut [u32; MAX_WORKERS],
-    held: &mut [i64; MAX_WORKERS],
-    sums: &mut [i64],
-    w: usize,
-    workers: usize,
-    first: &[u32; FIRSTS],
-    row: &[u16; MAX_UPDATES],
-    begins: &[u32; MAX_ROWS],
-    parts: &[u32; MAX_ROWS],
-    leaves: &[u16; MAX_ROWS],
-    blocks: &[u8; MAX_GROUPS],
-    displaced: &[i32; MAX_ROWS],
-    at: &[u16; MAX_UPDATES],
-    beside: &[i32; MAX_UPDATES],
-    targets: &mut [usize; MAX_WORKERS],
-    amounts: &mut [i64; MAX_WORKERS],
-) -> u32
-    requires { ⌜ (workers ≤ maxWorkers) × StepTables (length (now sums)) (now first) (now row) (now begins) (now parts) (now leaves) (now at)
-        × AtHand (reasonAt workers (now first) (now row) (now leaves) (now blocks))
-        (updateNext (now first) (now row) (now begins) (now parts) (now displaced) (now at) (now beside)) (now made) (now targets) (now amounts) ⌝ }
-    ensures { λ r. ⌜ PickMade (reasonAt workers (now (first .entry)) (now (row .entry)) (now (leaves .entry)) (now (blocks .entry)) (now (made .entry)) w)
-        (stateWith (now (made .entry)) (now (held .entry)) (now (sums .entry))) w
-        (updateNext (now (first .entry)) (now (row .entry)) (now (begins .entry)) (now (parts .entry)) (now (displaced .entry)) (now (at .entry)) (now (beside .entry)) (now (made .entry)) w)
-        r (stateWith (now (made .exit)) (now (held .exit)) (now (sums .exit)))
-        × AtHand (reasonAt workers (now (first .entry)) (now (row .entry)) (now (leaves .entry)) (now (blocks .entry)))
-        (updateNext (now (first .entry)) (now (row .entry)) (now (begins .entry)) (now (parts .entry)) (now (displaced .entry)) (now (at .entry)) (now (beside .entry)))
-        (now (made .exit)) (now (targets .exit)) (now (amounts .exit)) ⌝ }
-{
-    if workers <= w {
-        return STRANGER;
-    }
-    let why = enter(
-        made,
-        w,
-        workers,
-        first,
-        row,
-        begins,
-        parts,
-        leaves,
-        blocks,
-        displaced,
-        at,
-        beside,
-        targets,
-        amounts,
-    );
-    if why != 0 {
-        return why;
-    }
-    access(made, held, sums, w, targets, amounts)
 }

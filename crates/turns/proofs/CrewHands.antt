@@ -35,17 +35,17 @@ module _ (first row begins parts leaves blocks : List ℕ) (displaced : List ℤ
       }
 
 -- the other crew makes an access with worker w, of whom nothing is at hand then
-pub other-moved : (first row begins leaves blocks : List ℕ) {update : (made : List ℕ) → ℕ → Update} (other : List ℕ) {new made targets : List ℕ} {amounts : List ℤ} (w : ℕ) → w < maxWorkers → new ≡ onward other w
-    → AtHand (causeAt first row begins leaves blocks other) update made targets amounts → AtHand (causeAt first row begins leaves blocks new) update made (set targets w maxRows) amounts
+pub other-moved : (first row begins leaves blocks : List ℕ) {update : (made : List ℕ) → ℕ → Update} (other : List ℕ) {new made targets : List ℕ} {adds : List ℤ} (w : ℕ) → w < maxWorkers → new ≡ onward other w
+    → AtHand (causeAt first row begins leaves blocks other) update made targets adds → AtHand (causeAt first row begins leaves blocks new) update made (set targets w maxRows) adds
 unfolding onward
-other-moved first row begins leaves blocks {update} other {new} {made} {targets} {amounts} w l is h =
+other-moved first row begins leaves blocks {update} other {new} {made} {targets} {adds} w l is h =
     let g = one-gone w l h in
-    record { made-long = g .made-long; targets-long = g .targets-long; amounts-long = g .amounts-long; is = λ v m low. go v low (g .is v m low) (same-or v w) }
+    record { made-long = g .made-long; targets-long = g .targets-long; adds-long = g .adds-long; is = λ v m low. go v low (g .is v m low) (same-or v w) }
   where
     same : (v : ℕ) → v ≢ w → count new v ≡ count other v
     same v d = ap (λ (xs : List ℕ). getD xs v 0) is ∙ getD-set-other other w v (suc (getD other w 0)) 0 d
 
-    go : (v : ℕ) → getD (set targets w maxRows) v 0 < maxRows → Known (causeAt first row begins leaves blocks other made v) (update made v) (getD (set targets w maxRows) v 0) (getD amounts v (pos 0)) → (v ≡ w) ⊎ (v ≢ w)
-        → Known (causeAt first row begins leaves blocks new made v) (update made v) (getD (set targets w maxRows) v 0) (getD amounts v (pos 0))
+    go : (v : ℕ) → getD (set targets w maxRows) v 0 < maxRows → Known (causeAt first row begins leaves blocks other made v) (update made v) (getD (set targets w maxRows) v 0) (getD adds v (pos 0)) → (v ≡ w) ⊎ (v ≢ w)
+        → Known (causeAt first row begins leaves blocks new made v) (update made v) (getD (set targets w maxRows) v 0) (getD adds v (pos 0))
     go v low k (inl q) = absurd (omega (arith, gone w l h, ap (λ (y : ℕ). getD (set targets w maxRows) y 0) q))
     go v low k (inr d) = rw (same v d) k

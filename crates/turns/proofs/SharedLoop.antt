@@ -19,13 +19,13 @@ use Rattle.run.specs.Updates.{Update, count}
 use Rattle.run.specs.State.{State}
 use Rattle.run.specs.Schedule.{skipsNone}
 use Rattle.run.proofs.Passes.{Left, left-start, left-step, left-halt, left-none}
-use Rattle.tables.specs.code.Laid.{maxUpdates, updatesIn, Laid}
+use Rattle.tables.specs.code.Laid.{maxUpdates, Laid}
 use Rattle.waits.specs.code.Waits.{Recorded, Blocks, Ahead, Current}
 use Rattle.steps.specs.code.Updates.{Triangle}
 use Rattle.steps.specs.code.Steps.{reasonAt, updateNext, outcomeOf, StepTables, PickMade}
 use Rattle.steps.specs.code.AtHand.{AtHand, Entered}
-use Rattle.steps.proofs.TableSteps.{reason-none, pick-refused}
-use Rattle.steps.proofs.UpdatesAtHand.{Steady, none-at-hand, access-picks, access-keeps, target-low}
+use Rattle.steps.proofs.TableSteps.{pick-refused}
+use Rattle.steps.proofs.UpdatesAtHand.{Steady, none-at-hand, access-ready, access-picks, access-keeps}
 use Rattle.crews.proofs.Turns.{not-away}
 use Rattle.machine.proofs.BlockedLeaves.{whole-crew, waits-of}
 use Rattle.crews.specs.Crews.{Crew, crew0, crew1, other, crewNumber, Two, ownOf, putFor, Roof, jobFor, crewStep, turn, turns}
@@ -86,13 +86,13 @@ module _ (T : Tables) where
   updateOf c = updateNext (T .first) (T .row) (T .begins) (T .parts) (ownOf (T .displaced) c) (T .at) (T .beside)
 
   -- these updates of crew c are at hand
-  abbrev Hand : Two State → Crew → (blocks targets : List ℕ) (amounts : List ℤ) → Type 0
-  Hand S c blocks targets amounts = AtHand (causeOf blocks (ownOf S (other c) .made)) (updateOf c) (ownOf S c .made) targets amounts
+  abbrev Hand : Two State → Crew → (blocks targets : List ℕ) (adds : List ℤ) → Type 0
+  Hand S c blocks targets adds = AtHand (causeOf blocks (ownOf S (other c) .made)) (updateOf c) (ownOf S c .made) targets adds
 
   -- k picks of the schedule, all taken, led from S₀ to S
-  pub record Sharing (S₀ : Two State) (schedule : List ℕ) (k : ℕ) (S : Two State) (blocks stops targets : Two (List ℕ)) (amounts : Two (List ℤ)) : Type 0 where
+  pub record Sharing (S₀ : Two State) (schedule : List ℕ) (k : ℕ) (S : Two State) (blocks stops targets : Two (List ℕ)) (adds : Two (List ℤ)) : Type 0 where
     pub crew : T .workers ≡ recordAt (T .groups) 0 .workers
-    pub hand : (c : Crew) → Hand S c (ownOf blocks c) (ownOf targets c) (ownOf amounts c)
+    pub hand : (c : Crew) → Hand S c (ownOf blocks c) (ownOf targets c) (ownOf adds c)
     pub current : (c : Crew) → CurrentOf (ownOf S c .made) (ownOf blocks c) (ownOf stops c)
     pub left : EachRoof (λ q. Left skipsNone (turn q) S₀ schedule k k S)
 
@@ -100,33 +100,33 @@ module _ (T : Tables) where
   abbrev Made : Two State → Crew → (blocks : List ℕ) (w number : ℕ) → State → Type 0
   Made S c blocks w number new = PickMade (causeOf blocks (ownOf S (other c) .made) (ownOf S c .made) w) (ownOf S c) w (updateOf c (ownOf S c .made) w) number new
 
-  none-for : {S : Two State} {blocks stops : Two (List ℕ)} {amounts : Two (List ℤ)} → ((c : Crew) → CurrentOf (ownOf S c .made) (ownOf blocks c) (ownOf stops c)) → ((c : Crew) → length (ownOf amounts c) ≡ maxWorkers)
-      → (c : Crew) → Hand S c (ownOf blocks c) (ownOf nobody c) (ownOf amounts c)
+  none-for : {S : Two State} {blocks stops : Two (List ℕ)} {adds : Two (List ℤ)} → ((c : Crew) → CurrentOf (ownOf S c .made) (ownOf blocks c) (ownOf stops c)) → ((c : Crew) → length (ownOf adds c) ≡ maxWorkers)
+      → (c : Crew) → Hand S c (ownOf blocks c) (ownOf nobody c) (ownOf adds c)
   none-for h f crew0 = none-at-hand (h crew0 .long) (f crew0)
   none-for h f crew1 = none-at-hand (h crew1 .long) (f crew1)
 
 module _ {T : Tables} {S₀ : Two State} {schedule : List ℕ} where
   -- at first
-  pub sharing-start : {blocks stops : Two (List ℕ)} {amounts : Two (List ℤ)} → T .workers ≡ recordAt (T .groups) 0 .workers → length (S₀ .of0 .made) ≡ maxWorkers → length (S₀ .of1 .made) ≡ maxWorkers
+  pub sharing-start : {blocks stops : Two (List ℕ)} {adds : Two (List ℤ)} → T .workers ≡ recordAt (T .groups) 0 .workers → length (S₀ .of0 .made) ≡ maxWorkers → length (S₀ .of1 .made) ≡ maxWorkers
       → ((c : Crew) → Blocks (T .count) (T .groups) (T .ends) (ownOf (countsOf S₀) c) (ownOf blocks c)) → ((c : Crew) → Ahead (T .count) (T .groups) (T .ends) (ownOf (countsOf S₀) c) (ownOf stops c))
-      → length (amounts .of0) ≡ maxWorkers → length (amounts .of1) ≡ maxWorkers → Sharing T S₀ schedule 0 S₀ blocks stops nobody amounts
-  sharing-start {blocks} {stops} {amounts} e f g b a x y = record { crew = e; current = current; hand = none-for T current long; left = λ q ok is laid t. left-start skipsNone (turn q) S₀ schedule }
+      → length (adds .of0) ≡ maxWorkers → length (adds .of1) ≡ maxWorkers → Sharing T S₀ schedule 0 S₀ blocks stops nobody adds
+  sharing-start {blocks} {stops} {adds} e f g b a x y = record { crew = e; current = current; hand = none-for T current long; left = λ q ok is laid t. left-start skipsNone (turn q) S₀ schedule }
     where
       current : (c : Crew) → CurrentOf T (ownOf S₀ c .made) (ownOf blocks c) (ownOf stops c)
       current crew0 = record { long = f; blocked = b crew0; ahead = a crew0 }
       current crew1 = record { long = g; blocked = b crew1; ahead = a crew1 }
 
-      long : (c : Crew) → length (ownOf amounts c) ≡ maxWorkers
+      long : (c : Crew) → length (ownOf adds c) ≡ maxWorkers
       long crew0 = x
       long crew1 = y
 
-  module _ {k : ℕ} {S : Two State} {blocks stops targets : Two (List ℕ)} {amounts : Two (List ℤ)} (r : Sharing T S₀ schedule k S blocks stops targets amounts) where
+  module _ {k : ℕ} {S : Two State} {blocks stops targets : Two (List ℕ)} {adds : Two (List ℤ)} (r : Sharing T S₀ schedule k S blocks stops targets adds) where
     -- all picks are taken
-    pub sharing-none : k ≡ length schedule → EachRoof T (λ q. record { state = S; taken = k; met = k; number = 0 } ≡ turns q S₀ schedule)
-    sharing-none l q ok is laid t = left-none skipsNone (turn q) S₀ schedule k k S (r .left q ok is laid t) l
+    pub sharing-none : k ≡ length schedule → EachRoof T (λ q. record { state = S; taken = length schedule; met = length schedule; number = 0 } ≡ turns q S₀ schedule)
+    sharing-none l q ok is laid t = ap (λ (y : ℕ). record { state = S; taken = y; met = y; number = 0 }) (sym l) ∙ left-none skipsNone (turn q) S₀ schedule k k S (r .left q ok is laid t) l
 
     -- what is at hand
-    pub sharing-hand : (c : Crew) → AtHand (causeOf T (ownOf blocks c) (ownOf (countsOf S) (other c))) (updateOf T c) (ownOf (countsOf S) c) (ownOf targets c) (ownOf amounts c)
+    pub sharing-hand : (c : Crew) → AtHand (causeOf T (ownOf blocks c) (ownOf (countsOf S) (other c))) (updateOf T c) (ownOf (countsOf S) c) (ownOf targets c) (ownOf adds c)
     sharing-hand crew0 = r .hand crew0
     sharing-hand crew1 = r .hand crew1
 
@@ -156,13 +156,13 @@ module _ {T : Tables} {S₀ : Two State} {schedule : List ℕ} where
             (left-step skipsNone (turn q) S₀ schedule k k S (r .left q ok is laid t) l (putFor S c new) (turn-moves q S c byte named new (is-step q ok is laid t) z))
 
       -- it is looked at
-      module _ {number : ℕ} {targets′ : Two (List ℕ)} {amounts′ : Two (List ℤ)}
-          (b : Begun (λ c. causeOf T (ownOf blocks c) (ownOf (countsOf S) (other c))) (updateOf T) (countsOf S) byte (T .workers) number targets amounts targets′ amounts′) where
+      module _ {number : ℕ} {targets′ : Two (List ℕ)} {adds′ : Two (List ℤ)}
+          (b : Begun (λ c. causeOf T (ownOf blocks c) (ownOf (countsOf S) (other c))) (updateOf T) (countsOf S) byte (T .workers) number targets adds targets′ adds′) where
         its : misnamed byte (T .workers) ≡ 0 → (c : Crew) × (byte / maxWorkers ≡ crewNumber c)
         its e = crew-of byte (named-low byte (T .workers) e .0)
 
         own : misnamed byte (T .workers) ≡ 0 → (c : Crew) → byte / maxWorkers ≡ crewNumber c
-            → Entered (causeOf T (ownOf blocks c) (ownOf S (other c) .made)) (updateOf T c) (ownOf S c .made) w number (ownOf targets′ c) (ownOf amounts′ c)
+            → Entered (causeOf T (ownOf blocks c) (ownOf S (other c) .made)) (updateOf T c) (ownOf S c .made) w number (ownOf targets′ c) (ownOf adds′ c)
         own e crew0 n = b .entered e crew0 n
         own e crew1 n = b .entered e crew1 n
 
@@ -205,20 +205,18 @@ module _ {T : Tables} {S₀ : Two State} {schedule : List ℕ} where
               let h = own names c n in
               let known = h .hand .is w (omega (arith, low, few)) (h .known z) in
               let free = not-away (reasonAt maxWorkers (T .first) (T .row) (T .leaves) (ownOf blocks c) made w) (insideAt (T .first) (T .row) (T .begins) (ownOf S (other c) .made) w) (known .free) .0 in
-              let left = reason-none w maxWorkers (count made w) (2 * updatesIn (T .first) w) _ free .1 in (
-                omega (arith, left, t .bounded .rising .few (w + 1) (omega arith)),
-                omega (arith, sums c, known .target-is, target-low maxWorkers (T .first) (T .row) (T .begins) (T .parts) (T .leaves) (ownOf blocks c) (ownOf (T .displaced) c) (T .at) (T .beside) t made w),
-              )
+              rw (sums c)
+              (access-ready maxWorkers (T .first) (T .row) (T .begins) (T .parts) (T .leaves) (ownOf blocks c) (ownOf (T .displaced) c) (T .at) (T .beside) t made w (omega (arith, low, few)) free (known .target-is))
 
           -- the access is made
-          module _ {number′ : ℕ} {S′ : Two State} {targets″ : Two (List ℕ)} (a : AccessFor byte S targets′ amounts′ number′ S′ targets″) where
+          module _ {number′ : ℕ} {S′ : Two State} {targets″ : Two (List ℕ)} (a : AccessFor byte S targets′ adds′ number′ S′ targets″) where
             steady : (c : Crew) → Steady (causeOf T (ownOf blocks c) (ownOf S (other c) .made)) (updateOf T c)
             steady c = crew-steady (T .first) (T .row) (T .begins) (T .parts) (T .leaves) (ownOf blocks c) (ownOf (T .displaced) c) (T .at) (T .beside) (ownOf S (other c) .made)
 
             made : (c : Crew) → byte / maxWorkers ≡ crewNumber c → Made T S c (ownOf blocks c) w number′ (ownOf S′ c)
             made c n = access-picks (steady c) (omega (arith, low, few)) (own names c n .known z) (own names c n .hand) (a .made c n)
 
-            keeps : (c : Crew) → byte / maxWorkers ≡ crewNumber c → AtHand (causeOf T (ownOf blocks c) (ownOf S (other c) .made)) (updateOf T c) (ownOf S′ c .made) (ownOf targets″ c) (ownOf amounts′ c)
+            keeps : (c : Crew) → byte / maxWorkers ≡ crewNumber c → AtHand (causeOf T (ownOf blocks c) (ownOf S (other c) .made)) (updateOf T c) (ownOf S′ c .made) (ownOf targets″ c) (ownOf adds′ c)
             keeps c n = access-keeps (steady c) (omega (arith, low, few)) (own names c n .known z) (own names c n .hand) (a .made c n)
 
             -- it is refused
@@ -246,28 +244,28 @@ module _ {T : Tables} {S₀ : Two State} {schedule : List ℕ} where
                   by crew1 n crew0 = rw (a .state-kept crew1 n, m .blocks-kept crew1 n, m .stops-kept crew1 n) (r .current crew0)
                   by crew1 n crew1 = m .current crew1 n _ (made crew1 n .counted z′) (r .current crew1)
 
-              amounts-long : (d : Crew) → length (ownOf amounts′ d) ≡ maxWorkers
-              amounts-long = by (its names .0) (its names .1)
+              adds-long : (d : Crew) → length (ownOf adds′ d) ≡ maxWorkers
+              adds-long = by (its names .0) (its names .1)
                 where
-                  by : (c : Crew) → byte / maxWorkers ≡ crewNumber c → (d : Crew) → length (ownOf amounts′ d) ≡ maxWorkers
-                  by crew0 n crew0 = own names crew0 n .hand .amounts-long
-                  by crew0 n crew1 = rw (b .amounts-kept names crew0 n) (r .hand crew1 .amounts-long)
-                  by crew1 n crew0 = rw (b .amounts-kept names crew1 n) (r .hand crew0 .amounts-long)
-                  by crew1 n crew1 = own names crew1 n .hand .amounts-long
+                  by : (c : Crew) → byte / maxWorkers ≡ crewNumber c → (d : Crew) → length (ownOf adds′ d) ≡ maxWorkers
+                  by crew0 n crew0 = own names crew0 n .hand .adds-long
+                  by crew0 n crew1 = rw (b .adds-kept names crew0 n) (r .hand crew1 .adds-long)
+                  by crew1 n crew0 = rw (b .adds-kept names crew1 n) (r .hand crew0 .adds-long)
+                  by crew1 n crew1 = own names crew1 n .hand .adds-long
 
               -- the blocked groups are found anew
-              pub sharing-renewed : Sharing T S₀ schedule (k + 1) S′ blocks′ stops′ nobody amounts′
-              sharing-renewed = record { crew = r .crew; current = next-current; hand = none-for T next-current amounts-long; left = next-left }
+              pub sharing-renewed : Sharing T S₀ schedule (k + 1) S′ blocks′ stops′ nobody adds′
+              sharing-renewed = record { crew = r .crew; current = next-current; hand = none-for T next-current adds-long; left = next-left }
 
               -- .. or are as they were
-              pub sharing-on : renewed ≡ false → Sharing T S₀ schedule (k + 1) S′ blocks′ stops′ targets″ amounts′
+              pub sharing-on : renewed ≡ false → Sharing T S₀ schedule (k + 1) S′ blocks′ stops′ targets″ adds′
               sharing-on e = record { crew = r .crew; current = next-current; hand = by (its names .0) (its names .1); left = next-left }
                 where
                   -- what was at hand of the worker for the other crew is gone
-                  by : (c : Crew) → byte / maxWorkers ≡ crewNumber c → (d : Crew) → Hand T S′ d (ownOf blocks′ d) (ownOf targets″ d) (ownOf amounts′ d)
+                  by : (c : Crew) → byte / maxWorkers ≡ crewNumber c → (d : Crew) → Hand T S′ d (ownOf blocks′ d) (ownOf targets″ d) (ownOf adds′ d)
                   by crew0 n crew0 = rw (a .state-kept crew0 n, m .same crew0 n e) (keeps crew0 n)
-                  by crew0 n crew1 = rw (a .state-kept crew0 n, m .blocks-kept crew0 n, a .targets-kept crew0 n, b .gone names crew0 n, b .amounts-kept names crew0 n)
+                  by crew0 n crew1 = rw (a .state-kept crew0 n, m .blocks-kept crew0 n, a .targets-kept crew0 n, b .gone names crew0 n, b .adds-kept names crew0 n)
                       (other-moved (T .first) (T .row) (T .begins) (T .leaves) (blocks .of1) (S .of0 .made) w (omega (arith, low, few)) (made crew0 n .counted z′) (r .hand crew1))
-                  by crew1 n crew0 = rw (a .state-kept crew1 n, m .blocks-kept crew1 n, a .targets-kept crew1 n, b .gone names crew1 n, b .amounts-kept names crew1 n)
+                  by crew1 n crew0 = rw (a .state-kept crew1 n, m .blocks-kept crew1 n, a .targets-kept crew1 n, b .gone names crew1 n, b .adds-kept names crew1 n)
                       (other-moved (T .first) (T .row) (T .begins) (T .leaves) (blocks .of0) (S .of1 .made) w (omega (arith, low, few)) (made crew1 n .counted z′) (r .hand crew0))
                   by crew1 n crew1 = rw (a .state-kept crew1 n, m .same crew1 n e) (keeps crew1 n)

@@ -65,7 +65,7 @@ pub(crate) fn stops_for(
 // Has the update of a pick at hand, unless the pick is refused: 0, or why it is. What the worker has at hand for the
 // other crew is given up.
 pub(crate) fn begin_for(
-    byte: usize,
+    who: usize,
     workers: usize,
     made: &[[u32; MAX_WORKERS]; CREWS],
     first: &[u32; FIRSTS],
@@ -78,22 +78,22 @@ pub(crate) fn begin_for(
     at: &[u16; MAX_UPDATES],
     beside: &[i32; MAX_UPDATES],
     targets: &mut [[usize; MAX_WORKERS]; CREWS],
-    amounts: &mut [[i64; MAX_WORKERS]; CREWS],
+    adds: &mut [[i64; MAX_WORKERS]; CREWS],
 ) -> u32
     requires { ⌜ ((n : ℕ) × StepTables n (now first) (now row) (now begins) (now parts) (now leaves) (now at))
         × ((c : Crew) → AtHand (causeAt (now first) (now row) (now begins) (now leaves) (ownOf (both (now blocks)) c) (ownOf (both (now made)) (other c)))
         (updateNext (now first) (now row) (now begins) (now parts) (ownOf (both (now displaced)) c) (now at) (now beside))
-        (ownOf (both (now made)) c) (ownOf (both (now targets)) c) (ownOf (both (now amounts)) c)) ⌝ }
+        (ownOf (both (now made)) c) (ownOf (both (now targets)) c) (ownOf (both (now adds)) c)) ⌝ }
     ensures { λ r. ⌜ Begun (λ c. causeAt (now (first .entry)) (now (row .entry)) (now (begins .entry)) (now (leaves .entry)) (ownOf (both (now (blocks .entry))) c) (ownOf (both (now (made .entry))) (other c)))
         (λ c. updateNext (now (first .entry)) (now (row .entry)) (now (begins .entry)) (now (parts .entry)) (ownOf (both (now (displaced .entry))) c) (now (at .entry)) (now (beside .entry)))
-        (both (now (made .entry))) byte workers r (both (now (targets .entry))) (both (now (amounts .entry))) (both (now (targets .exit))) (both (now (amounts .exit))) ⌝ }
+        (both (now (made .entry))) who workers r (both (now (targets .entry))) (both (now (adds .entry))) (both (now (targets .exit))) (both (now (adds .exit))) ⌝ }
 {
-    let why = refused_name(byte, workers);
+    let why = refused_name(who, workers);
     if why != 0 {
         return why;
     }
-    let c = byte / MAX_WORKERS;
-    let w = byte % MAX_WORKERS;
+    let c = who / MAX_WORKERS;
+    let w = who % MAX_WORKERS;
     targets[1 - c][w] = NONE;
     begin(
         &made[c],
@@ -109,7 +109,7 @@ pub(crate) fn begin_for(
         at,
         beside,
         &mut targets[c],
-        &mut amounts[c],
+        &mut adds[c],
     )
 }
 
@@ -119,26 +119,26 @@ pub(crate) fn access_for(
     held: &mut [[i64; MAX_WORKERS]; CREWS],
     sums0: &mut [i64],
     sums1: &mut [i64],
-    byte: usize,
+    who: usize,
     targets: &mut [[usize; MAX_WORKERS]; CREWS],
-    amounts: &[[i64; MAX_WORKERS]; CREWS],
+    adds: &[[i64; MAX_WORKERS]; CREWS],
 ) -> u32
-    requires { ⌜ (byte < 2 * maxWorkers) × (1 < length (now made)) × (1 < length (now held)) × (1 < length (now targets)) × ((c : Crew) → byte / maxWorkers ≡ crewNumber c
-        → (count (ownOf (statesIn (now made) (now held) (now sums0) (now sums1)) c .made) (byte % maxWorkers) < 2 * maxUpdates)
-        × (getD (ownOf (both (now targets)) c) (byte % maxWorkers) 0 < length (ownOf (statesIn (now made) (now held) (now sums0) (now sums1)) c .sums))) ⌝ }
-    ensures { λ r. ⌜ AccessFor byte (statesIn (now (made .entry)) (now (held .entry)) (now (sums0 .entry)) (now (sums1 .entry))) (both (now (targets .entry))) (both (now (amounts .entry))) r
+    requires { ⌜ (who < 2 * maxWorkers) × (1 < length (now made)) × (1 < length (now held)) × (1 < length (now targets)) × ((c : Crew) → who / maxWorkers ≡ crewNumber c
+        → (count (ownOf (statesIn (now made) (now held) (now sums0) (now sums1)) c .made) (who % maxWorkers) < 2 * maxUpdates)
+        × (getD (ownOf (both (now targets)) c) (who % maxWorkers) 0 < length (ownOf (statesIn (now made) (now held) (now sums0) (now sums1)) c .sums))) ⌝ }
+    ensures { λ r. ⌜ AccessFor who (statesIn (now (made .entry)) (now (held .entry)) (now (sums0 .entry)) (now (sums1 .entry))) (both (now (targets .entry))) (both (now (adds .entry))) r
         (statesIn (now (made .exit)) (now (held .exit)) (now (sums0 .exit)) (now (sums1 .exit))) (both (now (targets .exit)))
         × (length (now (held .exit)) ≡ length (now (held .entry))) ⌝ }
 {
-    let w = byte % MAX_WORKERS;
-    if byte < MAX_WORKERS {
+    let w = who % MAX_WORKERS;
+    if who < MAX_WORKERS {
         return access(
             &mut made[0],
             &mut held[0],
             sums0,
             w,
             &mut targets[0],
-            &amounts[0],
+            &adds[0],
         );
     }
     access(
@@ -147,7 +147,7 @@ pub(crate) fn access_for(
         sums1,
         w,
         &mut targets[1],
-        &amounts[1],
+        &adds[1],
     )
 }
 
@@ -156,15 +156,15 @@ pub(crate) fn renew_for(
     groups: &[u32],
     ends: &[u32; MAX_GROUPS],
     made: &[[u32; MAX_WORKERS]; CREWS],
-    byte: usize,
+    who: usize,
     blocks: &mut [[u8; MAX_GROUPS]; CREWS],
     stops: &mut [[u32; MAX_WORKERS]; CREWS],
 ) -> bool
-    requires { ⌜ (byte < 2 * maxWorkers) × (1 < length (now blocks)) × (1 < length (now stops)) × Recorded (length (now groups) / width) (now groups) ⌝ }
-    ensures { λ r. ⌜ RenewedFor (length (now (groups .entry)) / width) (now (groups .entry)) (now (ends .entry)) (both (now (made .entry))) byte r
+    requires { ⌜ (who < 2 * maxWorkers) × (1 < length (now blocks)) × (1 < length (now stops)) × Recorded (length (now groups) / width) (now groups) ⌝ }
+    ensures { λ r. ⌜ RenewedFor (length (now (groups .entry)) / width) (now (groups .entry)) (now (ends .entry)) (both (now (made .entry))) who r
         (both (now (blocks .entry))) (both (now (stops .entry))) (both (now (blocks .exit))) (both (now (stops .exit))) ⌝ }
 {
-    let c = byte / MAX_WORKERS;
-    let w = byte % MAX_WORKERS;
+    let c = who / MAX_WORKERS;
+    let w = who % MAX_WORKERS;
     renew(groups, ends, &made[c], w, &mut blocks[c], &mut stops[c])
 }

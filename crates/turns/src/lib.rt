@@ -126,12 +126,11 @@ impl Crews {
         let mut blocks = blocked_for(groups, ends, &made);
         let mut stops = stops_for(groups, ends, &made);
         let mut targets = [[NONE; MAX_WORKERS]; CREWS];
-        let mut amounts = [[0i64; MAX_WORKERS]; CREWS];
-        let mut k = 0;
-        while k < schedule.len() {
-            let byte = schedule[k] as usize;
+        let mut adds = [[0i64; MAX_WORKERS]; CREWS];
+        for k in 0..schedule.len() {
+            let who = schedule[k] as usize;
             let why = begin_for(
-                byte,
+                who,
                 whole.workers,
                 &made,
                 first,
@@ -144,29 +143,20 @@ impl Crews {
                 at,
                 beside,
                 &mut targets,
-                &mut amounts,
+                &mut adds,
             );
             if why != 0 {
                 return ended(made, held, k, why);
             }
-            let number = access_for(
-                &mut made,
-                &mut held,
-                sums0,
-                sums1,
-                byte,
-                &mut targets,
-                &amounts,
-            );
+            let number = access_for(&mut made, &mut held, sums0, sums1, who, &mut targets, &adds);
             if number != 0 {
                 return ended(made, held, k, number);
             }
-            if renew_for(groups, ends, &made, byte, &mut blocks, &mut stops) {
+            if renew_for(groups, ends, &made, who, &mut blocks, &mut stops) {
                 targets = [[NONE; MAX_WORKERS]; CREWS];
             }
-            k += 1;
         }
-        ended(made, held, k, 0)
+        ended(made, held, schedule.len(), 0)
     }
 
     // .. by the upper triangle and its sizes: lays the rows of the updates. There is a sum for each row, for each crew.

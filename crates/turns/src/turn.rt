@@ -58,14 +58,14 @@ pub(crate) fn begin(
     at: &[u16; MAX_UPDATES],
     beside: &[i32; MAX_UPDATES],
     targets: &mut [usize; MAX_WORKERS],
-    amounts: &mut [i64; MAX_WORKERS],
+    adds: &mut [i64; MAX_WORKERS],
 ) -> u32
     requires { ⌜ (w < maxWorkers) × ((n : ℕ) × StepTables n (now first) (now row) (now begins) (now parts) (now leaves) (now at))
         × AtHand (causeAt (now first) (now row) (now begins) (now leaves) (now blocks) (now other))
-        (updateNext (now first) (now row) (now begins) (now parts) (now displaced) (now at) (now beside)) (now made) (now targets) (now amounts) ⌝ }
+        (updateNext (now first) (now row) (now begins) (now parts) (now displaced) (now at) (now beside)) (now made) (now targets) (now adds) ⌝ }
     ensures { λ r. ⌜ Entered (causeAt (now (first .entry)) (now (row .entry)) (now (begins .entry)) (now (leaves .entry)) (now (blocks .entry)) (now (other .entry)))
         (updateNext (now (first .entry)) (now (row .entry)) (now (begins .entry)) (now (parts .entry)) (now (displaced .entry)) (now (at .entry)) (now (beside .entry)))
-        (now (made .entry)) w r (now (targets .exit)) (now (amounts .exit)) ⌝ }
+        (now (made .entry)) w r (now (targets .exit)) (now (adds .exit)) ⌝ }
 {
     if targets[w] < NONE {
         return 0;
@@ -88,7 +88,7 @@ pub(crate) fn begin(
         at,
         beside,
         targets,
-        amounts,
+        adds,
     );
     0
 }

@@ -76,12 +76,12 @@ add-checked-requires c κs = search needs
 
 -- the sum that is made of the held number and the amount
 sum-is : (c : tie.After-add-checked) → let a = c .before .before .before .before .before .before .args in
-    c .add-checked .result ≡ sumOf (getD (a .held .now) (a .w) (pos 0)) (getD (a .amounts .now) (a .w) (pos 0))
+    c .add-checked .result ≡ sumOf (getD (a .held .now) (a .w) (pos 0)) (getD (a .adds .now) (a .w) (pos 0))
 sum-is c =
     let a = c .before .before .before .before .before .before .args in
     rw (
       toZ-ofZ {w = w64} {z = getD (a .held .now) (a .w) (pos 0)} (sfits-of (c .before .before .add-checked-arg .given)),
-      toZ-ofZ {w = w64} {z = getD (a .amounts .now) (a .w) (pos 0)} (sfits-of (c .before .add-checked-arg2 .given)),
+      toZ-ofZ {w = w64} {z = getD (a .adds .now) (a .w) (pos 0)} (sfits-of (c .before .add-checked-arg2 .given)),
     )
     at (c .add-checked .ensures)
 

@@ -93,8 +93,8 @@ amount-of-requires c κs =
 mul-t15 : tie.Need-mul-t15
 mul-t15 c = search needs
 
-element-set-from-amounts : tie.Need-element-set-from-amounts
-element-set-from-amounts c = search needs
+element-set-from-adds : tie.Need-element-set-from-adds
+element-set-from-adds c = search needs
 
 in-range : (c : tie.After-amount-of) → SFits w64 (c .amount-of .result)
 in-range c = search needs
@@ -125,5 +125,5 @@ look-up-spec =
     element-write-targets
     amount-of-requires
     mul-t15
-    element-set-from-amounts
+    element-set-from-adds
     returns)

@@ -19,19 +19,19 @@ pub record Known (cause : ℕ) (u : Update) (target : ℕ) (amount : ℤ) : Type
 
 -- Every update that is at hand, where the position of its sum is one, is its worker's next at these counts, and its step
 -- is not refused.
-pub record AtHand (cause : (made : List ℕ) → ℕ → ℕ) (update : (made : List ℕ) → ℕ → Update) (made targets : List ℕ) (amounts : List ℤ) : Type 0 where
+pub record AtHand (cause : (made : List ℕ) → ℕ → ℕ) (update : (made : List ℕ) → ℕ → Update) (made targets : List ℕ) (adds : List ℤ) : Type 0 where
   pub made-long : length made ≡ maxWorkers
   pub targets-long : length targets ≡ maxWorkers
-  pub amounts-long : length amounts ≡ maxWorkers
-  pub is : (w : ℕ) → w < maxWorkers → getD targets w 0 < maxRows → Known (cause made w) (update made w) (getD targets w 0) (getD amounts w (pos 0))
+  pub adds-long : length adds ≡ maxWorkers
+  pub is : (w : ℕ) → w < maxWorkers → getD targets w 0 < maxRows → Known (cause made w) (update made w) (getD targets w 0) (getD adds w (pos 0))
 
 -- worker w's next update is at hand if nothing refuses its step, which the number tells
-pub record Entered (cause : (made : List ℕ) → ℕ → ℕ) (update : (made : List ℕ) → ℕ → Update) (made : List ℕ) (w number : ℕ) (targets : List ℕ) (amounts : List ℤ) : Type 0 where
+pub record Entered (cause : (made : List ℕ) → ℕ → ℕ) (update : (made : List ℕ) → ℕ → Update) (made : List ℕ) (w number : ℕ) (targets : List ℕ) (adds : List ℤ) : Type 0 where
   pub told : number ≡ cause made w
   pub known : number ≡ 0 → getD targets w 0 < maxRows
-  pub hand : AtHand cause update made targets amounts
+  pub hand : AtHand cause update made targets adds
 
 -- an access of worker w by the update at hand, which is still at hand after a load and after a refusal
-pub record AccessMade (s : State) (w : ℕ) (targets : List ℕ) (amounts : List ℤ) (number : ℕ) (t : State) (targets′ : List ℕ) : Type 0 where
-  pub is : (u : Update) → getD targets w 0 ≡ u .target → getD amounts w (pos 0) ≡ u .amount → PickMade 0 s w u number t
+pub record AccessMade (s : State) (w : ℕ) (targets : List ℕ) (adds : List ℤ) (number : ℕ) (t : State) (targets′ : List ℕ) : Type 0 where
+  pub is : (u : Update) → getD targets w 0 ≡ u .target → getD adds w (pos 0) ≡ u .amount → PickMade 0 s w u number t
   pub left : ((targets′ ≡ targets) × (number ≡ 0 → count (s .made) w % 2 ≡ 0)) ⊎ (targets′ ≡ set targets w maxRows)

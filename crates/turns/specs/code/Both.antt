@@ -27,15 +27,15 @@ statesIn made held sums0 sums1 = record { of0 = stateWith (getD made 0 []) (getD
 
 -- The pick with this byte is refused with this number, or its update is at hand: nothing else of the worker's is.
 pub record Begun (cause : Crew → (made : List ℕ) → ℕ → ℕ) (update : Crew → (made : List ℕ) → ℕ → Update) (made : Two (List ℕ)) (byte workers number : ℕ)
-    (targets : Two (List ℕ)) (amounts : Two (List ℤ)) (targets′ : Two (List ℕ)) (amounts′ : Two (List ℤ)) : Type 0 where
+    (targets : Two (List ℕ)) (adds : Two (List ℤ)) (targets′ : Two (List ℕ)) (adds′ : Two (List ℤ)) : Type 0 where
   pub halted : misnamed byte workers ≢ 0 → number ≡ misnamed byte workers
-  pub entered : misnamed byte workers ≡ 0 → (c : Crew) → byte / maxWorkers ≡ crewNumber c → Entered (cause c) (update c) (ownOf made c) (byte % maxWorkers) number (ownOf targets′ c) (ownOf amounts′ c)
+  pub entered : misnamed byte workers ≡ 0 → (c : Crew) → byte / maxWorkers ≡ crewNumber c → Entered (cause c) (update c) (ownOf made c) (byte % maxWorkers) number (ownOf targets′ c) (ownOf adds′ c)
   pub gone : misnamed byte workers ≡ 0 → (c : Crew) → byte / maxWorkers ≡ crewNumber c → ownOf targets′ (other c) ≡ set (ownOf targets (other c)) (byte % maxWorkers) maxRows
-  pub amounts-kept : misnamed byte workers ≡ 0 → (c : Crew) → byte / maxWorkers ≡ crewNumber c → ownOf amounts′ (other c) ≡ ownOf amounts (other c)
+  pub adds-kept : misnamed byte workers ≡ 0 → (c : Crew) → byte / maxWorkers ≡ crewNumber c → ownOf adds′ (other c) ≡ ownOf adds (other c)
 
 -- the access of the pick with this byte, of its crew alone
-pub record AccessFor (byte : ℕ) (S : Two State) (targets : Two (List ℕ)) (amounts : Two (List ℤ)) (number : ℕ) (S′ : Two State) (targets′ : Two (List ℕ)) : Type 0 where
-  pub made : (c : Crew) → byte / maxWorkers ≡ crewNumber c → AccessMade (ownOf S c) (byte % maxWorkers) (ownOf targets c) (ownOf amounts c) number (ownOf S′ c) (ownOf targets′ c)
+pub record AccessFor (byte : ℕ) (S : Two State) (targets : Two (List ℕ)) (adds : Two (List ℤ)) (number : ℕ) (S′ : Two State) (targets′ : Two (List ℕ)) : Type 0 where
+  pub made : (c : Crew) → byte / maxWorkers ≡ crewNumber c → AccessMade (ownOf S c) (byte % maxWorkers) (ownOf targets c) (ownOf adds c) number (ownOf S′ c) (ownOf targets′ c)
   pub state-kept : (c : Crew) → byte / maxWorkers ≡ crewNumber c → ownOf S′ (other c) ≡ ownOf S (other c)
   pub targets-kept : (c : Crew) → byte / maxWorkers ≡ crewNumber c → ownOf targets′ (other c) ≡ ownOf targets (other c)
 

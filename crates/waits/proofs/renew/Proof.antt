@@ -1,8 +1,6 @@
 -- `renew` meets its contract: between two stops nobody's wait changes.
-use mathlib.Core.Path.{refl, sym, ap, _∙_}
+use mathlib.Core.Path.{refl, ap, _∙_}
 use mathlib.Core.Bool.{true≢false}
-use Prim.Native.Nat.{_<_}
-use native.Mathlib.Omega.{arith}
 use lib.ListN.{length}
 use borrow.Author.Needs.{needs}
 use Rattle.run.proofs.Onward.{onward-length}

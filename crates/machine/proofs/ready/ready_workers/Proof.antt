@@ -1,6 +1,5 @@
 -- `ready::ready_workers`: the blocked groups, then one bit a worker.
 use mathlib.Core.Path.{_≡_, ap, _∙_}
-use Prim.Native.Nat.{_≤_}
 use native.Mathlib.Omega.{arith}
 use borrow.Author.Needs.{needs}
 use Rattle.plan.specs.Groups.{Group}

@@ -19,7 +19,7 @@ use Rattle.turns.proofs.Crews.walk.Statement.{statement}
 use Rattle.turns.proofs.Crews.walk.Tie as tie
 
 abbrev Inv-loop : tie.InvT-loop
-Inv-loop sums0₀ sums1₀ schedule groups ends first row begins parts leaves displaced at beside made₀ held₀ whole blocks₀ stops₀ targets₀ amounts₀ k₀ sums0 sums1 made held blocks stops targets amounts k =
+Inv-loop sums0₀ sums1₀ schedule groups ends first row begins parts leaves displaced at beside made₀ held₀ whole blocks₀ stops₀ targets₀ adds₀ k₀ k-end sums0 sums1 made held blocks stops targets adds k =
     (k ≤ length schedule) × (length sums0 ≡ length sums0₀) × (length sums1 ≡ length sums1₀) × (length held ≡ 2)
     × Sharing (record {
       workers = whole .workers;
@@ -34,10 +34,10 @@ Inv-loop sums0₀ sums1₀ schedule groups ends first row begins parts leaves di
       displaced = both displaced;
       at = at;
       beside = beside;
-    }) (statesIn made₀ held₀ sums0₀ sums1₀) schedule k (statesIn made held sums0 sums1) (both blocks) (both stops) (both targets) (both amounts)
+    }) (statesIn made₀ held₀ sums0₀ sums1₀) schedule k (statesIn made held sums0 sums1) (both blocks) (both stops) (both targets) (both adds)
 
 abbrev μ-loop : tie.MeasureT-loop
-μ-loop sums0₀ sums1₀ schedule groups ends first row begins parts leaves displaced at beside made₀ held₀ whole blocks₀ stops₀ targets₀ amounts₀ k₀ sums0 sums1 made held blocks stops targets amounts k =
+μ-loop sums0₀ sums1₀ schedule groups ends first row begins parts leaves displaced at beside made₀ held₀ whole blocks₀ stops₀ targets₀ adds₀ k₀ k-end sums0 sums1 made held blocks stops targets adds k =
     length schedule - k
 
 -- ---- before the loop
@@ -102,11 +102,11 @@ loop-holds c =
 
 -- ---- a pick that is refused
 
-shared-slice-read-byte : tie.Need-shared-slice-read-byte Inv-loop μ-loop
-shared-slice-read-byte c = search needs
+shared-slice-read-who : tie.Need-shared-slice-read-who Inv-loop μ-loop
+shared-slice-read-who c = search needs
 
-cast-byte : tie.Need-cast-byte Inv-loop μ-loop
-cast-byte c = omega (arith, c .shared-slice-known3 .given (c .before .before .loop .k))
+cast-who : tie.Need-cast-who Inv-loop μ-loop
+cast-who c = omega (arith, c .shared-slice-known3 .given (c .before .before .loop .k))
 
 begin-for-requires : tie.Need-begin-for-requires Inv-loop μ-loop
 begin-for-requires c κs = let l = c .before .before .before .before .before .before in ((_, entry l .pre .2), sharing-hand (l .loop .inv .4))
@@ -251,8 +251,8 @@ walk-spec =
     blocked-for-requires
     stops-for-requires
     loop-holds
-    shared-slice-read-byte
-    cast-byte
+    shared-slice-read-who
+    cast-who
     begin-for-requires
     ended-requires
     same-length

@@ -23,27 +23,27 @@ returns c =
       halted = λ f. e;
       entered = λ z d n. absurd (c .if1 .taken (e ∙ z));
       gone = λ z d n. absurd (c .if1 .taken (e ∙ z));
-      amounts-kept = λ z d n. absurd (c .if1 .taken (e ∙ z));
+      adds-kept = λ z d n. absurd (c .if1 .taken (e ∙ z));
     }
 
 -- nothing is wrong with the byte
-none : (c : tie.Else1) → misnamed (c .before .before .args .byte) (c .before .before .args .workers) ≡ 0
+none : (c : tie.Else1) → misnamed (c .before .before .args .who) (c .before .before .args .workers) ≡ 0
 none c = let z : c .before .refused-name .result ≡ 0 = search needs in sym (c .before .refused-name .ensures) ∙ z
 
 -- so it names a crew, and a worker
-named : (c : tie.Else1) → c .before .before .args .byte < 32
+named : (c : tie.Else1) → c .before .before .args .who < 32
 named c = named-low _ _ (none c) .0
 
 -- there is a list for each crew
 targets-two : (s : tie.Start) → 1 < length (s .args .targets .now)
 targets-two s = two-there (s .args .targets .now) (omega (arith, s .pre .1 crew1 .targets-long))
 
-amounts-two : (s : tie.Start) → 1 < length (s .args .amounts .now)
-amounts-two s = two-there (s .args .amounts .now) (omega (arith, s .pre .1 crew1 .amounts-long))
+adds-two : (s : tie.Start) → 1 < length (s .args .adds .now)
+adds-two s = two-there (s .args .adds .now) (omega (arith, s .pre .1 crew1 .adds-long))
 
 -- after the other crew's update is given up
 abbrev given : (s : tie.Start) → List (List ℕ)
-given s = let a = s .args in set (a .targets .now) (1 - a .byte / 16) (set (getD (a .targets .now) (1 - a .byte / 16) []) (a .byte % 16) 4096)
+given s = let a = s .args in set (a .targets .now) (1 - a .who / 16) (set (getD (a .targets .now) (1 - a .who / 16) []) (a .who % 16) 4096)
 
 given-two : (s : tie.Start) → 1 < length (given s)
 given-two s = rw length-set (targets-two s)
@@ -107,7 +107,7 @@ begin-requires c κs =
     let e = c .before .before .before .before .before .before in
     let s = e .before .before in
     let a = s .args in
-    let x = crew-of (a .byte) (named e) in
+    let x = crew-of (a .who) (named e) in
     let d = x .0 in
     let n = x .1 in (
       omega arith,
@@ -117,9 +117,9 @@ begin-requires c κs =
         own-at (a .made .now) (other d) (other-number (a .made .now) d n),
         own-at (a .displaced .now) d n,
         own-at (a .made .now) d n,
-        getD-set-other (a .targets .now) (1 - a .byte / 16) (a .byte / 16) _ [] (λ q. omega (arith, named e)),
+        getD-set-other (a .targets .now) (1 - a .who / 16) (a .who / 16) _ [] (λ q. omega (arith, named e)),
         own-at (a .targets .now) d n,
-        own-at (a .amounts .now) d n,
+        own-at (a .adds .now) d n,
       )
           (s .pre .1 d),
     )
@@ -134,7 +134,7 @@ returns-2 c =
       entered = λ z d n.
           rw (
             put-own (given s) d n (given-two s),
-            put-own (a .amounts .now) d n (amounts-two s),
+            put-own (a .adds .now) d n (adds-two s),
             ← own-at (a .blocks .now) d n,
             ← own-at (a .made .now) (other d) (other-number (a .made .now) d n),
             ← own-at (a .displaced .now) d n,
@@ -143,8 +143,8 @@ returns-2 c =
           (c .begin .ensures);
       gone = λ z d n.
           let m = other-number (a .targets .now) d n in
-          put-other (given s) d n _ ∙ put-own (a .targets .now) (other d) m (targets-two s) ∙ ap (λ (xs : List ℕ). set xs (a .byte % 16) 4096) (own-at (a .targets .now) (other d) m);
-      amounts-kept = λ z d n. put-other (a .amounts .now) d n _;
+          put-other (given s) d n _ ∙ put-own (a .targets .now) (other d) m (targets-two s) ∙ ap (λ (xs : List ℕ). set xs (a .who % 16) 4096) (own-at (a .targets .now) (other d) m);
+      adds-kept = λ z d n. put-other (a .adds .now) d n _;
     }
 
 pub begin-for-spec : {M : Type 1} → statement M
