@@ -1,6 +1,8 @@
 // product: the forces of a matrix and movements.
 use base::Verdict;
 use base::numbers::least;
+use lent::few::FEW_CELLS;
+use lent::few::are_few;
 use lent::lists::load_signed;
 use lent::lists::load_unsigned;
 use lent::word::word_of;
@@ -51,17 +53,20 @@ pub fn product_in(
     ensures { λ r. ⌜ Answered (productReply (matrixIn n (now («row_starts» .entry)) (now (columns .entry)) (now (values .entry))) (signed 4 (now (movements .entry))) (length (now (forces .entry)) / 8)) (signedBytes 8 (product (matrixIn n (now («row_starts» .entry)) (now (columns .entry)) (now (values .entry))) (signed 4 (now (movements .entry))))) (now (forces .entry)) r (now (forces .exit)) ⌝ }
 {
     let mut starts = [0u32; MAX_STARTS];
-    let mut column_list = [0u32; MAX_CELLS];
-    let mut value_list = [0i32; MAX_CELLS];
     let mut displacements = [0i32; MAX_STARTS];
     let mut sums = [0i64; MAX_ROWS];
-    product_of(
-        n,
-        load_unsigned(row_starts, &mut starts),
-        load_unsigned(columns, &mut column_list),
-        load_signed(values, &mut value_list),
-        load_signed(movements, &mut displacements),
-        &mut sums,
-        forces,
-    )
+    let rows = load_unsigned(row_starts, &mut starts);
+    let moves = load_signed(movements, &mut displacements);
+    if are_few(columns, values) {
+        let mut column_list = [0u32; FEW_CELLS];
+        let mut value_list = [0i32; FEW_CELLS];
+        let cells = load_unsigned(columns, &mut column_list);
+        let numbers = load_signed(values, &mut value_list);
+        return product_of(n, rows, cells, numbers, moves, &mut sums, forces);
+    }
+    let mut column_list = [0u32; MAX_CELLS];
+    let mut value_list = [0i32; MAX_CELLS];
+    let cells = load_unsigned(columns, &mut column_list);
+    let numbers = load_signed(values, &mut value_list);
+    product_of(n, rows, cells, numbers, moves, &mut sums, forces)
 }

@@ -1,0 +1,15 @@
+-- `are_few` meets its contract.
+use mathlib.Core.Path.{refl}
+use borrow.Author.Needs.{needs}
+use Rattle.base.proofs.Booleans.{clash}
+use Rattle.lent.proofs.few.are_few.Statement.{statement}
+use Rattle.lent.proofs.few.are_few.Tie as tie
+
+returns : tie.Need-returns
+returns c q = absurd (clash q refl)
+
+returns-2 : tie.Need-returns-2
+returns-2 c = search needs
+
+pub are-few-spec : {M : Type 1} → statement M
+are-few-spec = tie.close (tie.spec returns returns-2)
