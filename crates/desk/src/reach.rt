@@ -1,6 +1,8 @@
 // survey: how far a survey error reaches.
 use base::Verdict;
 use base::numbers::least;
+use lent::few::FEW_CELLS;
+use lent::few::are_few;
 use lent::lists::load_signed;
 use lent::lists::load_unsigned;
 use lent::word::word_of;
@@ -85,17 +87,36 @@ pub fn survey_in(
     ensures { λ r. ⌜ SurveyAnswered (matrixIn n (now («row_starts» .entry)) (now (columns .entry)) (now (values .entry))) (signed 4 (now (movements .entry))) t row (now (amounts .entry)) (now (shift .entry)) r (now (amounts .exit)) (now (shift .exit)) ⌝ }
 {
     let mut starts = [0u32; MAX_STARTS];
-    let mut column_list = [0u32; MAX_CELLS];
-    let mut value_list = [0i32; MAX_CELLS];
     let mut displacements = [0i32; MAX_STARTS];
     let mut sums = [0i64; MAX_ROWS];
     let mut moves = [0i32; MAX_ROWS];
+    let rows = load_unsigned(row_starts, &mut starts);
+    let surveyed = load_signed(movements, &mut displacements);
+    if are_few(columns, values) {
+        let mut column_list = [0u32; FEW_CELLS];
+        let mut value_list = [0i32; FEW_CELLS];
+        return survey_of(
+            n,
+            rows,
+            load_unsigned(columns, &mut column_list),
+            load_signed(values, &mut value_list),
+            surveyed,
+            t,
+            row,
+            &mut sums,
+            &mut moves,
+            amounts,
+            shift,
+        );
+    }
+    let mut column_list = [0u32; MAX_CELLS];
+    let mut value_list = [0i32; MAX_CELLS];
     survey_of(
         n,
-        load_unsigned(row_starts, &mut starts),
+        rows,
         load_unsigned(columns, &mut column_list),
         load_signed(values, &mut value_list),
-        load_signed(movements, &mut displacements),
+        surveyed,
         t,
         row,
         &mut sums,

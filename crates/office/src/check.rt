@@ -1,4 +1,6 @@
 // check: whether a plan is sound at a distance for a matrix.
+use lent::few::FEW_CELLS;
+use lent::few::are_few;
 use lent::lists::load_signed;
 use lent::lists::load_unsigned;
 use lent::word::word_of;
@@ -25,19 +27,23 @@ pub fn check_in(
     ensures { λ r. ⌜ r ≡ word (checkReply (matrixIn n (now («row_starts» .entry)) (now (columns .entry)) (now (values .entry))) (unsigned 4 (now (order .entry))) (unsigned 4 (now (groups .entry))) «group_count» k) ⌝ }
 {
     let mut starts = [0u32; MAX_STARTS];
-    let mut column_list = [0u32; MAX_CELLS];
-    let mut value_list = [0i32; MAX_CELLS];
     let mut order_list = [0u32; MAX_ROWS];
     let mut group_list = [0u32; MAX_FIELDS];
-    let answer = sound::check(
-        n,
-        load_unsigned(row_starts, &mut starts),
-        load_unsigned(columns, &mut column_list),
-        load_signed(values, &mut value_list),
-        load_unsigned(order, &mut order_list),
-        load_unsigned(groups, &mut group_list),
-        group_count,
-        k,
-    );
+    let rows = load_unsigned(row_starts, &mut starts);
+    let places = load_unsigned(order, &mut order_list);
+    let records = load_unsigned(groups, &mut group_list);
+    if are_few(columns, values) {
+        let mut column_list = [0u32; FEW_CELLS];
+        let mut value_list = [0i32; FEW_CELLS];
+        let cells = load_unsigned(columns, &mut column_list);
+        let numbers = load_signed(values, &mut value_list);
+        let answer = sound::check(n, rows, cells, numbers, places, records, group_count, k);
+        return word_of(answer);
+    }
+    let mut column_list = [0u32; MAX_CELLS];
+    let mut value_list = [0i32; MAX_CELLS];
+    let cells = load_unsigned(columns, &mut column_list);
+    let numbers = load_signed(values, &mut value_list);
+    let answer = sound::check(n, rows, cells, numbers, places, records, group_count, k);
     word_of(answer)
 }

@@ -1,6 +1,8 @@
 // plan: the plan of a matrix.
 use base::Verdict;
 use base::numbers::least;
+use lent::few::FEW_CELLS;
+use lent::few::are_few;
 use lent::lists::load_signed;
 use lent::lists::load_unsigned;
 use lent::word::word_of;
@@ -72,13 +74,31 @@ pub fn plan_in(
     ensures { λ r. ⌜ PlanAnswered (matrixIn n (now («row_starts» .entry)) (now (columns .entry)) (now (values .entry))) workers p k (now (order .entry)) (now (groups .entry)) r (now (order .exit)) (now (groups .exit)) ⌝ }
 {
     let mut starts = [0u32; MAX_STARTS];
-    let mut column_list = [0u32; MAX_CELLS];
-    let mut value_list = [0i32; MAX_CELLS];
     let mut order_list = [0u32; MAX_ROWS];
     let mut group_list = [0u32; MAX_FIELDS];
+    let rows = load_unsigned(row_starts, &mut starts);
+    if are_few(columns, values) {
+        let mut column_list = [0u32; FEW_CELLS];
+        let mut value_list = [0i32; FEW_CELLS];
+        return plan_of(
+            n,
+            rows,
+            load_unsigned(columns, &mut column_list),
+            load_signed(values, &mut value_list),
+            workers,
+            p,
+            k,
+            &mut order_list,
+            &mut group_list,
+            order,
+            groups,
+        );
+    }
+    let mut column_list = [0u32; MAX_CELLS];
+    let mut value_list = [0i32; MAX_CELLS];
     plan_of(
         n,
-        load_unsigned(row_starts, &mut starts),
+        rows,
         load_unsigned(columns, &mut column_list),
         load_signed(values, &mut value_list),
         workers,

@@ -1,6 +1,8 @@
 // set_entry: a new value for a stored entry and its mirror.
 use base::Verdict;
 use base::numbers::wide;
+use lent::few::FEW_CELLS;
+use lent::few::are_few;
 use lent::lists::load_signed;
 use lent::lists::load_unsigned;
 use lent::word::word_of;
@@ -72,18 +74,39 @@ pub fn set_entry_in(
     ensures { λ r. ⌜ EntryAnswered (matrixIn n (now («row_starts» .entry)) (now (columns .entry)) (now (values .entry))) (newValue row column value) (now (values .entry)) (now (movements .entry)) (now (forces .entry)) r (now (values .exit)) (now (forces .exit)) ⌝ }
 {
     let mut starts = [0u32; MAX_STARTS];
-    let mut column_list = [0u32; MAX_CELLS];
-    let mut value_list = [0i32; MAX_CELLS];
     let mut displacements = [0i32; MAX_STARTS];
     let mut sums = [0i64; MAX_STARTS];
-    let entries = load_i32(values, &mut value_list);
+    let rows = load_unsigned(row_starts, &mut starts);
+    let moves = load_signed(movements, &mut displacements);
     let kept = load_i64(forces, &mut sums);
+    if are_few(columns, values) {
+        let mut column_list = [0u32; FEW_CELLS];
+        let mut value_list = [0i32; FEW_CELLS];
+        let entries = load_i32(values, &mut value_list);
+        return set_entry_of(
+            n,
+            rows,
+            load_unsigned(columns, &mut column_list),
+            &mut value_list[..entries],
+            moves,
+            &mut sums[..kept],
+            row,
+            column,
+            value,
+            values,
+            movements,
+            forces,
+        );
+    }
+    let mut column_list = [0u32; MAX_CELLS];
+    let mut value_list = [0i32; MAX_CELLS];
+    let entries = load_i32(values, &mut value_list);
     set_entry_of(
         n,
-        load_unsigned(row_starts, &mut starts),
+        rows,
         load_unsigned(columns, &mut column_list),
         &mut value_list[..entries],
-        load_signed(movements, &mut displacements),
+        moves,
         &mut sums[..kept],
         row,
         column,

@@ -1,5 +1,7 @@
 // set_movement: a new displacement.
 use base::Verdict;
+use lent::few::FEW_CELLS;
+use lent::few::are_few;
 use lent::lists::load_signed;
 use lent::lists::load_unsigned;
 use lent::word::word_of;
@@ -54,15 +56,32 @@ pub fn set_movement_in(
     ensures { λ r. ⌜ MovementAnswered (matrixIn n (now («row_starts» .entry)) (now (columns .entry)) (now (values .entry))) (newDisplacement row value) (now (movements .entry)) (now (forces .entry)) r (now (movements .exit)) (now (forces .exit)) ⌝ }
 {
     let mut starts = [0u32; MAX_STARTS];
-    let mut column_list = [0u32; MAX_CELLS];
-    let mut value_list = [0i32; MAX_CELLS];
     let mut displacements = [0i32; MAX_STARTS];
     let mut sums = [0i64; MAX_STARTS];
+    let rows = load_unsigned(row_starts, &mut starts);
     let moved = load_i32(movements, &mut displacements);
     let kept = load_i64(forces, &mut sums);
+    if are_few(columns, values) {
+        let mut column_list = [0u32; FEW_CELLS];
+        let mut value_list = [0i32; FEW_CELLS];
+        return set_movement_of(
+            n,
+            rows,
+            load_unsigned(columns, &mut column_list),
+            load_signed(values, &mut value_list),
+            &mut displacements[..moved],
+            &mut sums[..kept],
+            row,
+            value,
+            movements,
+            forces,
+        );
+    }
+    let mut column_list = [0u32; MAX_CELLS];
+    let mut value_list = [0i32; MAX_CELLS];
     set_movement_of(
         n,
-        load_unsigned(row_starts, &mut starts),
+        rows,
         load_unsigned(columns, &mut column_list),
         load_signed(values, &mut value_list),
         &mut displacements[..moved],

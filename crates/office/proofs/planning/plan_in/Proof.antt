@@ -2,22 +2,44 @@
 use borrow.Author.Needs.{needs}
 use Rattle.lent.specs.Bytes.{matrixIn}
 use Rattle.lent.proofs.Loads.{loaded-matrix}
+use Rattle.lent.proofs.Whole.{few-matrix}
 use Rattle.office.proofs.Plans.{decoded-matrix}
 use Rattle.office.proofs.planning.plan_in.Statement.{statement}
 use Rattle.office.proofs.planning.plan_in.Tie as tie
+
+-- from the test of columns and values back to the decoded row starts, and to the entry
+abbrev starts : tie.After-are-few → tie.After-load-unsigned
+starts t = t .before
+
+abbrev start : tie.After-are-few → tie.Start
+start t = starts t .before .before .before .before .before .before .before
 
 returns : tie.Need-returns
 returns c =
     let made = c .before .before .before .before .before .before .before .before .before in
     let values = made .before .before .before .before .before in
     let columns = values .before .before in
-    let starts = columns .before .before in
-    let a = starts .before .before .before .before .before .before .before .args in
+    let few = columns .before .before in
+    let t = few .before in
+    let a = start t .args in
+    decoded-matrix (matrixIn (a .n) (a .row-starts .now) (a .columns .now) (a .values .now)) (a .workers) (a .p) (a .k)
+    (few-matrix (a .n) (a .row-starts .now) (a .columns .now) (a .values .now) (t .are-few .ensures (few .if1 .taken)) (starts t .load-unsigned .ensures) (columns .load-unsigned2 .ensures) (values .load-signed .ensures))
+    (made .plan-of .ensures)
+
+returns-2 : tie.Need-returns-2
+returns-2 c =
+    let made = c .before .before .before .before .before .before .before .before .before in
+    let values = made .before .before .before .before .before in
+    let columns = values .before .before in
+    let t = columns .before .before .before in
+    let a = start t .args in
     let m = matrixIn (a .n) (a .row-starts .now) (a .columns .now) (a .values .now) in
-    decoded-matrix m (a .workers) (a .p) (a .k) (loaded-matrix m (starts .load-unsigned .ensures) (columns .load-unsigned2 .ensures) (values .load-signed .ensures)) (made .plan-of .ensures)
+    decoded-matrix m (a .workers) (a .p) (a .k) (loaded-matrix m (starts t .load-unsigned .ensures) (columns .load-unsigned3 .ensures) (values .load-signed2 .ensures)) (made .plan-of2 .ensures)
 
 pub plan-in-spec : {M : Type 1} → statement M
 plan-in-spec =
     tie.close
     (tie.spec (search needs) (search needs) (search needs) (search needs) (search needs) (search needs)
-    (search needs) (search needs) (search needs) (search needs) (search needs) returns)
+    (search needs) (search needs) (search needs) (search needs) (search needs) (search needs) returns (search needs)
+    (search needs) (search needs) (search needs) (search needs) (search needs) (search needs) (search needs)
+    (search needs) returns-2)
