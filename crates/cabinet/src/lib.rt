@@ -6,6 +6,8 @@ use base::numbers::least;
 use calls::Call;
 use calls::Done;
 use calls::perform;
+use lent::few::FEW_CELLS;
+use lent::few::are_few;
 use lent::lists::load_signed;
 use lent::lists::load_unsigned;
 use matrix::limits::MAX_CELLS;
@@ -14,9 +16,9 @@ use matrix::limits::MAX_STARTS;
 use plan::fields::MAX_FIELDS;
 use words::load::load_i64;
 ghost use mathlib.Core.Path.{_≡_};
-ghost use mathlib.Core.Bool.{true, cond};
+ghost use mathlib.Core.Bool.{cond};
 ghost use mathlib.Core.List.{List};
-ghost use Prim.Native.Nat.{ℕ, _/_, _≤_};
+ghost use Prim.Native.Nat.{ℕ, _/_};
 ghost use lib.Dec.{eqb};
 ghost use lib.ListN.{length, take};
 ghost use Rattle.matrix.specs.code.Room.{maxStarts, maxCells};
@@ -24,28 +26,15 @@ ghost use Rattle.run.specs.Calls.{afterLent};
 ghost use Rattle.calls.specs.Performed.{asCall};
 ghost use Rattle.words.specs.LittleEndian.{unsigned, signed};
 ghost use Rattle.lent.specs.Bytes.{matrixIn};
+ghost use Rattle.lent.specs.code.Few.{IsFew};
 ghost use Rattle.answers.specs.Runs.{stateBytes, stateIn, answerIn};
 ghost use Rattle.answers.specs.code.Ran.{Ran};
-ghost use Rattle.cabinet.specs.code.Few.{fewCells};
-
-// The size of smaller arrays for columns and values: they take less time to clear.
-const FEW_CELLS: usize = 16384;
 
 // How many of the sums are lent on: none where the bytes are no state, so that it is refused as one without n sums.
 fn lent_sums(state: &[u8], size: usize) -> usize
     ensures { λ r. ⌜ r ≡ cond (eqb (length (now (state .entry))) stateBytes) size 0 ⌝ }
 {
     if state.len() == STATE_BYTES { size } else { 0 }
-}
-
-// Whether columns and values fit the smaller arrays.
-fn are_short(columns: &[u8], values: &[u8]) -> bool
-    ensures { λ r. ⌜ (r ≡ true → (length (now (columns .entry)) / 4 ≤ fewCells) × (length (now (values .entry)) / 4 ≤ fewCells)) ⌝ }
-{
-    if FEW_CELLS < columns.len() / 4 {
-        return false;
-    }
-    values.len() / 4 <= FEW_CELLS
 }
 
 // Columns and values are decoded already; the other lists are here, as far as any job can reach, the sums into `new`,
@@ -119,7 +108,7 @@ fn perform_few(
     new: &mut [i64],
     call: Call,
 ) -> Done
-    requires { ⌜ (length (now new) ≡ maxStarts) × (length (now columns) / 4 ≤ fewCells) × (length (now values) / 4 ≤ fewCells) ⌝ }
+    requires { ⌜ (length (now new) ≡ maxStarts) × IsFew (now columns) × IsFew (now values) ⌝ }
     ensures { λ r. ⌜ Ran n (asCall call (now (schedule .entry)) (length (now (forces .entry)) / 8))
         (answerIn (matrixIn n (now («row_starts» .entry)) (now (columns .entry)) (now (values .entry))) (signed 4 (now (movements .entry))) (unsigned 4 (now (order .entry))) (unsigned 4 (now (groups .entry))) «group_count»
         (now (state .entry)) (now (sums .entry)) (asCall call (now (schedule .entry)) (length (now (forces .entry)) / 8)))
@@ -217,7 +206,7 @@ pub fn perform_in(
         (stateIn (now (state .entry)) (now (sums .entry))) (asCall call (now (schedule .entry)) (length (now (forces .entry)) / 8)))
         (now (state .entry)) (now (sums .entry)) (now (forces .entry)) (r .answer) (r .state) (now (new .exit)) (now (forces .exit)) ⌝ }
 {
-    if are_short(columns, values) {
+    if are_few(columns, values) {
         return perform_few(
             n,
             row_starts,

@@ -1,6 +1,6 @@
 -- The joining's call on lists that are cut, and on lists that are made beside the lent ones.
 use mathlib.Core.Path.{_≡_, refl, sym, ap, _∙_}
-use mathlib.Core.Bool.{Bool, true, false, _||_, _&&_}
+use mathlib.Core.Bool.{Bool, true, false, _||_}
 use mathlib.Core.List.{List, [], _∷_, _++_, append-assoc}
 use Prim.Native.Nat.{ℕ, suc, _+_, _/_, _≤_, min}
 use native.Mathlib.Nat.{min-comm}
@@ -13,7 +13,7 @@ use borrow.Author.Tests.{leb-true, leb-false, ne-eqb}
 use Rattle.base.specs.Lists.{isIn, positionOf}
 use Rattle.base.specs.Refusals as why
 use Rattle.base.specs.Replies.{Reply, accepted, refused, Check, check, roomFor, lent}
-use Rattle.base.proofs.Booleans.{leb-min, and-left, and-right}
+use Rattle.base.proofs.Booleans.{leb-min}
 use Rattle.base.proofs.Replies.{inTurn-same, accepted-all, accepted-count, lent-refused, lent-accepted}
 use Rattle.matrix.specs.Limits.{maxRows}
 use Rattle.matrix.specs.Matrix.{Matrix, columnsOf, entry, isMatrix, matrixCheck, matrixOf}
@@ -21,7 +21,7 @@ use Rattle.matrix.specs.Tabulated.{tabulated}
 use Rattle.matrix.proofs.Matrix.{matrix-facts}
 use Rattle.matrix.specs.code.Room.{maxStarts, maxCells}
 use Rattle.matrix.proofs.Cut.{cut, cut-matrix, cut-columns, cut-entry}
-use Rattle.words.proofs.Blocks.{decoded, length-decoded}
+use Rattle.words.proofs.Blocks.{decoded}
 use Rattle.words.specs.LittleEndian.{unsigned, signed, bytesOf, signedBytesOf, unsignedBytes, signedBytes, stored}
 use Rattle.lent.specs.Word.{word}
 use Rattle.lent.proofs.Answers.{answered-same, Begins, begins, begins-at, begins-stored}
@@ -30,7 +30,8 @@ use Rattle.joined.proofs.Entries.{joined-matrix}
 use Rattle.joined.proofs.Sizes.{net-rows, net-starts, net-last, net-values, net-few, net-sum}
 use Rattle.joined.proofs.Places.{long}
 use Rattle.shop.specs.Lent.{joinIn, JoinAnswered}
-use Rattle.shop.specs.code.Reach.{reached, fewCells, IsFew, Ample}
+use Rattle.lent.specs.code.Few.{fewCells}
+use Rattle.shop.specs.code.Reach.{reached, Ample}
 
 -- ---- rooms
 
@@ -169,18 +170,6 @@ reached-is n starts columns values e f = rw (e, f)
 -- numbers decoded into an array for few: no more than it holds, and all if they are few
 pub few-taken : {A : Type 0} (xs : List A) {list : List A} → list ≡ take fewCells xs → length list ≤ fewCells
 few-taken xs e = rw (e, length-take fewCells xs) (omega arith)
-
-pub few-whole : {A : Type 0} (f : List ℕ → A) (bytes : List ℕ) {list : List A} → IsFew bytes → list ≡ take fewCells (decoded f 4 bytes) → list ≡ take maxCells (decoded f 4 bytes)
-few-whole f bytes h e =
-    let size = length-decoded f 4 bytes in
-    e ∙ take-all fewCells (decoded f 4 bytes) (omega (arith, size)) ∙ sym (take-all maxCells (decoded f 4 bytes) (omega (arith, size)))
-
-pub all-few : (w x y z : List ℕ) {p q r s : Bool} → p ≡ leb (length w / 4) fewCells → q ≡ leb (length x / 4) fewCells → r ≡ leb (length y / 4) fewCells → s ≡ leb (length z / 4) fewCells
-    → p && q && r && s ≡ true → IsFew w × IsFew x × IsFew y × IsFew z
-all-few w x y z {p} {q} {r} {s} ep eq er es h =
-    let three = and-left (p && q && r) s h in
-    let two = and-left (p && q) r three in
-    (leb-true (length w / 4) fewCells (sym ep ∙ and-left p q two), leb-true (length x / 4) fewCells (sym eq ∙ and-right p q two), leb-true (length y / 4) fewCells (sym er ∙ and-right (p && q) r three), leb-true (length z / 4) fewCells (sym es ∙ and-right (p && q && r) s h))
 
 -- ---- lists made beside the lent ones
 

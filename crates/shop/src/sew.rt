@@ -3,6 +3,8 @@ use base::Verdict;
 use base::numbers::least;
 use base::numbers::wide;
 use joined::join;
+use lent::few::FEW_CELLS;
+use lent::few::are_few;
 use lent::lists::load_signed;
 use lent::lists::load_unsigned;
 use lent::word::word_of;
@@ -10,19 +12,14 @@ use matrix::limits::MAX_CELLS;
 use matrix::limits::MAX_STARTS;
 use words::store::store_i32;
 use words::store::store_u32;
-ghost use mathlib.Core.Path.{_≡_};
 ghost use Prim.Native.Nat.{_/_};
-ghost use lib.Dec.{leb};
 ghost use lib.ListN.{length};
 ghost use Rattle.matrix.specs.Matrix.{matrixOf};
 ghost use Rattle.words.specs.LittleEndian.{unsigned};
 ghost use Rattle.lent.specs.Bytes.{matrixIn};
+ghost use Rattle.lent.specs.code.Few.{IsFew};
 ghost use Rattle.shop.specs.Lent.{JoinAnswered};
-ghost use Rattle.shop.specs.code.Reach.{fewCells, reached, IsFew, Ample};
-
-// Nets with no more columns and values go into shorter arrays: an array is filled with zeros first, whatever it is to
-// hold.
-const FEW_CELLS: usize = 16384;
+ghost use Rattle.shop.specs.code.Reach.{reached, Ample};
 
 // The nets and the places are decoded. The joined net is made in arrays that have room for it, as far as the lent lists
 // have; then it is stored.
@@ -158,13 +155,6 @@ fn join_any(
     )
 }
 
-// Whether columns or values, of four bytes each, are few.
-fn is_few(list: &[u8]) -> bool
-    ensures { λ r. ⌜ r ≡ leb (length (now (list .entry)) / 4) fewCells ⌝ }
-{
-    list.len() / 4 <= FEW_CELLS
-}
-
 pub fn join_in(
     n1: u32,
     row_starts1: &[u8],
@@ -187,7 +177,7 @@ pub fn join_in(
     let starts1 = load_unsigned(row_starts1, &mut first_starts);
     let starts2 = load_unsigned(row_starts2, &mut second_starts);
     let numbers = load_unsigned(places, &mut place_list);
-    if is_few(columns1) & is_few(values1) & is_few(columns2) & is_few(values2) {
+    if are_few(columns1, values1) & are_few(columns2, values2) {
         return join_few(
             n1,
             starts1,

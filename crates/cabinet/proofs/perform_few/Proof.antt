@@ -1,8 +1,7 @@
 -- `perform_few` meets its contract: the lists are decoded whole.
-use mathlib.Core.Path.{_∙_}
 use borrow.Author.Needs.{needs}
 use Rattle.words.specs.LittleEndian.{number, signedNumber}
-use Rattle.cabinet.proofs.ShortLists.{short-whole}
+use Rattle.lent.proofs.Whole.{few-whole}
 use Rattle.cabinet.proofs.perform_few.Statement.{statement}
 use Rattle.cabinet.proofs.perform_few.Tie as tie
 
@@ -13,7 +12,7 @@ returns c =
     let columns = values .before .before in
     let s = columns .before .before .before .before .before .before .before .before .before .before .before .before in
     let a = s .args in
-    p .perform-on .ensures (a .columns .now) (a .values .now) (columns .load-unsigned .ensures ∙ short-whole number (a .columns .now) (s .pre .1)) (values .load-signed .ensures ∙ short-whole (signedNumber 4) (a .values .now) (s .pre .2))
+    p .perform-on .ensures (a .columns .now) (a .values .now) (few-whole number (a .columns .now) (s .pre .1) (columns .load-unsigned .ensures)) (few-whole (signedNumber 4) (a .values .now) (s .pre .2) (values .load-signed .ensures))
 
 pub perform-few-spec : {M : Type 1} → statement M
 perform-few-spec =

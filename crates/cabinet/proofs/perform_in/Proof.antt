@@ -6,7 +6,7 @@ use Rattle.cabinet.proofs.perform_in.Tie as tie
 perform-few-requires : tie.Need-perform-few-requires
 perform-few-requires c κs =
     let r = c .before .before .before in
-    let h = r .are-short .ensures (c .before .before .if1 .taken) in
+    let h = r .are-few .ensures (c .before .before .if1 .taken) in
     (r .before .before .before .before .before .before .before .before .before .before .before .pre, h .0, h .1)
 
 returns : tie.Need-returns

@@ -2,7 +2,8 @@
 use borrow.Author.Needs.{needs}
 use native.Mathlib.Omega.{arith}
 use Rattle.words.specs.LittleEndian.{number, signedNumber, unsigned}
-use Rattle.shop.proofs.Joins.{cells-decoded, reached-is, few-taken, few-whole}
+use Rattle.lent.proofs.Whole.{few-whole}
+use Rattle.shop.proofs.Joins.{cells-decoded, reached-is, few-taken}
 use Rattle.shop.proofs.sew.join_few.Statement.{statement}
 use Rattle.shop.proofs.sew.join_few.Tie as tie
 

@@ -3,12 +3,13 @@ use borrow.Author.Needs.{needs}
 use Prim.Native.Nat.{ℕ}
 use mathlib.Core.Path.{refl}
 use mathlib.Core.List.{List}
+use Rattle.base.proofs.Booleans.{and-left, and-right}
 use Rattle.words.specs.LittleEndian.{unsigned}
 use Rattle.lent.specs.Bytes.{matrixIn}
 use Rattle.lent.proofs.Loads.{loaded-matrix}
 use Rattle.shop.specs.Lent.{JoinAnswered}
 use Rattle.shop.specs.code.Reach.{reached}
-use Rattle.shop.proofs.Joins.{places-decoded, nets-decoded, all-few}
+use Rattle.shop.proofs.Joins.{places-decoded, nets-decoded}
 use Rattle.shop.proofs.sew.join_in.Statement.{statement}
 use Rattle.shop.proofs.sew.join_in.Tie as tie
 
@@ -28,18 +29,17 @@ module _ (w : tie.After-load-unsigned3) where
 
 join-few-requires : tie.Need-join-few-requires
 join-few-requires c κs =
-    let last = c .before .before .before .before in
-    let third = last .before in
-    let second = third .before in
+    let second = c .before .before .before .before in
     let first = second .before in
-    let a = begun (first .before) .args in
-    all-few (a .columns1 .now) (a .values1 .now) (a .columns2 .now) (a .values2 .now) (first .is-few .ensures) (second .is-few2 .ensures) (third .is-few3 .ensures) (last .is-few4 .ensures) (c .before .before .before .if1 .taken)
+    let f = first .are-few .ensures (and-left (first .are-few .result) (second .are-few2 .result) (c .before .before .before .if1 .taken)) in
+    let g = second .are-few2 .ensures (and-right (first .are-few .result) (second .are-few2 .result) (c .before .before .before .if1 .taken)) in
+    (f .0, f .1, g .0, g .1)
 
 returns : tie.Need-returns
-returns c = answered (c .before .before .before .before .before .before .before .before .before .before .before .before .before .before .before .before .before .before) (c .before .before .before .before .before .before .before .before .before .join-few .ensures)
+returns c = answered (c .before .before .before .before .before .before .before .before .before .before .before .before .before .before .before .before) (c .before .before .before .before .before .before .before .before .before .join-few .ensures)
 
 returns-2 : tie.Need-returns-2
-returns-2 c = answered (c .before .before .before .before .before .before .before .before .before .before .before .before .before .before .before .before .before .before) (c .before .before .before .before .before .before .before .before .before .join-any .ensures)
+returns-2 c = answered (c .before .before .before .before .before .before .before .before .before .before .before .before .before .before .before .before) (c .before .before .before .before .before .before .before .before .before .join-any .ensures)
 
 pub join-in-spec : {M : Type 1} → statement M
-join-in-spec = tie.close (tie.spec (search needs) (search needs) (search needs) (search needs) (search needs) (search needs) (search needs) (search needs) (search needs) (search needs) join-few-requires (search needs) (search needs) (search needs) returns (search needs) (search needs) (search needs) (search needs) returns-2)
+join-in-spec = tie.close (tie.spec (search needs) (search needs) (search needs) (search needs) (search needs) (search needs) (search needs) (search needs) join-few-requires (search needs) (search needs) (search needs) returns (search needs) (search needs) (search needs) (search needs) returns-2)
