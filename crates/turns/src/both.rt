@@ -1,16 +1,15 @@
 // The lists of both crews, one after the other, and a pick on them: its byte is 16 × crew + worker.
 use crate::turn::begin;
-use crate::turn::refused_name;
+use base::CREWLESS;
+use base::STRANGER;
 use matrix::limits::MAX_ROWS;
 use plan::MAX_GROUPS;
 use plan::MAX_WORKERS;
-use plan::fields::WIDTH;
 use steps::NONE;
 use steps::access;
 use tables::FIRSTS;
 use tables::MAX_UPDATES;
-use waits::blocked_groups;
-use waits::next_ends;
+use waits::find;
 use waits::renew;
 ghost use mathlib.Core.Path.{_≡_};
 ghost use mathlib.Core.Bool.{false};
@@ -32,34 +31,20 @@ ghost use Rattle.turns.specs.code.Both.{both, statesIn, Begun, AccessFor
 // How many crews there are.
 pub(crate) const CREWS: usize = 2;
 
-// Each crew's groups that are blocked by its counts.
-pub(crate) fn blocked_for(
+// Finds who is blocked in each crew's run, and the next stops.
+pub(crate) fn find_for(
     groups: &[u32],
     ends: &[u32; MAX_GROUPS],
     made: &[[u32; MAX_WORKERS]; CREWS],
-) -> [[u8; MAX_GROUPS]; CREWS]
-    requires { ⌜ Recorded (length (now groups) / width) (now groups) ⌝ }
-    ensures { λ r. ⌜ ((c : Crew) → Blocks (length (now (groups .entry)) / width) (now (groups .entry)) (now (ends .entry)) (ownOf (both (now (made .entry))) c) (ownOf (both r) c)) ⌝ }
+    blocks: &mut [[u8; MAX_GROUPS]; CREWS],
+    stops: &mut [[u32; MAX_WORKERS]; CREWS],
+)
+    requires { ⌜ Recorded (length (now groups) / width) (now groups) × (1 < length (now blocks)) × (1 < length (now stops)) ⌝ }
+    ensures { λ _. ⌜ ((c : Crew) → Blocks (length (now (groups .entry)) / width) (now (groups .entry)) (now (ends .entry)) (ownOf (both (now (made .entry))) c) (ownOf (both (now (blocks .exit))) c)
+        × Ahead (length (now (groups .entry)) / width) (now (groups .entry)) (now (ends .entry)) (ownOf (both (now (made .entry))) c) (ownOf (both (now (stops .exit))) c)) ⌝ }
 {
-    let count = groups.len() / WIDTH;
-    let of0 = blocked_groups(groups, count, ends, &made[0]);
-    let of1 = blocked_groups(groups, count, ends, &made[1]);
-    [of0, of1]
-}
-
-// Each crew's next stops.
-pub(crate) fn stops_for(
-    groups: &[u32],
-    ends: &[u32; MAX_GROUPS],
-    made: &[[u32; MAX_WORKERS]; CREWS],
-) -> [[u32; MAX_WORKERS]; CREWS]
-    requires { ⌜ Recorded (length (now groups) / width) (now groups) ⌝ }
-    ensures { λ r. ⌜ ((c : Crew) → Ahead (length (now (groups .entry)) / width) (now (groups .entry)) (now (ends .entry)) (ownOf (both (now (made .entry))) c) (ownOf (both r) c)) ⌝ }
-{
-    let count = groups.len() / WIDTH;
-    let of0 = next_ends(groups, count, ends, &made[0]);
-    let of1 = next_ends(groups, count, ends, &made[1]);
-    [of0, of1]
+    find(groups, ends, &made[0], &mut blocks[0], &mut stops[0]);
+    find(groups, ends, &made[1], &mut blocks[1], &mut stops[1]);
 }
 
 // Has the update of a pick at hand, unless the pick is refused: 0, or why it is. What the worker has at hand for the
@@ -88,12 +73,14 @@ pub(crate) fn begin_for(
         (λ c. updateNext (now (first .entry)) (now (row .entry)) (now (begins .entry)) (now (parts .entry)) (ownOf (both (now (displaced .entry))) c) (now (at .entry)) (now (beside .entry)))
         (both (now (made .entry))) who workers r (both (now (targets .entry))) (both (now (adds .entry))) (both (now (targets .exit))) (both (now (adds .exit))) ⌝ }
 {
-    let why = refused_name(who, workers);
-    if why != 0 {
-        return why;
+    if 2 * MAX_WORKERS <= who {
+        return CREWLESS;
     }
     let c = who / MAX_WORKERS;
     let w = who % MAX_WORKERS;
+    if workers <= w {
+        return STRANGER;
+    }
     targets[1 - c][w] = NONE;
     begin(
         &made[c],

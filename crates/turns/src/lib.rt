@@ -6,9 +6,8 @@ mod turn;
 use both::CREWS;
 use both::access_for;
 use both::begin_for;
-use both::blocked_for;
+use both::find_for;
 use both::renew_for;
-use both::stops_for;
 use layout::lay;
 use matrix::limits::MAX_ROWS;
 use plan::MAX_GROUPS;
@@ -123,8 +122,9 @@ impl Crews {
         let mut made = self.counts();
         let mut held = self.numbers();
         let whole = record_at(groups, 0);
-        let mut blocks = blocked_for(groups, ends, &made);
-        let mut stops = stops_for(groups, ends, &made);
+        let mut blocks = [[0u8; MAX_GROUPS]; CREWS];
+        let mut stops = [[0u32; MAX_WORKERS]; CREWS];
+        find_for(groups, ends, &made, &mut blocks, &mut stops);
         let mut targets = [[NONE; MAX_WORKERS]; CREWS];
         let mut adds = [[0i64; MAX_WORKERS]; CREWS];
         for k in 0..schedule.len() {

@@ -1,8 +1,6 @@
 // One pick for one of two crews.
 use crate::inside::is_inside;
-use base::CREWLESS;
 use base::ELSEWHERE;
-use base::STRANGER;
 use matrix::limits::MAX_ROWS;
 use plan::MAX_GROUPS;
 use plan::MAX_WORKERS;
@@ -19,21 +17,6 @@ ghost use Rattle.crews.specs.Crews.{unlessAway};
 ghost use Rattle.steps.specs.code.Steps.{updateNext, StepTables};
 ghost use Rattle.steps.specs.code.AtHand.{AtHand, Entered};
 ghost use Rattle.turns.specs.code.Inside.{causeAt};
-ghost use Rattle.turns.specs.code.Turned.{misnamed};
-
-// Why a pick's byte is refused by itself: it names no crew, or no worker of the plan; 0 if it names both.
-pub(crate) fn refused_name(byte: usize, workers: usize) -> u32
-    ensures { λ r. ⌜ r ≡ misnamed byte workers ⌝ }
-{
-    if 2 * MAX_WORKERS <= byte {
-        return CREWLESS;
-    }
-    if workers <= byte % MAX_WORKERS {
-        STRANGER
-    } else {
-        0
-    }
-}
 
 // Why a pick of a worker that is inside the other crew's row is refused.
 fn elsewhere(why: u32) -> u32

@@ -134,6 +134,23 @@ pub fn next_ends(
     stops
 }
 
+// Finds which groups are blocked by these counts, and each worker's next stop.
+pub fn find(
+    groups: &[u32],
+    ends: &[u32; MAX_GROUPS],
+    made: &[u32; MAX_WORKERS],
+    blocks: &mut [u8; MAX_GROUPS],
+    stops: &mut [u32; MAX_WORKERS],
+)
+    requires { ⌜ Recorded (length (now groups) / width) (now groups) ⌝ }
+    ensures { λ _. ⌜ Blocks (length (now (groups .entry)) / width) (now (groups .entry)) (now (ends .entry)) (now (made .entry)) (now (blocks .exit))
+        × Ahead (length (now (groups .entry)) / width) (now (groups .entry)) (now (ends .entry)) (now (made .entry)) (now (stops .exit)) ⌝ }
+{
+    let count = groups.len() / WIDTH;
+    *blocks = blocked_groups(groups, count, ends, made);
+    *stops = next_ends(groups, count, ends, made);
+}
+
 // After an access of worker w: if its count has reached its stop, finds anew which groups are blocked, and each worker's
 // next stop. Whether it did.
 pub fn renew(
@@ -153,8 +170,6 @@ pub fn renew(
     if made[w] < stops[w] {
         return false;
     }
-    let count = groups.len() / WIDTH;
-    *blocks = blocked_groups(groups, count, ends, made);
-    *stops = next_ends(groups, count, ends, made);
+    find(groups, ends, made, blocks, stops);
     true
 }

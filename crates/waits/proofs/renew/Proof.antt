@@ -12,21 +12,17 @@ use Rattle.waits.proofs.renew.Tie as tie
 returns : tie.Need-returns
 returns c = let a = c .before .before .before .before in (λ before e s. rw e (kept (a .args .w) (a .pre .0) (rw e at (c .if1 .taken)) s), λ q. refl)
 
-blocked-groups-requires : tie.Need-blocked-groups-requires
-blocked-groups-requires c κs = c .before .before .before .before .pre .1
-
-next-ends-requires : tie.Need-next-ends-requires
-next-ends-requires c κs = c .before .before .before .before .before .pre .1
+find-requires : tie.Need-find-requires
+find-requires c κs = c .before .before .before .before .before .before .pre .1
 
 -- .. or are found anew
 returns-2 : tie.Need-returns-2
 returns-2 c = (
-  λ before e s. record { long = ap length e ∙ onward-length before _ ∙ s .long; blocked = c .before .blocked-groups .ensures; ahead = c .next-ends .ensures },
+  λ before e s. record { long = ap length e ∙ onward-length before _ ∙ s .long; blocked = c .find .ensures .0; ahead = c .find .ensures .1 },
   λ q. absurd (true≢false q),
 )
 
 pub renew-spec : {M : Type 1} → statement M
 renew-spec =
     tie.close
-    (tie.spec (search needs) (search needs) (search needs) (search needs) returns blocked-groups-requires next-ends-requires
-    returns-2)
+    (tie.spec (search needs) (search needs) (search needs) (search needs) returns find-requires returns-2)

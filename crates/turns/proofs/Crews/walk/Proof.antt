@@ -81,11 +81,8 @@ numbers-requires c κs = search needs
 record-at-requires : tie.Need-record-at-requires Inv-loop μ-loop
 record-at-requires c κs = let R = c .before .before .before .before .pre .1 in omega (arith, R .long, R .some)
 
-blocked-for-requires : tie.Need-blocked-for-requires Inv-loop μ-loop
-blocked-for-requires c κs = start (c .before) .pre .1
-
-stops-for-requires : tie.Need-stops-for-requires Inv-loop μ-loop
-stops-for-requires c κs = start (c .before .before .before) .pre .1
+find-for-requires : tie.Need-find-for-requires Inv-loop μ-loop
+find-for-requires c κs = (start (c .before .before .before) .pre .1, search needs, search needs)
 
 loop-holds : tie.Need-loop-holds Inv-loop μ-loop
 loop-holds c =
@@ -97,7 +94,7 @@ loop-holds c =
       refl,
       ap length (r .before .numbers .ensures),
       sharing-start (crew r) (ap (λ (xs : List (List ℕ)). length (getD xs 0 [])) made ∙ made0-long s) (ap (λ (xs : List (List ℕ)). length (getD xs 1 [])) made ∙ made1-long s)
-          (c .before .before .blocked-for .ensures) (c .stops-for .ensures) (search needs) (search needs),
+          (λ d. c .find-for .ensures d .0) (λ d. c .find-for .ensures d .1) (search needs) (search needs),
     )
 
 -- ---- a pick that is refused
@@ -248,8 +245,7 @@ walk-spec =
     counts-requires
     numbers-requires
     record-at-requires
-    blocked-for-requires
-    stops-for-requires
+    find-for-requires
     loop-holds
     shared-slice-read-who
     cast-who

@@ -1,38 +1,46 @@
 -- `begin_for` meets its contract.
-use mathlib.Core.Path.{_≡_, sym, ap, _∙_}
+use mathlib.Core.Path.{_≡_, refl, sym, ap, _∙_}
 use mathlib.Core.List.{List, []}
 use Prim.Native.Nat.{ℕ, _-_, _/_, _%_, _<_}
 use native.Mathlib.Omega.{arith}
 use lib.ListN.{length, getD, set, length-set}
 use lib.Seq.{getD-set-other}
+use borrow.Author.Tests.{le-leb, lt-leb}
 use borrow.Author.Needs.{needs}
 use Rattle.crews.specs.Crews.{crew1, other}
 use Rattle.turns.specs.code.Turned.{misnamed}
 use Rattle.turns.proofs.BothLists.{crew-of, two-there, own-at, other-number, put-own, put-other}
-use Rattle.turns.proofs.CrewTurns.{named-low}
 use Rattle.turns.proofs.both.begin_for.Statement.{statement}
 use Rattle.turns.proofs.both.begin_for.Tie as tie
 
-refused-name-requires : tie.Need-refused-name-requires
-refused-name-requires c κs = search needs
+-- ---- a byte that names no crew, or no worker of the plan
+
+crewless : (c : tie.Then1) → misnamed (c .before .args .who) (c .before .args .workers) ≡ 18
+crewless c = rw (le-leb _ _ (c .if1 .taken)) refl
 
 returns : tie.Need-returns
-returns c =
-    let e = c .before .refused-name .ensures in
-    record {
-      halted = λ f. e;
-      entered = λ z d n. absurd (c .if1 .taken (e ∙ z));
-      gone = λ z d n. absurd (c .if1 .taken (e ∙ z));
-      adds-kept = λ z d n. absurd (c .if1 .taken (e ∙ z));
-    }
+returns c = record {
+  halted = λ f. sym (crewless c);
+  entered = λ z. absurd (omega (arith, crewless c));
+  gone = λ z. absurd (omega (arith, crewless c));
+  adds-kept = λ z. absurd (omega (arith, crewless c));
+}
 
--- nothing is wrong with the byte
-none : (c : tie.Else1) → misnamed (c .before .before .args .who) (c .before .before .args .workers) ≡ 0
-none c = let z : c .before .refused-name .result ≡ 0 = search needs in sym (c .before .refused-name .ensures) ∙ z
+stranger : (c : tie.Then2) → misnamed (c .before .before .args .who) (c .before .before .args .workers) ≡ 10
+stranger c = rw (lt-leb _ _ (c .before .if1 .left), le-leb _ _ (c .if2 .taken)) refl
 
--- so it names a crew, and a worker
-named : (c : tie.Else1) → c .before .before .args .who < 32
-named c = named-low _ _ (none c) .0
+returns-2 : tie.Need-returns-2
+returns-2 c = record {
+  halted = λ f. sym (stranger c);
+  entered = λ z. absurd (omega (arith, stranger c));
+  gone = λ z. absurd (omega (arith, stranger c));
+  adds-kept = λ z. absurd (omega (arith, stranger c));
+}
+
+-- ---- one that names both
+
+none : (c : tie.Else2) → misnamed (c .before .before .args .who) (c .before .before .args .workers) ≡ 0
+none c = rw (lt-leb _ _ (c .before .if1 .left), lt-leb _ _ (c .if2 .left)) refl
 
 -- there is a list for each crew
 targets-two : (s : tie.Start) → 1 < length (s .args .targets .now)
@@ -48,66 +56,12 @@ given s = let a = s .args in set (a .targets .now) (1 - a .who / 16) (set (getD 
 given-two : (s : tie.Start) → 1 < length (given s)
 given-two s = rw length-set (targets-two s)
 
-sub-targets : tie.Need-sub-targets
-sub-targets c = let h = named c in search needs
-
-mul-targets : tie.Need-mul-targets
-mul-targets c = search needs
-
-mul-targets-2 : tie.Need-mul-targets-2
-mul-targets-2 c = search needs
-
-index-1-targets : tie.Need-index-1-targets
-index-1-targets c = search needs
-
-index-2-targets : tie.Need-index-2-targets
-index-2-targets c = search needs
-
-mul-begin : tie.Need-mul-begin
-mul-begin c = let h = named c in search needs
-
-index-1-begin : tie.Need-index-1-begin
-index-1-begin c = let h = named c in search needs
-
-sub-begin : tie.Need-sub-begin
-sub-begin c = let h = named (c .before) in search needs
-
-mul-begin-2 : tie.Need-mul-begin-2
-mul-begin-2 c = search needs
-
-index-1-begin-2 : tie.Need-index-1-begin-2
-index-1-begin-2 c = search needs
-
-mul-begin-3 : tie.Need-mul-begin-3
-mul-begin-3 c = let h = named (c .before .before) in search needs
-
-index-1-begin-3 : tie.Need-index-1-begin-3
-index-1-begin-3 c = let h = named (c .before .before) in search needs
-
-mul-begin-4 : tie.Need-mul-begin-4
-mul-begin-4 c = let h = named (c .before .before .before) in search needs
-
-index-1-begin-4 : tie.Need-index-1-begin-4
-index-1-begin-4 c = let h = named (c .before .before .before) in search needs
-
-mul-begin-5 : tie.Need-mul-begin-5
-mul-begin-5 c = let h = named (c .before .before .before .before) in search needs
-
-index-1-begin-5 : tie.Need-index-1-begin-5
-index-1-begin-5 c = let h = named (c .before .before .before .before) in search needs
-
-mul-begin-6 : tie.Need-mul-begin-6
-mul-begin-6 c = let h = named (c .before .before .before .before .before) in search needs
-
-index-1-begin-6 : tie.Need-index-1-begin-6
-index-1-begin-6 c = let h = named (c .before .before .before .before .before) in search needs
-
 begin-requires : tie.Need-begin-requires
 begin-requires c κs =
-    let e = c .before .before .before .before .before .before in
-    let s = e .before .before in
+    let e = c .before .before .before .before .before .before .before in
+    let s = e .before in
     let a = s .args in
-    let x = crew-of (a .who) (named e) in
+    let x = crew-of (a .who) (e .if1 .left) in
     let d = x .0 in
     let n = x .1 in (
       omega arith,
@@ -117,15 +71,15 @@ begin-requires c κs =
         own-at (a .made .now) (other d) (other-number (a .made .now) d n),
         own-at (a .displaced .now) d n,
         own-at (a .made .now) d n,
-        getD-set-other (a .targets .now) (1 - a .who / 16) (a .who / 16) _ [] (λ q. omega (arith, named e)),
+        getD-set-other (a .targets .now) (1 - a .who / 16) (a .who / 16) _ [] (λ q. omega (arith, e .if1 .left)),
         own-at (a .targets .now) d n,
         own-at (a .adds .now) d n,
       )
           (s .pre .1 d),
     )
 
-returns-2 : tie.Need-returns-2
-returns-2 c =
+returns-3 : tie.Need-returns-3
+returns-3 c =
     let e = c .before .before .before .before .before .before .before in
     let s = e .before .before in
     let a = s .args in
@@ -150,26 +104,6 @@ returns-2 c =
 pub begin-for-spec : {M : Type 1} → statement M
 begin-for-spec =
     tie.close
-    (tie.spec
-    refused-name-requires
-    returns
-    sub-targets
-    mul-targets
-    mul-targets-2
-    index-1-targets
-    index-2-targets
-    mul-begin
-    index-1-begin
-    sub-begin
-    mul-begin-2
-    index-1-begin-2
-    mul-begin-3
-    index-1-begin-3
-    mul-begin-4
-    index-1-begin-4
-    mul-begin-5
-    index-1-begin-5
-    mul-begin-6
-    index-1-begin-6
-    begin-requires
-    returns-2)
+    (tie.spec (search needs) returns returns-2 (search needs) (search needs) (search needs) (search needs) (search needs)
+    (search needs) (search needs) (search needs) (search needs) (search needs) (search needs) (search needs)
+    (search needs) (search needs) (search needs) (search needs) (search needs) (search needs) begin-requires returns-3)
