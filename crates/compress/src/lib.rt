@@ -1,3 +1,3 @@
-// Entries in any order, compressed into full rows by two counting sorts.
-mod buckets;
+// Entries in any order, compressed into full rows: each cell is put at the end of its row.
+mod cells;
 pub mod rows;

@@ -111,7 +111,10 @@ module _ (a b : Matrix) (places : List ℕ) (n : ℕ) (w : Sewing a b places n) 
 
   -- what the sort into full rows is handed
   pub entries : m ≤ maxEntries → Arrays rs cs vs → Entries rs cs vs m n
-  entries h t = record { rows = w .few; count = h; arrays = t; inside = λ k l. (c .inside k l .1, omega (arith, c .inside k l .0, c .inside k l .1)) }
+  entries h t = record {
+    places = record { rows = w .few; count = h; long-rows = omega (arith, t .rows); long-columns = omega (arith, t .columns); inside = λ k l. (c .inside k l .1, omega (arith, c .inside k l .0, c .inside k l .1)) };
+    long-values = omega (arith, t .values);
+  }
 
   module _ (h : m ≤ maxEntries) {starts₀ columns₀ : List ℕ} {values₀ : List ℤ} {r : Verdict} {starts′ columns′ : List ℕ} {values′ : List ℤ} (p : Placed (matrixText n (tripletsOf m rs cs vs)) starts₀ columns₀ values₀ r starts′ columns′ values′) where
     pub placed-joins : Answers a b places starts₀ columns₀ values₀ (replyOf r) starts′ columns′ values′

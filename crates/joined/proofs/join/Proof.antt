@@ -85,6 +85,15 @@ returns-6 c =
     let w = sewing (c .before .before .before .before .before .before) in
     refused-joins (one s) (two s) (s .args .places .now) (s .args .starts .now) (s .args .columns .now) (s .args .values .now) _ _ (unlimited (one s) (two s) (s .args .places .now) (s .args .starts .now) (s .args .columns .now) (s .args .values .now) (w .first) (w .second) (w .placed) (c .before .gather .ensures .past (c .if6 .taken)))
 
+slice-aggregate-place-rows : tie.Need-slice-aggregate-place-rows
+slice-aggregate-place-rows c = let e = c .before in sym (e .before .gather .ensures .all (e .if6 .left) .1 .rows)
+
+slice-aggregate-place-rows-2 : tie.Need-slice-aggregate-place-rows-2
+slice-aggregate-place-rows-2 c = let e = c .before .before in sym (e .before .gather .ensures .all (e .if6 .left) .1 .columns)
+
+slice-aggregate-place-rows-3 : tie.Need-slice-aggregate-place-rows-3
+slice-aggregate-place-rows-3 c = let e = c .before .before .before in sym (e .before .gather .ensures .all (e .if6 .left) .1 .values)
+
 place-rows-requires : tie.Need-place-rows-requires
 place-rows-requires c κs =
     let e = c .before .before .before .before .before .before in
@@ -102,5 +111,5 @@ returns-7 c =
 pub join-spec : {M : Type 1} → statement M
 join-spec =
     tie.close
-    (tie.spec (search needs) returns (search needs) returns-2 returns-3 (search needs) add-n put-tenants-requires returns-4 returns-5 gather-requires returns-6 place-rows-requires
+    (tie.spec (search needs) returns (search needs) returns-2 returns-3 (search needs) add-n put-tenants-requires returns-4 returns-5 gather-requires returns-6 slice-aggregate-place-rows slice-aggregate-place-rows-2 slice-aggregate-place-rows-3 place-rows-requires
     (search needs) (search needs) (search needs) returns-7)

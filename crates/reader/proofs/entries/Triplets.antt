@@ -10,6 +10,7 @@ use lib.IntN.{ℤ, pos}
 use lib.ListN.{length, getD, set, length-append}
 use lib.Seq.{getD-set-same, getD-set-other}
 use Rattle.base.proofs.Each.{Each}
+use Rattle.matrix.specs.Limits.{maxEntries}
 use Rattle.market.specs.Parse.{Triplet, triplet}
 use Rattle.compress.specs.code.Arrays.{tripletsOf, Arrays}
 use Rattle.compress.specs.code.Rows.{Entries}
@@ -63,4 +64,9 @@ triplets-inner n (suc m) rs cs vs a k h =
 
 -- an accepted text's entries in arrays
 pub accepted-entries : (n m : ℕ) (rs cs : List ℕ) (vs : List ℤ) → Accepted n (tripletsOf m rs cs vs) → Arrays rs cs vs → Entries rs cs vs m n
-accepted-entries n m rs cs vs ok long = record { rows = ok .rows; count = omega (arith, length-triplets m rs cs vs, ok .count); arrays = long; inside = triplets-inner n m rs cs vs (ok .inner) }
+accepted-entries n m rs cs vs ok long =
+    let few : m ≤ maxEntries = omega (arith, length-triplets m rs cs vs, ok .count) in
+    record {
+      places = record { rows = ok .rows; count = few; long-rows = omega (arith, long .rows); long-columns = omega (arith, long .columns); inside = triplets-inner n m rs cs vs (ok .inner) };
+      long-values = omega (arith, long .values);
+    }

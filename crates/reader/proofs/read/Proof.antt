@@ -65,6 +65,9 @@ read-spec =
     parse-text-requires
     enum-known-found
     enum-known-found-2
+    (search needs)
+    (search needs)
+    (search needs)
     place-rows-requires
     returns
     same-length
