@@ -5,11 +5,12 @@ use Prim.Native.Nat.{ℕ, _+_, _/_, _≤_, min}
 use native.Mathlib.Nat.{min-comm}
 use native.Mathlib.Omega.{arith}
 use lib.IntN.{ℤ}
+use lib.Dec.{leb}
 use lib.ListN.{length, getD, take, length-map}
 use lib.Seq.{length-take-le}
-use borrow.Author.Tests.{leb-true}
+use borrow.Author.Tests.{leb-true, le-leb}
 use Rattle.base.specs.Replies.{Reply, accepted, refused, Check, roomFor, inTurn, lent}
-use Rattle.base.proofs.Booleans.{leb-min}
+use Rattle.base.proofs.Booleans.{both-ways, leb-min}
 use Rattle.base.proofs.Replies.{accepted-all, lent-accepted, lent-refused}
 use Rattle.matrix.proofs.Entries.{few-entries}
 use Rattle.market.specs.Parse.{Triplet, Parsed, matrixText, rejected, parse}
@@ -22,6 +23,7 @@ use Rattle.words.specs.LittleEndian.{bytesOf, signedBytesOf, unsignedBytes, sig
 use Rattle.matrix.specs.code.Room.{maxStarts, maxCells}
 use Rattle.lent.specs.Word.{word}
 use Rattle.texts.specs.Lent.{readIn, ReadAnswered}
+use Rattle.texts.specs.code.Few.{Ample}
 use Rattle.lent.proofs.Answers.{Begins, begins, begins-at, begins-stored}
 
 -- the matrix of an accepted text
@@ -32,19 +34,21 @@ module _ (text : List ℕ) (n : ℕ) (es : List Triplet) (e : parse text ≡ mat
       let end : getD (rowStarts n es) n 0 ≡ length (rowsOf n es) = rw (append-nil (rowStarts n es)) at (rows-end n es []) in
       omega (arith, end, length-rows n es (parse-accepted text n es e .inner), few-entries (ofTriplets n es) (accepted-text .matrix text n es e))
 
--- rooms that are cut to no less than a matrix can need give the same reply
-module _ (text : List ℕ) (a b c x y z : ℕ) (hx : maxStarts ≤ x) (hy : maxCells ≤ y) (hz : maxCells ≤ z) where
+-- a room that is cut to no less than was lent or a matrix can need is as good
+room-same : (f b y : ℕ) → f ≤ maxCells → min b maxCells ≤ y → leb f (min b y) ≡ leb f b
+room-same f b y h g = both-ways (leb f (min b y)) (leb f b) (λ t. le-leb f b (omega (arith, leb-true f (min b y) t))) (λ t. le-leb f (min b y) (omega (arith, leb-true f b t)))
+
+-- so the reply is the same
+module _ (text : List ℕ) (a b c x y z : ℕ) (hx : maxStarts ≤ x) (hy : min b maxCells ≤ y) (hz : min c maxCells ≤ z) where
   room-cut : (n : ℕ) (es : List Triplet) → parse text ≡ matrixText n es → readReply (matrixText n es) (min a x) (min b y) (min c z) ≡ readReply (matrixText n es) a b c
   unfolding readReply
   room-cut n es e =
       let few = full-few text n es e in
       rw (
         min-comm a x,
-        min-comm b y,
-        min-comm c z,
         leb-min (n + 1) x a (omega (arith, parse-accepted text n es e .rows)),
-        leb-min (length (full es)) y b (omega arith),
-        leb-min (length (full es)) z c (omega arith),
+        room-same (length (full es)) b y few hy,
+        room-same (length (full es)) c z few hz,
       )
 
   pub rooms-cut : readReply (parse text) (min a x) (min b y) (min c z) ≡ readReply (parse text) a b c
@@ -95,7 +99,7 @@ module _ (text : List ℕ) (a b c k : ℕ) where
 
 -- the reply of a call to which the first i, j and k numbers of three arrays are lent on
 pub same-reply : (text starts columns : List ℕ) (values : List ℤ) (startBytes columnBytes valueBytes : List ℕ) {i j k : ℕ}
-    → (maxStarts ≤ length starts) × (maxCells ≤ length columns) × (maxCells ≤ length values)
+    → (maxStarts ≤ length starts) × Ample columnBytes (length columns) × Ample valueBytes (length values)
     → i ≡ min (length startBytes / 4) (length starts) → j ≡ min (length columnBytes / 4) (length columns) → k ≡ min (length valueBytes / 4) (length values)
     → readReply (parse text) (length (take i starts)) (length (take j columns)) (length (take k values)) ≡ readIn text startBytes columnBytes valueBytes
 same-reply text starts columns values startBytes columnBytes valueBytes {i} {j} {k} enough ei ej ek =

@@ -8,10 +8,14 @@ use matrix::limits::MAX_STARTS;
 use reader::read;
 use words::store::store_i32;
 use words::store::store_u32;
-ghost use Prim.Native.Nat.{_≤_};
+ghost use Prim.Native.Nat.{_/_, _≤_};
 ghost use lib.ListN.{length};
 ghost use Rattle.texts.specs.Lent.{ReadAnswered};
-ghost use Rattle.matrix.specs.code.Room.{maxCells, maxStarts};
+ghost use Rattle.texts.specs.code.Few.{fewCells, Ample};
+ghost use Rattle.matrix.specs.code.Room.{maxStarts};
+
+// The size of smaller arrays for columns and values: they take less time to clear.
+const FEW_CELLS: usize = 16384;
 
 // The matrix is made in starts, columns and values, as far as the lent lists have room; then it is stored.
 fn read_of(
@@ -23,7 +27,7 @@ fn read_of(
     column_bytes: &mut [u8],
     value_bytes: &mut [u8],
 ) -> u64
-    requires { ⌜ (maxStarts ≤ length (now starts)) × (maxCells ≤ length (now columns)) × (maxCells ≤ length (now values)) ⌝ }
+    requires { ⌜ (maxStarts ≤ length (now starts)) × Ample (now «column_bytes») (length (now columns)) × Ample (now «value_bytes») (length (now values)) ⌝ }
     ensures { λ r. ⌜ ReadAnswered (now (text .entry)) (now («start_bytes» .entry)) (now («column_bytes» .entry)) (now («value_bytes» .entry)) r (now («start_bytes» .exit)) (now («column_bytes» .exit)) (now («value_bytes» .exit)) ⌝ }
 {
     let starts_room = least(start_bytes.len() / 4, starts.len());
@@ -46,7 +50,27 @@ fn read_of(
     word_of(answer)
 }
 
-pub fn read_in(text: &[u8], row_starts: &mut [u8], columns: &mut [u8], values: &mut [u8]) -> u64
+// A call whose lists of columns and values have little room.
+fn read_few(text: &[u8], row_starts: &mut [u8], columns: &mut [u8], values: &mut [u8]) -> u64
+    requires { ⌜ (length (now columns) / 4 ≤ fewCells) × (length (now values) / 4 ≤ fewCells) ⌝ }
+    ensures { λ r. ⌜ ReadAnswered (now (text .entry)) (now («row_starts» .entry)) (now (columns .entry)) (now (values .entry)) r (now («row_starts» .exit)) (now (columns .exit)) (now (values .exit)) ⌝ }
+{
+    let mut starts = [0u32; MAX_STARTS];
+    let mut column_list = [0u32; FEW_CELLS];
+    let mut value_list = [0i32; FEW_CELLS];
+    read_of(
+        text,
+        &mut starts,
+        &mut column_list,
+        &mut value_list,
+        row_starts,
+        columns,
+        values,
+    )
+}
+
+// .. or as much as it may.
+fn read_any(text: &[u8], row_starts: &mut [u8], columns: &mut [u8], values: &mut [u8]) -> u64
     ensures { λ r. ⌜ ReadAnswered (now (text .entry)) (now («row_starts» .entry)) (now (columns .entry)) (now (values .entry)) r (now («row_starts» .exit)) (now (columns .exit)) (now (values .exit)) ⌝ }
 {
     let mut starts = [0u32; MAX_STARTS];
@@ -61,4 +85,16 @@ pub fn read_in(text: &[u8], row_starts: &mut [u8], columns: &mut [u8], values: &
         columns,
         values,
     )
+}
+
+pub fn read_in(text: &[u8], row_starts: &mut [u8], columns: &mut [u8], values: &mut [u8]) -> u64
+    ensures { λ r. ⌜ ReadAnswered (now (text .entry)) (now («row_starts» .entry)) (now (columns .entry)) (now (values .entry)) r (now («row_starts» .exit)) (now (columns .exit)) (now (values .exit)) ⌝ }
+{
+    if FEW_CELLS < columns.len() / 4 {
+        return read_any(text, row_starts, columns, values);
+    }
+    if FEW_CELLS < values.len() / 4 {
+        return read_any(text, row_starts, columns, values);
+    }
+    read_few(text, row_starts, columns, values)
 }
