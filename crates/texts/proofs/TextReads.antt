@@ -23,7 +23,7 @@ use Rattle.words.specs.LittleEndian.{bytesOf, signedBytesOf, unsignedBytes, sig
 use Rattle.matrix.specs.code.Room.{maxStarts, maxCells}
 use Rattle.lent.specs.Word.{word}
 use Rattle.texts.specs.Lent.{readIn, ReadAnswered}
-use Rattle.texts.specs.code.Few.{Ample}
+use Rattle.texts.specs.code.Room.{Ample}
 use Rattle.lent.proofs.Answers.{Begins, begins, begins-at, begins-stored}
 
 -- the matrix of an accepted text

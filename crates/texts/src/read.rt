@@ -2,20 +2,19 @@
 use base::Verdict;
 use base::numbers::least;
 use base::numbers::wide;
+use lent::few::FEW_CELLS;
+use lent::few::are_few;
 use lent::word::word_of;
 use matrix::limits::MAX_CELLS;
 use matrix::limits::MAX_STARTS;
 use reader::read;
 use words::store::store_i32;
 use words::store::store_u32;
-ghost use Prim.Native.Nat.{_/_, _≤_};
+ghost use Prim.Native.Nat.{_≤_};
 ghost use lib.ListN.{length};
 ghost use Rattle.texts.specs.Lent.{ReadAnswered};
-ghost use Rattle.texts.specs.code.Few.{fewCells, Ample};
+ghost use Rattle.texts.specs.code.Room.{Ample};
 ghost use Rattle.matrix.specs.code.Room.{maxStarts};
-
-// The size of smaller arrays for columns and values: they take less time to clear.
-const FEW_CELLS: usize = 16384;
 
 // The matrix is made in starts, columns and values, as far as the lent lists have room; then it is stored.
 fn read_of(
@@ -50,30 +49,23 @@ fn read_of(
     word_of(answer)
 }
 
-// A call whose lists of columns and values have little room.
-fn read_few(text: &[u8], row_starts: &mut [u8], columns: &mut [u8], values: &mut [u8]) -> u64
-    requires { ⌜ (length (now columns) / 4 ≤ fewCells) × (length (now values) / 4 ≤ fewCells) ⌝ }
+pub fn read_in(text: &[u8], row_starts: &mut [u8], columns: &mut [u8], values: &mut [u8]) -> u64
     ensures { λ r. ⌜ ReadAnswered (now (text .entry)) (now («row_starts» .entry)) (now (columns .entry)) (now (values .entry)) r (now («row_starts» .exit)) (now (columns .exit)) (now (values .exit)) ⌝ }
 {
     let mut starts = [0u32; MAX_STARTS];
-    let mut column_list = [0u32; FEW_CELLS];
-    let mut value_list = [0i32; FEW_CELLS];
-    read_of(
-        text,
-        &mut starts,
-        &mut column_list,
-        &mut value_list,
-        row_starts,
-        columns,
-        values,
-    )
-}
-
-// .. or as much as it may.
-fn read_any(text: &[u8], row_starts: &mut [u8], columns: &mut [u8], values: &mut [u8]) -> u64
-    ensures { λ r. ⌜ ReadAnswered (now (text .entry)) (now («row_starts» .entry)) (now (columns .entry)) (now (values .entry)) r (now («row_starts» .exit)) (now (columns .exit)) (now (values .exit)) ⌝ }
-{
-    let mut starts = [0u32; MAX_STARTS];
+    if are_few(columns, values) {
+        let mut column_list = [0u32; FEW_CELLS];
+        let mut value_list = [0i32; FEW_CELLS];
+        return read_of(
+            text,
+            &mut starts,
+            &mut column_list,
+            &mut value_list,
+            row_starts,
+            columns,
+            values,
+        );
+    }
     let mut column_list = [0u32; MAX_CELLS];
     let mut value_list = [0i32; MAX_CELLS];
     read_of(
@@ -85,16 +77,4 @@ fn read_any(text: &[u8], row_starts: &mut [u8], columns: &mut [u8], values: &mut
         columns,
         values,
     )
-}
-
-pub fn read_in(text: &[u8], row_starts: &mut [u8], columns: &mut [u8], values: &mut [u8]) -> u64
-    ensures { λ r. ⌜ ReadAnswered (now (text .entry)) (now («row_starts» .entry)) (now (columns .entry)) (now (values .entry)) r (now («row_starts» .exit)) (now (columns .exit)) (now (values .exit)) ⌝ }
-{
-    if FEW_CELLS < columns.len() / 4 {
-        return read_any(text, row_starts, columns, values);
-    }
-    if FEW_CELLS < values.len() / 4 {
-        return read_any(text, row_starts, columns, values);
-    }
-    read_few(text, row_starts, columns, values)
 }

@@ -4,10 +4,6 @@ use Prim.Native.Nat.{ℕ, _/_, _≤_, min}
 use lib.ListN.{length}
 use Rattle.matrix.specs.code.Room.{maxCells}
 
--- lists in bytes with room for no more columns or values have little room
-abbrev pub fewCells : ℕ
-fewCells = 16384
-
--- an array with as much room as such a list, or as every matrix needs
+-- an array with as much room as a list in bytes, or as every matrix needs
 abbrev pub Ample : (bytes : List ℕ) (room : ℕ) → Type 0
 Ample bytes room = min (length bytes / 4) maxCells ≤ room
