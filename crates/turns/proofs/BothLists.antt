@@ -55,3 +55,10 @@ module _ {A : Type 0} (xs : List (List A)) {i : ℕ} (c : Crew) (is : i ≡ crew
       by : (c : Crew) → ownOf (both (set xs (crewNumber c) v)) (other c) ≡ ownOf (both xs) (other c)
       by crew0 = getD-set-other xs 0 1 v [] (λ e. omega arith)
       by crew1 = getD-set-other xs 1 0 v [] (λ e. omega arith)
+
+  pub put-beside : (v : List A) → ownOf (both (set xs (1 - i) v)) c ≡ ownOf (both xs) c
+  put-beside v = rw is (by c)
+    where
+      by : (c : Crew) → ownOf (both (set xs (1 - crewNumber c) v)) c ≡ ownOf (both xs) c
+      by crew0 = getD-set-other xs 1 0 v [] (λ e. omega arith)
+      by crew1 = getD-set-other xs 0 1 v [] (λ e. omega arith)

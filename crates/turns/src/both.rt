@@ -82,6 +82,9 @@ pub(crate) fn begin_for(
         return STRANGER;
     }
     targets[1 - c][w] = NONE;
+    if targets[c][w] < NONE {
+        return 0;
+    }
     begin(
         &made[c],
         w,

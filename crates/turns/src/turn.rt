@@ -4,7 +4,6 @@ use base::ELSEWHERE;
 use matrix::limits::MAX_ROWS;
 use plan::MAX_GROUPS;
 use plan::MAX_WORKERS;
-use steps::NONE;
 use steps::look_up;
 use steps::refusal;
 use tables::FIRSTS;
@@ -50,9 +49,6 @@ pub(crate) fn begin(
         (updateNext (now (first .entry)) (now (row .entry)) (now (begins .entry)) (now (parts .entry)) (now (displaced .entry)) (now (at .entry)) (now (beside .entry)))
         (now (made .entry)) w r (now (targets .exit)) (now (adds .exit)) ⌝ }
 {
-    if targets[w] < NONE {
-        return 0;
-    }
     let why = refusal(made, w, MAX_WORKERS, first, row, leaves, blocks);
     if is_inside(other, w, first, row, begins) {
         return elsewhere(why);

@@ -4,12 +4,12 @@ use mathlib.Core.List.{List, []}
 use Prim.Native.Nat.{ℕ, _-_, _/_, _%_, _<_}
 use native.Mathlib.Omega.{arith}
 use lib.ListN.{length, getD, set, length-set}
-use lib.Seq.{getD-set-other}
 use borrow.Author.Tests.{le-leb, lt-leb}
 use borrow.Author.Needs.{needs}
-use Rattle.crews.specs.Crews.{crew1, other}
+use Rattle.crews.specs.Crews.{Crew, crew1, other, crewNumber, ownOf}
+use Rattle.turns.specs.code.Both.{both}
 use Rattle.turns.specs.code.Turned.{misnamed}
-use Rattle.turns.proofs.BothLists.{crew-of, two-there, own-at, other-number, put-own, put-other}
+use Rattle.turns.proofs.BothLists.{crew-of, two-there, own-at, other-number, put-own, put-other, put-beside}
 use Rattle.turns.proofs.both.begin_for.Statement.{statement}
 use Rattle.turns.proofs.both.begin_for.Tie as tie
 
@@ -56,9 +56,60 @@ given s = let a = s .args in set (a .targets .now) (1 - a .who / 16) (set (getD 
 given-two : (s : tie.Start) → 1 < length (given s)
 given-two s = rw length-set (targets-two s)
 
+gone-other : (s : tie.Start) (d : Crew) → s .args .who / 16 ≡ crewNumber d → let a = s .args in ownOf (both (given s)) (other d) ≡ set (ownOf (both (a .targets .now)) (other d)) (a .who % 16) 4096
+gone-other s d n =
+    let a = s .args in
+    let m = other-number (a .targets .now) d n in
+    put-own (a .targets .now) (other d) m (targets-two s) ∙ ap (λ (xs : List ℕ). set xs (a .who % 16) 4096) (own-at (a .targets .now) (other d) m)
+
+-- its update is at hand
+returns-3 : tie.Need-returns-3
+returns-3 c =
+    let s = c .before .before .before .before in
+    let a = s .args in
+    record {
+      halted = λ f. absurd (f (none (c .before .before)));
+      entered = λ z d n.
+          let l : getD (ownOf (both (a .targets .now)) d) (a .who % 16) 0 < 4096 = rw (own-at (given s) d n, put-beside (a .targets .now) d n _) at (c .if3 .taken) in
+          let h = s .pre .1 d in
+          rw (put-beside (a .targets .now) d n _) (record { told = sym (h .is (a .who % 16) (omega arith) l .free); known = λ q. l; hand = h });
+      gone = λ z d n. gone-other s d n;
+      adds-kept = λ z d n. refl;
+    }
+
+mul-begin-2 : tie.Need-mul-begin-2
+mul-begin-2 c = search needs
+
+index-1-begin-2 : tie.Need-index-1-begin-2
+index-1-begin-2 c = search needs
+
+mul-begin-3 : tie.Need-mul-begin-3
+mul-begin-3 c = search needs
+
+index-1-begin-3 : tie.Need-index-1-begin-3
+index-1-begin-3 c = search needs
+
+mul-begin-4 : tie.Need-mul-begin-4
+mul-begin-4 c = search needs
+
+index-1-begin-4 : tie.Need-index-1-begin-4
+index-1-begin-4 c = search needs
+
+mul-begin-5 : tie.Need-mul-begin-5
+mul-begin-5 c = search needs
+
+index-1-begin-5 : tie.Need-index-1-begin-5
+index-1-begin-5 c = search needs
+
+mul-begin-6 : tie.Need-mul-begin-6
+mul-begin-6 c = search needs
+
+index-1-begin-6 : tie.Need-index-1-begin-6
+index-1-begin-6 c = search needs
+
 begin-requires : tie.Need-begin-requires
 begin-requires c κs =
-    let e = c .before .before .before .before .before .before .before in
+    let e = c .before .before .before .before .before .before .before .before .before in
     let s = e .before in
     let a = s .args in
     let x = crew-of (a .who) (e .if1 .left) in
@@ -71,16 +122,16 @@ begin-requires c κs =
         own-at (a .made .now) (other d) (other-number (a .made .now) d n),
         own-at (a .displaced .now) d n,
         own-at (a .made .now) d n,
-        getD-set-other (a .targets .now) (1 - a .who / 16) (a .who / 16) _ [] (λ q. omega (arith, e .if1 .left)),
-        own-at (a .targets .now) d n,
+        own-at (given s) d n,
+        put-beside (a .targets .now) d n _,
         own-at (a .adds .now) d n,
       )
           (s .pre .1 d),
     )
 
-returns-3 : tie.Need-returns-3
-returns-3 c =
-    let e = c .before .before .before .before .before .before .before in
+returns-4 : tie.Need-returns-4
+returns-4 c =
+    let e = c .before .before .before .before .before .before .before .before .before in
     let s = e .before .before in
     let a = s .args in
     record {
@@ -95,9 +146,7 @@ returns-3 c =
             ← own-at (a .made .now) d n,
           )
           (c .begin .ensures);
-      gone = λ z d n.
-          let m = other-number (a .targets .now) d n in
-          put-other (given s) d n _ ∙ put-own (a .targets .now) (other d) m (targets-two s) ∙ ap (λ (xs : List ℕ). set xs (a .who % 16) 4096) (own-at (a .targets .now) (other d) m);
+      gone = λ z d n. put-other (given s) d n _ ∙ gone-other s d n;
       adds-kept = λ z d n. put-other (a .adds .now) d n _;
     }
 
@@ -105,5 +154,6 @@ pub begin-for-spec : {M : Type 1} → statement M
 begin-for-spec =
     tie.close
     (tie.spec (search needs) returns returns-2 (search needs) (search needs) (search needs) (search needs) (search needs)
-    (search needs) (search needs) (search needs) (search needs) (search needs) (search needs) (search needs)
-    (search needs) (search needs) (search needs) (search needs) (search needs) (search needs) begin-requires returns-3)
+    (search needs) (search needs) (search needs) (search needs) returns-3 (search needs) (search needs) (search needs)
+    mul-begin-2 index-1-begin-2 mul-begin-3 index-1-begin-3 mul-begin-4 index-1-begin-4 mul-begin-5 index-1-begin-5
+    mul-begin-6 index-1-begin-6 begin-requires returns-4)

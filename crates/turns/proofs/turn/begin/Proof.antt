@@ -14,22 +14,11 @@ use Rattle.turns.proofs.CrewTurns.{always-away, never-away}
 use Rattle.turns.proofs.turn.begin.Statement.{statement}
 use Rattle.turns.proofs.turn.begin.Tie as tie
 
-mul-if1 : tie.Need-mul-if1
-mul-if1 c = search needs
-
-element-copy-out-if1 : tie.Need-element-copy-out-if1
-element-copy-out-if1 c = search needs
-
-returns : tie.Need-returns
-returns c =
-    let s = c .before .before in
-    record { told = sym (s .pre .2 .is (s .args .w) (s .pre .0) (c .if1 .taken) .free); known = λ q. c .if1 .taken; hand = s .pre .2 }
-
 abbrev start : tie.After-refusal → tie.Start
-start c = c .before .before .before
+start c = c .before
 
 refusal-requires : tie.Need-refusal-requires
-refusal-requires c κs = (omega arith, (_, c .before .before .pre .1 .1 .bounded))
+refusal-requires c κs = (omega arith, (_, c .pre .1 .1 .bounded))
 
 is-inside-requires : tie.Need-is-inside-requires
 is-inside-requires c κs = let p = start c .pre in (p .0, (_, _, record { bounded = p .1 .1 .bounded; begun = p .1 .1 .begun }))
@@ -37,29 +26,29 @@ is-inside-requires c κs = let p = start c .pre in (p .0, (_, _, record { bounde
 elsewhere-requires : tie.Need-elsewhere-requires
 elsewhere-requires c κs = search needs
 
-returns-2 : tie.Need-returns-2
-returns-2 c =
+returns : tie.Need-returns
+returns c =
     let i = c .before .before in
     let r = i .before in
-    let e = c .elsewhere .ensures ∙ ap (λ (k : ℕ). unlessAway k true) (r .refusal .ensures) ∙ ap (unlessAway _) (sym (sym (i .is-inside .ensures) ∙ c .before .if2 .taken)) in
+    let e = c .elsewhere .ensures ∙ ap (λ (k : ℕ). unlessAway k true) (r .refusal .ensures) ∙ ap (unlessAway _) (sym (sym (i .is-inside .ensures) ∙ c .before .if1 .taken)) in
     record { told = e; known = λ z. absurd (always-away _ (sym (c .elsewhere .ensures) ∙ z)); hand = start r .pre .2 }
 
 -- the worker is not away: its own crew's counts decide
-told-by : (c : tie.Else2) → let r = c .before .before in let a = start r .args in
+told-by : (c : tie.Else1) → let r = c .before .before in let a = start r .args in
     r .refusal .result ≡ causeAt (a .first .now) (a .row .now) (a .begins .now) (a .leaves .now) (a .blocks .now) (a .other .now) (a .made .now) (a .w)
 told-by c =
     let i = c .before in
-    rw (sym (i .is-inside .ensures) ∙ c .if2 .left) (i .before .refusal .ensures ∙ sym (never-away _))
+    rw (sym (i .is-inside .ensures) ∙ c .if1 .left) (i .before .refusal .ensures ∙ sym (never-away _))
 
-returns-3 : tie.Need-returns-3
-returns-3 c = record { told = told-by (c .before); known = λ z. absurd (c .if3 .taken z); hand = start (c .before .before .before) .pre .2 }
+returns-2 : tie.Need-returns-2
+returns-2 c = record { told = told-by (c .before); known = λ z. absurd (c .if2 .taken z); hand = start (c .before .before .before) .pre .2 }
 
 -- nothing refuses the pick
-none : (c : tie.Else3) → c .before .before .before .refusal .result ≡ 0
+none : (c : tie.Else2) → c .before .before .before .refusal .result ≡ 0
 none c = search needs
 
 -- so there is an update left
-left : (c : tie.Else3) → let a = start (c .before .before .before) .args in getD (a .made .now) (a .w) 0 < 2 * updatesIn (a .first .now) (a .w)
+left : (c : tie.Else2) → let a = start (c .before .before .before) .args in getD (a .made .now) (a .w) 0 < 2 * updatesIn (a .first .now) (a .w)
 left c =
     let r = c .before .before .before in
     let a = start r .args in
@@ -68,8 +57,8 @@ left c =
 look-up-requires : tie.Need-look-up-requires
 look-up-requires c κs = let e = c .before .before in let p = start (e .before .before .before) .pre in (p .0, left e, (_, _, p .1 .1))
 
-returns-4 : tie.Need-returns-4
-returns-4 c =
+returns-3 : tie.Need-returns-3
+returns-3 c =
     let e = c .before .before .before in
     let s = start (e .before .before .before) in
     let a = s .args in
@@ -87,13 +76,10 @@ pub begin-spec : {M : Type 1} → statement M
 begin-spec =
     tie.close
     (tie.spec
-    mul-if1
-    element-copy-out-if1
-    returns
     refusal-requires
     is-inside-requires
     elsewhere-requires
+    returns
     returns-2
-    returns-3
     look-up-requires
-    returns-4)
+    returns-3)
