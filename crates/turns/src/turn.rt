@@ -24,8 +24,8 @@ fn elsewhere(why: u32) -> u32
     if why == 0 { ELSEWHERE } else { why }
 }
 
-// Has the next update of a worker of the plan at hand for a crew, unless its pick is refused: 0, or why it is. The counts
-// of the other crew say whether the worker is inside a row there.
+// Puts the next update of a worker of the plan at hand for a crew, unless its pick is refused: 0, or why it is. The
+// counts of the other crew say whether the worker is inside a row there.
 pub(crate) fn begin(
     made: &[u32; MAX_WORKERS],
     w: usize,

@@ -18,26 +18,11 @@ is1 : {byte : ℕ} → 16 ≤ byte → (d : Crew) → byte / 16 ≡ crewNumber d
 is1 l crew0 n = absurd (omega arith)
 is1 l crew1 n = refl
 
-index-1-access : tie.Need-index-1-access
-index-1-access c = search needs
-
-index-1-access-2 : tie.Need-index-1-access-2
-index-1-access-2 c = search needs
-
-index-1-access-3 : tie.Need-index-1-access-3
-index-1-access-3 c = search needs
-
-index-1-access-4 : tie.Need-index-1-access-4
-index-1-access-4 c = search needs
-
 access-requires : tie.Need-access-requires
 access-requires c κs =
     let e = c .before .before .before .before .before in
     let h = e .before .pre .4 crew0 (omega (arith, e .if1 .taken)) in
     (omega arith, h .0, h .1)
-
-same-length : tie.Need-same-length
-same-length c = search needs
 
 returns : tie.Need-returns
 returns c =
@@ -54,26 +39,11 @@ returns c =
       length-set (a .held .now) _ _,
     )
 
-index-1-access-5 : tie.Need-index-1-access-5
-index-1-access-5 c = search needs
-
-index-1-access-6 : tie.Need-index-1-access-6
-index-1-access-6 c = search needs
-
-index-1-access-7 : tie.Need-index-1-access-7
-index-1-access-7 c = search needs
-
-index-1-access-8 : tie.Need-index-1-access-8
-index-1-access-8 c = search needs
-
 access-requires-2 : tie.Need-access-requires-2
 access-requires-2 c κs =
     let e = c .before .before .before .before .before in
     let h = e .before .pre .4 crew1 (omega (arith, e .if1 .left, e .before .pre .0)) in
     (omega arith, h .0, h .1)
-
-same-length-2 : tie.Need-same-length-2
-same-length-2 c = search needs
 
 returns-2 : tie.Need-returns-2
 returns-2 c =
@@ -93,18 +63,5 @@ returns-2 c =
 pub access-for-spec : {M : Type 1} → statement M
 access-for-spec =
     tie.close
-    (tie.spec
-    index-1-access
-    index-1-access-2
-    index-1-access-3
-    index-1-access-4
-    access-requires
-    same-length
-    returns
-    index-1-access-5
-    index-1-access-6
-    index-1-access-7
-    index-1-access-8
-    access-requires-2
-    same-length-2
-    returns-2)
+    (tie.spec (search needs) (search needs) (search needs) (search needs) access-requires (search needs) returns
+    (search needs) (search needs) (search needs) (search needs) access-requires-2 (search needs) returns-2)

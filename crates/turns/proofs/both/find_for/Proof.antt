@@ -1,6 +1,5 @@
 -- `find_for` meets its contract.
 use mathlib.Core.Path.{refl}
-use native.Mathlib.Omega.{arith}
 use lib.ListN.{set, length-set}
 use borrow.Author.Needs.{needs}
 use Rattle.crews.specs.Crews.{crew0, crew1}

@@ -5,24 +5,6 @@ use Rattle.turns.proofs.BothLists.{own-at, put-own, put-other}
 use Rattle.turns.proofs.both.renew_for.Statement.{statement}
 use Rattle.turns.proofs.both.renew_for.Tie as tie
 
-mul-renew : tie.Need-mul-renew
-mul-renew c = search needs
-
-index-1-renew : tie.Need-index-1-renew
-index-1-renew c = search needs
-
-mul-renew-2 : tie.Need-mul-renew-2
-mul-renew-2 c = search needs
-
-index-1-renew-2 : tie.Need-index-1-renew-2
-index-1-renew-2 c = search needs
-
-mul-renew-3 : tie.Need-mul-renew-3
-mul-renew-3 c = search needs
-
-index-1-renew-3 : tie.Need-index-1-renew-3
-index-1-renew-3 c = search needs
-
 renew-requires : tie.Need-renew-requires
 renew-requires c κs = search needs
 
@@ -43,12 +25,5 @@ returns c =
 pub renew-for-spec : {M : Type 1} → statement M
 renew-for-spec =
     tie.close
-    (tie.spec
-    mul-renew
-    index-1-renew
-    mul-renew-2
-    index-1-renew-2
-    mul-renew-3
-    index-1-renew-3
-    renew-requires
+    (tie.spec (search needs) (search needs) (search needs) (search needs) (search needs) (search needs) renew-requires
     returns)
