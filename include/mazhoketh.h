@@ -15,7 +15,7 @@
  * list of another; lists that are only read may be shared. In a call, a list that is written overlaps no other list.
  * No pointer is null, also of an empty list.
  *
- * Stack: mzk_join uses up to 2.5 MiB, mzk_read up to 2.2 MiB, mzk_picks_both and mzk_ready_both up to 1.5 MiB,
+ * Stack: mzk_join uses up to 2.6 MiB, mzk_read up to 2.5 MiB, mzk_picks_both and mzk_ready_both up to 1.5 MiB,
  * mzk_picks, mzk_rounds and mzk_preview up to 1.4 MiB, mzk_ready, mzk_forces and mzk_prepare up to 1.3 MiB, mzk_plan up
  * to 1 MiB, mzk_set_movement and mzk_set_entry up to 0.7 MiB, the calls on a prepared list, mzk_write_plan,
  * mzk_read_plan, mzk_numbers_read, mzk_numbers_write, mzk_control and the calls on a barrier unit up to 8 KiB, the
@@ -47,7 +47,7 @@ enum {
     MZK_FILE_BYTES = 28 + 4 * MZK_ROWS + 4 * MZK_GROUP_FIELDS * MZK_GROUPS_LIMIT, /* a plan file, at most */
     MZK_UNIT_BYTES = 10,         /* a barrier unit */
     MZK_PREPARED_BYTES = 1392784, /* a prepared list, at most */
-    MZK_STACK_BYTES = 2621440    /* the stack of a call, at most */
+    MZK_STACK_BYTES = 2752512    /* the stack of a call, at most */
 };
 
 /* Every call returns one word: the refusal's number, 0 if it was accepted, and the refusal's place or the accepted

@@ -4,7 +4,7 @@ use std::os::unix::process::ExitStatusExt;
 use std::process::Command;
 
 /// The header's sentence, and its figures in tenths of a MiB; beside them, the calls that need next to nothing.
-const SENTENCE: &str = "mzk_join uses up to 2.5 MiB, mzk_read up to 2.2 MiB, mzk_picks_both and mzk_ready_both up to \
+const SENTENCE: &str = "mzk_join uses up to 2.6 MiB, mzk_read up to 2.5 MiB, mzk_picks_both and mzk_ready_both up to \
                         1.5 MiB, mzk_picks, mzk_rounds and mzk_preview up to 1.4 MiB, mzk_ready, mzk_forces and \
                         mzk_prepare up to 1.3 MiB, mzk_plan up to 1 MiB, mzk_set_movement and mzk_set_entry up to \
                         0.7 MiB, the calls on a prepared list, mzk_write_plan, mzk_read_plan, mzk_numbers_read, \
@@ -26,8 +26,8 @@ const SMALL: &[&str] = &[
     "control",
 ];
 const TENTHS: &[(&str, usize)] = &[
-    ("join", 25),
-    ("read", 22),
+    ("join", 26),
+    ("read", 25),
     ("picks_both", 15),
     ("ready_both", 15),
     ("picks", 14),

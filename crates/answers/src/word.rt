@@ -27,8 +27,8 @@ fn word_of_end(taken: usize, number: u32, place: usize) -> u64
     lent::word::word_of(Verdict::Refused(number, place as u32))
 }
 
-// .. also of a preview; or the bits in the low sixteen, and above them the count of those set; 0 for forces; a refusal's
-// number and place.
+// .. also of a preview; or the bits in the low sixteen, and above them the count of those set; 0 for forces; a
+// refusal's number and place.
 pub fn word_of(answer: Response) -> u64
     requires { ⌜ LowPlace answer ⌝ }
     ensures { λ r. ⌜ ((forces : List ℤ) → r ≡ word (replyTo (asAnswer answer forces))) ⌝ }

@@ -1,4 +1,5 @@
--- Bits of a number: those of a union, of a common part and of two bytes; and that they tell the number. Assumes nothing.
+-- Bits of a number: those of a union, of a common part and of two bytes; and that they tell the number. Assumes
+-- nothing.
 use mathlib.Core.Path.{_≡_, refl, sym, ap, subst, _∙_}
 use mathlib.Core.Logic.{_⊎_, inl, inr, ⊎-elim}
 use mathlib.Core.Bool.{Bool, true, false, _&&_, _||_, cond, true≢false}

@@ -15,7 +15,8 @@ use Rattle.board.specs.Unit.{unitSize, unitIn, unitBytes, writeUnitReply
 abbrev pub unitLeft : List ℕ → Write → List ℕ
 unitLeft unit w = lent (writeUnitReply unit (w .address)) (unitBytes (afterWrite (unitIn unit) (w .address) (w .byte))) unit
 
--- the bytes after writes, the latest first, each handed them as the last one left them; rest: what was lent past the ten
+-- the bytes after writes, the latest first, each handed them as the last one left them; rest: what was lent past the
+-- ten
 unfoldable pub unitBytesAfter : (rest : List ℕ) → List Write → List ℕ
 unitBytesAfter rest [] = replicate unitSize 0 ++ rest
 unitBytesAfter rest (w ∷ ws) = unitLeft (unitBytesAfter rest ws) w

@@ -50,8 +50,8 @@ pub enum Call {
     Rounds,
 }
 
-// The answer: picks taken, and what ended them where; a bit for each worker, and their count; forces, which stand in the
-// lent list; a refusal's number and place; or picks with what ended them, and the bits and count after them.
+// The answer: picks taken, and what ended them where; a bit for each worker, and their count; forces, which stand in
+// the lent list; a refusal's number and place; or picks with what ended them, and the bits and count after them.
 pub enum Response {
     Picked(usize, u32, usize),
     Ready(u16, u32),

@@ -1,5 +1,6 @@
--- Where a pair ends, and where it is cut. qs are the loads of the levels that are left; reach is the distance that a colouring keeps (document 02's k):
--- "a pair has at least 2 × k levels, a colour at least k, a pair takes all if fewer than 2 × k would be left".
+-- Where a pair ends, and where it is cut. qs are the loads of the levels that are left; reach is the distance that a
+-- colouring keeps (document 02's k): "a pair has at least 2 × k levels, a colour at least k, a pair takes all if fewer
+-- than 2 × k would be left".
 use mathlib.Core.Bool.{Bool, _||_, cond}
 use mathlib.Core.List.{List, [], _∷_}
 use Prim.Native.Nat.{ℕ, _+_, _*_, _-_, _/_, max}

@@ -1,5 +1,5 @@
--- Every number of a sound plan has 32 bits: rows and stretches lie in n rows, workers in 16, parents in 512 records, and
--- no depth is above 4.
+-- Every number of a sound plan has 32 bits: rows and stretches lie in n rows, workers in 16, parents in 512 records,
+-- and no depth is above 4.
 use mathlib.Core.Path.{_≡_, refl, sym}
 use mathlib.Core.Bool.{Bool, true, false, true≢false}
 use mathlib.Core.List.{List, [], _∷_}

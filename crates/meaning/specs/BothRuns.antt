@@ -1,5 +1,5 @@
--- Two runs whose states and sums stand in bytes from call to call, as a caller of the exported functions keeps them: they
--- are the runs that request 9 speaks of.
+-- Two runs whose states and sums stand in bytes from call to call, as a caller of the exported functions keeps them:
+-- they are the runs that request 9 speaks of.
 use mathlib.Core.Path.{_≡_}
 use mathlib.Core.Bool.{true}
 use mathlib.Core.List.{List}

@@ -63,7 +63,8 @@ pub record ByteLists : Type 0 where
   -- them: no number is lost
   pub surveyed : (m : Matrix) (x : List ℤ) (t i : ℕ) (sums moves : List ℕ) (returned : ℕ) (newSums newMoves : List ℕ) → SurveyAnswered m x t i sums moves returned newSums newMoves
       → (count : ℕ) → surveyIn m x t i sums moves ≡ accepted count → (take (m .n) (signed 8 newSums) ≡ amountsOf m t) × (count ≡ 1 → take (m .n) (signed 4 newMoves) ≡ farthest m t i)
-  -- a new movement, as mzk_set_movement promises, leaves in bytes the lists as changed: the next call finds them current
+  -- a new movement, as mzk_set_movement promises, leaves in bytes the lists as changed: the next call finds them
+  -- current
   pub moved : (m : Matrix) (i : ℕ) (v : ℤ) (movements forces : List ℕ) (returned : ℕ) (newMovements newForces : List ℕ) → MovementAnswered m (newDisplacement i v) movements forces returned newMovements newForces
       → (count : ℕ) → changeReply (keptBytes m movements forces) (newDisplacement i v) ≡ accepted count → keptBytes m newMovements newForces ≡ changed (keptBytes m movements forces) (newDisplacement i v)
   -- a new value, as mzk_set_entry promises, leaves the matrix as changed, whatever stands past it, and its forces

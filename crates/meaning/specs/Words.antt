@@ -54,8 +54,8 @@ pub record Foretold (a : Answer) : Type 0 where
   pub count : previewWord a / 2 ^ 40 % 2 ^ 8 ≡ countTold a
   pub bits : previewWord a / 2 ^ 48 ≡ bitsTold a
 
--- Q-14: the word of rounds has the moves made, or the place, in bits 0 to 31, the number in bits 32 to 39, and in bits 40
--- to 63 the moves made, always: none where 5, 6, 8 or 11 refused the call
+-- Q-14: the word of rounds has the moves made, or the place, in bits 0 to 31, the number in bits 32 to 39, and in bits
+-- 40 to 63 the moves made, always: none where 5, 6, 8 or 11 refused the call
 pub record RoundsTold (a : Answer) : Type 0 where
   pub low : roundWord a % 2 ^ 32 ≡ placeIn (replyTo a) % 2 ^ 32
   pub number : roundWord a / 2 ^ 32 % 2 ^ 8 ≡ numberIn (replyTo a)

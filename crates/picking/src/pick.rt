@@ -77,7 +77,8 @@ pub fn refusal(
     }
 }
 
-// Worker w loads or stores the sum of an update. 0, or 14 if the sum to store would pass 64 bits: then all is as it was.
+// Worker w loads or stores the sum of an update. 0, or 14 if the sum to store would pass 64 bits: then all is as it
+// was.
 fn access(
     made: &mut [u32; MAX_WORKERS],
     held: &mut [i64; MAX_WORKERS],

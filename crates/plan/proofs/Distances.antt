@@ -1,5 +1,5 @@
--- A sound plan stays sound under any test that its like-coloured siblings pass too: so at smaller distances, and at 2 it
--- is document 01's.
+-- A sound plan stays sound under any test that its like-coloured siblings pass too: so at smaller distances, and at 2
+-- it is document 01's.
 use mathlib.Core.Path.{_≡_, refl, sym, ap, _∙_}
 use mathlib.Core.Logic.{_⊎_, inl, inr}
 use mathlib.Core.Bool.{Bool, true, false, not, _&&_, _||_}

@@ -145,7 +145,8 @@ module _ (made : List ℕ) (end : Group → ℕ) (k : ℕ) where
       ∙ ap (λ (b : Bool). b || behind made (λ v. gateIn end v q below below) k) (behind-if made (eqb (g .colour) blue) (λ v. redEnd end v all) k)))
       ∙ rw (red-behind all a, blocked-behind q below (l .1) below (l .1), blocked-behind q all a next (l .2)) refl
 
--- "A worker waits if the leaf of its next move lies in, or is, a blue group one of whose red siblings has an unfinished leaf": some worker is behind its number at that move's row
+-- "A worker waits if the leaf of its next move lies in, or is, a blue group one of whose red siblings has an unfinished
+-- leaf": some worker is behind its number at that move's row
 pub gate-waits : (j : Job) → Accepted j → (made : List ℕ) (w : ℕ) → waits j made w ≡ behind made (gate j (next j made w .row)) maxWorkers
 unfolding waits gate endIn finished
 gate-waits j ok made w =

@@ -1,4 +1,5 @@
--- Where the tables of a prepared list stand in its bytes, for every list that is one: what the code reads there is what the definition says.
+-- Where the tables of a prepared list stand in its bytes, for every list that is one: what the code reads there is what
+-- the definition says.
 use mathlib.Core.Path.{_≡_, refl, sym, ap, _∙_}
 use mathlib.Core.Bool.{Bool, true}
 use mathlib.Core.List.{List, [], _∷_}

@@ -1,11 +1,11 @@
--- A prepared list: the tables of a job in one list of bytes, and no pointer. Numbers have four bytes and no sign, the low
--- byte first, but for amounts: eight bytes in two's complement.
+-- A prepared list: the tables of a job in one list of bytes, and no pointer. Numbers have four bytes and no sign, the
+-- low byte first, but for amounts: eight bytes in two's complement.
 --
 --     0                    the mark, the rows n, the workers of the plan, the number of updates u
 --     16                   for each of sixteen workers how many accesses it makes
 --     80                   .. and the number of its first update among all
 --     144                  u updates, worker by worker: amount, position of its sum, position of the row that makes it
---     144 + 16 u           for each position sixteen numbers: the accesses that each worker must have made before its row
+--     144 + 16 u           for each position sixteen numbers: the accesses that each worker must have made before it
 --     144 + 16 u + 64 n    for each row its position
 use mathlib.Core.Bool.{Bool, _&&_}
 use mathlib.Core.List.{List, _∷_, _++_, map}

@@ -1,4 +1,5 @@
--- What a row waits for, as one number for each worker: the accesses that this worker must have made before. Document 01's wait says it by leaves and groups; that both are the same is proved (proofs/Gates.antt).
+-- What a row waits for, as one number for each worker: the accesses that this worker must have made before. Document
+-- 01's wait says it by leaves and groups; that both are the same is proved (proofs/Gates.antt).
 use mathlib.Core.Bool.{Bool, false, _||_, cond}
 use mathlib.Core.List.{List}
 use Prim.Native.Nat.{ℕ, zero, suc, _+_, _*_, max}

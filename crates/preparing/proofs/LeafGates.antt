@@ -1,5 +1,5 @@
--- The gate that the passes have for a leaf is the gate of every position that it holds. Two numbers are equal if the same
--- numbers are below them, and that one is below a gate is a wait.
+-- The gate that the passes have for a leaf is the gate of every position that it holds. Two numbers are equal if the
+-- same numbers are below them, and that one is below a gate is a wait.
 use mathlib.Core.Path.{_≡_, refl, sym, ap, _∙_, subst}
 use mathlib.Core.Bool.{Bool, true, false, _&&_, _||_, cond}
 use mathlib.Core.List.{List, []}

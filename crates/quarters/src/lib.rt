@@ -1,5 +1,5 @@
-// The calls for two crews whose lists stand in bytes: numbers are decoded into arrays, the proved call is made (document
-// 02, Q-9).
+// The calls for two crews whose lists stand in bytes: numbers are decoded into arrays, the proved call is made
+// (document 02, Q-9).
 mod bytes;
 mod word;
 

@@ -1,4 +1,5 @@
--- The call that prepares a job; the calls on a prepared list, any whatever, and a run whose state and sums stand in bytes.
+-- The call that prepares a job; the calls on a prepared list, any whatever, and a run whose state and sums stand in
+-- bytes.
 use mathlib.Core.Bool.{cond}
 use mathlib.Core.List.{List}
 use Prim.Native.Nat.{ℕ, _%_, _^_}
@@ -24,8 +25,8 @@ PrepareAnswered m x order groups count old = Answered (prepareReply m x order gr
 unfoldable pub answerKept : (list state sums : List ℕ) → Call → Answer
 answerKept list state sums c = cond (eqb (length state) stateBytes) (answerPrepared list (stateIn state sums) c) (inTurn denied (preparedCheck list) (denied why.notState 0))
 
--- what a word has room for: of more than 24 bits of moves and of more than 32 bits of an index the low ones. The list of
--- a job never has so many moves.
+-- what a word has room for: of more than 24 bits of moves and of more than 32 bits of an index the low ones. The list
+-- of a job never has so many moves.
 unfoldable pub fitting : Answer → Answer
 fitting (picked taken number place) = picked (taken % 2 ^ 24) number (place % 2 ^ 32)
 fitting (isReady bits count) = isReady bits count

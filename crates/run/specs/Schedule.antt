@@ -4,7 +4,8 @@ use mathlib.Core.List.{List, [], _∷_}
 use Prim.Native.Nat.{ℕ, suc}
 use Rattle.run.specs.Machine.{Outcome, moved, halted}
 
--- what it comes to: the state, how many picks were taken, how many were met before the end, and the number that ended it
+-- what it comes to: the state, how many picks were taken, how many were met before the end, and the number that ended
+-- it
 pub record Passed (S : Type 0) : Type 0 where
   pub state : S
   pub taken : ℕ

@@ -1,4 +1,5 @@
--- The checks of a call for both, 5; 6 of crew 0, of crew 1; 8 in turn: what the code finds, and what an accepted roof is.
+-- The checks of a call for both, 5; 6 of crew 0, of crew 1; 8 in turn: what the code finds, and what an accepted roof
+-- is.
 use mathlib.Core.Path.{_≡_, refl, sym, _∙_}
 use mathlib.Core.Bool.{true, false}
 use mathlib.Core.List.{List, [], _∷_}

@@ -71,8 +71,8 @@ fn join_of(
     word_of(answer)
 }
 
-// Row starts and places are decoded. Columns and values are decoded into arrays, here for few of them: the joined net has
-// no more entries than both nets.
+// Row starts and places are decoded. Columns and values are decoded into arrays, here for few of them: the joined net
+// has no more entries than both nets.
 fn join_few(
     n1: u32,
     starts1: &[u32],

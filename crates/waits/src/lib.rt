@@ -151,8 +151,8 @@ pub fn find(
     *stops = next_ends(groups, count, ends, made);
 }
 
-// After an access of worker w: if its count has reached its stop, finds anew which groups are blocked, and each worker's
-// next stop. Whether it did.
+// After an access of worker w: if its count has reached its stop, finds anew which groups are blocked, and each
+// worker's next stop. Whether it did.
 pub fn renew(
     groups: &[u32],
     ends: &[u32; MAX_GROUPS],

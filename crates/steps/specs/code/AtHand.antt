@@ -17,8 +17,8 @@ pub record Known (cause : ℕ) (u : Update) (target : ℕ) (amount : ℤ) : Type
   pub target-is : target ≡ u .target
   pub amount-is : amount ≡ u .amount
 
--- Every update that is at hand, where the position of its sum is one, is its worker's next at these counts, and its step
--- is not refused.
+-- Every update that is at hand, where the position of its sum is one, is its worker's next at these counts, and its
+-- step is not refused.
 pub record AtHand (cause : (made : List ℕ) → ℕ → ℕ) (update : (made : List ℕ) → ℕ → Update) (made targets : List ℕ) (adds : List ℤ) : Type 0 where
   pub made-long : length made ≡ maxWorkers
   pub targets-long : length targets ≡ maxWorkers

@@ -10,7 +10,8 @@ use Rattle.shared.proofs.Sharing.{ready-set}
 use Rattle.shared.proofs.ready_sets.ready_sets.Statement.{statement}
 use Rattle.shared.proofs.ready_sets.ready_sets.Tie as tie
 
--- from the tables of rows back to the function's entry, from the first set to the whole group, from the second to the first
+-- from the tables of rows back to the function's entry, from the first set to the whole group, from the second to the
+-- first
 abbrev start : tie.After-lay → tie.Start
 start l = l .before .before .before .before .before .before
 
