@@ -65,7 +65,7 @@ module _ {adj : ℕ → List ℕ} {reach n : ℕ} {T roots : List ℕ} {k i : �
 
   -- its row is the root
   module _ (given : Roots adj n T roots) (here : i < length roots) (new : getD marks (getD roots i 0) 0 ≡ 1) {marks′ queue′ : List ℕ} {r : ℕ}
-      (after : After n marks′ queue′ r (visited (k + 3) (wave marks (take 0 queue)) (getD roots i 0))) where
+      (after : After n 1 marks′ queue′ r (visited 1 (k + 3) (wave marks (take 0 queue)) (getD roots i 0))) where
     abbrev v : ℕ
     v = getD roots i 0
 
@@ -79,7 +79,7 @@ module _ {adj : ℕ → List ℕ} {reach n : ℕ} {T roots : List ℕ} {k i : �
         go (inl e) = let q : x ≡ v = eqb-true x v e in omega (arith, given .below i here)
         go (inr e) = absurd (true≢false (sym e))
 
-    all : After n marks′ queue′ r (visitedAll (k + 3) (wave marks (take 0 queue)) (v ∷ []))
+    all : After n 1 marks′ queue′ r (visitedAll 1 (k + 3) (wave marks (take 0 queue)) (v ∷ []))
     unfolding visitedAll
     all = after
 

@@ -58,11 +58,11 @@ module _ (m k : ℕ) where
 
 module _ {n k : ℕ} {marks queue : List ℕ} {lo hi : ℕ} {marks′ queue′ : List ℕ} {r : ℕ} (vs : List ℕ)
     (f : Frontier n k marks queue lo hi) (below : (x : ℕ) → isIn vs x ≡ true → x < n)
-    (after : After n marks′ queue′ r (visitedAll (k + 3) (wave marks (take hi queue)) vs)) where
+    (after : After n 1 marks′ queue′ r (visitedAll 1 (k + 3) (wave marks (take hi queue)) vs)) where
   ne : k + 3 ≢ 1
   ne e = omega arith
 
-  abbrev grew : Grown n (k + 3) (wave marks (take hi queue)) (wave marks′ (take r queue′)) vs
+  abbrev grew : Grown n 1 (k + 3) (wave marks (take hi queue)) (wave marks′ (take r queue′)) vs
   grew = after-grown vs (f .ready) ne below after
 
   tail-is : r ≡ hi + length (grew .found)
@@ -115,7 +115,7 @@ frontier-empty {n} {k} {marks} {queue} {lo} {hi} f le =
 -- ---- a component, level after level
 
 -- the rows of the frontier are reached
-pub frontier-front : {n k : ℕ} {marks queue : List ℕ} {lo hi : ℕ} → Frontier n k marks queue lo hi → Front n marks (slice lo hi queue)
+pub frontier-front : {n k : ℕ} {marks queue : List ℕ} {lo hi : ℕ} → Frontier n k marks queue lo hi → Front n 1 marks (slice lo hi queue)
 frontier-front {n} {k} {marks} f u h =
     let l = f .front u h in
     let q : getD marks u 0 ≡ k + 2 = eqb-true (getD marks u 0) (k + 2) (sym (f .front-is u l) ∙ h) in
@@ -132,7 +132,7 @@ spreading-start {marks = marks} adj f = record { frontier = f; kept = kept-refl 
 
 module _ {adj : ℕ → List ℕ} {n k d : ℕ} {marks₀ marks queue : List ℕ} {lo hi : ℕ} {marks′ queue′ : List ℕ} {r : ℕ} (graph : Graph adj n)
     (s : Spreading adj n k d marks₀ marks queue lo hi) (l : lo < hi)
-    (after : After n marks′ queue′ r (visitedAll (d + 3) (wave marks (take hi queue)) (concat (map adj (slice lo hi queue))))) where
+    (after : After n 1 marks′ queue′ r (visitedAll 1 (d + 3) (wave marks (take hi queue)) (concat (map adj (slice lo hi queue))))) where
   abbrev vs : List ℕ
   vs = concat (map adj (slice lo hi queue))
 

@@ -1,102 +1,143 @@
--- A group's rows are marked, then the columns of all marked rows, one join after the other: the marked rows are its
--- region.
-use mathlib.Core.Path.{_≡_, refl, sym, ap, _∙_, subst, fun-ext}
-use mathlib.Core.Bool.{Bool, true, false, not, _&&_, _||_, cond, or-comm}
-use mathlib.Core.List.{List, [], _∷_, map}
-use Prim.Native.Nat.{ℕ, suc, _-_, _≤_, _<_}
+-- A group's region, ring after ring: the rows adjacent to the last ring that are not yet marked are the next.
+use mathlib.Core.Path.{_≡_, refl, sym, ap, _∙_, subst}
+use mathlib.Core.Logic.{_⊎_, inl, inr, _≢_}
+use mathlib.Core.Bool.{Bool, true, false, not, _&&_, _||_, cond, true≢false}
+use mathlib.Core.List.{List, _++_, map}
+use Prim.Native.Nat.{ℕ, suc, _+_, _-_, _≤_, _<_}
 use native.Mathlib.Omega.{arith}
 use lib.Dec.{eqb}
-use lib.ListN.{getD}
-use Rattle.base.specs.Lists.{any, isIn, concat, range, bit}
-use Rattle.base.proofs.Lists.{any-ext, filter-ext, filter-passes, filter-of, isIn-range, isIn-concat-map}
-use Rattle.base.proofs.Booleans.{both-ways}
-use Rattle.matrix.specs.Matrix.{columnsOf, neighbours}
-use Rattle.matrix.specs.code.Pattern.{pattern}
-use Rattle.matrix.proofs.Matrix.{neighbours-is}
+use lib.ListN.{length, getD, take, drop, length-append, length-drop}
+use lib.Seq.{slice, take-append-seam}
+use Rattle.base.specs.Lists.{isIn, concat, range, bit}
 use Rattle.base.specs.Near.{near}
-use Rattle.base.proofs.Near.{near-below}
+use Rattle.base.proofs.Booleans.{both-ways, or-cases, or-true, and-right}
+use Rattle.base.proofs.Graph.{Graph}
+use Rattle.base.proofs.Lists.{any-of, any-get, filter-ext, length-split, length-range}
+use Rattle.base.proofs.Near.{near-stay, near-step, near-cases, near-below}
+use Rattle.matrix.specs.Limits.{maxRows}
 use Rattle.levels.specs.Levels.{region}
-use Rattle.levels.specs.code.Rows.{Rows, adjOf}
-use Rattle.search.specs.code.Marks.{atMark, Marked}
-use Rattle.levels.proofs.Rows.{rows-graph}
+use Rattle.search.specs.code.Marks.{atMark, howMany, unreached}
+use Rattle.search.specs.code.Search.{wave, visitedAll, Ready, After, Front}
 use Rattle.search.proofs.Turns.{adjacent-to}
+use Rattle.search.proofs.Visits.{after-grown, after-tail, after-found}
+use Rattle.search.proofs.Waves.{Grown}
 
--- a member needs no other test
-any-other : (p : ℕ → Bool) (xs : List ℕ) (v : ℕ) → any p xs || isIn xs v ≡ any (λ u. p u && not (eqb v u)) xs || isIn xs v
-any-other p [] v = refl
-any-other p (x ∷ xs) v = go (p x) (eqb v x) (any p xs) (isIn xs v) (any (λ u. p u && not (eqb v u)) xs) (any-other p xs v)
+bit-one : (b : Bool) → eqb (bit b) 1 ≡ b
+bit-one true = refl
+bit-one false = refl
+
+-- rows with mark 1 and rows with mark 0 are all
+pub two-marks : (n : ℕ) (marks : List ℕ) (p : ℕ → Bool) → ((v : ℕ) → getD marks v 0 ≡ bit (p v)) → unreached n marks + howMany n marks 0 ≡ n
+two-marks n marks p h =
+    ap (λ (k : ℕ). unreached n marks + k) (ap length (filter-ext (λ v. eqb (getD marks v 0) 0) (λ v. not (eqb (getD marks v 0) 1)) (range 0 n) (λ v i. rw (h v) (other (p v)))))
+    ∙ length-split (λ v. eqb (getD marks v 0) 1) (range 0 n)
+    ∙ length-range 0 n
   where
-    go : (a e b c d : Bool) → b || c ≡ d || c → (a || b) || (e || c) ≡ ((a && not e) || d) || (e || c)
-    go true true b c d h = sym (or-comm d true)
-    go true false b c d h = refl
-    go false true b c d h = or-comm b true ∙ sym (or-comm d true)
-    go false false b c d h = h
+    other : (b : Bool) → eqb (bit b) 0 ≡ not (eqb (bit b) 1)
+    other true = refl
+    other false = refl
 
-module _ {n : ℕ} {starts columns : List ℕ} (r : Rows n starts columns) (own : List ℕ) where
-  -- a row of T or a column of one: a row of the region
-  in-region : (v : ℕ) → isIn (concat (map (columnsOf (pattern n starts columns)) own)) v || isIn own v ≡ near (adjOf n starts columns) 1 own v
+-- the rows within j joins of T are marked; the last ring stands in the queue from lo to hi, and whoever is adjacent to
+-- another of them is marked
+pub record Rings (adj : ℕ → List ℕ) (n : ℕ) (T : List ℕ) (j : ℕ) (marks queue : List ℕ) (lo hi : ℕ) : Type 0 where
+  pub ready : Ready n 0 marks queue hi
+  pub up : lo ≤ hi
+  pub within : (v : ℕ) → getD marks v 0 ≡ bit (near adj j T v)
+  pub ring : (u : ℕ) → isIn (slice lo hi queue) u ≡ true → near adj j T u ≡ true
+  pub inner : (u v : ℕ) → near adj j T u ≡ true → isIn (slice lo hi queue) u ≡ false → isIn (adj v) u ≡ true → near adj j T v ≡ true
+
+module _ {adj : ℕ → List ℕ} {n : ℕ} (graph : Graph adj n) (T : List ℕ) (low : (v : ℕ) → isIn T v ≡ true → v < n) where
+  -- at first the ring is T
+  pub rings-start : (marks queue : List ℕ) → n ≤ maxRows → length marks ≡ maxRows → length queue ≡ maxRows
+      → ((v : ℕ) → getD marks v 0 ≡ bit (isIn T v)) → length T ≡ unreached n marks → Rings adj n T 0 marks (T ++ drop (length T) queue) 0 (length T)
   unfolding near
-  in-region v =
-      let p = pattern n starts columns in
-      ap (λ (b : Bool). b || isIn own v) (isIn-concat-map (columnsOf p) own v)
-      ∙ any-other (λ u. isIn (columnsOf p u) v) own v
-      ∙ ap (λ (b : Bool). b || isIn own v)
-      (any-ext (λ u. isIn (columnsOf p u) v && not (eqb v u)) (λ u. isIn (neighbours p u) v) own (λ u h. sym (neighbours-is p u v))
-      ∙ sym (isIn-concat-map (neighbours p) own v)
-      ∙ adjacent-to (rows-graph r) own v)
-      ∙ or-comm (any (isIn own) (neighbours p v)) (isIn own v)
-
-module _ {n : ℕ} {starts columns : List ℕ} (r : Rows n starts columns) (T : List ℕ) (low : (v : ℕ) → isIn T v ≡ true → v < n) where
-  -- the marks say who is within j joins of T
-  abbrev pub Within : (j : ℕ) (marks : List ℕ) → Type 0
-  Within j marks = (v : ℕ) → getD marks v 0 ≡ bit (near (adjOf n starts columns) j T v)
-
-  bit-one : (b : Bool) → eqb (bit b) 1 ≡ b
-  bit-one true = refl
-  bit-one false = refl
-
-  -- the rows with mark 1
-  marked-near : (j : ℕ) (marks : List ℕ) → Within j marks → isIn (atMark n marks 1) ≡ near (adjOf n starts columns) j T
-  marked-near j marks w = fun-ext (λ v. both-ways (isIn (atMark n marks 1) v) (near adj j T v)
-      (λ h. sym (bit-one (near adj j T v)) ∙ ap (λ (x : ℕ). eqb x 1) (sym (w v)) ∙ filter-passes (λ u. eqb (getD marks u 0) 1) (range 0 n) v h)
-      (λ h. filter-of (λ u. eqb (getD marks u 0) 1) (range 0 n) v (isIn-range 0 n v (omega arith) (omega (arith, near-below adj (rows-graph r) j T low v h)))
-      (ap (λ (x : ℕ). eqb x 1) (w v) ∙ bit-one (near adj j T v) ∙ h)))
+  rings-start marks queue small ml ql w few = record {
+    ready = record { small = small; marks-long = ml; queue-long = omega (arith, length-append T (drop (length T) queue), length-drop (length T) queue, ql, two-marks n marks (isIn T) w); room = omega (arith, two-marks n marks (isIn T) w) };
+    up = omega arith;
+    within = w;
+    ring = λ u h. subst (λ (xs : List ℕ). isIn xs u ≡ true) first h;
+    inner = λ u v h o. absurd (true≢false (sym h ∙ ap (λ (xs : List ℕ). isIn xs u) (sym first) ∙ o));
+  }
     where
-      adj : ℕ → List ℕ
-      adj = adjOf n starts columns
+      first : slice 0 (length T) (T ++ drop (length T) queue) ≡ T
+      first = take-append-seam T (drop (length T) queue)
 
-  -- the columns of the rows within j joins marked: one join more
-  within-next : (j : ℕ) (rows : List ℕ) → isIn rows ≡ near (adjOf n starts columns) j T → {marks marks′ : List ℕ} → Within j marks
-      → Marked (concat (map (columnsOf (pattern n starts columns)) rows)) marks marks′ → Within (suc j) marks′
-  unfolding near
-  within-next j rows e {marks} {marks′} w m v =
-      m .is v
-      ∙ ap (cond (isIn (concat (map (columnsOf (pattern n starts columns)) rows)) v) 1) (w v ∙ ap (λ (p : ℕ → Bool). bit (p v)) (sym e))
-      ∙ either (isIn (concat (map (columnsOf (pattern n starts columns)) rows)) v) (isIn rows v)
-      ∙ ap bit (in-region r rows v ∙ ap (λ (p : ℕ → Bool). p v || any p (adjOf n starts columns v)) e)
-    where
-      either : (a b : Bool) → cond a 1 (bit b) ≡ bit (a || b)
-      either true b = refl
-      either false b = refl
+  -- the ring's rows are marked
+  pub rings-front : {j : ℕ} {marks queue : List ℕ} {lo hi : ℕ} → Rings adj n T j marks queue lo hi → Front n 0 marks (slice lo hi queue)
+  rings-front {j} {marks} r u h = (near-below adj graph j T low u (r .ring u h), λ e. omega (arith, r .within u, ap bit (r .ring u h)))
 
-  -- .. of T's own rows
-  pub within-one : {marks marks′ : List ℕ} → ((v : ℕ) → getD marks v 0 ≡ bit (isIn T v)) → Marked (concat (map (columnsOf (pattern n starts columns)) T)) marks marks′ → Within 1 marks′
-  unfolding near
-  within-one = within-next 0 T refl
+  module _ {j : ℕ} {marks queue : List ℕ} {lo hi : ℕ} {marks′ queue′ : List ℕ} {r : ℕ} (s : Rings adj n T j marks queue lo hi)
+      (after : After n 0 marks′ queue′ r (visitedAll 0 1 (wave marks (take hi queue)) (concat (map adj (slice lo hi queue))))) where
+    abbrev vs : List ℕ
+    vs = concat (map adj (slice lo hi queue))
 
-  -- .. of all rows with mark 1
-  pub within-more : (j : ℕ) {marks marks′ : List ℕ} → Within j marks → Marked (concat (map (columnsOf (pattern n starts columns)) (atMark n marks 1))) marks marks′ → Within (suc j) marks′
-  within-more j {marks} w m = within-next j (atMark n marks 1) (marked-near j marks w) w m
+    ne : _≢_ {A = ℕ} 1 0
+    ne e = omega arith
 
-  -- at last the region is marked
-  pub region-is : (j reach : ℕ) (marks : List ℕ) → j ≡ reach - 1 → Within j marks → atMark n marks 1 ≡ region (adjOf n starts columns) reach n T
+    below : (x : ℕ) → isIn vs x ≡ true → x < n
+    below x h = let (u, a, b) = any-get (isIn (slice lo hi queue)) (adj x) (sym (adjacent-to graph (slice lo hi queue) x) ∙ h) in graph .below x u (graph .both u x a)
+
+    abbrev grew : Grown n 0 1 (wave marks (take hi queue)) (wave marks′ (take r queue′)) vs
+    grew = after-grown vs (s .ready) ne below after
+
+    -- one join more: who was marked, and who is adjacent to the ring
+    one-more : (v : ℕ) → near adj j T v || isIn vs v ≡ near adj (suc j) T v
+    one-more v = both-ways (near adj j T v || isIn vs v) (near adj (suc j) T v) (λ h. to (or-cases (near adj j T v) (isIn vs v) h)) (λ h. fro (near-cases adj j T v h))
+      where
+        to : (near adj j T v ≡ true) ⊎ (isIn vs v ≡ true) → near adj (suc j) T v ≡ true
+        to (inl a) = near-stay adj j T v a
+        to (inr a) =
+            let (u, b, c) = any-get (isIn (slice lo hi queue)) (adj v) (sym (adjacent-to graph (slice lo hi queue) v) ∙ a) in
+            near-step adj j T u v b (s .ring u c)
+
+        fro : (near adj j T v ≡ true) ⊎ ((u : ℕ) × (isIn (adj v) u ≡ true) × (near adj j T u ≡ true)) → near adj j T v || isIn vs v ≡ true
+        fro (inl a) = rw a refl
+        fro (inr (u, c, a)) = go (isIn (slice lo hi queue) u) refl
+          where
+            go : (b : Bool) → isIn (slice lo hi queue) u ≡ b → near adj j T v || isIn vs v ≡ true
+            go true e = rw (adjacent-to graph (slice lo hi queue) v ∙ any-of (isIn (slice lo hi queue)) (adj v) u c e) (or-true (near adj j T v))
+            go false e = rw (s .inner u v a e c) refl
+
+    found-is : (u : ℕ) → isIn (slice hi r queue′) u ≡ not (near adj j T u) && isIn vs u
+    found-is u =
+        ap (λ (xs : List ℕ). isIn xs u) (after-found vs (s .ready) ne below after)
+        ∙ grew .found-is u
+        ∙ ap (λ (b : Bool). b && isIn vs u) (ap (λ (m : ℕ). eqb m 0) (s .within u) ∙ other (near adj j T u))
+      where
+        other : (b : Bool) → eqb (bit b) 0 ≡ not b
+        other true = refl
+        other false = refl
+
+    pub rings-step : Rings adj n T (suc j) marks′ queue′ hi r
+    rings-step = record {
+      ready = after .ready;
+      up = omega (arith, after-tail vs (s .ready) ne below after);
+      within = λ v. grew .marks-is v ∙ rw (s .within v) (either (near adj j T v) (isIn vs v)) ∙ ap bit (one-more v);
+      ring = λ u h. sym (one-more u) ∙ rw (and-right (not (near adj j T u)) (isIn vs u) (sym (found-is u) ∙ h)) (or-true (near adj j T u));
+      inner = λ u v h o c. near-step adj j T u v c (old u (near adj j T u) (isIn vs u) refl refl h o);
+    }
+      where
+        either : (b x : Bool) → cond (eqb (bit b) 0 && x) 1 (bit b) ≡ bit (b || x)
+        either true x = refl
+        either false true = refl
+        either false false = refl
+
+        -- who is marked and not in the new ring was marked
+        old : (u : ℕ) (b x : Bool) → near adj j T u ≡ b → isIn vs u ≡ x → near adj (suc j) T u ≡ true → isIn (slice hi r queue′) u ≡ false → near adj j T u ≡ true
+        old u true x e f h o = e
+        old u false true e f h o = absurd (true≢false (rw (e, f) at (sym (found-is u) ∙ o)))
+        old u false false e f h o = absurd (true≢false (sym h ∙ sym (one-more u) ∙ rw (e, f) refl))
+
+-- at last the region is marked
+module _ (adj : ℕ → List ℕ) (n : ℕ) (T : List ℕ) (j : ℕ) (marks : List ℕ) (within : (v : ℕ) → getD marks v 0 ≡ bit (near adj j T v)) where
+  pub region-is : (reach : ℕ) → j ≡ reach - 1 → atMark n marks 1 ≡ region adj reach n T
   unfolding region
-  region-is j reach marks e w =
-      filter-ext (λ v. eqb (getD marks v 0) 1) (near (adjOf n starts columns) (reach - 1) T) (range 0 n)
-      (λ v h. ap (λ (x : ℕ). eqb x 1) (w v) ∙ bit-one (near (adjOf n starts columns) j T v) ∙ ap (λ (k : ℕ). near (adjOf n starts columns) k T v) e)
+  region-is reach e =
+      filter-ext (λ v. eqb (getD marks v 0) 1) (near adj (reach - 1) T) (range 0 n)
+      (λ v h. ap (λ (x : ℕ). eqb x 1) (within v) ∙ bit-one (near adj j T v) ∙ ap (λ (k : ℕ). near adj k T v) e)
 
-  pub region-small : (j : ℕ) (marks : List ℕ) → Within j marks → (v : ℕ) → getD marks v 0 ≤ 1
-  region-small j marks w v = subst (λ (x : ℕ). x ≤ 1) (sym (w v)) (small (near (adjOf n starts columns) j T v))
+  pub region-small : (v : ℕ) → getD marks v 0 ≤ 1
+  region-small v = subst (λ (x : ℕ). x ≤ 1) (sym (within v)) (small (near adj j T v))
     where
       small : (b : Bool) → bit b ≤ 1
       small true = omega arith

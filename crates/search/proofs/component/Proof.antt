@@ -37,7 +37,7 @@ add-visit c = search needs
 visit-requires : tie.Need-visit-requires
 visit-requires c κs =
     let a = c .before .before .before .before .before .before .before .before .before in
-    (a .pre .3 .frontier .ready, below (c .before .before .before .before), omega arith)
+    (a .pre .3 .frontier .ready, below (c .before .before .before .before), λ e. omega arith)
 
 add-spread : tie.Need-add-spread
 add-spread c = search needs

@@ -1,8 +1,7 @@
 -- After i turns the first i rows are reached.
-use mathlib.Core.Path.{refl}
 use Prim.Native.Nat.{_-_, _≤_}
 use native.Mathlib.Omega.{arith}
-use lib.ListN.{length, replicate}
+use lib.ListN.{length}
 use borrow.Author.Needs.{needs}
 use Rattle.levels.specs.code.Rows.{adjOf}
 use Rattle.search.specs.code.Search.{Between, Kept}
@@ -12,16 +11,16 @@ use Rattle.search.proofs.components.Statement.{statement}
 use Rattle.search.proofs.components.Tie as tie
 
 abbrev Inv-loop : tie.InvT-loop
-Inv-loop starts columns own marks₀ n reach queue₀ k₀ i₀ i-end marks queue k i = Between (adjOf n starts columns) reach n own own k i marks queue × Kept marks₀ marks × (i ≤ length own)
+Inv-loop starts columns own marks₀ queue₀ n reach k₀ i₀ i-end marks queue k i = Between (adjOf n starts columns) reach n own own k i marks queue × Kept marks₀ marks × (i ≤ length own)
 
 abbrev μ-loop : tie.MeasureT-loop
-μ-loop starts columns own marks₀ n reach queue₀ k₀ i₀ i-end marks queue k i = length own - i
+μ-loop starts columns own marks₀ queue₀ n reach k₀ i₀ i-end marks queue k i = length own - i
 
 loop-holds : tie.Need-loop-holds Inv-loop μ-loop
 loop-holds c =
     let a = c .before .before .before in
     let adj = adjOf (a .args .n) (a .args .starts .now) (a .args .columns .now) in (
-      between-start adj (a .args .reach) (a .args .n) (a .args .own .now) (a .args .own .now) (a .args .marks .now) (replicate 4096 0) (a .pre .0 .small) (a .pre .2) refl (a .pre .3) (a .pre .4),
+      between-start adj (a .args .reach) (a .args .n) (a .args .own .now) (a .args .own .now) (a .args .marks .now) (a .args .queue .now) (a .pre .0 .small) (a .pre .2) (a .pre .3) (a .pre .4) (a .pre .5),
       kept-refl (a .args .marks .now),
       omega arith,
     )
@@ -50,7 +49,7 @@ returns : tie.Need-returns Inv-loop μ-loop
 returns c =
     let a = c .before .before .before .before .before in
     let l = c .before .loop in
-    levelled (a .args .marks .now) (a .pre .1) (omega arith) (l .inv .0) (l .inv .1) (a .pre .3) (roots-below (a .pre .1))
+    levelled (a .args .marks .now) (a .pre .1) (omega arith) (l .inv .0) (l .inv .1) (a .pre .4) (roots-below (a .pre .1))
 
 pub components-spec : {M : Type 1} → statement M
 components-spec =

@@ -37,6 +37,7 @@ returns c =
     record {
       own-is = c .before .before .collect .ensures ∙ marked m;
       long = m .mark .ensures .long ∙ a .pre .3;
+      all = ap length (c .before .before .collect .ensures);
       marked = marked-bit (a .args .order .now) (a .args .marks .now) (m .mark .last .1 .0) (a .pre .4) (m .mark .ensures);
     }
 

@@ -2,21 +2,28 @@
 use mathlib.Core.Path.{refl}
 use Prim.Native.Nat.{_-_}
 use borrow.Author.Needs.{needs}
-use Rattle.search.proofs.AllComponents.{roots-below}
+use Rattle.levels.specs.code.Rows.{adjOf}
 use Rattle.search.proofs.MarkedRegion.{region-is, region-small}
 use Rattle.search.proofs.search.Statement.{statement}
 use Rattle.search.proofs.search.Tie as tie
 
 mark-region-requires : tie.Need-mark-region-requires
-mark-region-requires c κs = let a = c .before .before .before .before in (a .pre .0, a .pre .2, a .pre .1 .below, a .pre .3, a .pre .4)
+mark-region-requires c κs = let a = c .before .before .before .before .before in (a .pre .0, a .pre .2, refl, a .pre .1 .below, a .pre .3, a .pre .4, a .pre .5)
 
 components-requires : tie.Need-components-requires
 components-requires c κs =
-    let a = c .before .before .before .before .before .before in
-    let (long, within) = c .before .mark-region .ensures in
-    let rows = a .args .rows .now in
-    let low = roots-below (a .pre .1) in
-    (a .pre .0, a .pre .1, long, region-is (a .pre .0) rows low (a .args .reach - 1) (a .args .reach) (c .before .mark-region .last .1 .1 .1 .0) refl within, region-small (a .pre .0) rows low (a .args .reach - 1) (c .before .mark-region .last .1 .1 .1 .0) within)
+    let a = c .before .before .before .before .before .before .before .before in
+    let m = c .before .before .mark-region in
+    let (long, queue-long, within) = m .ensures in
+    let adj = adjOf (a .args .n) (a .args .starts .now) (a .args .columns .now) in
+    let rows = a .args .rows .now in (
+      a .pre .0,
+      a .pre .1,
+      long,
+      queue-long,
+      region-is adj (a .args .n) rows (a .args .reach - 1) (m .last .1 .1 .1 .0) within (a .args .reach) refl,
+      region-small adj (a .args .n) rows (a .args .reach - 1) (m .last .1 .1 .1 .0) within,
+    )
 
 returns : tie.Need-returns
 returns c = search needs

@@ -27,7 +27,7 @@ add-next-level c =
 next-level-requires : tie.Need-next-level-requires Inv-loop μ-loop
 next-level-requires c κs =
     let f = c .before .before .before .loop .inv .frontier in
-    (c .before .before .before .before .before .before .pre .0, f .ready, f .low, omega arith, frontier-front f)
+    (c .before .before .before .before .before .before .pre .0, f .ready, f .low, λ e. omega arith, frontier-front f)
 
 add-d : tie.Need-add-d Inv-loop μ-loop
 add-d c =

@@ -12,9 +12,13 @@ use Rattle.base.specs.Lists.{filter, isIn, range}
 abbrev pub atMark : (n : ℕ) (marks : List ℕ) → ℕ → List ℕ
 atMark n marks c = filter (λ v. eqb (getD marks v 0) c) (range 0 n)
 
+-- how many rows have mark c
+abbrev pub howMany : (n : ℕ) (marks : List ℕ) → ℕ → ℕ
+howMany n marks c = length (atMark n marks c)
+
 -- how many rows are not yet reached
 abbrev pub unreached : (n : ℕ) (marks : List ℕ) → ℕ
-unreached n marks = length (atMark n marks 1)
+unreached n marks = howMany n marks 1
 
 -- the rows vs got mark 1, and the others kept theirs
 pub record Marked (vs marks marks′ : List ℕ) : Type 0 where

@@ -11,7 +11,7 @@ use lib.Seq.{slice}
 use Rattle.base.specs.Lists.{filter, isIn, range, bit}
 use Rattle.matrix.specs.Limits.{maxRows}
 use Rattle.levels.specs.Levels.{root, levelsFrom, levels}
-use Rattle.search.specs.code.Marks.{atMark, unreached}
+use Rattle.search.specs.code.Marks.{atMark, howMany, unreached}
 
 -- ---- visits
 
@@ -23,37 +23,37 @@ pub record Wave : Type 0 where
 abbrev pub wave : (marks queue : List ℕ) → Wave
 wave marks queue = record { marks = marks; queue = queue }
 
--- v is visited: unless it was reached before, it gets mark m and joins the queue
-unfoldable pub visited : (m : ℕ) → Wave → ℕ → Wave
-visited m w v = cond (eqb (getD (w .marks) v 0) 1) (wave (set (w .marks) v m) (w .queue ++ v ∷ [])) w
+-- v is visited: if it has mark c, it gets mark m and joins the queue
+unfoldable pub visited : (c m : ℕ) → Wave → ℕ → Wave
+visited c m w v = cond (eqb (getD (w .marks) v 0) c) (wave (set (w .marks) v m) (w .queue ++ v ∷ [])) w
 
 -- one row after the other is visited
-unfoldable pub visitedAll : (m : ℕ) → Wave → List ℕ → Wave
-visitedAll m w [] = w
-visitedAll m w (v ∷ vs) = visitedAll m (visited m w v) vs
+unfoldable pub visitedAll : (c m : ℕ) → Wave → List ℕ → Wave
+visitedAll c m w [] = w
+visitedAll c m w (v ∷ vs) = visitedAll c m (visited c m w v) vs
 
--- two arrays, the queue filled up to tail: it has room for every row not yet reached
-pub record Ready (n : ℕ) (marks queue : List ℕ) (tail : ℕ) : Type 0 where
+-- two arrays, the queue filled up to tail: it has room for every row with mark c
+pub record Ready (n c : ℕ) (marks queue : List ℕ) (tail : ℕ) : Type 0 where
   pub small : n ≤ maxRows
   pub marks-long : length marks ≡ maxRows
   pub queue-long : length queue ≡ maxRows
-  pub room : tail + unreached n marks ≤ n
+  pub room : tail + howMany n marks c ≤ n
 
 -- the arrays hold the wave w
-pub record After (n : ℕ) (marks queue : List ℕ) (tail : ℕ) (w : Wave) : Type 0 where
+pub record After (n c : ℕ) (marks queue : List ℕ) (tail : ℕ) (w : Wave) : Type 0 where
   pub is : wave marks (take tail queue) ≡ w
-  pub ready : Ready n marks queue tail
+  pub ready : Ready n c marks queue tail
 
--- rows that are reached
-abbrev pub Front : (n : ℕ) (marks rows : List ℕ) → Type 0
-Front n marks rows = (u : ℕ) → isIn rows u ≡ true → (u < n) × (getD marks u 0 ≢ 1)
+-- rows of another mark than c
+abbrev pub Front : (n c : ℕ) (marks rows : List ℕ) → Type 0
+Front n c marks rows = (u : ℕ) → isIn rows u ≡ true → (u < n) × (getD marks u 0 ≢ c)
 
 -- ---- levels
 
 -- k levels are done, the last stands in the queue from lo to hi, no mark is higher, and 2 × n levels are enough for the
 -- rows not yet reached. Between two components the last level is empty: lo and hi are 0
 pub record Frontier (n k : ℕ) (marks queue : List ℕ) (lo hi : ℕ) : Type 0 where
-  pub ready : Ready n marks queue hi
+  pub ready : Ready n 1 marks queue hi
   pub low : lo ≤ hi
   pub fresh : (v : ℕ) → v < n → getD marks v 0 ≤ k + 2
   pub front : (u : ℕ) → isIn (slice lo hi queue) u ≡ true → u < n
@@ -105,6 +105,7 @@ pub record Gathered (n : ℕ) (T own marks : List ℕ) : Type 0 where
   pub own-is : own ≡ filter (isIn T) (range 0 n)
   pub long : length marks ≡ maxRows
   pub marked : (v : ℕ) → getD marks v 0 ≡ bit (isIn T v)
+  pub all : length own ≡ unreached n marks
 
 -- own are the rows of T, ascending, and the marks its levels
 pub record Searched (adj : ℕ → List ℕ) (reach n : ℕ) (T own : List ℕ) (k : ℕ) (marks : List ℕ) : Type 0 where

@@ -1,10 +1,10 @@
 -- Row v was reached before, or is found.
 use native.Mathlib.Omega.{arith}
 use borrow.Author.Needs.{needs}
-use Rattle.search.proofs.Waves.{unreached-some}
+use Rattle.search.proofs.Waves.{some-left}
 use Rattle.search.proofs.Visits.{visit-old, visit-new}
-use Rattle.search.proofs.visit.Statement.{statement}
-use Rattle.search.proofs.visit.Tie as tie
+use Rattle.search.proofs.visiting.visit.Statement.{statement}
+use Rattle.search.proofs.visiting.visit.Tie as tie
 
 mul-if1 : tie.Need-mul-if1
 mul-if1 c = search needs
@@ -32,7 +32,7 @@ mul-queue c = search needs
 element-write-queue : tie.Need-element-write-queue
 element-write-queue c =
     let a = c .before .before in
-    omega (arith, a .pre .0 .room, a .pre .0 .small, unreached-some (a .args .n) (a .args .marks .now) (a .args .v) (a .pre .1) (c .if1 .left))
+    omega (arith, a .pre .0 .room, a .pre .0 .small, some-left (a .args .n) (a .args .c) (a .args .marks .now) (a .args .v) (a .pre .1) (c .if1 .left))
 
 add-result : tie.Need-add-result
 add-result c = search needs
@@ -40,7 +40,7 @@ add-result c = search needs
 returns-2 : tie.Need-returns-2
 returns-2 c =
     let a = c .before .before in
-    visit-new (a .args .m) (a .args .v) (a .pre .0) (a .pre .1) (λ e. omega (arith, a .pre .2)) (c .if1 .left)
+    visit-new (a .args .m) (a .args .v) (a .pre .0) (a .pre .1) (a .pre .2) (c .if1 .left)
 
 pub visit-spec : {M : Type 1} → statement M
 visit-spec =

@@ -6,14 +6,14 @@ use lib.ListN.{length, take}
 use borrow.Author.Needs.{needs}
 use Rattle.search.specs.code.Search.{wave}
 use Rattle.search.proofs.Visits.{Along, along-step, along-end}
-use Rattle.search.proofs.visit_all.Statement.{statement}
-use Rattle.search.proofs.visit_all.Tie as tie
+use Rattle.search.proofs.visiting.visit_all.Statement.{statement}
+use Rattle.search.proofs.visiting.visit_all.Tie as tie
 
 abbrev Inv-loop : tie.InvT-loop
-Inv-loop rows marks₀ queue₀ n m start tail₀ i₀ i-end marks queue tail i = Along n m rows (wave marks₀ (take start queue₀)) marks queue tail i
+Inv-loop rows marks₀ queue₀ n c m start tail₀ i₀ i-end marks queue tail i = Along n c m rows (wave marks₀ (take start queue₀)) marks queue tail i
 
 abbrev μ-loop : tie.MeasureT-loop
-μ-loop rows marks₀ queue₀ n m start tail₀ i₀ i-end marks queue tail i = length rows - i
+μ-loop rows marks₀ queue₀ n c m start tail₀ i₀ i-end marks queue tail i = length rows - i
 
 loop-holds : tie.Need-loop-holds Inv-loop μ-loop
 loop-holds c = record { ready = c .before .pre .0; le = omega arith; left = refl }

@@ -11,14 +11,14 @@ use Rattle.levels.specs.code.Rows.{adjOf}
 use Rattle.search.specs.code.Search.{wave}
 use Rattle.levels.proofs.Rows.{row-in, row-is, row-below, rows-graph}
 use Rattle.search.proofs.Visits.{visit-row, Across, across-start, across-in, across-step, across-end}
-use Rattle.search.proofs.next_level.Statement.{statement}
-use Rattle.search.proofs.next_level.Tie as tie
+use Rattle.search.proofs.visiting.next_level.Statement.{statement}
+use Rattle.search.proofs.visiting.next_level.Tie as tie
 
 abbrev Inv-loop : tie.InvT-loop
-Inv-loop starts columns marks₀ queue₀ n lo hi m tail₀ i₀ marks queue tail i = Across (adjOf n starts columns) n m marks₀ queue₀ lo hi marks queue tail i
+Inv-loop starts columns marks₀ queue₀ n lo hi c m tail₀ i₀ marks queue tail i = Across (adjOf n starts columns) n c m marks₀ queue₀ lo hi marks queue tail i
 
 abbrev μ-loop : tie.MeasureT-loop
-μ-loop starts columns marks₀ queue₀ n lo hi m tail₀ i₀ marks queue tail i = hi - i
+μ-loop starts columns marks₀ queue₀ n lo hi c m tail₀ i₀ marks queue tail i = hi - i
 
 loop-holds : tie.Need-loop-holds Inv-loop μ-loop
 loop-holds c =
@@ -36,10 +36,10 @@ element-copy-out-wide c =
 wide-requires : tie.Need-wide-requires Inv-loop μ-loop
 wide-requires c κs = search needs
 
--- the row to expand is a row, and reached
+-- the row to expand is a row, and has another mark
 here : (c : tie.After-wide Inv-loop μ-loop) →
     (getD (c .before .before .before .loop .queue) (c .before .before .before .loop .i) 0 < c .before .before .before .before .before .before .args .n)
-    × (getD (c .before .before .before .loop .marks) (getD (c .before .before .before .loop .queue) (c .before .before .before .loop .i) 0) 0 ≢ 1)
+    × (getD (c .before .before .before .loop .marks) (getD (c .before .before .before .loop .queue) (c .before .before .before .loop .i) 0) 0 ≢ c .before .before .before .before .before .before .args .c)
 here c =
     let a = c .before .before .before .before .before .before in
     across-in (c .before .before .before .loop .inv) (omega arith) (omega (arith, a .pre .1 .small, a .pre .1 .room, a .pre .1 .queue-long)) (a .pre .4)
@@ -77,7 +77,7 @@ loop-again c =
     let u = getD (l .queue) (l .i) 0 in
     across-step (l .inv) (omega arith) (omega (arith, a .pre .1 .small, a .pre .1 .room, a .pre .1 .queue-long)) (a .pre .3)
     (λ x h. rows-graph (a .pre .0) .below x u h)
-    (rw (visit-row p (a .args .m) (wave (l .marks) (take (l .tail) (l .queue))) u (here (c .before .before .before .before) .1))
+    (rw (visit-row p (a .args .c) (a .args .m) (wave (l .marks) (take (l .tail) (l .queue))) u (here (c .before .before .before .before) .1))
     (rw (columns-are (c .before .before .before), c .before .before .before .before .wide .ensures) at (c .visit-all .ensures)))
 
 returns : tie.Need-returns Inv-loop μ-loop

@@ -1,0 +1,41 @@
+// The region of a group, ring after ring: a ring's rows are one join further from the group than those of the ring before.
+use crate::marking::OUTSIDE;
+use crate::marking::UNREACHED;
+use crate::visiting::next_level;
+use base::slices::copy;
+use matrix::limits::MAX_ROWS;
+ghost use mathlib.Core.Path.{_≡_};
+ghost use Prim.Native.Nat.{ℕ, _-_, _<_, _≤_};
+ghost use lib.ListN.{length, getD};
+ghost use Rattle.base.specs.Lists.{isIn, bit};
+ghost use Rattle.base.specs.Near.{near};
+ghost use Rattle.matrix.specs.Limits.{maxRows};
+ghost use Rattle.levels.specs.code.Rows.{Rows, adjOf};
+ghost use Rattle.search.specs.code.Marks.{unreached};
+
+// The region of the group own, whose rows have mark 1 and no others: what is within reach - 1 joins of it gets mark 1.
+pub(crate) fn mark_region(
+    starts: &[u32],
+    columns: &[u32],
+    own: &[u32],
+    marks: &mut [u32; MAX_ROWS],
+    queue: &mut [u32; MAX_ROWS],
+    n: usize,
+    reach: usize,
+)
+    requires { ⌜ Rows n (now starts) (now columns) × (length (now marks) ≡ maxRows) × (length (now queue) ≡ maxRows) × ((i : ℕ) → i < length (now own) → getD (now own) i 0 < n)
+        × ((v : ℕ) → getD (now marks) v 0 ≡ bit (isIn (now own) v)) × (length (now own) ≡ unreached n (now marks)) × (1 ≤ reach) ⌝ }
+    ensures { λ _. ⌜ (length (now (marks .exit)) ≡ maxRows) × (length (now (queue .exit)) ≡ maxRows)
+        × ((v : ℕ) → getD (now (marks .exit)) v 0 ≡ bit (near (adjOf n (now (starts .entry)) (now (columns .entry))) (reach - 1) (now (own .entry)) v)) ⌝ }
+{
+    copy(own, queue);
+    let mut lo = 0;
+    let mut hi = own.len();
+    let mut j = 0;
+    while j + 1 < reach {
+        let tail = next_level(starts, columns, marks, queue, n, lo, hi, OUTSIDE, UNREACHED);
+        lo = hi;
+        hi = tail;
+        j += 1;
+    }
+}
