@@ -18,6 +18,7 @@ use steps::sum::Sum;
 use steps::sum::add_checked;
 use words::number::read_u32;
 ghost use mathlib.Core.Path.{_≡_};
+ghost use mathlib.Core.Bool.{cond};
 ghost use Prim.Native.Nat.{suc, _/_, _^_, _≤_, _<_};
 ghost use lib.ListN.{length};
 ghost use Rattle.plan.specs.Sound.{maxWorkers};
@@ -77,8 +78,16 @@ pub fn refusal(
     }
 }
 
+// a, or else b.
+fn either(first: bool, a: i64, b: i64) -> i64
+    ensures { λ r. ⌜ r ≡ cond first a b ⌝ }
+{
+    if first { a } else { b }
+}
+
 // Worker w loads or stores the sum of an update. 0, or 14 if the sum to store would pass 64 bits: then all is as it
-// was.
+// was. A load is a store of the sum as it is, so that no branch goes by which of the two it is: they come in no order
+// that a processor could foresee.
 fn access(
     made: &mut [u32; MAX_WORKERS],
     held: &mut [i64; MAX_WORKERS],
@@ -93,16 +102,14 @@ fn access(
         × SumsKept rows (now (sums .entry)) (now (sums .exit)) ⌝ }
 {
     let target = e.target;
-    if made[w] % 2 == 0 {
-        held[w] = load_at(sums, rows, target);
-        made[w] += 1;
-        return 0;
-    }
     let amount = e.amount;
-    let Sum::Fits(sum) = add_checked(held[w], amount) else {
+    let loads = made[w] % 2 == 0;
+    let from = either(loads, load_at(sums, rows, target), held[w]);
+    let Sum::Fits(sum) = add_checked(from, either(loads, 0, amount)) else {
         return OVERFLOW;
     };
     store_at(sums, rows, target, sum);
+    held[w] = from;
     made[w] += 1;
     0
 }
