@@ -220,19 +220,20 @@ impl Given {
         list
     }
 
-    /// The picks of a whole run: all ready workers in turn, until one of them waits or ends, and so on.
+    /// The picks of a whole run, in no order: each time one of the ready workers, drawn at random.
     fn whole_schedule(&self) -> Vec<u8> {
+        let mut rng = Prng::new(16);
         let mut schedule = Vec::new();
-        let mut at = At::fresh(self.n);
+        let At { mut state, mut sums } = At::fresh(self.n);
         loop {
-            let set = calls::ready(self.run(), &at.state, &at.sums);
+            let set = calls::prepared_ready(&self.prepared, &state, &sums);
             let ready: Vec<u8> = (0..16).filter(|worker| set >> worker & 1 == 1).collect();
             if ready.is_empty() {
                 return schedule;
             }
-            let picks = ready.repeat(10_000);
-            let taken = calls::picks(self.run(), &mut at.state, &mut at.sums, &picks) as u32;
-            schedule.extend(&picks[..taken as usize]);
+            let worker = rng.one_of(&ready);
+            calls::prepared_picks(&self.prepared, &mut state, &mut sums, &[worker]);
+            schedule.push(worker);
         }
     }
 
