@@ -1,8 +1,10 @@
-// The group planner and the pair planner, which call each other.
+// The group planner and the pair planner, which call each other. The rows' degrees stand in keys, as the sort takes
+// them.
 use extents::Policy;
 use extents::cut;
 use extents::next_extent;
 use loads::level_loads;
+use matrix::limits::MAX_ROWS;
 use plan::fields::BLUE;
 use plan::fields::Group;
 use plan::fields::RED;
@@ -18,6 +20,7 @@ ghost use Rattle.extents.specs.Extents.{extent, cut};
 ghost use Rattle.race.specs.Planner.{planGroup};
 ghost use Rattle.extents.specs.code.Scans.{policyOf, Scale};
 ghost use Rattle.loads.specs.code.Stretches.{levelsIn};
+ghost use Rattle.sort.specs.code.Sort.{Keyed};
 ghost use Rattle.plan.specs.Groups.{groupOf};
 ghost use Rattle.cycle.specs.code.Records.{Holds};
 ghost use Rattle.cycle.specs.code.Cycle.{redGroup, blueGroup, leftAfter, Fits, GroupTask, PairsTask, pairsPlan};
@@ -119,6 +122,7 @@ fn after(up: Parent, left: Left, pair: Pair, index: u32) -> Left
 pub fn plan_group(
     starts: &[u32],
     columns: &[u32],
+    keys: &[u32; MAX_ROWS],
     order: &mut [u32],
     records: &mut [u32],
     n: usize,
@@ -127,7 +131,7 @@ pub fn plan_group(
     index: u32,
     g: Group,
 ) -> u32
-    requires { ⌜ GroupTask n (policyOf policy) stages index (now starts) (now columns) (now order) (now records) g ⌝ }
+    requires { ⌜ GroupTask n (policyOf policy) stages index (now starts) (now columns) (now order) (now records) g × Keyed (adjOf n (now starts) (now columns)) n (now keys) ⌝ }
     ensures { λ r. ⌜ Holds (planGroup (adjOf n (now (starts .entry)) (now (columns .entry))) n (policyOf policy) stages index (groupOf g) (now (order .entry)))
         index (now (records .entry)) (now (order .exit)) (now (records .exit)) r ⌝ }
 {
@@ -140,7 +144,7 @@ pub fn plan_group(
     }
     let mut ends = [0u32; MAX_LEVELS];
     let reach = policy.reach;
-    let m = level_sort(starts, columns, order, &mut ends, n, reach, 2 * reach);
+    let m = level_sort(starts, columns, keys, order, &mut ends, n, reach, 2 * reach);
     if m < 2 * reach {
         return index + 1;
     }
@@ -162,6 +166,7 @@ pub fn plan_group(
     plan_pairs(
         starts,
         columns,
+        keys,
         order,
         &ends[..m],
         &loads[..m],
@@ -178,6 +183,7 @@ pub fn plan_group(
 fn plan_pairs(
     starts: &[u32],
     columns: &[u32],
+    keys: &[u32; MAX_ROWS],
     order: &mut [u32],
     ends: &[u32],
     loads: &[u32],
@@ -188,7 +194,7 @@ fn plan_pairs(
     up: Parent,
     left: Left,
 ) -> u32
-    requires { ⌜ PairsTask n (policyOf policy) stages (now starts) (now columns) (now order) (now ends) (now loads) (now records) up left (levelsIn (left .done) (now ends) (now order)) ⌝ }
+    requires { ⌜ PairsTask n (policyOf policy) stages (now starts) (now columns) (now order) (now ends) (now loads) (now records) up left (levelsIn (left .done) (now ends) (now order)) × Keyed (adjOf n (now starts) (now columns)) n (now keys) ⌝ }
     ensures { λ r. ⌜ Holds (pairsPlan (adjOf n (now (starts .entry)) (now (columns .entry))) n (policyOf policy) stages up left (levelsIn (left .done) (now (ends .entry)) (now (order .entry))))
         (left .index) (now (records .entry)) (now (order .exit)) (now (records .exit)) r ⌝ }
 {
@@ -201,6 +207,7 @@ fn plan_pairs(
     let i = plan_group(
         starts,
         columns,
+        keys,
         &mut order[..a],
         records,
         n,
@@ -212,6 +219,7 @@ fn plan_pairs(
     let j = plan_group(
         starts,
         columns,
+        keys,
         &mut order[a..b],
         records,
         n,
@@ -227,6 +235,7 @@ fn plan_pairs(
     plan_pairs(
         starts,
         columns,
+        keys,
         &mut order[b..],
         &ends[levels..],
         &loads[levels..],

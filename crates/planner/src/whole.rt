@@ -1,10 +1,12 @@
 // The whole: all rows, sorted by level, and their plan.
 use cycle::plan_group;
 use extents::Policy;
+use matrix::limits::MAX_ROWS;
 use plan::MAX_DEPTH;
 use plan::fields::Group;
 use plan::fields::WHOLE;
 use sort::MAX_LEVELS;
+use sort::degrees::put_degrees;
 use sort::level_sort;
 ghost use mathlib.Core.Path.{_≡_};
 ghost use Prim.Native.Nat.{_≤_, _*_};
@@ -17,6 +19,7 @@ ghost use Rattle.plan.specs.Sound.{maxWorkers, maxGroups, maxDistance};
 ghost use Rattle.extents.specs.code.Scans.{policyOf};
 ghost use Rattle.race.specs.Planner.{planRows};
 ghost use Rattle.cycle.specs.code.Records.{Holds};
+ghost use Rattle.sort.specs.code.Sort.{Keyed};
 ghost use Rattle.matrix.specs.Limits.{maxRows};
 
 // A group at depth 0 may be split so often.
@@ -35,12 +38,19 @@ fn number(order: &mut [u32])
 }
 
 // The rows by their levels.
-fn sort_rows(starts: &[u32], columns: &[u32], order: &mut [u32], n: usize, reach: usize)
-    requires { ⌜ Rows n (now starts) (now columns) × (now order ≡ range 0 n) × (1 ≤ reach) ⌝ }
+fn sort_rows(
+    starts: &[u32],
+    columns: &[u32],
+    keys: &[u32; MAX_ROWS],
+    order: &mut [u32],
+    n: usize,
+    reach: usize,
+)
+    requires { ⌜ Rows n (now starts) (now columns) × Keyed (adjOf n (now starts) (now columns)) n (now keys) × (now order ≡ range 0 n) × (1 ≤ reach) ⌝ }
     ensures { λ _. ⌜ now (order .exit) ≡ concat (ownLevels (adjOf n (now (starts .entry)) (now (columns .entry))) reach n (range 0 n)) ⌝ }
 {
     let mut ends = [0u32; MAX_LEVELS];
-    level_sort(starts, columns, order, &mut ends, n, reach, 0);
+    level_sort(starts, columns, keys, order, &mut ends, n, reach, 0);
 }
 
 // The plan of all rows; the answer is how many groups it has. If it is one, the whole is a leaf, and its rows are still
@@ -58,6 +68,8 @@ pub fn plan_rows(
     ensures { λ r. ⌜ Holds (planRows (adjOf n (now (starts .entry)) (now (columns .entry))) n (policyOf policy) workers) 0 (now (records .entry)) (now (order .exit)) (now (records .exit)) r ⌝ }
 {
     number(order);
+    let mut keys = [0u32; MAX_ROWS];
+    put_degrees(starts, columns, &mut keys, n);
     let whole = Group {
         start: 0,
         length: n as u32,
@@ -67,9 +79,20 @@ pub fn plan_rows(
         parent: 0,
         depth: 0,
     };
-    let count = plan_group(starts, columns, order, records, n, policy, STAGES, 0, whole);
+    let count = plan_group(
+        starts,
+        columns,
+        &keys,
+        order,
+        records,
+        n,
+        policy,
+        STAGES,
+        0,
+        whole,
+    );
     if count == 1 {
-        sort_rows(starts, columns, order, n, policy.reach);
+        sort_rows(starts, columns, &keys, order, n, policy.reach);
     }
     count
 }

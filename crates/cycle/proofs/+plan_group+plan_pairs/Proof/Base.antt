@@ -19,24 +19,24 @@ use Rattle.cycle.proofs.after.Reads as after-reads
 use Rattle.plan.proofs.fields.put.Reads as put-reads
 
 -- stages left
-abbrev pub μ-plan-group : Measures 4 plan-group-kinds.ps ℕ
-μ-plan-group κs a = a .1 .1 .1 .1 .1 .1 .0 * (maxLevels + 2)
+abbrev pub μ-plan-group : Measures 5 plan-group-kinds.ps ℕ
+μ-plan-group κs a = a .1 .1 .1 .1 .1 .1 .1 .0 * (maxLevels + 2)
 
 -- stages left, then levels left
-abbrev pub μ-plan-pairs : Measures 6 plan-pairs-kinds.ps ℕ
-μ-plan-pairs κs a = a .1 .1 .1 .1 .1 .1 .1 .1 .0 * (maxLevels + 2) + length (a .1 .1 .1 .0 .now) + 1
+abbrev pub μ-plan-pairs : Measures 7 plan-pairs-kinds.ps ℕ
+μ-plan-pairs κs a = a .1 .1 .1 .1 .1 .1 .1 .1 .1 .0 * (maxLevels + 2) + length (a .1 .1 .1 .1 .0 .now) + 1
 
-abbrev pub plan-group-at : ℕ → In 4 plan-group-kinds.ps
-plan-group-at t = and 4 plan-group-kinds.ps (is 4 plan-group-kinds.ps μ-plan-group t) plan-group.Pre
+abbrev pub plan-group-at : ℕ → In 5 plan-group-kinds.ps
+plan-group-at t = and 5 plan-group-kinds.ps (is 5 plan-group-kinds.ps μ-plan-group t) plan-group.Pre
 
-abbrev pub plan-group-below : ℕ → In 4 plan-group-kinds.ps
-plan-group-below t = and 4 plan-group-kinds.ps (falls 4 plan-group-kinds.ps _<_ μ-plan-group t) plan-group.Pre
+abbrev pub plan-group-below : ℕ → In 5 plan-group-kinds.ps
+plan-group-below t = and 5 plan-group-kinds.ps (falls 5 plan-group-kinds.ps _<_ μ-plan-group t) plan-group.Pre
 
-abbrev pub plan-pairs-at : ℕ → In 6 plan-pairs-kinds.ps
-plan-pairs-at t = and 6 plan-pairs-kinds.ps (is 6 plan-pairs-kinds.ps μ-plan-pairs t) plan-pairs.Pre
+abbrev pub plan-pairs-at : ℕ → In 7 plan-pairs-kinds.ps
+plan-pairs-at t = and 7 plan-pairs-kinds.ps (is 7 plan-pairs-kinds.ps μ-plan-pairs t) plan-pairs.Pre
 
-abbrev pub plan-pairs-below : ℕ → In 6 plan-pairs-kinds.ps
-plan-pairs-below t = and 6 plan-pairs-kinds.ps (falls 6 plan-pairs-kinds.ps _<_ μ-plan-pairs t) plan-pairs.Pre
+abbrev pub plan-pairs-below : ℕ → In 7 plan-pairs-kinds.ps
+plan-pairs-below t = and 7 plan-pairs-kinds.ps (falls 7 plan-pairs-kinds.ps _<_ μ-plan-pairs t) plan-pairs.Pre
 
 abbrev pub plan-group-calls : ℕ → plan-group-lts.Claims
 plan-group-calls t = (put-reads.Asked, put-reads.Learnt, level-sort-reads.Asked, level-sort-reads.Learnt, level-loads-reads.Asked, level-loads-reads.Learnt, plan-pairs-below t, plan-pairs.Post)

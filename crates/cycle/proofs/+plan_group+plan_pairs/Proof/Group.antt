@@ -8,7 +8,7 @@ use lib.ListN.{length, take}
 use lib.Seq.{length-take-le}
 use Rattle.levels.specs.code.Rows.{adjOf}
 use Rattle.plan.specs.Groups.{groupOf}
-use Rattle.sort.specs.code.Sort.{maxLevels}
+use Rattle.sort.specs.code.Sort.{maxLevels, Keyed}
 use Rattle.extents.specs.code.Scans.{policyOf}
 use Rattle.base.proofs.Lists.{getD-zeros}
 use Rattle.race.specs.Planner.{planGroup, leaf}
@@ -67,7 +67,10 @@ module _ (t : ℕ) where
     adj = let a = s .args in adjOf (a .n) (a .starts .now) (a .columns .now)
 
     task : let a = s .args in GroupTask (a .n) (policyOf (a .policy)) (a .stages) (a .index) (a .starts .now) (a .columns .now) (a .order .now) (a .records .now) (a .g)
-    task = s .pre .1
+    task = s .pre .1 .0
+
+    keyed : let a = s .args in Keyed adj (a .n) (a .keys .now)
+    keyed = s .pre .1 .1
 
   -- ---- once the record is written
 
@@ -90,7 +93,7 @@ module _ (t : ℕ) where
 
     -- where its levels end
     abbrev ends : List ℕ
-    ends = c .level-sort .last .1 .1 .1 .0
+    ends = c .level-sort .last .1 .1 .1 .1 .0
 
     few : m ≤ maxLevels
     few = levels-few (task (start (put c))) (c .level-sort .ensures)
@@ -150,7 +153,10 @@ module _ (t : ℕ) where
   mul-level-sort c = omega (arith, task (start (c .before .before .before .before .before .before .before)) .far .1)
 
   level-sort-requires : lts.Need-level-sort-requires (plan-group-calls t) (plan-group-at t) plan-group.Post
-  level-sort-requires c κs = let k = task (start (c .before .before .before .before .before .before .before)) in (k .rows, k .proper, refl, getD-zeros maxLevels, k .far .0)
+  level-sort-requires c κs =
+      let s = start (c .before .before .before .before .before .before .before) in
+      let k = task s in
+      (k .rows, keyed s, k .proper, record { long = refl; zero = getD-zeros maxLevels }, k .far .0)
 
   mul-if3 : lts.Need-mul-if3 (plan-group-calls t) (plan-group-at t) plan-group.Post
   mul-if3 c = omega (arith, task (start (put (c .before .before))) .far .1)
@@ -159,7 +165,7 @@ module _ (t : ℕ) where
   add-result-3 c = let i = index-next (put (c .before .before .before)) in omega arith
 
   same-length-3 : lts.Need-same-length-3 (plan-group-calls t) (plan-group-at t) plan-group.Post
-  same-length-3 c = c .before .before .before .level-sort .kept .1 .1 .0
+  same-length-3 c = c .before .before .before .level-sort .kept .1 .1 .1 .0
 
   same-length-4 : lts.Need-same-length-4 (plan-group-calls t) (plan-group-at t) plan-group.Post
   same-length-4 c = put (c .before .before .before) .put .kept .0
@@ -213,14 +219,14 @@ module _ (t : ℕ) where
       let o = sort (some l) in
       let s = start (put o) in (
         omega (arith, s .pre .0, stages-left o, few o, ends-taken o),
-        pairs-task (task s) (o .level-sort .ensures) (some l .if3 .left) (l .level-loads .ensures) (stages-left o) (two-workers o) (put o .put .kept .0),
+        (pairs-task (task s) (o .level-sort .ensures) (some l .if3 .left) (l .level-loads .ensures) (stages-left o) (two-workers o) (put o .put .kept .0), keyed s),
       )
 
   same-length-5 : lts.Need-same-length-5 (plan-group-calls t) (plan-group-at t) plan-group.Post
-  same-length-5 c = let d = c .before .before .before .before in d .plan-pairs .kept .1 .1 .0 ∙ sort (some (loads d)) .level-sort .kept .1 .1 .0
+  same-length-5 c = let d = c .before .before .before .before in d .plan-pairs .kept .1 .1 .1 .0 ∙ sort (some (loads d)) .level-sort .kept .1 .1 .1 .0
 
   same-length-6 : lts.Need-same-length-6 (plan-group-calls t) (plan-group-at t) plan-group.Post
-  same-length-6 c = let d = c .before .before .before .before in d .plan-pairs .kept .1 .1 .1 .1 .1 .0 ∙ put (sort (some (loads d))) .put .kept .0
+  same-length-6 c = let d = c .before .before .before .before in d .plan-pairs .kept .1 .1 .1 .1 .1 .1 .0 ∙ put (sort (some (loads d))) .put .kept .0
 
   returns-4 : lts.Need-returns-4 (plan-group-calls t) (plan-group-at t) plan-group.Post
   returns-4 c =

@@ -74,19 +74,19 @@ module _ (t : ℕ) where
 
     -- its parts lie in the stretch, its levels among those that are left, and all numbers are small
     inside : (pair .reds ≤ pair .rows) × (pair .rows ≤ length (start c .args .order .now))
-    inside = parts-in (start c .pre .1) (c .next-pair .ensures)
+    inside = parts-in (start c .pre .1 .0) (c .next-pair .ensures)
 
     among : (2 * start c .args .policy .reach ≤ pair .levels) × (pair .levels ≤ length (start c .args .ends .now)) × (pair .levels ≤ length (start c .args .loads .now))
-    among = levels-in-ends (start c .pre .1) (c .next-pair .ensures)
+    among = levels-in-ends (start c .pre .1 .0) (c .next-pair .ensures)
 
     fits : Fits (start c .args .up) (start c .args .left) pair
-    fits = pair-fits (start c .pre .1) (c .next-pair .ensures)
+    fits = pair-fits (start c .pre .1 .0) (c .next-pair .ensures)
 
   -- ---- once its red group is planned
 
   module _ (c : Red) where
     abbrev red-rows : List ℕ
-    red-rows = c .plan-group .last .1 .1 .0
+    red-rows = c .plan-group .last .1 .1 .1 .0
 
     -- the stretch with its rows back
     abbrev one : List ℕ
@@ -94,11 +94,11 @@ module _ (t : ℕ) where
 
     red-held : let n = next (both c) in let a = start n .args in
         Holds (planGroup (adjOf (a .n) (a .starts .now) (a .columns .now)) (a .n) (policyOf (a .policy)) (a .stages) (a .left .index) (groupOf (redGroup (a .up) (a .left) (pair n))) (take (pair n .reds) (a .order .now)))
-        (a .left .index) (a .records .now) red-rows (c .plan-group .last .1 .1 .1 .0) (c .plan-group .result)
+        (a .left .index) (a .records .now) red-rows (c .plan-group .last .1 .1 .1 .1 .0) (c .plan-group .result)
     red-held = rw (both c .before .red-of .ensures) at (c .plan-group .ensures)
 
     one-long : length one ≡ length (start (next (both c)) .args .order .now)
-    one-long = let n = next (both c) in one-length (start n .pre .1) (n .next-pair .ensures) red-held (c .plan-group .kept .1 .1 .0) (c .plan-group .kept .1 .1 .1 .0)
+    one-long = let n = next (both c) in one-length (start n .pre .1 .0) (n .next-pair .ensures) red-held (c .plan-group .kept .1 .1 .1 .0) (c .plan-group .kept .1 .1 .1 .1 .0)
 
   -- ---- .. and its blue group
 
@@ -107,7 +107,7 @@ module _ (t : ℕ) where
     pairAt = next (both (red c))
 
     abbrev blue-rows : List ℕ
-    blue-rows = c .plan-group2 .last .1 .1 .0
+    blue-rows = c .plan-group2 .last .1 .1 .1 .0
 
     -- the stretch with both groups' rows back
     abbrev two : List ℕ
@@ -115,24 +115,24 @@ module _ (t : ℕ) where
 
     blue-held : let a = start pairAt .args in
         Holds (planGroup (adjOf (a .n) (a .starts .now) (a .columns .now)) (a .n) (policyOf (a .policy)) (a .stages) (red c .plan-group .result) (groupOf (blueGroup (a .up) (a .left) (pair pairAt))) (part (one (red c)) (pair pairAt .reds) (pair pairAt .rows)))
-        (red c .plan-group .result) (red c .plan-group .last .1 .1 .1 .0) blue-rows (c .plan-group2 .last .1 .1 .1 .0) (c .plan-group2 .result)
+        (red c .plan-group .result) (red c .plan-group .last .1 .1 .1 .1 .0) blue-rows (c .plan-group2 .last .1 .1 .1 .1 .0) (c .plan-group2 .result)
     blue-held = rw (both (red c) .blue-of .ensures) at (c .plan-group2 .ensures)
 
     two-long : length two ≡ length (start pairAt .args .order .now)
     two-long =
         let r = red c .plan-group in
-        two-length (start pairAt .pre .1) (pairAt .next-pair .ensures) (red-held (red c)) (r .kept .1 .1 .0) (r .kept .1 .1 .1 .0) blue-held (c .plan-group2 .kept .1 .1 .0) (c .plan-group2 .kept .1 .1 .1 .0)
+        two-length (start pairAt .pre .1 .0) (pairAt .next-pair .ensures) (red-held (red c)) (r .kept .1 .1 .1 .0) (r .kept .1 .1 .1 .1 .0) blue-held (c .plan-group2 .kept .1 .1 .1 .0) (c .plan-group2 .kept .1 .1 .1 .1 .0)
 
     rows-in-two : pair pairAt .rows ≤ length two
     rows-in-two = rw two-long (inside pairAt .1)
 
-    records-long : length (c .plan-group2 .last .1 .1 .1 .0) ≡ length (start pairAt .args .records .now)
-    records-long = c .plan-group2 .kept .1 .1 .1 .0 ∙ red c .plan-group .kept .1 .1 .1 .0
+    records-long : length (c .plan-group2 .last .1 .1 .1 .1 .0) ≡ length (start pairAt .args .records .now)
+    records-long = c .plan-group2 .kept .1 .1 .1 .1 .0 ∙ red c .plan-group .kept .1 .1 .1 .1 .0
 
   -- ---- the needs
 
   next-pair-requires : lts.Need-next-pair-requires (plan-pairs-calls t) (plan-pairs-at t) plan-pairs.Post
-  next-pair-requires c κs = next-asked (c .before .before .before .before .before .before .pre .1)
+  next-pair-requires c κs = next-asked (c .before .before .before .before .before .before .pre .1 .0)
 
   red-of-requires : lts.Need-red-of-requires (plan-pairs-calls t) (plan-pairs-at t) plan-pairs.Post
   red-of-requires c κs = fits c
@@ -159,7 +159,7 @@ module _ (t : ℕ) where
   plan-group-requires c κs =
       let b = c .before .before .before .before in
       let n = next b in
-      (omega (arith, start n .pre .0), rw (b .before .red-of .ensures) (red-task (start n .pre .1) (n .next-pair .ensures)))
+      (omega (arith, start n .pre .0), (rw (b .before .red-of .ensures) (red-task (start n .pre .1 .0) (n .next-pair .ensures)), start n .pre .1 .1))
 
   mul-plan-group : lts.Need-mul-plan-group (plan-pairs-calls t) (plan-pairs-at t) plan-pairs.Post
   mul-plan-group c = let f = fits (next (both (c .before .before .before .before))) in omega arith
@@ -178,7 +178,7 @@ module _ (t : ℕ) where
       let r = c .before .before .before .before .before .before in
       let n = next (both r) in (
         omega (arith, start n .pre .0),
-        rw (both r .blue-of .ensures) (blue-task (start n .pre .1) (n .next-pair .ensures) (red-held r) (r .plan-group .kept .1 .1 .0) (r .plan-group .kept .1 .1 .1 .0)),
+        (rw (both r .blue-of .ensures) (blue-task (start n .pre .1 .0) (n .next-pair .ensures) (red-held r) (r .plan-group .kept .1 .1 .1 .0) (r .plan-group .kept .1 .1 .1 .1 .0)), start n .pre .1 .1),
       )
 
   same-length : lts.Need-same-length (plan-pairs-calls t) (plan-pairs-at t) plan-pairs.Post
@@ -192,7 +192,7 @@ module _ (t : ℕ) where
       let b = c .before .before .before .before .before in
       let r = red b .plan-group in
       let n = pairAt b in
-      last-held (start n .pre .1) (n .next-pair .ensures) (red-held (red b)) (r .kept .1 .1 .0) (r .kept .1 .1 .1 .0) (blue-held b) (b .plan-group2 .kept .1 .1 .0) (b .plan-group2 .kept .1 .1 .1 .0) (c .if1 .taken)
+      last-held (start n .pre .1 .0) (n .next-pair .ensures) (red-held (red b)) (r .kept .1 .1 .1 .0) (r .kept .1 .1 .1 .1 .0) (blue-held b) (b .plan-group2 .kept .1 .1 .1 .0) (b .plan-group2 .kept .1 .1 .1 .1 .0) (c .if1 .taken)
 
   after-requires : lts.Need-after-requires (plan-pairs-calls t) (plan-pairs-at t) plan-pairs.Post
   after-requires c κs = fits (pairAt (c .before .before .before .before .before))
@@ -210,7 +210,7 @@ module _ (t : ℕ) where
   part-plan-pairs-end c = search needs
 
   mul-plan-pairs-2 : lts.Need-mul-plan-pairs-2 (plan-pairs-calls t) (plan-pairs-at t) plan-pairs.Post
-  mul-plan-pairs-2 c = let n = pairAt (blue (c .before)) in record { fits = omega (arith, among n, start n .good .1 .1 .1 .0 .1) }
+  mul-plan-pairs-2 c = let n = pairAt (blue (c .before)) in record { fits = omega (arith, among n, start n .good .1 .1 .1 .1 .0 .1) }
 
   sub-plan-pairs-2 : lts.Need-sub-plan-pairs-2 (plan-pairs-calls t) (plan-pairs-at t) plan-pairs.Post
   sub-plan-pairs-2 c = among (pairAt (blue (c .before))) .1
@@ -222,7 +222,7 @@ module _ (t : ℕ) where
   part-plan-pairs-end-2 c = search needs
 
   mul-plan-pairs-3 : lts.Need-mul-plan-pairs-3 (plan-pairs-calls t) (plan-pairs-at t) plan-pairs.Post
-  mul-plan-pairs-3 c = let n = pairAt (blue (c .before .before)) in record { fits = omega (arith, among n, start n .good .1 .1 .1 .1 .0 .1) }
+  mul-plan-pairs-3 c = let n = pairAt (blue (c .before .before)) in record { fits = omega (arith, among n, start n .good .1 .1 .1 .1 .1 .0 .1) }
 
   sub-plan-pairs-3 : lts.Need-sub-plan-pairs-3 (plan-pairs-calls t) (plan-pairs-at t) plan-pairs.Post
   sub-plan-pairs-3 c = among (pairAt (blue (c .before .before))) .2
@@ -240,8 +240,8 @@ module _ (t : ℕ) where
       let r = red b .plan-group in
       let n = pairAt b in
       let k = pair n .levels in (
-        omega (arith, start n .pre .0, start n .pre .1 .far, among n, ap length (part-to-end (start n .args .ends .now) k), length-drop k (start n .args .ends .now)),
-        rw (e .after .ensures) (rest-task (start n .pre .1) (n .next-pair .ensures) (red-held (red b)) (r .kept .1 .1 .0) (r .kept .1 .1 .1 .0) (blue-held b) (b .plan-group2 .kept .1 .1 .0) (b .plan-group2 .kept .1 .1 .1 .0) (e .before .if1 .left)),
+        omega (arith, start n .pre .0, start n .pre .1 .0 .far, among n, ap length (part-to-end (start n .args .ends .now) k), length-drop k (start n .args .ends .now)),
+        (rw (e .after .ensures) (rest-task (start n .pre .1 .0) (n .next-pair .ensures) (red-held (red b)) (r .kept .1 .1 .1 .0) (r .kept .1 .1 .1 .1 .0) (blue-held b) (b .plan-group2 .kept .1 .1 .1 .0) (b .plan-group2 .kept .1 .1 .1 .1 .0) (e .before .if1 .left)), start n .pre .1 .1),
       )
 
   same-length-3 : lts.Need-same-length-3 (plan-pairs-calls t) (plan-pairs-at t) plan-pairs.Post
@@ -250,10 +250,10 @@ module _ (t : ℕ) where
       let b = blue (rest d) in
       let r = red b .plan-group in
       let n = pairAt b in
-      whole-length (start n .pre .1) (n .next-pair .ensures) (red-held (red b)) (r .kept .1 .1 .0) (r .kept .1 .1 .1 .0) (blue-held b) (b .plan-group2 .kept .1 .1 .0) (b .plan-group2 .kept .1 .1 .1 .0) (d .plan-pairs .last .1 .1 .0) (d .plan-pairs .kept .1 .1 .0)
+      whole-length (start n .pre .1 .0) (n .next-pair .ensures) (red-held (red b)) (r .kept .1 .1 .1 .0) (r .kept .1 .1 .1 .1 .0) (blue-held b) (b .plan-group2 .kept .1 .1 .1 .0) (b .plan-group2 .kept .1 .1 .1 .1 .0) (d .plan-pairs .last .1 .1 .1 .0) (d .plan-pairs .kept .1 .1 .1 .0)
 
   same-length-4 : lts.Need-same-length-4 (plan-pairs-calls t) (plan-pairs-at t) plan-pairs.Post
-  same-length-4 c = let d = c .before .before .before .before in d .plan-pairs .kept .1 .1 .1 .1 .1 .0 ∙ records-long (blue (rest d))
+  same-length-4 c = let d = c .before .before .before .before in d .plan-pairs .kept .1 .1 .1 .1 .1 .1 .0 ∙ records-long (blue (rest d))
 
   returns-2 : lts.Need-returns-2 (plan-pairs-calls t) (plan-pairs-at t) plan-pairs.Post
   returns-2 c =
@@ -261,7 +261,7 @@ module _ (t : ℕ) where
       let b = blue (rest d) in
       let r = red b .plan-group in
       let n = pairAt b in
-      next-held (start n .pre .1) (n .next-pair .ensures) (red-held (red b)) (r .kept .1 .1 .0) (r .kept .1 .1 .1 .0) (blue-held b) (b .plan-group2 .kept .1 .1 .0) (b .plan-group2 .kept .1 .1 .1 .0) (rest d .before .if1 .left)
+      next-held (start n .pre .1 .0) (n .next-pair .ensures) (red-held (red b)) (r .kept .1 .1 .1 .0) (r .kept .1 .1 .1 .1 .0) (blue-held b) (b .plan-group2 .kept .1 .1 .1 .0) (b .plan-group2 .kept .1 .1 .1 .1 .0) (rest d .before .if1 .left)
       (rw (rest d .after .ensures) at (d .plan-pairs .ensures))
 
   pub plan-pairs-ok : {M : Type 1} → lts.Closed (plan-pairs-calls t) (plan-pairs-at t) plan-pairs.Post M
