@@ -84,7 +84,7 @@ module _ {n : ℕ} {policy : Policy} {stages index : ℕ} {starts columns T reco
 
       -- ---- after the loads
 
-      module _ {all : ℕ} {loads : List ℕ} (loaded : Loaded adj stretch (levelsIn 0 (take m ends) stretch) all loads) where
+      module _ {all : ℕ} {loads : List ℕ} (loaded : Loaded (loadOf adj) stretch (levelsIn 0 (take m ends) stretch) all loads) where
         -- the group that is split, and what is left of it: all
         abbrev pub parentOf : Parent
         parentOf = record { index = index; depth = g .depth; start = g .start; workers = g .workers; load = all }

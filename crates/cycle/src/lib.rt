@@ -149,7 +149,7 @@ pub fn plan_group(
         return index + 1;
     }
     let mut loads = [0u32; MAX_LEVELS];
-    let load = level_loads(starts, columns, n, order, &ends[..m], &mut loads);
+    let load = level_loads(keys, order, &ends[..m], &mut loads);
     let up = Parent {
         index,
         depth: g.depth,

@@ -1,44 +1,34 @@
 -- The loads of the levels of a stretch, level by level.
-use mathlib.Core.Path.{_≡_, refl, sym, ap, _∙_, subst}
+use mathlib.Core.Path.{_≡_, refl, sym, ap, _∙_}
 use mathlib.Core.List.{List, [], _∷_, map, map-append}
 use Prim.Native.Nat.{ℕ, suc, _+_, _-_, _≤_, _<_}
 use native.Mathlib.Numerals.{add-one}
 use native.Mathlib.Omega.{arith}
-use lib.ListN.{length, take, drop, getD, set, take-append-drop, length-set}
+use lib.ListN.{length, take, drop, getD, set, length-set}
 use lib.Seq.{take-suc, take-suc-set, take-all, take-add}
 use Rattle.base.specs.Lists.{concat}
-use Rattle.levels.specs.code.Group.{Proper}
 use Rattle.sort.specs.code.Sort.{maxLevels}
-use Rattle.levels.proofs.Proper.{proper-left, proper-right}
-use Rattle.race.specs.Loads.{loadOf}
-use Rattle.loads.specs.code.Stretches.{Levelled, Loaded}
+use Rattle.loads.specs.code.Stretches.{keyLoad, Levelled, Loaded}
 use Rattle.loads.proofs.Stretches.{rowsIn, length-ends, ends-at, rows-next, rows-le, level-at}
 use Rattle.loads.proofs.Weights.{load-append}
 
--- a stretch of a group is a group
-pub proper-part : (n : ℕ) (xs : List ℕ) (a j : ℕ) → Proper n xs → Proper n (take j (drop a xs))
-proper-part n xs a j pr =
-    let rest : Proper n (drop a xs) = proper-right n (take a xs) (drop a xs) (subst (Proper n) (sym (take-append-drop a xs)) pr) in
-    proper-left n (take j (drop a xs)) (drop j (drop a xs)) (subst (Proper n) (sym (take-append-drop j (drop a xs))) rest)
-
 -- the loads of the first k levels stand in loads; these levels end at `from`, and sum is their load
-pub record Loading (adj : ℕ → List ℕ) (ends stretch : List ℕ) (ls : List (List ℕ)) (loads : List ℕ) (sum from k : ℕ) : Type 0 where
+pub record Loading (keys : List ℕ) (ends stretch : List ℕ) (ls : List (List ℕ)) (loads : List ℕ) (sum from k : ℕ) : Type 0 where
   pub within : k ≤ length ends
   pub inside : from ≤ length stretch
   pub from-is : from ≡ rowsIn k ls
-  pub sum-is : sum ≡ loadOf adj (take from stretch)
+  pub sum-is : sum ≡ keyLoad keys (take from stretch)
   pub long : length loads ≡ maxLevels
-  pub done : take k loads ≡ map (loadOf adj) (take k ls)
+  pub done : take k loads ≡ map (keyLoad keys) (take k ls)
 
-module _ (adj : ℕ → List ℕ) (ends stretch : List ℕ) (ls : List (List ℕ)) (h : Levelled 0 ends stretch ls) (few : length ends ≤ maxLevels) where
+module _ (keys : List ℕ) (ends stretch : List ℕ) (ls : List (List ℕ)) (h : Levelled 0 ends stretch ls) (few : length ends ≤ maxLevels) where
   levels-count : length ends ≡ length ls
   levels-count = ap length (h .ends-are) ∙ length-ends 0 ls
 
-  pub loading-start : (loads : List ℕ) → length loads ≡ maxLevels → Loading adj ends stretch ls loads 0 0 0
-  unfolding loadOf
+  pub loading-start : (loads : List ℕ) → length loads ≡ maxLevels → Loading keys ends stretch ls loads 0 0 0
   loading-start loads e = record { within = omega arith; inside = omega arith; from-is = refl; sum-is = refl; long = e; done = refl }
 
-  module _ (loads : List ℕ) (sum from k : ℕ) (s : Loading adj ends stretch ls loads sum from k) (lt : k < length ends) where
+  module _ (loads : List ℕ) (sum from k : ℕ) (s : Loading keys ends stretch ls loads sum from k) (lt : k < length ends) where
     -- where the next level ends, and its rows
     abbrev to : ℕ
     to = getD ends k 0
@@ -62,12 +52,12 @@ module _ (adj : ℕ → List ℕ) (ends stretch : List ℕ) (ls : List (List ℕ
     level-is = rw (to-is, s .from-is, h .rows-are) (level-at ls k lt-levels)
 
     -- the load of one level more
-    pub sum-level : (q : ℕ) → q ≡ loadOf adj level → sum + q ≡ loadOf adj (take to stretch)
+    pub sum-level : (q : ℕ) → q ≡ keyLoad keys level → sum + q ≡ keyLoad keys (take to stretch)
     sum-level q e =
         let up : from + (to - from) ≡ to = omega (arith, level-start) in
-        rw (s .sum-is, e) (sym (load-append adj (take from stretch) level) ∙ ap (loadOf adj) (sym (take-add from (to - from) stretch) ∙ ap (λ (j : ℕ). take j stretch) up))
+        rw (s .sum-is, e) (sym (load-append keys (take from stretch) level) ∙ ap (keyLoad keys) (sym (take-add from (to - from) stretch) ∙ ap (λ (j : ℕ). take j stretch) up))
 
-    pub loading-next : (q : ℕ) → q ≡ loadOf adj level → Loading adj ends stretch ls (set loads k q) (sum + q) to (k + 1)
+    pub loading-next : (q : ℕ) → q ≡ keyLoad keys level → Loading keys ends stretch ls (set loads k q) (sum + q) to (k + 1)
     loading-next q e = record {
       within = omega arith;
       inside = level-end;
@@ -75,16 +65,16 @@ module _ (adj : ℕ → List ℕ) (ends stretch : List ℕ) (ls : List (List ℕ
       sum-is = sum-level q e;
       long = length-set loads k q ∙ s .long;
       done =
-          rw (add-one k, take-suc-set loads k q (omega (arith, s .long)), s .done, e ∙ ap (loadOf adj) level-is, take-suc ls k [] lt-levels)
-          (sym (map-append (loadOf adj) (take k ls) (getD ls k [] ∷ [])));
+          rw (add-one k, take-suc-set loads k q (omega (arith, s .long)), s .done, e ∙ ap (keyLoad keys) level-is, take-suc ls k [] lt-levels)
+          (sym (map-append (keyLoad keys) (take k ls) (getD ls k [] ∷ [])));
     }
 
-  pub loading-end : (loads : List ℕ) (sum from k : ℕ) → Loading adj ends stretch ls loads sum from k → length ends ≤ k → Loaded adj stretch ls sum loads
+  pub loading-end : (loads : List ℕ) (sum from k : ℕ) → Loading keys ends stretch ls loads sum from k → length ends ≤ k → Loaded (keyLoad keys) stretch ls sum loads
   loading-end loads sum from k s l =
       let all : k ≡ length ls = omega (arith, s .within, levels-count) in
       let rows : length stretch ≤ from = omega (arith, ap length (h .rows-are), s .from-is, ap (λ (x : List (List ℕ)). length (concat x)) (take-all k ls (omega arith))) in
       record {
-        all-is = s .sum-is ∙ ap (loadOf adj) (take-all from stretch rows);
+        all-is = s .sum-is ∙ ap (keyLoad keys) (take-all from stretch rows);
         long = s .long;
-        loads-are = rw (← all) (s .done ∙ ap (map (loadOf adj)) (take-all k ls (omega arith)));
+        loads-are = rw (← all) (s .done ∙ ap (map (keyLoad keys)) (take-all k ls (omega arith)));
       }

@@ -6,20 +6,18 @@ use borrow.Author.Needs.{needs}
 use lib.ListN.{length, take, getD}
 use lib.Seq.{take-all}
 use Rattle.base.proofs.Lists.{in-get}
-use Rattle.levels.specs.code.Rows.{adjOf}
-use Rattle.race.specs.Loads.{loadOf}
-use Rattle.loads.proofs.Weights.{load-split, load-next, load-few}
+use Rattle.loads.specs.code.Stretches.{keyLoad}
+use Rattle.loads.proofs.Weights.{load-split, load-next}
 use Rattle.loads.proofs.load.Statement.{statement}
 use Rattle.loads.proofs.load.Tie as tie
 
 abbrev Inv-loop : tie.InvT-loop
-Inv-loop starts columns n rows sum₀ i₀ sum i = (i ≤ length rows) × (sum ≡ loadOf (adjOf n starts columns) (take i rows))
+Inv-loop keys rows sum₀ i₀ sum i = (i ≤ length rows) × (sum ≡ keyLoad keys (take i rows))
 
 abbrev μ-loop : tie.MeasureT-loop
-μ-loop starts columns n rows sum₀ i₀ sum i = length rows - i
+μ-loop keys rows sum₀ i₀ sum i = length rows - i
 
 loop-holds : tie.Need-loop-holds Inv-loop μ-loop
-unfolding loadOf
 loop-holds c = (search needs, refl)
 
 mul-weight : tie.Need-mul-weight Inv-loop μ-loop
@@ -30,25 +28,18 @@ shared-slice-read-weight c = search needs
 
 weight-requires : tie.Need-weight-requires Inv-loop μ-loop
 weight-requires c κs =
-    let s = c .before .before .before .before .before .before in
+    let s = c .before .before .before .before in
     let rows = s .args .rows .now in
     let i = c .before .before .loop .i in
-    (s .pre .0, s .pre .1 .inside (getD rows i 0) (in-get rows i (omega arith)))
+    s .pre .each (getD rows i 0) (in-get rows i (omega arith))
 
 add-sum : tie.Need-add-sum Inv-loop μ-loop
 add-sum c =
-    let s = c .before .before .before .before .before .before .before in
+    let s = c .before .before .before .before .before in
     let l = c .before .before .before .loop in
-    let adj = adjOf (s .args .n) (s .args .starts .now) (s .args .columns .now) in
+    let keys = s .args .keys .now in
     let rows = s .args .rows .now in
-    omega (
-      arith,
-      l .inv .1,
-      c .weight .ensures,
-      load-next adj rows (l .i) (omega arith),
-      load-split adj (l .i + 1) rows,
-      load-few (s .args .n) (s .args .starts .now) (s .args .columns .now) rows (s .pre .0) (s .pre .1),
-    )
+    omega (arith, l .inv .1, c .weight .ensures, load-next keys rows (l .i) (omega arith), load-split keys (l .i + 1) rows, s .pre .few)
 
 add-i : tie.Need-add-i Inv-loop μ-loop
 add-i c = search needs
@@ -58,15 +49,15 @@ loop-less c = search needs
 
 loop-again : tie.Need-loop-again Inv-loop μ-loop
 loop-again c =
-    let a = c .before .before .before .before .before .before .before .args in
+    let a = c .before .before .before .before .before .args in
     let l = c .before .before .before .loop in
-    (omega arith, omega (arith, l .inv .1, c .weight .ensures, load-next (adjOf (a .n) (a .starts .now) (a .columns .now)) (a .rows .now) (l .i) (omega arith)))
+    (omega arith, omega (arith, l .inv .1, c .weight .ensures, load-next (a .keys .now) (a .rows .now) (l .i) (omega arith)))
 
 returns : tie.Need-returns Inv-loop μ-loop
 returns c =
-    let a = c .before .before .before .before .before .args in
+    let a = c .before .before .before .args in
     let l = c .before .loop in
-    l .inv .1 ∙ ap (loadOf (adjOf (a .n) (a .starts .now) (a .columns .now))) (take-all (l .i) (a .rows .now) (omega arith))
+    l .inv .1 ∙ ap (keyLoad (a .keys .now)) (take-all (l .i) (a .rows .now) (omega arith))
 
 pub load-spec : {M : Type 1} → statement M
 load-spec =

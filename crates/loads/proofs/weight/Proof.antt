@@ -1,19 +1,23 @@
 -- `weight` meets its contract.
 use native.Mathlib.Omega.{arith}
 use borrow.Author.Needs.{needs}
-use Rattle.race.specs.Loads.{weight}
 use Rattle.loads.proofs.weight.Statement.{statement}
 use Rattle.loads.proofs.weight.Tie as tie
 
-degree-requires : tie.Need-degree-requires
-degree-requires c κs = search needs
+wide-requires : tie.Need-wide-requires
+wide-requires c κs = search needs
 
-add-result : tie.Need-add-result
-add-result c = let a = c .before .before .before in omega (arith, c .degree .ensures, a .pre .0 .short (a .args .v) (a .pre .1), a .pre .0 .small)
+mul-result : tie.Need-mul-result
+mul-result c = record { fits = omega (arith, c .wide .ensures, c .before .pre .0) }
+
+element-copy-out-result : tie.Need-element-copy-out-result
+element-copy-out-result c = omega (arith, c .wide .ensures, c .before .pre .0)
+
+sub-result : tie.Need-sub-result
+sub-result c = rw (c .before .wide .ensures) (c .before .before .pre .1)
 
 returns : tie.Need-returns
-unfolding weight
-returns c = omega (arith, c .degree .ensures)
+returns c = rw (c .before .wide .ensures)
 
 pub weight-spec : {M : Type 1} → statement M
-weight-spec = tie.close (tie.spec degree-requires add-result returns)
+weight-spec = tie.close (tie.spec wide-requires mul-result element-copy-out-result sub-result returns)

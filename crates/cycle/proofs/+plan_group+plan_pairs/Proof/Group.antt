@@ -11,7 +11,10 @@ use Rattle.plan.specs.Groups.{groupOf}
 use Rattle.sort.specs.code.Sort.{maxLevels, Keyed}
 use Rattle.extents.specs.code.Scans.{policyOf}
 use Rattle.base.proofs.Lists.{getD-zeros}
+use Rattle.race.specs.Loads.{loadOf}
 use Rattle.race.specs.Planner.{planGroup, leaf}
+use Rattle.loads.specs.code.Stretches.{levelsIn, Loaded}
+use Rattle.loads.proofs.Weights.{loaded-keys, group-weighed}
 use Rattle.cycle.specs.code.Records.{Holds}
 use Rattle.cycle.specs.code.Cycle.{GroupTask}
 use Rattle.cycle.proofs.GroupPlans.{leaf-stages, leaf-workers, leaf-levels, holds-unsplit}
@@ -115,7 +118,16 @@ module _ (t : ℕ) where
 
   module _ (c : Loads) where
     abbrev level-loads : List ℕ
-    level-loads = c .level-loads .last .1 .1 .1 .1 .1 .0
+    level-loads = c .level-loads .last .1 .1 .1 .0
+
+    -- the loads by keys are the loads
+    loaded : let o = sort (some c) in let stretch = o .level-sort .last .1 .1 .1 .0 in Loaded (loadOf (adj (start (put o)))) stretch (levelsIn 0 (take (m o) (ends o)) stretch) (c .level-loads .result) level-loads
+    loaded =
+        let o = sort (some c) in
+        let s = start (put o) in
+        let e = o .level-sort .ensures in
+        let l = some c .if3 .left in
+        loaded-keys (keyed s) (stretch-proper (task s) e l) (levelled-in (task s) e l .rows-are) (c .level-loads .ensures)
 
     loads-in : m (sort (some c)) ≤ length level-loads
     loads-in = rw (c .level-loads .ensures .long) (few (sort (some c)))
@@ -193,7 +205,8 @@ module _ (t : ℕ) where
       let k = task (start (put (sort o))) in
       let e = sort o .level-sort .ensures in
       let l = o .if3 .left in
-      (k .rows, stretch-proper k e l, levelled-in k e l, ends-few k e l, refl)
+      let a = start (put (sort o)) .args in
+      (group-weighed (a .n) (a .starts .now) (a .columns .now) (a .keys .now) _ (k .rows) (keyed (start (put (sort o)))) (stretch-proper k e l), levelled-in k e l, ends-few k e l, refl)
 
   add-plan-pairs : lts.Need-add-plan-pairs (plan-group-calls t) (plan-group-at t) plan-group.Post
   add-plan-pairs c = let i = index-next (put (sort (some c))) in omega arith
@@ -219,7 +232,7 @@ module _ (t : ℕ) where
       let o = sort (some l) in
       let s = start (put o) in (
         omega (arith, s .pre .0, stages-left o, few o, ends-taken o),
-        (pairs-task (task s) (o .level-sort .ensures) (some l .if3 .left) (l .level-loads .ensures) (stages-left o) (two-workers o) (put o .put .kept .0), keyed s),
+        (pairs-task (task s) (o .level-sort .ensures) (some l .if3 .left) (loaded l) (stages-left o) (two-workers o) (put o .put .kept .0), keyed s),
       )
 
   same-length-5 : lts.Need-same-length-5 (plan-group-calls t) (plan-group-at t) plan-group.Post
@@ -233,7 +246,7 @@ module _ (t : ℕ) where
       let d = c .before .before .before .before in
       let l = loads d in
       let o = sort (some l) in
-      split-holds (task (start (put o))) (o .level-sort .ensures) (some l .if3 .left) (l .level-loads .ensures) (stages-left o) (two-workers o) (put o .put .kept .0) (put o .put .ensures) (d .plan-pairs .ensures)
+      split-holds (task (start (put o))) (o .level-sort .ensures) (some l .if3 .left) (loaded l) (stages-left o) (two-workers o) (put o .put .kept .0) (put o .put .ensures) (d .plan-pairs .ensures)
 
   pub plan-group-ok : {M : Type 1} → lts.Closed (plan-group-calls t) (plan-group-at t) plan-group.Post M
   plan-group-ok =
