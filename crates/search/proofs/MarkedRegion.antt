@@ -14,14 +14,14 @@ use Rattle.base.specs.Near.{near}
 use Rattle.base.proofs.Booleans.{both-ways, or-cases, or-true, and-right}
 use Rattle.base.proofs.Graph.{Graph}
 use Rattle.base.proofs.Lists.{any-of, any-get, any-ext, isIn-concat-map, filter-ext, length-split, length-range}
-use Rattle.base.proofs.Near.{near-stay, near-step, near-cases, near-below}
+use Rattle.base.proofs.Near.{near-stay, near-step, near-cases, near-le, near-below}
 use Rattle.matrix.specs.Limits.{maxRows}
 use Rattle.levels.specs.Levels.{region}
 use Rattle.search.specs.code.Marks.{atMark, howMany, unreached, Marked}
 use Rattle.search.specs.code.Search.{wave, visitedAll, Ready, After, Front}
 use Rattle.search.proofs.Turns.{adjacent-to}
 use Rattle.search.proofs.Visits.{after-grown, after-tail, after-found}
-use Rattle.search.proofs.Waves.{Grown}
+use Rattle.search.proofs.Waves.{Grown, some-left}
 
 bit-one : (b : Bool) → eqb (bit b) 1 ≡ b
 bit-one true = refl
@@ -156,6 +156,16 @@ module _ {adj : ℕ → List ℕ} {n : ℕ} (graph : Graph adj n) (T : List ℕ)
         old u true x e f h o = e
         old u false true e f h o = absurd (true≢false (rw (e, f) at (sym (found-is u) ∙ o)))
         old u false false e f h o = absurd (true≢false (sym h ∙ sym (one-more s u) ∙ rw (e, f) refl))
+
+-- a group of all rows is its region
+pub all-within : {adj : ℕ → List ℕ} {n : ℕ} → Graph adj n → (T : List ℕ) → ((v : ℕ) → isIn T v ≡ true → v < n) → (marks : List ℕ) → ((v : ℕ) → getD marks v 0 ≡ bit (isIn T v)) → unreached n marks ≡ n
+    → (j v : ℕ) → getD marks v 0 ≡ bit (near adj j T v)
+unfolding near
+all-within {adj} {n} graph T low marks w full j v = w v ∙ ap bit (both-ways (isIn T v) (near adj j T v) (λ h. near-le adj 0 j T v (omega arith) h) (λ h. inside (near-below adj graph j T low v h) (isIn T v) refl))
+  where
+    inside : v < n → (b : Bool) → isIn T v ≡ b → isIn T v ≡ true
+    inside l true e = e
+    inside l false e = absurd (omega (arith, two-marks n marks (isIn T) w, full, some-left n 0 marks v l (w v ∙ ap bit e)))
 
 -- at last the region is marked
 module _ (adj : ℕ → List ℕ) (n : ℕ) (T : List ℕ) (j : ℕ) (marks : List ℕ) (within : (v : ℕ) → getD marks v 0 ≡ bit (near adj j T v)) where

@@ -36,7 +36,8 @@ fn mark_columns(
 }
 
 // The region of the group own, whose rows have mark 1 and no others: what is within reach - 1 joins of it gets mark 1.
-// The last ring needs no queue, so its rows are marked whether they are new or not.
+// The last ring needs no queue, so its rows are marked whether they are new or not. Of a group of all rows there is
+// none.
 pub(crate) fn mark_region(
     starts: &[u32],
     columns: &[u32],
@@ -52,6 +53,9 @@ pub(crate) fn mark_region(
         × ((v : ℕ) → getD (now (marks .exit)) v 0 ≡ bit (near (adjOf n (now (starts .entry)) (now (columns .entry))) (reach - 1) (now (own .entry)) v)) ⌝ }
 {
     if reach < 2 {
+        return;
+    }
+    if own.len() == n {
         return;
     }
     copy(own, queue);

@@ -1,5 +1,5 @@
 -- After j turns the rows within j joins are marked, and the last ring stands in the queue.
-use mathlib.Core.Path.{_≡_, ap, _∙_}
+use mathlib.Core.Path.{_≡_, sym, ap, _∙_}
 use mathlib.Core.Bool.{true}
 use Prim.Native.Nat.{ℕ, suc, _+_, _-_, _≤_, _<_}
 use native.Mathlib.Numerals.{add-one}
@@ -15,7 +15,7 @@ use Rattle.matrix.specs.code.Pattern.{pattern}
 use Rattle.matrix.proofs.Matrix.{neighbours-is}
 use Rattle.levels.specs.code.Rows.{adjOf}
 use Rattle.levels.proofs.Rows.{rows-graph}
-use Rattle.search.proofs.MarkedRegion.{two-marks, Rings, rings-start, rings-front, rings-step, rings-last}
+use Rattle.search.proofs.MarkedRegion.{two-marks, all-within, Rings, rings-start, rings-front, rings-step, rings-last}
 use Rattle.search.proofs.region.mark_region.Statement.{statement}
 use Rattle.search.proofs.region.mark_region.Tie as tie
 
@@ -27,7 +27,7 @@ abbrev μ-loop : tie.MeasureT-loop
 
 -- from the loop back to the function's entry
 abbrev entry : tie.At-loop Inv-loop μ-loop → tie.Start Inv-loop μ-loop
-entry l = l .before .before .before .before .before .before .before
+entry l = l .before .before .before .before .before .before .before .before
 
 -- the group's rows are rows
 low : (a : tie.Start Inv-loop μ-loop) → (v : ℕ) → isIn (a .args .own .now) v ≡ true → v < a .args .n
@@ -40,16 +40,21 @@ returns c =
     let e : a .args .reach ≡ 1 = omega (arith, a .pre .6, c .if1 .taken) in
     (a .pre .1, a .pre .2, λ v. rw e (a .pre .4 v))
 
+returns-2 : tie.Need-returns-2 Inv-loop μ-loop
+returns-2 c =
+    let a = c .before .before .before .before .before in
+    (a .pre .1, a .pre .2, all-within (rows-graph (a .pre .0)) (a .args .own .now) (low a) (a .args .marks .now) (a .pre .4) (sym (a .pre .5) ∙ c .if2 .taken) (a .args .reach - 1))
+
 copy-requires : tie.Need-copy-requires Inv-loop μ-loop
 copy-requires c κs =
-    let a = c .before .before .before .before .before in
+    let a = c .before .before .before .before .before .before in
     omega (arith, a .pre .0 .small, a .pre .2, two-marks (a .args .n) (a .args .marks .now) (isIn (a .args .own .now)) (a .pre .4), a .pre .5)
 
 loop-holds : tie.Need-loop-holds Inv-loop μ-loop
 loop-holds c =
-    let a = c .before .before .before .before .before .before in (
+    let a = c .before .before .before .before .before .before .before in (
       rw (c .copy .ensures) (rings-start (rows-graph (a .pre .0)) (a .args .own .now) (low a) (a .args .marks .now) (a .args .queue .now) (a .pre .0 .small) (a .pre .1) (a .pre .2) (a .pre .4) (a .pre .5)),
-      omega (arith, c .before .before .if1 .left),
+      omega (arith, c .before .before .before .if1 .left),
     )
 
 add-loop : tie.Need-add-loop Inv-loop μ-loop
@@ -94,8 +99,8 @@ mark-columns-requires c κs =
     let e = take-drop (l .loop .lo) (l .loop .hi) (l .loop .queue) in
     (a .pre .0, r .ready .marks-long, rw e (λ i k. rings-front (rows-graph (a .pre .0)) (a .args .own .now) (low a) r (getD (slice (l .loop .lo) (l .loop .hi) (l .loop .queue)) i 0) (in-get (slice (l .loop .lo) (l .loop .hi) (l .loop .queue)) i k) .0))
 
-returns-2 : tie.Need-returns-2 Inv-loop μ-loop
-returns-2 c =
+returns-3 : tie.Need-returns-3 Inv-loop μ-loop
+returns-3 c =
     let l = c .before .before .before .before .before .before in
     let a = entry l in
     let r = l .loop .inv .0 in
@@ -114,6 +119,7 @@ mark-region-spec =
     Inv-loop
     μ-loop
     returns
+    returns-2
     copy-requires
     loop-holds
     add-loop
@@ -126,4 +132,4 @@ mark-region-spec =
     part-mark-columns-start
     part-mark-columns-end
     mark-columns-requires
-    returns-2)
+    returns-3)
