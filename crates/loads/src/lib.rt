@@ -11,7 +11,7 @@ ghost use Rattle.loads.specs.code.Stretches.{levelsIn, keyWeight, keyLoa
 
 // What row v adds to its group's load: 1, and 1 for each row adjacent to it. Its key is its degree and 3 more.
 fn weight(keys: &[u32; MAX_ROWS], v: u32) -> u32
-    requires { ⌜ (v < maxRows) × (2 ≤ getD (now keys) v 0) ⌝ }
+    requires { ⌜ (v < maxRows) × (3 ≤ getD (now keys) v 0) ⌝ }
     ensures { λ r. ⌜ r ≡ keyWeight (now (keys .entry)) v ⌝ }
 {
     keys[wide(v)] - 2

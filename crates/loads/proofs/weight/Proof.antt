@@ -14,7 +14,7 @@ element-copy-out-result : tie.Need-element-copy-out-result
 element-copy-out-result c = omega (arith, c .wide .ensures, c .before .pre .0)
 
 sub-result : tie.Need-sub-result
-sub-result c = rw (c .before .wide .ensures) (c .before .before .pre .1)
+sub-result c = rw (c .before .wide .ensures) (omega (arith, c .before .before .pre .1))
 
 returns : tie.Need-returns
 returns c = rw (c .before .wide .ensures)

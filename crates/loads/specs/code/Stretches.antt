@@ -33,7 +33,7 @@ keyLoad keys vs = sum (map (keyWeight keys) vs)
 
 -- rows that have keys, and whose load is within its limit
 pub record Weighed (keys vs : List ℕ) : Type 0 where
-  pub each : (v : ℕ) → isIn vs v ≡ true → (v < maxRows) × (2 ≤ getD keys v 0)
+  pub each : (v : ℕ) → isIn vs v ≡ true → (v < maxRows) × (3 ≤ getD keys v 0)
   pub few : keyLoad keys vs ≤ maxLoad
 
 -- the load of a stretch, and in front of an array those of its levels
