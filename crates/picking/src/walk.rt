@@ -1,7 +1,6 @@
 // A schedule by a prepared list, and who is ready.
 use crate::pick::pick;
 use crate::pick::refusal;
-use base::bytes::wide;
 use machine::state::Rule;
 use machine::state::State;
 use machine::state::Walked;
