@@ -4,6 +4,7 @@ use crate::classes::DIGIT;
 use crate::classes::SPACE;
 use crate::classes::class_of;
 use base::bytes::wide64;
+use base::numbers::least;
 ghost use mathlib.Core.Path.{_≡_};
 ghost use Prim.Native.Nat.{_+_, _<_};
 ghost use lib.ListN.{drop};
@@ -35,6 +36,9 @@ fn numeral(first: u8, v: u64, k: usize, next: usize) -> Number
     Number::At(v, next)
 }
 
+// So many digits are no number.
+const TOO_MANY: usize = 11;
+
 // The number at a position: 1 to 10 digits and no needless leading zero.
 pub fn read_number(s: &[u8], at: usize) -> Number
     ensures { λ r. ⌜ r ≡ numberAt at (numeral (drop at (now (s .entry)))) ⌝ }
@@ -43,15 +47,13 @@ pub fn read_number(s: &[u8], at: usize) -> Number
         return Number::No;
     }
     let first = s[at];
+    let end = at + least(s.len() - at, TOO_MANY);
     let mut v: u64 = 0;
     let mut i = at;
-    while i < s.len() {
+    while i < end {
         let b = s[i];
         if class_of(b) != DIGIT {
             return numeral(first, v, i - at, i);
-        }
-        if 10 <= i - at {
-            return Number::No;
         }
         v = v * 10 + (wide64(b) - 48);
         i += 1;
