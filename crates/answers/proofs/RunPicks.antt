@@ -38,7 +38,7 @@ use Rattle.words.specs.LittleEndian.{number, signedNumber, signed, signedBytes,
 use Rattle.words.proofs.Blocks.{length-decoded}
 use Rattle.lent.specs.Word.{word}
 use Rattle.answers.specs.Runs.{stateBytes, countBytes, stateIn, answerIn, replyTo, forceBytes, bytesIn, leftBy, Moved, setIn, previewWord, roundWord}
-use Rattle.answers.specs.code.Ran.{StateIs, Taken, Parts, Ran, Looks, LowPlace, LowMoves, Plain, PicksFit}
+use Rattle.answers.specs.code.Ran.{StateIs, Taken, Parts, Ran, RanLent, Looks, LowPlace, LowMoves, Plain, PicksFit}
 use Rattle.answers.proofs.RunCalls.{decoded, always-refused}
 use Rattle.answers.proofs.TakenFew.{number-low, round-number-low, few-ready, ready-low, taken-few, moves-few}
 
@@ -257,7 +257,7 @@ pub ran : (m : Matrix) (x : List ℤ) (order groups : List ℕ) (count : ℕ) (c
     → {old : List ℤ} {answer : Response} (made : List ℤ) {after : code.State} {part : List ℤ} (rest : List ℤ) {forces : List ℤ} → length part ≡ length zs
     → Performed m x order groups count (stateOf r zs) c old (asAnswer answer made) (stateOf after part) forces
     → {bytes left : List ℕ} → left ≡ replies.lent (replyTo (asAnswer answer made)) (forceBytes (asAnswer answer made)) bytes
-    → Ran (m .n) c (answerIn m x order groups count state sums c) (afterLent m x order groups count (stateIn state sums) c) state sums bytes answer after (part ++ rest) left
+    → RanLent m x order groups count state sums bytes c answer after (part ++ rest) left
 ran m x order groups count c state sums r is lent made rest long h {bytes} f =
     let told = h .answers ∙ decoded m x order groups count c state sums r is lent in
     record {

@@ -12,7 +12,7 @@ use Rattle.base.specs.Replies.{Reply, inTurn}
 use Rattle.matrix.specs.Matrix.{Matrix}
 use Rattle.plan.specs.Sound.{maxWorkers}
 use Rattle.run.specs.State.{State}
-use Rattle.run.specs.Calls.{jobChecks, answerLent}
+use Rattle.run.specs.Calls.{jobChecks, answerLent, afterLent}
 use Rattle.run.specs.Answers.{Call, Answer, picked, isReady, forces, denied, previewed}
 use Rattle.words.specs.LittleEndian.{unsigned, signed, unsignedBytes, signedBytes, stored}
 use Rattle.lent.specs.Word.{word, Answered}
@@ -105,9 +105,14 @@ pub record Moved (told : ℕ) (a : Answer) (s : State) (state sums : List ℕ) (
   pub state-left : newState ≡ leftBy a (bytesIn s) state
   pub sums-left : newSums ≡ leftBy a (signedBytes 8 (s .sums)) sums
 
--- of picks, and of rounds
-abbrev pub PicksAnswered : Answer → State → (state sums : List ℕ) (returned : ℕ) (newState newSums : List ℕ) → Type 0
-PicksAnswered a = Moved (word (replyTo a)) a
+-- .. on a run whose lists are lent, where told gives the word of an answer
+abbrev pub LentMoved : (told : Answer → ℕ) → Matrix → List ℤ → (order groups : List ℕ) (count : ℕ) (state sums : List ℕ) → Call → (returned : ℕ) (newState newSums : List ℕ) → Type 0
+LentMoved told m x order groups count state sums c =
+    Moved (told (answerIn m x order groups count state sums c)) (answerIn m x order groups count state sums c) (afterLent m x order groups count (stateIn state sums) c) state sums
 
-abbrev pub RoundsAnswered : Answer → State → (state sums : List ℕ) (returned : ℕ) (newState newSums : List ℕ) → Type 0
-RoundsAnswered a = Moved (roundWord a) a
+-- of picks, and of rounds
+abbrev pub LentPicks : Matrix → List ℤ → (order groups : List ℕ) (count : ℕ) (state sums : List ℕ) → Call → (returned : ℕ) (newState newSums : List ℕ) → Type 0
+LentPicks = LentMoved (λ a. word (replyTo a))
+
+abbrev pub LentRounds : Matrix → List ℤ → (order groups : List ℕ) (count : ℕ) (state sums : List ℕ) → Call → (returned : ℕ) (newState newSums : List ℕ) → Type 0
+LentRounds = LentMoved roundWord

@@ -22,13 +22,11 @@ ghost use Prim.Native.Nat.{ℕ, _/_};
 ghost use lib.Dec.{eqb};
 ghost use lib.ListN.{length, take};
 ghost use Rattle.matrix.specs.code.Room.{maxStarts, maxCells};
-ghost use Rattle.run.specs.Calls.{afterLent};
 ghost use Rattle.calls.specs.Performed.{asCall};
 ghost use Rattle.words.specs.LittleEndian.{unsigned, signed};
 ghost use Rattle.lent.specs.Bytes.{matrixIn};
-ghost use Rattle.lent.specs.code.Few.{IsFew};
-ghost use Rattle.answers.specs.Runs.{stateBytes, stateIn, answerIn};
-ghost use Rattle.answers.specs.code.Ran.{Ran};
+ghost use Rattle.answers.specs.Runs.{stateBytes};
+ghost use Rattle.answers.specs.code.Ran.{RanLent};
 
 // How many of the sums are lent on: none where the bytes are no state, so that it is refused as one without n sums.
 fn lent_sums(state: &[u8], size: usize) -> usize
@@ -56,12 +54,9 @@ fn perform_on(
     call: Call,
 ) -> Done
     requires { ⌜ length (now new) ≡ maxStarts ⌝ }
-    ensures { λ r. ⌜ ((cs vs : List ℕ) → now (columns .entry) ≡ take maxCells (unsigned 4 cs) → now (values .entry) ≡ take maxCells (signed 4 vs) → Ran n (asCall call (now (schedule .entry)) (length (now (forces .entry)) / 8))
-        (answerIn (matrixIn n (now («row_starts» .entry)) cs vs) (signed 4 (now (movements .entry))) (unsigned 4 (now (order .entry))) (unsigned 4 (now (groups .entry))) «group_count»
-        (now (state .entry)) (now (sums .entry)) (asCall call (now (schedule .entry)) (length (now (forces .entry)) / 8)))
-        (afterLent (matrixIn n (now («row_starts» .entry)) cs vs) (signed 4 (now (movements .entry))) (unsigned 4 (now (order .entry))) (unsigned 4 (now (groups .entry))) «group_count»
-        (stateIn (now (state .entry)) (now (sums .entry))) (asCall call (now (schedule .entry)) (length (now (forces .entry)) / 8)))
-        (now (state .entry)) (now (sums .entry)) (now (forces .entry)) (r .answer) (r .state) (now (new .exit)) (now (forces .exit))) ⌝ }
+    ensures { λ r. ⌜ ((cs vs : List ℕ) → now (columns .entry) ≡ take maxCells (unsigned 4 cs) → now (values .entry) ≡ take maxCells (signed 4 vs)
+        → RanLent (matrixIn n (now («row_starts» .entry)) cs vs) (signed 4 (now (movements .entry))) (unsigned 4 (now (order .entry))) (unsigned 4 (now (groups .entry))) «group_count»
+        (now (state .entry)) (now (sums .entry)) (now (forces .entry)) (asCall call (now (schedule .entry)) (length (now (forces .entry)) / 8)) (r .answer) (r .state) (now (new .exit)) (now (forces .exit))) ⌝ }
 {
     let mut starts = [0u32; MAX_STARTS];
     let mut displacements = [0i32; MAX_STARTS];
@@ -91,96 +86,6 @@ fn perform_on(
     done
 }
 
-// A call whose columns and values fit the smaller arrays.
-fn perform_few(
-    n: u32,
-    row_starts: &[u8],
-    columns: &[u8],
-    values: &[u8],
-    movements: &[u8],
-    order: &[u8],
-    groups: &[u8],
-    group_count: u32,
-    schedule: &[u8],
-    forces: &mut [u8],
-    state: &[u8],
-    sums: &[u8],
-    new: &mut [i64],
-    call: Call,
-) -> Done
-    requires { ⌜ (length (now new) ≡ maxStarts) × IsFew (now columns) × IsFew (now values) ⌝ }
-    ensures { λ r. ⌜ Ran n (asCall call (now (schedule .entry)) (length (now (forces .entry)) / 8))
-        (answerIn (matrixIn n (now («row_starts» .entry)) (now (columns .entry)) (now (values .entry))) (signed 4 (now (movements .entry))) (unsigned 4 (now (order .entry))) (unsigned 4 (now (groups .entry))) «group_count»
-        (now (state .entry)) (now (sums .entry)) (asCall call (now (schedule .entry)) (length (now (forces .entry)) / 8)))
-        (afterLent (matrixIn n (now («row_starts» .entry)) (now (columns .entry)) (now (values .entry))) (signed 4 (now (movements .entry))) (unsigned 4 (now (order .entry))) (unsigned 4 (now (groups .entry))) «group_count»
-        (stateIn (now (state .entry)) (now (sums .entry))) (asCall call (now (schedule .entry)) (length (now (forces .entry)) / 8)))
-        (now (state .entry)) (now (sums .entry)) (now (forces .entry)) (r .answer) (r .state) (now (new .exit)) (now (forces .exit)) ⌝ }
-{
-    let mut column_list = [0u32; FEW_CELLS];
-    let mut value_list = [0i32; FEW_CELLS];
-    perform_on(
-        n,
-        row_starts,
-        load_unsigned(columns, &mut column_list),
-        load_signed(values, &mut value_list),
-        movements,
-        order,
-        groups,
-        group_count,
-        schedule,
-        forces,
-        state,
-        sums,
-        new,
-        call,
-    )
-}
-
-// .. or not.
-fn perform_many(
-    n: u32,
-    row_starts: &[u8],
-    columns: &[u8],
-    values: &[u8],
-    movements: &[u8],
-    order: &[u8],
-    groups: &[u8],
-    group_count: u32,
-    schedule: &[u8],
-    forces: &mut [u8],
-    state: &[u8],
-    sums: &[u8],
-    new: &mut [i64],
-    call: Call,
-) -> Done
-    requires { ⌜ length (now new) ≡ maxStarts ⌝ }
-    ensures { λ r. ⌜ Ran n (asCall call (now (schedule .entry)) (length (now (forces .entry)) / 8))
-        (answerIn (matrixIn n (now («row_starts» .entry)) (now (columns .entry)) (now (values .entry))) (signed 4 (now (movements .entry))) (unsigned 4 (now (order .entry))) (unsigned 4 (now (groups .entry))) «group_count»
-        (now (state .entry)) (now (sums .entry)) (asCall call (now (schedule .entry)) (length (now (forces .entry)) / 8)))
-        (afterLent (matrixIn n (now («row_starts» .entry)) (now (columns .entry)) (now (values .entry))) (signed 4 (now (movements .entry))) (unsigned 4 (now (order .entry))) (unsigned 4 (now (groups .entry))) «group_count»
-        (stateIn (now (state .entry)) (now (sums .entry))) (asCall call (now (schedule .entry)) (length (now (forces .entry)) / 8)))
-        (now (state .entry)) (now (sums .entry)) (now (forces .entry)) (r .answer) (r .state) (now (new .exit)) (now (forces .exit)) ⌝ }
-{
-    let mut column_list = [0u32; MAX_CELLS];
-    let mut value_list = [0i32; MAX_CELLS];
-    perform_on(
-        n,
-        row_starts,
-        load_unsigned(columns, &mut column_list),
-        load_signed(values, &mut value_list),
-        movements,
-        order,
-        groups,
-        group_count,
-        schedule,
-        forces,
-        state,
-        sums,
-        new,
-        call,
-    )
-}
-
 // The lists are decoded, as far as any job can reach; the sums into `new`, where they are left. Forces are stored.
 pub fn perform_in(
     n: u32,
@@ -199,19 +104,17 @@ pub fn perform_in(
     call: Call,
 ) -> Done
     requires { ⌜ length (now new) ≡ maxStarts ⌝ }
-    ensures { λ r. ⌜ Ran n (asCall call (now (schedule .entry)) (length (now (forces .entry)) / 8))
-        (answerIn (matrixIn n (now («row_starts» .entry)) (now (columns .entry)) (now (values .entry))) (signed 4 (now (movements .entry))) (unsigned 4 (now (order .entry))) (unsigned 4 (now (groups .entry))) «group_count»
-        (now (state .entry)) (now (sums .entry)) (asCall call (now (schedule .entry)) (length (now (forces .entry)) / 8)))
-        (afterLent (matrixIn n (now («row_starts» .entry)) (now (columns .entry)) (now (values .entry))) (signed 4 (now (movements .entry))) (unsigned 4 (now (order .entry))) (unsigned 4 (now (groups .entry))) «group_count»
-        (stateIn (now (state .entry)) (now (sums .entry))) (asCall call (now (schedule .entry)) (length (now (forces .entry)) / 8)))
-        (now (state .entry)) (now (sums .entry)) (now (forces .entry)) (r .answer) (r .state) (now (new .exit)) (now (forces .exit)) ⌝ }
+    ensures { λ r. ⌜ RanLent (matrixIn n (now («row_starts» .entry)) (now (columns .entry)) (now (values .entry))) (signed 4 (now (movements .entry))) (unsigned 4 (now (order .entry))) (unsigned 4 (now (groups .entry))) «group_count»
+        (now (state .entry)) (now (sums .entry)) (now (forces .entry)) (asCall call (now (schedule .entry)) (length (now (forces .entry)) / 8)) (r .answer) (r .state) (now (new .exit)) (now (forces .exit)) ⌝ }
 {
     if are_few(columns, values) {
-        return perform_few(
+        let mut column_list = [0u32; FEW_CELLS];
+        let mut value_list = [0i32; FEW_CELLS];
+        return perform_on(
             n,
             row_starts,
-            columns,
-            values,
+            load_unsigned(columns, &mut column_list),
+            load_signed(values, &mut value_list),
             movements,
             order,
             groups,
@@ -224,11 +127,13 @@ pub fn perform_in(
             call,
         );
     }
-    perform_many(
+    let mut column_list = [0u32; MAX_CELLS];
+    let mut value_list = [0i32; MAX_CELLS];
+    perform_on(
         n,
         row_starts,
-        columns,
-        values,
+        load_unsigned(columns, &mut column_list),
+        load_signed(values, &mut value_list),
         movements,
         order,
         groups,

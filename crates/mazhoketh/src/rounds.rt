@@ -4,11 +4,10 @@ use answers::word::word_of_round;
 use cabinet::perform_in;
 use calls::Call;
 use matrix::limits::MAX_STARTS;
-ghost use Rattle.run.specs.Calls.{afterLent};
 ghost use Rattle.run.specs.Answers as calls;
 ghost use Rattle.words.specs.LittleEndian.{unsigned, signed};
 ghost use Rattle.lent.specs.Bytes.{matrixIn};
-ghost use Rattle.answers.specs.Runs.{stateIn, answerIn, RoundsAnswered};
+ghost use Rattle.answers.specs.Runs.{LentRounds};
 
 // A list of picks, made one load or store at a time; those whose workers are done or wait are passed over.
 #[no_mangle]
@@ -25,12 +24,8 @@ pub extern "C" fn mzk_rounds(
     sums: &mut [u8],
     picks: &[u8],
 ) -> u64
-    ensures { λ r. ⌜ RoundsAnswered
-        (answerIn (matrixIn n (now («row_starts» .entry)) (now (columns .entry)) (now (values .entry))) (signed 4 (now (movements .entry))) (unsigned 4 (now (order .entry))) (unsigned 4 (now (groups .entry))) «group_count»
-        (now (state .entry)) (now (sums .entry)) (calls.rounds (now (picks .entry))))
-        (afterLent (matrixIn n (now («row_starts» .entry)) (now (columns .entry)) (now (values .entry))) (signed 4 (now (movements .entry))) (unsigned 4 (now (order .entry))) (unsigned 4 (now (groups .entry))) «group_count»
-        (stateIn (now (state .entry)) (now (sums .entry))) (calls.rounds (now (picks .entry))))
-        (now (state .entry)) (now (sums .entry)) r (now (state .exit)) (now (sums .exit)) ⌝ }
+    ensures { λ r. ⌜ LentRounds (matrixIn n (now («row_starts» .entry)) (now (columns .entry)) (now (values .entry))) (signed 4 (now (movements .entry))) (unsigned 4 (now (order .entry))) (unsigned 4 (now (groups .entry))) «group_count»
+        (now (state .entry)) (now (sums .entry)) (calls.rounds (now (picks .entry))) r (now (state .exit)) (now (sums .exit)) ⌝ }
 {
     let mut new = [0i64; MAX_STARTS];
     let mut none = [0u8; 0];

@@ -7,13 +7,12 @@ use matrix::limits::MAX_STARTS;
 ghost use mathlib.Core.Path.{_≡_};
 ghost use Prim.Native.Nat.{_/_};
 ghost use lib.ListN.{length};
-ghost use Rattle.run.specs.Calls.{afterLent};
 ghost use Rattle.run.specs.Answers.{readySet, forceList};
 ghost use Rattle.run.specs.Answers as calls;
 ghost use Rattle.words.specs.LittleEndian.{unsigned, signed};
 ghost use Rattle.lent.specs.Bytes.{matrixIn};
 ghost use Rattle.lent.specs.Word.{word};
-ghost use Rattle.answers.specs.Runs.{stateIn, answerIn, replyTo, PicksAnswered, ForcesAnswered};
+ghost use Rattle.answers.specs.Runs.{answerIn, replyTo, LentPicks, ForcesAnswered};
 
 // A list of picks, made one load or store at a time.
 #[no_mangle]
@@ -30,12 +29,8 @@ pub extern "C" fn mzk_picks(
     sums: &mut [u8],
     picks: &[u8],
 ) -> u64
-    ensures { λ r. ⌜ PicksAnswered
-        (answerIn (matrixIn n (now («row_starts» .entry)) (now (columns .entry)) (now (values .entry))) (signed 4 (now (movements .entry))) (unsigned 4 (now (order .entry))) (unsigned 4 (now (groups .entry))) «group_count»
-        (now (state .entry)) (now (sums .entry)) (calls.picks (now (picks .entry))))
-        (afterLent (matrixIn n (now («row_starts» .entry)) (now (columns .entry)) (now (values .entry))) (signed 4 (now (movements .entry))) (unsigned 4 (now (order .entry))) (unsigned 4 (now (groups .entry))) «group_count»
-        (stateIn (now (state .entry)) (now (sums .entry))) (calls.picks (now (picks .entry))))
-        (now (state .entry)) (now (sums .entry)) r (now (state .exit)) (now (sums .exit)) ⌝ }
+    ensures { λ r. ⌜ LentPicks (matrixIn n (now («row_starts» .entry)) (now (columns .entry)) (now (values .entry))) (signed 4 (now (movements .entry))) (unsigned 4 (now (order .entry))) (unsigned 4 (now (groups .entry))) «group_count»
+        (now (state .entry)) (now (sums .entry)) (calls.picks (now (picks .entry))) r (now (state .exit)) (now (sums .exit)) ⌝ }
 {
     let mut new = [0i64; MAX_STARTS];
     let mut none = [0u8; 0];

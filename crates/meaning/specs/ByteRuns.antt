@@ -25,7 +25,7 @@ inBytes s = record { state = bytesIn s; sums = signedBytes 8 (s .sums) }
 unfoldable pub zeros : (n : ℕ) → Bytes
 zeros n = record { state = replicate stateBytes 0; sums = replicate (8 * n) 0 }
 
--- the bytes after picks or rounds with this answer that leave this state, as PicksAnswered and RoundsAnswered have them
+-- the bytes after picks or rounds with this answer that leave this state, as Moved has them
 unfoldable pub bytesMoved : Answer → State → Bytes → Bytes
 bytesMoved a s b = record { state = leftBy a (bytesIn s) (b .state); sums = leftBy a (signedBytes 8 (s .sums)) (b .sums) }
 

@@ -9,7 +9,7 @@ use Rattle.run.specs.Answers.{Call, picks, rounds}
 use Rattle.run.specs.Calls.{afterLent}
 use Rattle.run.specs.Job.{jobOf}
 use Rattle.run.specs.LentRuns.{passed}
-use Rattle.answers.specs.Runs.{stateIn, answerIn, PicksAnswered, RoundsAnswered}
+use Rattle.answers.specs.Runs.{stateIn, answerIn, LentPicks, LentRounds}
 use Rattle.prepared.specs.Format.{preparedBytes}
 use Rattle.prepared.specs.PreparedRuns.{afterPrepared}
 use Rattle.rack.specs.Kept.{answerKept, KeptPicks, KeptRounds}
@@ -20,9 +20,9 @@ pub record KeptRun (m : Matrix) (x : List ℤ) (order groups : List ℕ) (count 
   pub left : (state sums : List ℕ) (c : Call) → afterPrepared (preparedBytes (jobOf m x order groups count) ++ rest) (stateIn state sums) c ≡ afterLent m x order groups count (stateIn state sums) c
   -- picks and rounds return the word that they return on the job, and leave the bytes that they leave there
   pub picked : (state sums ws : List ℕ) (returned : ℕ) (newState newSums : List ℕ) → KeptPicks (preparedBytes (jobOf m x order groups count) ++ rest) state sums (picks ws) returned newState newSums
-      → PicksAnswered (answerIn m x order groups count state sums (picks ws)) (afterLent m x order groups count (stateIn state sums) (picks ws)) state sums returned newState newSums
+      → LentPicks m x order groups count state sums (picks ws) returned newState newSums
   pub rounded : (state sums ws : List ℕ) (returned : ℕ) (newState newSums : List ℕ) → KeptRounds (preparedBytes (jobOf m x order groups count) ++ rest) state sums (rounds ws) returned newState newSums
-      → RoundsAnswered (answerIn m x order groups count state sums (rounds ws)) (afterLent m x order groups count (stateIn state sums) (rounds ws)) state sums returned newState newSums
+      → LentRounds m x order groups count state sums (rounds ws) returned newState newSums
 
 pub record KeptRuns : Type 0 where
   pub every : (m : Matrix) (x : List ℤ) (order groups : List ℕ) (count : ℕ) → passed m x order groups count ≡ true → (rest : List ℕ) → KeptRun m x order groups count rest

@@ -5,7 +5,9 @@ use Prim.Native.Nat.{ℕ, _/_, _^_, _≤_, _<_}
 use lib.IntN.{ℤ}
 use lib.ListN.{length, take, drop}
 use Rattle.base.specs.Replies.{lent}
+use Rattle.matrix.specs.Matrix.{Matrix}
 use Rattle.run.specs.State.{State}
+use Rattle.run.specs.Calls.{afterLent}
 use Rattle.run.specs.Answers.{Call, picks, readySet, forceList, preview, rounds, Answer, picked, previewed}
 use Rattle.machine.specs.Record.{stateOf}
 use Rattle.machine.specs.declared.state.State as code
@@ -13,7 +15,7 @@ use Rattle.calls.specs.Performed.{asAnswer}
 use Rattle.calls.specs.declared.Response.{Response}
 use Rattle.calls.specs.declared.Response.the-variants.{Picked, Forces, Previewed}
 use Rattle.words.specs.LittleEndian.{unsigned, signed}
-use Rattle.answers.specs.Runs.{stateBytes, countBytes, replyTo, forceBytes}
+use Rattle.answers.specs.Runs.{stateBytes, countBytes, stateIn, answerIn, replyTo, forceBytes}
 
 -- the record that 192 bytes stand for
 pub record StateIs (r : code.State) (bytes : List ℕ) : Type 0 where
@@ -55,6 +57,11 @@ pub record Ran (n : ℕ) (c : Call) (a : Answer) (s : State) (state sums old : L
   pub taken : (k q p : ℕ) → a ≡ picked k q p → Taken n s k q state sums after new
   pub low : Plain c → (k q p : ℕ) → a ≡ picked k q p → p < 2 ^ 32
   pub looked : (t q p b k : ℕ) → a ≡ previewed t q p b k → Parts t q p b k
+
+-- .. on a run whose lists are lent
+abbrev pub RanLent : Matrix → List ℤ → (order groups : List ℕ) (count : ℕ) (state sums old : List ℕ) → Call → Response → code.State → (new : List ℤ) (left : List ℕ) → Type 0
+RanLent m x order groups count state sums old c =
+    Ran (m .n) c (answerIn m x order groups count state sums c) (afterLent m x order groups count (stateIn state sums) c) state sums old
 
 -- the parts of a preview's word fit it
 abbrev pub Looks : Response → Type 0

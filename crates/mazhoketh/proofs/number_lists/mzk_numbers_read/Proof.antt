@@ -5,19 +5,10 @@ use Rattle.lent.specs.Word.{word}
 use Rattle.mazhoketh.proofs.number_lists.mzk_numbers_read.Statement.{statement}
 use Rattle.mazhoketh.proofs.number_lists.mzk_numbers_read.Tie as tie
 
-read-requires : tie.Need-read-requires
-read-requires c κs = search needs
-
-word-of-requires : tie.Need-word-of-requires
-word-of-requires c κs = search needs
-
-same-length : tie.Need-same-length
-same-length c = search needs
-
 returns : tie.Need-returns
 returns c =
     let e = c .before .before .before .read .ensures in
     record { returns = c .word-of .ensures ∙ ap word (e .0); leaves = rw (← e .0) (e .1) }
 
 pub mzk-numbers-read-spec : {M : Type 1} → statement M
-mzk-numbers-read-spec = tie.close (tie.spec read-requires word-of-requires same-length returns)
+mzk-numbers-read-spec = tie.close (tie.spec (search needs) (search needs) (search needs) returns)

@@ -5,19 +5,10 @@ use Rattle.lent.specs.Word.{word}
 use Rattle.mazhoketh.proofs.write_plan.mzk_write_plan.Statement.{statement}
 use Rattle.mazhoketh.proofs.write_plan.mzk_write_plan.Tie as tie
 
-write-requires : tie.Need-write-requires
-write-requires c κs = search needs
-
-word-of-requires : tie.Need-word-of-requires
-word-of-requires c κs = search needs
-
-same-length : tie.Need-same-length
-same-length c = search needs
-
 returns : tie.Need-returns
 returns c =
     let e = c .before .before .before .write .ensures in
     record { returns = c .word-of .ensures ∙ ap word (e .0); leaves = rw (← e .0) (e .1) }
 
 pub mzk-write-plan-spec : {M : Type 1} → statement M
-mzk-write-plan-spec = tie.close (tie.spec write-requires word-of-requires same-length returns)
+mzk-write-plan-spec = tie.close (tie.spec (search needs) (search needs) (search needs) returns)
