@@ -11,8 +11,6 @@ use matrix::limits::MAX_ROWS;
 use plan::fields::WIDTH;
 use tables::MAX_UPDATES;
 use upper::order::displace;
-use upper::parts::begin_parts;
-use upper::parts::part_sizes;
 use upper::upper;
 ghost use mathlib.Core.Path.{_≡_};
 ghost use mathlib.Core.List.{List, _++_};
@@ -91,21 +89,18 @@ pub(crate) fn picks(
 {
     let rows = sums.len();
     let mut parts = [0u32; MAX_ROWS];
-    begin_parts(rows, starts, order, &mut parts);
-    let mut sizes = parts;
     let mut at = [0u16; MAX_UPDATES];
     let mut beside = [0i32; MAX_UPDATES];
-    upper(
+    let sizes = upper(
         rows,
         starts,
         columns,
         values,
         order,
-        &mut sizes,
+        &mut parts,
         &mut at,
         &mut beside,
     );
-    part_sizes(rows, &parts, &mut sizes);
     let first = first_updates(groups, groups.len() / WIDTH, &sizes);
     if !state.is_fine(first) {
         return answered(state, Response::Refused(STATE, 0));

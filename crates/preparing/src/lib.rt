@@ -26,8 +26,6 @@ use table::all_gates;
 use tables::FIRSTS;
 use tables::MAX_UPDATES;
 use upper::order::displace;
-use upper::parts::begin_parts;
-use upper::parts::part_sizes;
 use upper::upper;
 ghost use mathlib.Core.Path.{_≡_};
 ghost use mathlib.Core.Bool.{true};
@@ -143,21 +141,18 @@ fn store_job(
 {
     let rows = n as usize;
     let mut parts = [0u32; MAX_ROWS];
-    begin_parts(rows, starts, order, &mut parts);
-    let mut sizes = parts;
     let mut at = [0u16; MAX_UPDATES];
     let mut beside = [0i32; MAX_UPDATES];
-    upper(
+    let sizes = upper(
         rows,
         starts,
         columns,
         values,
         order,
-        &mut sizes,
+        &mut parts,
         &mut at,
         &mut beside,
     );
-    part_sizes(rows, &parts, &mut sizes);
     let first = first_updates(groups, groups.len() / WIDTH, &sizes);
     let size = size_of(rows, first[MAX_WORKERS]);
     if out.len() < size {

@@ -5,6 +5,7 @@ mod roof;
 use base::STATE;
 use base::Verdict;
 use calls::Response;
+use calls::picks::place_of;
 use layout::counts::first_updates;
 use matrix::limits::MAX_ROWS;
 use plan::fields::WIDTH;
@@ -14,8 +15,6 @@ use roof::check_roof;
 use tables::MAX_UPDATES;
 use turns::Crews;
 use upper::order::displace;
-use upper::parts::begin_parts;
-use upper::parts::part_sizes;
 use upper::sizes::sizes_of;
 use upper::upper;
 ghost use mathlib.Core.Path.{_≡_};
@@ -25,7 +24,6 @@ ghost use lib.IntN.{ℤ};
 ghost use lib.ListN.{length};
 ghost use Rattle.matrix.specs.Matrix.{matrixOf};
 ghost use Rattle.plan.specs.Groups.{width};
-ghost use Rattle.run.specs.Calls.{placeOf};
 ghost use Rattle.layout.specs.code.UpdateTable.{Given};
 ghost use Rattle.crews.specs.Crews.{Crew, Two, ownOf};
 ghost use Rattle.crews.specs.Calls.{readySets, answerBoth, roofOf, answerBothLent};
@@ -56,13 +54,6 @@ fn answered(crews: Crews, answer: Response) -> BothDone
     }
 }
 
-// The place of an ending: the pick's index; 0 if none ended the picks.
-fn place_of(number: u32, taken: usize) -> usize
-    ensures { λ r. ⌜ r ≡ placeOf number taken ⌝ }
-{
-    if number == 0 { 0 } else { taken }
-}
-
 // Lays the upper triangle, which gives the sizes too, and takes the picks. There is a sum for each row, for each crew.
 fn take_picks(
     starts: &[u32],
@@ -84,21 +75,18 @@ fn take_picks(
 {
     let rows = sums0.len();
     let mut parts = [0u32; MAX_ROWS];
-    begin_parts(rows, starts, order, &mut parts);
-    let mut sizes = parts;
     let mut at = [0u16; MAX_UPDATES];
     let mut beside = [0i32; MAX_UPDATES];
-    upper(
+    let sizes = upper(
         rows,
         starts,
         columns,
         values,
         order,
-        &mut sizes,
+        &mut parts,
         &mut at,
         &mut beside,
     );
-    part_sizes(rows, &parts, &mut sizes);
     let first = first_updates(groups, groups.len() / WIDTH, &sizes);
     if !are_fine(crews, first) {
         return answered(crews, Response::Refused(STATE, 0));

@@ -11,7 +11,7 @@ use Rattle.plan.specs.Groups.{planOf}
 use Rattle.run.specs.Job.{Job, jobOf, rowAt}
 use Rattle.run.specs.Updates.{displacementAt, later}
 use Rattle.tables.specs.code.Laid.{Laid, Bounded}
-use Rattle.upper.specs.code.Upper.{upperTo, Displaced, Parts, Upper}
+use Rattle.upper.specs.code.Upper.{upperTo, Displaced, UpperLaid}
 use Rattle.upper.proofs.UpperRows.{upper-whole}
 use Rattle.upper.proofs.PlacedRows.{placed-same}
 use Rattle.steps.specs.code.Updates.{Triangle}
@@ -19,17 +19,17 @@ use Rattle.steps.specs.code.Steps.{StepTables}
 use Rattle.steps.proofs.TableUpdates.{updates-are, begun-before, entry-inside}
 
 -- the whole upper triangle of the lists, in parts that have room, is the job's
-pub triangle-of : {n : ℕ} {starts columns : List ℕ} {values x : List ℤ} {order : List ℕ} (groups : List ℕ) (count : ℕ) {parts next at : List ℕ} {displaced beside : List ℤ}
-    → Displaced n x order displaced → Parts (matrixOf n starts columns values) (take n order) parts → Upper (matrixOf n starts columns values) (take n order) parts n next at beside
+pub triangle-of : {n : ℕ} {starts columns : List ℕ} {values x : List ℤ} {order : List ℕ} (groups : List ℕ) (count : ℕ) {parts at : List ℕ} {displaced beside : List ℤ}
+    → Displaced n x order displaced → UpperLaid (matrixOf n starts columns values) (take n order) parts at beside
     → Triangle (jobOf (matrixOf n starts columns values) x order groups count) parts displaced at beside
 unfolding jobOf planOf rowAt displacementAt
-triangle-of {n} {starts} {columns} {values} {x} {order} groups count {parts} {next} d r t =
+triangle-of {n} {starts} {columns} {values} {x} {order} groups count {parts} d t =
     let j : Job = jobOf (matrixOf n starts columns values) x order groups count in
     record {
       displacements = λ p l. d .is p l ∙ ap (displacement x) (sym (getD-take n order p 0 l));
-      next = next;
-      placed = placed-same (j .matrix) (j .plan .order) parts (λ p. upperTo (j .matrix) (j .plan .order) p n) (λ p. p ∷ later j p) (upper-whole j) t;
-      room = λ p l. omega (arith, r .room p l, ap length (upper-whole j p l));
+      next = t .next;
+      placed = placed-same (j .matrix) (j .plan .order) parts (λ p. upperTo (j .matrix) (j .plan .order) p n) (λ p. p ∷ later j p) (upper-whole j) (t .placed);
+      room = λ p l. omega (arith, t .parts .room p l, ap length (upper-whole j p l));
     }
 
 -- the tables as the picks need them

@@ -1,6 +1,6 @@
 // Where rows stand in the order, what lists are in that order, and the upper triangle of the matrix in it.
 pub mod order;
-pub mod parts;
+mod parts;
 pub mod sizes;
 
 use base::slices::wide_at;
@@ -8,12 +8,17 @@ use matrix::limits::MAX_ROWS;
 use matrix::row::columns_of;
 use matrix::row::values_of;
 use order::positions;
+use parts::begin_parts;
+use parts::part_sizes;
 use tables::MAX_UPDATES;
+ghost use mathlib.Core.Path.{_≡_};
 ghost use mathlib.Core.List.{List};
 ghost use Prim.Native.Nat.{ℕ, _+_, _<_};
-ghost use lib.ListN.{take};
+ghost use lib.ListN.{length, getD, take};
+ghost use Rattle.matrix.specs.Limits.{maxRows};
 ghost use Rattle.matrix.specs.Matrix.{matrixOf};
-ghost use Rattle.upper.specs.code.Upper.{Positions, Lent, Parts, Begun, Upper};
+ghost use Rattle.tables.specs.code.Laid.{maxUpdates};
+ghost use Rattle.upper.specs.code.Upper.{Positions, Lent, Sizes, Parts, Begun, Upper, UpperLaid};
 
 // Position q begins its own part, and joins the part of each row before it that is adjacent to its row. The next place
 // of a column's row is written: it counts once the place after it is the next, which that of q's own is in the end.
@@ -60,9 +65,8 @@ fn join(
     next[q] = own as u32 + 1;
 }
 
-// The upper triangle: for each row its own position and the later adjacent ones, beside their entries, from where its
-// part begins. Each row's next place is where its part begins, then where it ends.
-pub fn upper(
+// Every position joins, in turn. Each row's next place is where its part begins, then where it ends.
+fn join_all(
     n: usize,
     starts: &[u32],
     columns: &[u32],
@@ -96,4 +100,28 @@ pub fn upper(
         );
         q += 1;
     }
+}
+
+// The upper triangle: for each row its own position and the later adjacent ones, beside their entries, from where its
+// part begins. How many entries each row has.
+pub fn upper(
+    n: usize,
+    starts: &[u32],
+    columns: &[u32],
+    values: &[i32],
+    order: &[u32],
+    parts: &mut [u32; MAX_ROWS],
+    at: &mut [u16; MAX_UPDATES],
+    beside: &mut [i32; MAX_UPDATES],
+) -> [u32; MAX_ROWS]
+    requires { ⌜ Lent n (now starts) (now columns) (now values) (now order) × (length (now parts) ≡ maxRows)
+        × (length (now at) ≡ maxUpdates) × ((k : ℕ) → getD (now at) k 0 ≡ 0) × (length (now beside) ≡ maxUpdates) ⌝ }
+    ensures { λ sizes. ⌜ Sizes (matrixOf n (now (starts .entry)) (now (columns .entry)) (now (values .entry))) (take n (now (order .entry))) n sizes
+        × UpperLaid (matrixOf n (now (starts .entry)) (now (columns .entry)) (now (values .entry))) (take n (now (order .entry))) (now (parts .exit)) (now (at .exit)) (now (beside .exit)) ⌝ }
+{
+    begin_parts(n, starts, order, parts);
+    let mut next = *parts;
+    join_all(n, starts, columns, values, order, &mut next, at, beside);
+    part_sizes(n, parts, &mut next);
+    next
 }

@@ -10,7 +10,7 @@ ghost use Rattle.matrix.specs.Limits.{maxRows};
 ghost use Rattle.upper.specs.code.Upper.{Lent, Begun};
 
 // For each position where the part of its row begins: with room for all its entries, so that none need be counted.
-pub fn begin_parts(n: usize, starts: &[u32], order: &[u32], parts: &mut [u32; MAX_ROWS])
+pub(crate) fn begin_parts(n: usize, starts: &[u32], order: &[u32], parts: &mut [u32; MAX_ROWS])
     requires { ⌜ ((columns : List ℕ) × (values : List ℤ) × Lent n (now starts) columns values (now order)) × (length (now parts) ≡ maxRows) ⌝ }
     ensures { λ _. ⌜ Begun n (now (starts .entry)) (take n (now (order .entry))) (now (parts .exit)) ⌝ }
 {
@@ -23,7 +23,7 @@ pub fn begin_parts(n: usize, starts: &[u32], order: &[u32], parts: &mut [u32; MA
 }
 
 // How many entries each part has: where it ends becomes how far that is from where it begins.
-pub fn part_sizes(n: usize, parts: &[u32; MAX_ROWS], ends: &mut [u32; MAX_ROWS])
+pub(crate) fn part_sizes(n: usize, parts: &[u32; MAX_ROWS], ends: &mut [u32; MAX_ROWS])
     requires { ⌜ (n ≤ maxRows) × (length (now ends) ≡ maxRows) × ((p : ℕ) → p < n → getD (now parts) p 0 ≤ getD (now ends) p 0) ⌝ }
     ensures { λ _. ⌜ (length (now (ends .exit)) ≡ maxRows) × ((p : ℕ) → p < n → getD (now (ends .exit)) p 0 ≡ getD (now (ends .entry)) p 0 - getD (now (parts .entry)) p 0) ⌝ }
 {

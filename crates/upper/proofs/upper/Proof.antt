@@ -1,71 +1,36 @@
--- `upper` meets its contract: the positions before q have joined.
-use mathlib.Core.Path.{_≡_, refl, subst}
-use Prim.Native.Nat.{ℕ, _-_, _≤_}
-use lib.ListN.{take}
-use Rattle.matrix.specs.Matrix.{matrixOf}
+-- `upper` meets its contract: the parts begin, every position joins, and where parts end becomes their sizes.
 use Rattle.matrix.proofs.Matrix.{matrix-facts}
-use Rattle.upper.specs.code.Upper.{Parts, Upper}
-use Rattle.upper.proofs.PartRows.{parts-begun}
-use borrow.Author.Needs.{needs}
+use Rattle.upper.proofs.PlacedRows.{upper-none}
+use Rattle.upper.proofs.PartRows.{parts-ended, part-sizes-are}
 use Rattle.upper.proofs.upper.Statement.{statement}
 use Rattle.upper.proofs.upper.Tie as tie
-use Rattle.upper.proofs.join.Reads as join-reads
 
-abbrev Inv-loop : tie.InvT-loop
-Inv-loop n starts columns values order next₀ at₀ beside₀ position q₀ next at beside q =
-    (q ≤ n) × Upper (matrixOf n starts columns values) (take n order) next₀ q next at beside
+-- from where the parts begin back to the function's entry, from where they end to where they begin
+abbrev start : tie.After-begin-parts → tie.Start
+start b = b .before .before .before .before .before
 
-abbrev μ-loop : tie.MeasureT-loop
-μ-loop n starts columns values order next₀ at₀ beside₀ position q₀ next at beside q = n - q
+abbrev begun : tie.After-join-all → tie.After-begin-parts
+begun j = j .before .before .before .before .before
 
--- from the positions back to the function's entry
-abbrev start : tie.After-positions Inv-loop μ-loop → tie.Start Inv-loop μ-loop
-start c = c .before .before .before .before .before
+begin-parts-requires : tie.Need-begin-parts-requires
+begin-parts-requires c κs = let g = c .before .before .before .before .pre in ((_, _, g .0), g .1)
 
--- where the parts begin they have room
-parts : (c : tie.After-positions Inv-loop μ-loop) → let a = start c .args in Parts (matrixOf (a .n) (a .starts .now) (a .columns .now) (a .values .now)) (take (a .n) (a .order .now)) (a .next .now)
-parts c = let s = start c in parts-begun _ _ _ (s .pre .0 .ordered) (c .positions .ensures) (s .pre .1)
+join-all-requires : tie.Need-join-all-requires
+join-all-requires c κs =
+    let b = c .before .before .before .before in
+    let g = start b .pre in
+    (g .0, b .begin-parts .ensures, upper-none _ _ (matrix-facts _ (g .0 .ordered .matrix) .some) (b .begin-parts .ensures .long) (g .2) (g .3) (g .4))
 
-positions-requires : tie.Need-positions-requires Inv-loop μ-loop
-positions-requires c κs = let g = c .before .before .before .before .pre .0 in (g .long, matrix-facts _ (g .ordered .matrix) .few, g .ordered .once, refl)
+part-sizes-requires : tie.Need-part-sizes-requires
+part-sizes-requires c κs =
+    let j = c .before .before in
+    let u = j .join-all .ensures .1 in
+    (matrix-facts _ (start (begun j) .pre .0 .ordered .matrix) .few, u .next-long, parts-ended u)
 
-loop-holds : tie.Need-loop-holds Inv-loop μ-loop
-loop-holds c = (search needs, start c .pre .2)
-
-join-requires : tie.Need-join-requires Inv-loop μ-loop
-join-requires c κs =
-    let i = c .before .before .before .before in
-    let l = i .before in
-    (start (l .before) .pre .0, l .before .positions .ensures, i .loop-test .taken, (_, parts (l .before), l .loop .inv .1))
-
-add-q : tie.Need-add-q Inv-loop μ-loop
-add-q c = search needs
-
-loop-less : tie.Need-loop-less Inv-loop μ-loop
-loop-less c = search needs
-
-loop-again : tie.Need-loop-again Inv-loop μ-loop
-loop-again c =
-    let l = c .before .before .before .before .before .before in
-    (search needs, c .join .ensures _ (parts (l .before)) (l .loop .inv .1))
-
-returns : tie.Need-returns Inv-loop μ-loop
+returns : tie.Need-returns
 returns c =
-    let l = c .before in
-    let a = start (l .before) .args in
-    let e : l .loop .q ≡ a .n = search needs in
-    (parts (l .before), subst (λ (k : ℕ). Upper (matrixOf (a .n) (a .starts .now) (a .columns .now) (a .values .now)) (take (a .n) (a .order .now)) (a .next .now) k (l .loop .next) (l .loop .at) (l .loop .beside)) e (l .loop .inv .1))
+    let e = c .before .before .before .join-all .ensures in
+    (part-sizes-are (e .1) (c .part-sizes .ensures .0) (c .part-sizes .ensures .1), record { parts = e .0; next = _; placed = e .1 })
 
 pub upper-spec : {M : Type 1} → statement M
-upper-spec =
-    tie.close
-    (tie.spec
-    Inv-loop
-    μ-loop
-    positions-requires
-    loop-holds
-    join-requires
-    add-q
-    loop-less
-    loop-again
-    returns)
+upper-spec = tie.close (tie.spec begin-parts-requires join-all-requires part-sizes-requires returns)

@@ -80,3 +80,9 @@ pub record Placed (m : Matrix) (order begins : List ℕ) (L : ℕ → List ℕ) 
 -- the entries of the upper triangle before position q
 abbrev pub Upper : Matrix → (order begins : List ℕ) (q : ℕ) (next at : List ℕ) (beside : List ℤ) → Type 0
 Upper m order begins q next at beside = Placed m order begins (λ p. upperTo m order p q) next at beside
+
+-- all of them, in parts that begin there and have room
+pub record UpperLaid (m : Matrix) (order begins at : List ℕ) (beside : List ℤ) : Type 0 where
+  pub parts : Parts m order begins
+  pub next : List ℕ
+  pub placed : Upper m order begins (m .n) next at beside
