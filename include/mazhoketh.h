@@ -15,11 +15,11 @@
  * list of another; lists that are only read may be shared. In a call, a list that is written overlaps no other list.
  * No pointer is null, also of an empty list.
  *
- * Stack: mzk_join uses up to 2.6 MiB, mzk_read up to 2.5 MiB, mzk_picks_both and mzk_ready_both up to 1.5 MiB,
- * mzk_picks, mzk_rounds and mzk_preview up to 1.4 MiB, mzk_ready, mzk_forces and mzk_prepare up to 1.3 MiB, mzk_plan up
- * to 1 MiB, mzk_set_movement and mzk_set_entry up to 0.7 MiB, the calls on a prepared list, mzk_write_plan,
- * mzk_read_plan, mzk_numbers_read, mzk_numbers_write, mzk_control and the calls on a barrier unit up to 8 KiB, the
- * others up to 0.6 MiB. A thread with MZK_STACK_BYTES and its own needs can make any call. */
+ * Stack: mzk_join uses up to 2.6 MiB, mzk_read up to 2.5 MiB, mzk_picks, mzk_rounds and mzk_preview up to 1.6 MiB,
+ * mzk_picks_both and mzk_ready_both up to 1.5 MiB, mzk_prepare up to 1.3 MiB, mzk_plan, mzk_ready and mzk_forces up to
+ * 1 MiB, mzk_set_movement and mzk_set_entry up to 0.7 MiB, the calls on a prepared list, mzk_write_plan, mzk_read_plan,
+ * mzk_numbers_read, mzk_numbers_write, mzk_control and the calls on a barrier unit up to 8 KiB, the others up to
+ * 0.6 MiB. A thread with MZK_STACK_BYTES and its own needs can make any call. */
 #ifndef MAZHOKETH_H
 #define MAZHOKETH_H
 
