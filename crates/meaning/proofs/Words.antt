@@ -31,7 +31,7 @@ use Rattle.numbers.specs.Lines.{numbersText, linesIn, numberOn, faulty, whenNum
 use Rattle.numbers.specs.Calls.{in32, filled, readNumbersReply, writeNumbersReply}
 use Rattle.survey.specs.Survey.{hasRoom, writtenShift, surveyReply}
 use Rattle.desk.proofs.Surveys.{written-few}
-use Rattle.upkeep.specs.Upkeep.{KeptForces, Change, changeReply}
+use Rattle.upkeep.specs.Upkeep.{Change, changeReply}
 use Rattle.joined.specs.Joined.{joined, joinReply}
 use Rattle.joined.proofs.Entries.{joined-matrix}
 use Rattle.joined.proofs.Sizes.{net-values, net-few}

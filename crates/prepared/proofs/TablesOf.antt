@@ -11,13 +11,13 @@ use Rattle.base.proofs.Lists.{map-range-zero}
 use Rattle.base.proofs.Pieces.{pieces-between, length-pieces}
 use Rattle.plan.specs.Sound.{maxWorkers}
 use Rattle.run.specs.Job.{Job, Accepted, workers}
-use Rattle.run.specs.Updates.{Update, upTo, updates, accesses, noUpdate}
+use Rattle.run.specs.Updates.{Update, updates, accesses, noUpdate}
 use Rattle.run.proofs.Accepted.{facts}
-use Rattle.run.proofs.Work.{At, locate}
+use Rattle.run.proofs.Work.{locate}
 use Rattle.run.proofs.Next.{at-row}
 use Rattle.prepared.specs.Gates.{gate}
-use Rattle.prepared.specs.Tables.{Tables, Of, updateAt}
-use Rattle.prepared.specs.Format.{Lists, tablesOf, listsOf}
+use Rattle.prepared.specs.Tables.{Of, updateAt}
+use Rattle.prepared.specs.Format.{tablesOf, listsOf}
 
 -- ---- pieces of a list
 

@@ -2,11 +2,10 @@
 use mathlib.Core.Path.{_≡_, refl, ap, _∙_}
 use mathlib.Core.Bool.{Bool, true, false}
 use mathlib.Core.List.{List, [], _∷_}
-use Prim.Native.Nat.{ℕ, suc, _<_}
+use Prim.Native.Nat.{ℕ, suc}
 use native.Mathlib.Omega.{arith}
-use lib.ListN.{length, getD}
 use Rattle.run.specs.Job.{Job}
-use Rattle.run.specs.Machine.{Outcome, moved, halted, step, Stepped, oneMore, steps}
+use Rattle.run.specs.Machine.{Outcome, moved, halted, step, oneMore, steps}
 use Rattle.run.specs.Schedule.{oneTaken, oneSkipped, pass}
 use Rattle.run.specs.Rounds.{skips, round, takenBy}
 use Rattle.run.specs.State.{State}

@@ -113,19 +113,6 @@ returns-2 c =
 pub apart-below-spec : {M : Type 1} → statement M
 apart-below-spec =
     tie.close
-    (tie.spec
-    Inv-loop
-    μ-loop
-    add-next-child
-    next-child-requires
-    loop-holds
-    record-at-requires
-    cast-compare-like
-    add-compare-like
-    compare-like-requires
-    returns
-    add-next-child-2
-    next-child-requires-2
-    loop-less
-    loop-again
+    (tie.spec Inv-loop μ-loop add-next-child next-child-requires loop-holds record-at-requires cast-compare-like
+    add-compare-like compare-like-requires returns add-next-child-2 next-child-requires-2 loop-less loop-again
     returns-2)

@@ -21,27 +21,6 @@ returns c =
     let d = s .pre .2 in
     rw (ne-eqb (a .g .colour) (a .colour) (c .if1 .taken)) (record { free = refl; marked = λ _. record { long = refl; is = λ v. refl }; done = λ _. record { long = d .long; most = λ v. omega (arith, d .below v) } })
 
-least-requires : tie.Need-least-requires
-least-requires c κs = search needs
-
-add-least : tie.Need-add-least
-add-least c = search needs
-
-least-requires-2 : tie.Need-least-requires-2
-least-requires-2 c κs = search needs
-
-mul-compare-rows : tie.Need-mul-compare-rows
-mul-compare-rows c = search needs
-
-sub-compare-rows : tie.Need-sub-compare-rows
-sub-compare-rows c = search needs
-
-part-compare-rows-start : tie.Need-part-compare-rows-start
-part-compare-rows-start c = search needs
-
-part-compare-rows-end : tie.Need-part-compare-rows-end
-part-compare-rows-end c = search needs
-
 compare-rows-requires : tie.Need-compare-rows-requires
 compare-rows-requires c κs =
     let e = c .before .before .before in
@@ -65,14 +44,5 @@ returns-2 c =
 pub compare-like-spec : {M : Type 1} → statement M
 compare-like-spec =
     tie.close
-    (tie.spec
-    returns
-    least-requires
-    add-least
-    least-requires-2
-    mul-compare-rows
-    sub-compare-rows
-    part-compare-rows-start
-    part-compare-rows-end
-    compare-rows-requires
-    returns-2)
+    (tie.spec returns (λ c κs. search needs) (λ c. search needs) (λ c κs. search needs) (λ c. search needs)
+    (λ c. search needs) (λ c. search needs) (λ c. search needs) compare-rows-requires returns-2)

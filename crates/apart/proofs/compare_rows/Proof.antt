@@ -46,9 +46,6 @@ module _ (t : tie.After-touch-near) where
 returns : tie.Need-returns
 returns c = record { free = first (c .before) false (fails refl (c .if1 .taken)) .free; marked = λ h. absurd (true≢false (sym h)); done = λ h. absurd (true≢false (sym h)) }
 
-sub-if2 : tie.Need-sub-if2
-sub-if2 c = omega arith
-
 returns-2 : tie.Need-returns-2
 returns-2 c =
     let t = c .before .before in
@@ -60,9 +57,6 @@ returns-2 c =
       marked = λ _. subst (λ (j : ℕ). Stamped (a .mine) (within t j) (a .marks .now) (tested t)) (sym (c .if2 .taken)) (first t true ok .stamped refl);
       done = λ _. record { long = o .long; most = o .most };
     }
-
-sub-touch-near : tie.Need-sub-touch-near
-sub-touch-near c = omega arith
 
 touch-near-requires-2 : tie.Need-touch-near-requires-2
 touch-near-requires-2 c κs =
@@ -91,11 +85,5 @@ returns-3 c =
 pub compare-rows-spec : {M : Type 1} → statement M
 compare-rows-spec =
     tie.close
-    (tie.spec
-    touch-near-requires
-    returns
-    sub-if2
-    returns-2
-    sub-touch-near
-    touch-near-requires-2
+    (tie.spec touch-near-requires returns (λ c. omega arith) returns-2 (λ c. omega arith) touch-near-requires-2
     returns-3)

@@ -46,10 +46,4 @@ returns-3 c =
 pub touch-near-spec : {M : Type 1} → statement M
 touch-near-spec =
     tie.close
-    (tie.spec
-    touch-all-requires
-    returns
-    touch-rows-requires
-    returns-2
-    touch-wide-requires
-    returns-3)
+    (tie.spec touch-all-requires returns touch-rows-requires returns-2 touch-wide-requires returns-3)

@@ -11,24 +11,9 @@ use Rattle.board.proofs.Judged.{too-few, enough}
 use Rattle.board.proofs.line_in.Statement.{statement}
 use Rattle.board.proofs.line_in.Tie as tie
 
-word-of-requires : tie.Need-word-of-requires
-word-of-requires c κs = search needs
-
 returns : tie.Need-returns
 unfolding lineReply
 returns c = c .word-of .ensures ∙ ap word (sym (let unit = c .before .before .before .args .unit .now in too-few unit (accepted (bit (isUp (unitIn unit)))) (c .before .if1 .taken)))
-
-load-requires : tie.Need-load-requires
-load-requires c κs = search needs
-
-line-requires : tie.Need-line-requires
-line-requires c κs = search needs
-
-cast-t6 : tie.Need-cast-t6
-cast-t6 c = search needs
-
-word-of-requires-2 : tie.Need-word-of-requires-2
-word-of-requires-2 c κs = search needs
 
 returns-2 : tie.Need-returns-2
 unfolding lineReply
@@ -38,4 +23,6 @@ returns-2 c =
 
 pub line-in-spec : {M : Type 1} → statement M
 line-in-spec =
-    tie.close (tie.spec word-of-requires returns load-requires line-requires cast-t6 word-of-requires-2 returns-2)
+    tie.close
+    (tie.spec (λ c κs. search needs) returns (λ c κs. search needs) (λ c κs. search needs) (λ c. search needs)
+    (λ c κs. search needs) returns-2)

@@ -10,32 +10,17 @@ use Rattle.board.proofs.Judged.{no-register, cut-short, in-reach, addre
 use Rattle.board.proofs.read_in.Statement.{statement}
 use Rattle.board.proofs.read_in.Tie as tie
 
-word-of-requires : tie.Need-word-of-requires
-word-of-requires c κs = search needs
-
 returns : tie.Need-returns
 unfolding readUnitReply
 returns c =
     let a = c .before .before .before .args in
     c .word-of .ensures ∙ ap word (sym (no-register (a .unit .now) (a .address) (accepted (register (unitIn (a .unit .now)) (a .address))) (c .before .if1 .taken)))
 
-word-of-requires-2 : tie.Need-word-of-requires-2
-word-of-requires-2 c κs = search needs
-
 returns-2 : tie.Need-returns-2
 unfolding readUnitReply
 returns-2 c =
     let a = c .before .before .before .before .args in
     c .word-of2 .ensures ∙ ap word (sym (cut-short (a .unit .now) (a .address) (accepted (register (unitIn (a .unit .now)) (a .address))) (c .before .before .if1 .left) (c .before .if2 .taken)))
-
-load-requires : tie.Need-load-requires
-load-requires c κs = search needs
-
-read-requires : tie.Need-read-requires
-read-requires c κs = search needs
-
-word-of-requires-3 : tie.Need-word-of-requires-3
-word-of-requires-3 c κs = search needs
 
 returns-3 : tie.Need-returns-3
 unfolding readUnitReply
@@ -49,12 +34,5 @@ returns-3 c =
 pub read-in-spec : {M : Type 1} → statement M
 read-in-spec =
     tie.close
-    (tie.spec
-    word-of-requires
-    returns
-    word-of-requires-2
-    returns-2
-    load-requires
-    read-requires
-    word-of-requires-3
-    returns-3)
+    (tie.spec (λ c κs. search needs) returns (λ c κs. search needs) returns-2 (λ c κs. search needs)
+    (λ c κs. search needs) (λ c κs. search needs) returns-3)

@@ -9,22 +9,15 @@ use Rattle.board.proofs.Judged.{too-few, enough}
 use Rattle.board.proofs.releases_in.Statement.{statement}
 use Rattle.board.proofs.releases_in.Tie as tie
 
-word-of-requires : tie.Need-word-of-requires
-word-of-requires c κs = search needs
-
 returns : tie.Need-returns
 unfolding releasesReply
 returns c = c .word-of .ensures ∙ ap word (sym (let unit = c .before .before .before .args .unit .now in too-few unit (accepted (unitIn unit .releases)) (c .before .if1 .taken)))
-
-load-requires : tie.Need-load-requires
-load-requires c κs = search needs
-
-word-of-requires-2 : tie.Need-word-of-requires-2
-word-of-requires-2 c κs = search needs
 
 returns-2 : tie.Need-returns-2
 unfolding releasesReply
 returns-2 c = c .word-of2 .ensures ∙ ap word (ap (λ (u : Barrier). accepted (u .releases)) (c .before .load .ensures) ∙ sym (enough (c .before .before .before .before .args .unit .now) _ (c .before .before .if1 .left)))
 
 pub releases-in-spec : {M : Type 1} → statement M
-releases-in-spec = tie.close (tie.spec word-of-requires returns load-requires word-of-requires-2 returns-2)
+releases-in-spec =
+    tie.close
+    (tie.spec (λ c κs. search needs) returns (λ c κs. search needs) (λ c κs. search needs) returns-2)

@@ -8,9 +8,6 @@ use Rattle.board.proofs.Judged.{no-register, cut-short, in-reach}
 use Rattle.board.proofs.write_in.Statement.{statement}
 use Rattle.board.proofs.write_in.Tie as tie
 
-word-of-requires : tie.Need-word-of-requires
-word-of-requires c κs = search needs
-
 returns : tie.Need-returns
 unfolding writeUnitReply lent
 returns c =
@@ -18,30 +15,12 @@ returns c =
     let e = no-register (a .unit .now) (a .address) (accepted 0) (c .before .if1 .taken) in
     record { returns = c .word-of .ensures ∙ ap word (sym e); leaves = rw e }
 
-word-of-requires-2 : tie.Need-word-of-requires-2
-word-of-requires-2 c κs = search needs
-
 returns-2 : tie.Need-returns-2
 unfolding writeUnitReply lent
 returns-2 c =
     let a = c .before .before .before .before .args in
     let e = cut-short (a .unit .now) (a .address) (accepted 0) (c .before .before .if1 .left) (c .before .if2 .taken) in
     record { returns = c .word-of2 .ensures ∙ ap word (sym e); leaves = rw e }
-
-load-requires : tie.Need-load-requires
-load-requires c κs = search needs
-
-write-requires : tie.Need-write-requires
-write-requires c κs = search needs
-
-store-requires : tie.Need-store-requires
-store-requires c κs = search needs
-
-word-of-requires-3 : tie.Need-word-of-requires-3
-word-of-requires-3 c κs = search needs
-
-same-length : tie.Need-same-length
-same-length c = search needs
 
 returns-3 : tie.Need-returns-3
 unfolding writeUnitReply lent
@@ -56,14 +35,5 @@ returns-3 c =
 pub write-in-spec : {M : Type 1} → statement M
 write-in-spec =
     tie.close
-    (tie.spec
-    word-of-requires
-    returns
-    word-of-requires-2
-    returns-2
-    load-requires
-    write-requires
-    store-requires
-    word-of-requires-3
-    same-length
-    returns-3)
+    (tie.spec (λ c κs. search needs) returns (λ c κs. search needs) returns-2 (λ c κs. search needs)
+    (λ c κs. search needs) (λ c κs. search needs) (λ c κs. search needs) (λ c. search needs) returns-3)

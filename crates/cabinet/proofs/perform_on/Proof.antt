@@ -113,8 +113,8 @@ returns c cs vs ec ev =
 pub perform-on-spec : {M : Type 1} → statement M
 perform-on-spec =
     tie.close
-    (tie.spec (search needs) (search needs) (search needs) (search needs) (search needs) (search needs)
-    (search needs) (search needs) (search needs) (search needs) (search needs) (search needs)
-    slice-relend-prefix-perform slice-aggregate-perform (search needs)
-    slice-aggregate-perform-2 (search needs) slice-aggregate-store-forces store-forces-requires (search needs)
-    same-length-2 returns)
+    (tie.spec (λ c. search needs) (λ c. search needs) (λ c. search needs) (λ c. search needs) (λ c. search needs)
+    (λ c. search needs) (λ c. search needs) (λ c. search needs) (λ c. search needs) (λ c. search needs)
+    (λ c. search needs) (λ c. search needs) slice-relend-prefix-perform slice-aggregate-perform (λ c. search needs)
+    slice-aggregate-perform-2 (λ c. search needs) slice-aggregate-store-forces store-forces-requires
+    (λ c. search needs) same-length-2 returns)

@@ -12,17 +12,8 @@ use Rattle.calls.proofs.check_job.Tie as tie
 abbrev given : tie.Start → Matrix
 given c = let a = c .args in matrixOf (a .n) (a .starts .now) (a .columns .now) (a .values .now)
 
-is-matrix-requires : tie.Need-is-matrix-requires
-is-matrix-requires c κs = search needs
-
 returns : tie.Need-returns
 returns c = sym (job-unmade _ _ _ _ _ (fails (c .before .is-matrix .ensures) (c .if1 .taken)))
-
-check-displacements-requires : tie.Need-check-displacements-requires
-check-displacements-requires c κs = search needs
-
-enum-known-checked : tie.Need-enum-known-checked
-enum-known-checked c = search needs
 
 is-made : (c : tie.Else1) → isMatrix (given (c .before .before .before .before .before .before)) ≡ true
 is-made c = holds (c .before .is-matrix .ensures) (c .if1 .left)
@@ -31,9 +22,6 @@ returns-2 : tie.Need-returns-2
 returns-2 c =
     let d = c .before .before .before in
     sym (job-unmoved _ _ _ _ _ (is-made (d .before)) _ _ (ap replyOf (sym (c .before .checked .given .1)) ∙ d .check-displacements .ensures))
-
-enum-told : tie.Need-enum-told
-enum-told c = search needs
 
 is-plan-requires : tie.Need-is-plan-requires
 is-plan-requires c κs =
@@ -55,13 +43,5 @@ returns-4 c =
 pub check-job-spec : {M : Type 1} → statement M
 check-job-spec =
     tie.close
-    (tie.spec
-    is-matrix-requires
-    returns
-    check-displacements-requires
-    enum-known-checked
-    returns-2
-    enum-told
-    is-plan-requires
-    returns-3
-    returns-4)
+    (tie.spec (λ c κs. search needs) returns (λ c κs. search needs) (λ c. search needs) returns-2 (λ c. search needs)
+    is-plan-requires returns-3 returns-4)

@@ -16,22 +16,10 @@ use Rattle.calls.proofs.Performing.{state-size, not-preview, made-refus
 use Rattle.calls.proofs.perform.Statement.{statement}
 use Rattle.calls.proofs.perform.Tie as tie
 
-check-job-requires : tie.Need-check-job-requires
-check-job-requires c κs = search needs
-
-enum-known-checked : tie.Need-enum-known-checked
-enum-known-checked c = search needs
-
-answered-requires : tie.Need-answered-requires
-answered-requires c κs = search needs
-
 returns : tie.Need-returns
 returns c =
     rw (c .answered .ensures .0, c .answered .ensures .1)
     (lists-refused _ _ _ _ _ _ _ _ _ _ (ap replyOf (sym (c .before .before .checked .given .1)) ∙ c .before .before .before .before .check-job .ensures))
-
-enum-told : tie.Need-enum-told
-enum-told c = search needs
 
 -- ---- the lists pass
 
@@ -51,9 +39,6 @@ passed c = ap replyOf (sym (c .enum-told .given .1)) ∙ c .before .before .chec
 holds-job : (c : tie.After-enum-told) → let a = start c .args in Given (a .n) (a .starts .now) (a .columns .now) (a .values .now) (a .displacements .now) (a .order .now) (a .groups .now) (a .count)
 holds-job c = passed-given _ (passed c)
 
-answered-requires-2 : tie.Need-answered-requires-2
-answered-requires-2 c κs = search needs
-
 returns-2 : tie.Need-returns-2
 unfolding jobOf
 returns-2 c =
@@ -62,9 +47,6 @@ returns-2 c =
 
 -- ---- the plan's records
 
-mul-size : tie.Need-mul-size
-mul-size c = search needs
-
 slice-aggregate-records : tie.Need-slice-aggregate-records
 slice-aggregate-records c =
     let e = c .before .before in
@@ -72,17 +54,11 @@ slice-aggregate-records c =
 
 -- ---- picks
 
-is-taken-requires : tie.Need-is-taken-requires
-is-taken-requires c κs = search needs
-
 picks-requires : tie.Need-picks-requires
 picks-requires c κs =
     let l = c .before .before .before .before in
     let g = holds-job (l .before) in
     rw (l .if1 .left) (cut-given _ _ (g .groups-long) g)
-
-same-length : tie.Need-same-length
-same-length c = search needs
 
 returns-3 : tie.Need-returns-3
 returns-3 c =
@@ -95,20 +71,11 @@ returns-3 c =
 
 -- ---- a preview
 
-enum-told-2 : tie.Need-enum-told-2
-enum-told-2 c = search needs
-
 preview-requires : tie.Need-preview-requires
 preview-requires c κs =
     let l = c .before .before .before .before .before .before in
     let g = holds-job (l .before) in
     rw (l .if1 .left) (cut-given _ _ (g .groups-long) g)
-
-answered-requires-3 : tie.Need-answered-requires-3
-answered-requires-3 c κs = search needs
-
-same-length-2 : tie.Need-same-length-2
-same-length-2 c = search needs
 
 returns-4 : tie.Need-returns-4
 returns-4 c =
@@ -127,15 +94,6 @@ report-requires c κs =
     let a = start (l .before) .args in
     (a .values .now, a .displacements .now, rw (l .if1 .left) (cut-given _ _ (g .groups-long) g))
 
-answered-requires-4 : tie.Need-answered-requires-4
-answered-requires-4 c κs = search needs
-
-same-length-3 : tie.Need-same-length-3
-same-length-3 c = search needs
-
-same-length-4 : tie.Need-same-length-4
-same-length-4 c = search needs
-
 returns-5 : tie.Need-returns-5
 returns-5 c =
     let p = c .before .before .before .before .before in
@@ -151,27 +109,7 @@ returns-5 c =
 pub perform-spec : {M : Type 1} → statement M
 perform-spec =
     tie.close
-    (tie.spec
-    check-job-requires
-    enum-known-checked
-    answered-requires
-    returns
-    enum-told
-    answered-requires-2
-    returns-2
-    mul-size
-    slice-aggregate-records
-    is-taken-requires
-    picks-requires
-    same-length
-    returns-3
-    enum-told-2
-    preview-requires
-    answered-requires-3
-    same-length-2
-    returns-4
-    report-requires
-    answered-requires-4
-    same-length-3
-    same-length-4
-    returns-5)
+    (tie.spec (λ c κs. search needs) (λ c. search needs) (λ c κs. search needs) returns (λ c. search needs)
+    (λ c κs. search needs) returns-2 (λ c. search needs) slice-aggregate-records (λ c κs. search needs) picks-requires
+    (λ c. search needs) returns-3 (λ c. search needs) preview-requires (λ c κs. search needs) (λ c. search needs)
+    returns-4 report-requires (λ c κs. search needs) (λ c. search needs) (λ c. search needs) returns-5)

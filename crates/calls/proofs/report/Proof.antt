@@ -59,9 +59,6 @@ returns c values x schedule g d p =
 fine : (e : tie.Else1) (values x : List ℤ) → let s = start (e .before .before) in Holds s values x → isState (job s values x) (stateOf (s .args .state) (s .args .sums .now)) ≡ true
 fine e values x g = let f = e .before .before in counted-state g (counted f values x g) _ refl ∙ holds (e .before .is-fine .ensures) (e .if1 .left)
 
-enum-told : tie.Need-enum-told
-enum-told c = search needs
-
 -- ---- the ready set
 
 ready-set-requires : tie.Need-ready-set-requires
@@ -98,9 +95,6 @@ cast-force-list c = let h = few-rows (start (c .before .before .before .before .
 force-list-requires : tie.Need-force-list-requires
 force-list-requires c κs = let o = given-order (start (c .before .before .before .before .before .before .before) .pre .2) in (o .0, o .1, omega arith)
 
-same-length : tie.Need-same-length
-same-length c = search needs
-
 returns-3 : tie.Need-returns-3
 returns-3 c values x schedule g d p =
     let o = c .before .before .before in
@@ -116,17 +110,6 @@ returns-3 c values x schedule g d p =
 pub report-spec : {M : Type 1} → statement M
 report-spec =
     tie.close
-    (tie.spec
-    sizes-of-requires
-    first-updates-requires
-    is-fine-requires
-    returns
-    enum-told
-    ready-set-requires
-    returns-2
-    record-at-requires
-    is-finished-requires
-    cast-force-list
-    force-list-requires
-    same-length
+    (tie.spec sizes-of-requires first-updates-requires is-fine-requires returns (λ c. search needs) ready-set-requires
+    returns-2 record-at-requires is-finished-requires cast-force-list force-list-requires (λ c. search needs)
     returns-3)

@@ -13,11 +13,5 @@ mul-result c =
     let y : a .b ≤ 4294967295 = search needs in
     record { fits = omega (arith, mul-le-mul x y) }
 
-cast-result : tie.Need-cast-result
-cast-result c = search needs
-
-returns : tie.Need-returns
-returns c = search needs
-
 pub product-spec : {M : Type 1} → statement M
-product-spec = tie.close (tie.spec mul-result cast-result returns)
+product-spec = tie.close (tie.spec mul-result (λ c. search needs) (λ c. search needs))

@@ -26,9 +26,6 @@ bounds c =
     pair-bounds (a .up .workers) (a .up .load) (policyOf (a .policy)) (a .left .free) (a .loads .now) (c .before .before .next-extent .result .levels) (c .cut .result)
     (omega arith) (omega arith) (omega arith) (c .before .before .next-extent .ensures .0) (c .cut .ensures)
 
-next-extent-requires : tie.Need-next-extent-requires
-next-extent-requires c κs = search needs
-
 slice-aggregate-cut : tie.Need-slice-aggregate-cut
 slice-aggregate-cut c = sym (length-take-le (c .before .next-extent .result .levels) (c .before .before .before .before .args .loads .now) (levels-in (c .before) .1))
 
@@ -75,16 +72,5 @@ returns c = (c .before .before .before .before .before .before .next-extent .ens
 pub next-pair-spec : {M : Type 1} → statement M
 next-pair-spec =
     tie.close
-    (tie.spec
-    next-extent-requires
-    slice-aggregate-cut
-    cut-requires
-    sub-red-end
-    mul-red-end
-    shared-slice-read-red-end
-    sub-end
-    mul-end
-    shared-slice-read-end
-    sub-t16
-    sub-t18
-    returns)
+    (tie.spec (λ c κs. search needs) slice-aggregate-cut cut-requires sub-red-end mul-red-end
+    shared-slice-read-red-end sub-end mul-end shared-slice-read-end sub-t16 sub-t18 returns)

@@ -10,14 +10,8 @@ use Rattle.extents.proofs.PairEnd.{cut-is}
 use Rattle.extents.proofs.cut.Statement.{statement}
 use Rattle.extents.proofs.cut.Tie as tie
 
-sub-end : tie.Need-sub-end
-sub-end c = search needs
-
 slice-aggregate-nearest-end : tie.Need-slice-aggregate-nearest-end
 slice-aggregate-nearest-end c = let a = c .before .before .args in sym (length-take-le (length (a .loads .now) - a .reach) (a .loads .now) (omega arith))
-
-total-requires : tie.Need-total-requires
-total-requires c κs = search needs
 
 nearest-end-requires : tie.Need-nearest-end-requires
 nearest-end-requires c κs =
@@ -33,4 +27,4 @@ returns c =
 pub cut-spec : {M : Type 1} → statement M
 cut-spec =
     tie.close
-    (tie.spec sub-end slice-aggregate-nearest-end total-requires nearest-end-requires returns)
+    (tie.spec (λ c. search needs) slice-aggregate-nearest-end (λ c κs. search needs) nearest-end-requires returns)

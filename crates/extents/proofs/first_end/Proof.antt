@@ -17,9 +17,6 @@ Inv-loop loads least w load p k₀ q₀ k q = Seeking (λ e. serves (e .load) w 
 abbrev μ-loop : tie.MeasureT-loop
 μ-loop loads least w load p k₀ q₀ k q = length loads - k
 
-sub-k : tie.Need-sub-k Inv-loop μ-loop
-sub-k c = search needs
-
 slice-aggregate-total : tie.Need-slice-aggregate-total Inv-loop μ-loop
 slice-aggregate-total c = let a = c .before .before .args in sym (length-take-le (a .least - 1) (a .loads .now) (omega arith))
 
@@ -29,20 +26,11 @@ total-requires c κs = let a = c .before .before .args in omega (arith, sum-spli
 loop-holds : tie.Need-loop-holds Inv-loop μ-loop
 loop-holds c = let a = c .before .before .before .args in seek-start (λ e. serves (e .load) (a .w) (a .load) (a .p)) (a .loads .now) (a .least) (c .total .result) (omega arith) (omega arith) (c .total .ensures)
 
-mul-q : tie.Need-mul-q Inv-loop μ-loop
-mul-q c = search needs
-
-shared-slice-read-q : tie.Need-shared-slice-read-q Inv-loop μ-loop
-shared-slice-read-q c = search needs
-
 add-q : tie.Need-add-q Inv-loop μ-loop
 add-q c =
     let a = c .before .before .before .before .before .before .args in
     let l = c .before .before .loop in
     omega (arith, sum-next (a .loads .now) (l .k) (omega arith), sum-split (l .k + 1) (a .loads .now))
-
-add-k : tie.Need-add-k Inv-loop μ-loop
-add-k c = search needs
 
 serves-requires : tie.Need-serves-requires Inv-loop μ-loop
 serves-requires c κs =
@@ -56,17 +44,11 @@ returns c =
     let l = c .before .before .before .before .loop in
     (seek-found (λ e. serves (e .load) (a .w) (a .load) (a .p)) (a .loads .now) (a .least) (l .k) (l .q) (l .inv) (omega arith) (sym (c .before .serves .ensures) ∙ c .if1 .taken), omega (arith, l .inv .some))
 
-loop-less : tie.Need-loop-less Inv-loop μ-loop
-loop-less c = search needs
-
 loop-again : tie.Need-loop-again Inv-loop μ-loop
 loop-again c =
     let a = c .before .before .before .before .before .before .before .before .args in
     let l = c .before .before .before .before .loop in
     seek-next (λ e. serves (e .load) (a .w) (a .load) (a .p)) (a .loads .now) (a .least) (l .k) (l .q) (l .inv) (omega arith) (sym (c .before .serves .ensures) ∙ c .if1 .left)
-
-add-result : tie.Need-add-result Inv-loop μ-loop
-add-result c = search needs
 
 returns-2 : tie.Need-returns-2 Inv-loop μ-loop
 returns-2 c =
@@ -77,20 +59,6 @@ returns-2 c =
 pub first-end-spec : {M : Type 1} → statement M
 first-end-spec =
     tie.close
-    (tie.spec
-    Inv-loop
-    μ-loop
-    sub-k
-    slice-aggregate-total
-    total-requires
-    loop-holds
-    mul-q
-    shared-slice-read-q
-    add-q
-    add-k
-    serves-requires
-    returns
-    loop-less
-    loop-again
-    add-result
-    returns-2)
+    (tie.spec Inv-loop μ-loop (λ c. search needs) slice-aggregate-total total-requires loop-holds (λ c. search needs)
+    (λ c. search needs) add-q (λ c. search needs) serves-requires returns (λ c. search needs) loop-again
+    (λ c. search needs) returns-2)

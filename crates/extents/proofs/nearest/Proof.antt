@@ -15,12 +15,6 @@ mul-b-2 c = omega (arith, product-few (c .args .q) (c .args .w) (omega arith) (o
 add-b : tie.Need-add-b
 add-b c = omega (arith, product-few (c .args .q) (c .args .w) (omega arith) (omega arith))
 
-mul-b-3 : tie.Need-mul-b-3
-mul-b-3 c = search needs
-
-div-b : tie.Need-div-b
-div-b c = search needs
-
 returns : tie.Need-returns
 unfolding nearest
 returns c = omega arith
@@ -30,4 +24,4 @@ unfolding nearest
 returns-2 c = omega arith
 
 pub nearest-spec : {M : Type 1} → statement M
-nearest-spec = tie.close (tie.spec mul-b mul-b-2 add-b mul-b-3 div-b returns returns-2)
+nearest-spec = tie.close (tie.spec mul-b mul-b-2 add-b (λ c. search needs) (λ c. search needs) returns returns-2)

@@ -27,9 +27,6 @@ mul-off c =
     let a = c .before .before .before .args in
     omega (arith, product-few (c .total .result) (a .x) (omega (arith, c .total .ensures, sum-split (a .k) (a .loads .now))) (omega arith))
 
-off-requires : tie.Need-off-requires Inv-loop μ-loop
-off-requires c κs = search needs
-
 loop-holds : tie.Need-loop-holds Inv-loop μ-loop
 loop-holds c =
     let a = c .before .before .before .before .args in
@@ -47,20 +44,11 @@ returns c =
     let l = c .before .before .loop in
     (nearing-past (a .loads .now) (a .k) (a .x) (a .y) (l .q) (l .best) (l .least) (l .i) (l .inv) (c .if1 .taken), l .inv .some, omega (arith, l .inv .before, l .inv .within))
 
-mul-q : tie.Need-mul-q Inv-loop μ-loop
-mul-q c = search needs
-
-shared-slice-read-q : tie.Need-shared-slice-read-q Inv-loop μ-loop
-shared-slice-read-q c = search needs
-
 add-q : tie.Need-add-q Inv-loop μ-loop
 add-q c =
     let a = c .before .before .before .before .before .before .before .before .args in
     let l = c .before .before .before .loop in
     omega (arith, l .inv .load-is, sum-next (a .loads .now) (l .i) (omega arith), sum-split (l .i + 1) (a .loads .now))
-
-add-i : tie.Need-add-i Inv-loop μ-loop
-add-i c = search needs
 
 mul-off-2 : tie.Need-mul-off-2 Inv-loop μ-loop
 mul-off-2 c =
@@ -73,21 +61,12 @@ mul-off-2 c =
           (omega arith),
     )
 
-off-requires-2 : tie.Need-off-requires-2 Inv-loop μ-loop
-off-requires-2 c κs = search needs
-
-loop-less : tie.Need-loop-less Inv-loop μ-loop
-loop-less c = search needs
-
 loop-again : tie.Need-loop-again Inv-loop μ-loop
 loop-again c =
     let a = c .before .before .before .before .before .before .before .before .before .before .args in
     let l = c .before .before .before .before .before .loop in
     rw (c .before .off2 .ensures)
     (nearing-nearer (a .loads .now) (a .k) (a .x) (a .y) (l .q) (l .best) (l .least) (l .i) (l .inv) (omega arith) (rw (c .before .off2 .ensures) at (c .if2 .taken)))
-
-loop-less-2 : tie.Need-loop-less-2 Inv-loop μ-loop
-loop-less-2 c = search needs
 
 loop-again-2 : tie.Need-loop-again-2 Inv-loop μ-loop
 loop-again-2 c =
@@ -104,24 +83,6 @@ returns-2 c =
 pub nearest-end-spec : {M : Type 1} → statement M
 nearest-end-spec =
     tie.close
-    (tie.spec
-    Inv-loop
-    μ-loop
-    slice-aggregate-total
-    total-requires
-    mul-off
-    off-requires
-    loop-holds
-    mul-if1
-    returns
-    mul-q
-    shared-slice-read-q
-    add-q
-    add-i
-    mul-off-2
-    off-requires-2
-    loop-less
-    loop-again
-    loop-less-2
-    loop-again-2
-    returns-2)
+    (tie.spec Inv-loop μ-loop slice-aggregate-total total-requires mul-off (λ c κs. search needs) loop-holds mul-if1
+    returns (λ c. search needs) (λ c. search needs) add-q (λ c. search needs) mul-off-2 (λ c κs. search needs)
+    (λ c. search needs) loop-again (λ c. search needs) loop-again-2 returns-2)

@@ -11,12 +11,6 @@ use Rattle.extents.proofs.PairEnd.{extent-none, extent-short, extent-fu
 use Rattle.extents.proofs.next_extent.Statement.{statement}
 use Rattle.extents.proofs.next_extent.Tie as tie
 
-mul-least : tie.Need-mul-least
-mul-least c = search needs
-
-first-end-requires : tie.Need-first-end-requires
-first-end-requires c κs = search needs
-
 returns : tie.Need-returns
 returns c =
     let a = c .before .before .before .before .args in
@@ -37,12 +31,6 @@ mul-nearest-end c =
     let q = c .before .total .result in
     rw (c .nearest .ensures)
     (omega (arith, nearest-few q (a .w) (a .load), product-few q (a .w) (omega (arith, c .before .total .ensures, sum-split (c .before .before .before .before .first-end .result) (a .loads .now))) (omega arith)))
-
-nearest-end-requires : tie.Need-nearest-end-requires
-nearest-end-requires c κs = search needs
-
-sub-if2 : tie.Need-sub-if2
-sub-if2 c = search needs
 
 returns-2 : tie.Need-returns-2
 returns-2 c =
@@ -68,16 +56,5 @@ returns-4 c =
 pub next-extent-spec : {M : Type 1} → statement M
 next-extent-spec =
     tie.close
-    (tie.spec
-    mul-least
-    first-end-requires
-    returns
-    slice-aggregate-total
-    total-requires
-    nearest-requires
-    mul-nearest-end
-    nearest-end-requires
-    sub-if2
-    returns-2
-    returns-3
-    returns-4)
+    (tie.spec (λ c. search needs) (λ c κs. search needs) returns slice-aggregate-total total-requires nearest-requires
+    mul-nearest-end (λ c κs. search needs) (λ c. search needs) returns-2 returns-3 returns-4)

@@ -6,9 +6,6 @@ use Rattle.extents.proofs.Ends.{product-few, nearest-few, share-few}
 use Rattle.extents.proofs.serves.Statement.{statement}
 use Rattle.extents.proofs.serves.Tie as tie
 
-nearest-requires : tie.Need-nearest-requires
-nearest-requires c κs = search needs
-
 mul-off : tie.Need-mul-off
 mul-off c = let a = c .before .args in omega (arith, product-few (a .q) (a .w) (omega arith) (omega arith))
 
@@ -17,16 +14,10 @@ mul-off-2 c =
     let a = c .before .args in
     rw (c .nearest .ensures) (omega (arith, product-few (a .q) (a .w) (omega arith) (omega arith), nearest-few (a .q) (a .w) (a .load)))
 
-off-requires : tie.Need-off-requires
-off-requires c κs = search needs
-
 mul-result : tie.Need-mul-result
 mul-result c =
     let a = c .before .before .args in
     rw (c .off .ensures, c .before .nearest .ensures) (omega (arith, product-few (a .q) (a .w) (omega arith) (omega arith), nearest-few (a .q) (a .w) (a .load)))
-
-sub-result : tie.Need-sub-result
-sub-result c = search needs
 
 mul-result-2 : tie.Need-mul-result-2
 mul-result-2 c = let a = c .before .before .args in omega (arith, share-few (a .p) (a .load) (omega arith))
@@ -38,12 +29,5 @@ returns c = rw (c .off .ensures, c .before .nearest .ensures)
 pub serves-spec : {M : Type 1} → statement M
 serves-spec =
     tie.close
-    (tie.spec
-    nearest-requires
-    mul-off
-    mul-off-2
-    off-requires
-    mul-result
-    sub-result
-    mul-result-2
-    returns)
+    (tie.spec (λ c κs. search needs) mul-off mul-off-2 (λ c κs. search needs) mul-result (λ c. search needs)
+    mul-result-2 returns)

@@ -16,26 +16,11 @@ Inv-loop loads s₀ k₀ s k = (k ≤ length loads) × (s ≡ sum (take k loads)
 abbrev μ-loop : tie.MeasureT-loop
 μ-loop loads s₀ k₀ s k = length loads - k
 
-loop-holds : tie.Need-loop-holds Inv-loop μ-loop
-loop-holds c = search needs
-
-mul-s : tie.Need-mul-s Inv-loop μ-loop
-mul-s c = search needs
-
-shared-slice-read-s : tie.Need-shared-slice-read-s Inv-loop μ-loop
-shared-slice-read-s c = search needs
-
 add-s : tie.Need-add-s Inv-loop μ-loop
 add-s c =
     let l = c .before .before .loop in
     let qs = c .before .before .before .args .loads .now in
     omega (arith, sum-next qs (l .k) (omega arith), sum-split (l .k + 1) qs)
-
-add-k : tie.Need-add-k Inv-loop μ-loop
-add-k c = search needs
-
-loop-less : tie.Need-loop-less Inv-loop μ-loop
-loop-less c = search needs
 
 loop-again : tie.Need-loop-again Inv-loop μ-loop
 loop-again c =
@@ -50,14 +35,5 @@ returns c =
 pub total-spec : {M : Type 1} → statement M
 total-spec =
     tie.close
-    (tie.spec
-    Inv-loop
-    μ-loop
-    loop-holds
-    mul-s
-    shared-slice-read-s
-    add-s
-    add-k
-    loop-less
-    loop-again
-    returns)
+    (tie.spec Inv-loop μ-loop (λ c. search needs) (λ c. search needs) (λ c. search needs) add-s (λ c. search needs)
+    (λ c. search needs) loop-again returns)

@@ -5,11 +5,8 @@ use Rattle.groups.specs.Structs.{ofGroup}
 use Rattle.groups.proofs.get.Statement.{statement}
 use Rattle.groups.proofs.get.Tie as tie
 
-get-requires : tie.Need-get-requires
-get-requires c κs = search needs
-
 returns : tie.Need-returns
 returns c = ap ofGroup (c .get .ensures)
 
 pub get-spec : {M : Type 1} → statement M
-get-spec = tie.close (tie.spec get-requires returns)
+get-spec = tie.close (tie.spec (λ c κs. search needs) returns)

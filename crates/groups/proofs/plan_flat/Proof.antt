@@ -10,23 +10,8 @@ use Rattle.groups.proofs.PlanReply.{made-planned}
 use Rattle.groups.proofs.plan_flat.Statement.{statement}
 use Rattle.groups.proofs.plan_flat.Tie as tie
 
-size-for-requires : tie.Need-size-for-requires
-size-for-requires c κs = search needs
-
-array-borrow-prefix-numbers : tie.Need-array-borrow-prefix-numbers
-array-borrow-prefix-numbers c = search needs
-
 slice-aggregate-plan : tie.Need-slice-aggregate-plan
 slice-aggregate-plan c = sym (length-take-le (c .before .before .size-for .result) (replicate maxFields 0) (omega (arith, c .before .before .size-for .ensures)))
-
-plan-requires : tie.Need-plan-requires
-plan-requires c κs = search needs
-
-count-of-requires : tie.Need-count-of-requires
-count-of-requires c κs = search needs
-
-same-length : tie.Need-same-length
-same-length c = search needs
 
 returns : tie.Need-returns
 returns c =
@@ -39,11 +24,5 @@ returns c =
 pub plan-flat-spec : {M : Type 1} → statement M
 plan-flat-spec =
     tie.close
-    (tie.spec
-    size-for-requires
-    array-borrow-prefix-numbers
-    slice-aggregate-plan
-    plan-requires
-    count-of-requires
-    same-length
-    returns)
+    (tie.spec (λ c κs. search needs) (λ c. search needs) slice-aggregate-plan (λ c κs. search needs)
+    (λ c κs. search needs) (λ c. search needs) returns)

@@ -111,5 +111,7 @@ returns-7 c =
 pub join-spec : {M : Type 1} → statement M
 join-spec =
     tie.close
-    (tie.spec (search needs) returns (search needs) returns-2 returns-3 (search needs) add-n put-tenants-requires returns-4 returns-5 gather-requires returns-6 slice-aggregate-place-rows slice-aggregate-place-rows-2 slice-aggregate-place-rows-3 place-rows-requires
-    (search needs) (search needs) (search needs) returns-7)
+    (tie.spec (λ c. search needs) returns (λ c. search needs) returns-2 returns-3 (λ c. search needs) add-n
+    put-tenants-requires returns-4 returns-5 gather-requires returns-6 slice-aggregate-place-rows
+    slice-aggregate-place-rows-2 slice-aggregate-place-rows-3 place-rows-requires (λ c. search needs)
+    (λ c. search needs) (λ c. search needs) returns-7)

@@ -66,12 +66,6 @@ loop-holds c = (search needs, λ j g k b. walked-none g k b)
 is-leaf-requires : tie.Need-is-leaf-requires Inv-loop μ-loop
 is-leaf-requires c κs = let g = start c .pre .1 in (g .groups-long, in-order g .0, c .loop-test .taken)
 
-add-i : tie.Need-add-i Inv-loop μ-loop
-add-i c = search needs
-
-loop-less : tie.Need-loop-less Inv-loop μ-loop
-loop-less c = search needs
-
 loop-again : tie.Need-loop-again Inv-loop μ-loop
 loop-again c =
     let t = c .before .before in
@@ -154,12 +148,6 @@ mul-ends-3 c = let f = fits (c .before .before .before .before .before) in searc
 element-write-ends : tie.Need-element-write-ends Inv-loop μ-loop
 element-write-ends c = let f = fits (c .before .before .before .before .before) in search needs
 
-add-i-2 : tie.Need-add-i-2 Inv-loop μ-loop
-add-i-2 c = search needs
-
-loop-less-2 : tie.Need-loop-less-2 Inv-loop μ-loop
-loop-less-2 c = search needs
-
 loop-again-2 : tie.Need-loop-again-2 Inv-loop μ-loop
 loop-again-2 c =
     let r = c .before .before .before .before .before in
@@ -178,31 +166,7 @@ returns c =
 pub lay-spec : {M : Type 1} → statement M
 lay-spec =
     tie.close
-    (tie.spec
-    Inv-loop
-    μ-loop
-    loop-holds
-    is-leaf-requires
-    add-i
-    loop-less
-    loop-again
-    record-at-requires
-    mul-place
-    array-read-place
-    cast-place
-    add-put-leaf
-    put-leaf-requires
-    cast-next
-    mul-next
-    array-write-next
-    cast-ends
-    mul-ends
-    array-read-ends
-    sub-ends
-    mul-ends-2
-    mul-ends-3
-    element-write-ends
-    add-i-2
-    loop-less-2
-    loop-again-2
-    returns)
+    (tie.spec Inv-loop μ-loop loop-holds is-leaf-requires (λ c. search needs) (λ c. search needs) loop-again
+    record-at-requires mul-place array-read-place cast-place add-put-leaf put-leaf-requires cast-next mul-next
+    array-write-next cast-ends mul-ends array-read-ends sub-ends mul-ends-2 mul-ends-3 element-write-ends
+    (λ c. search needs) (λ c. search needs) loop-again-2 returns)

@@ -73,12 +73,6 @@ cast-put-row c = let f = fits (c .before) in search needs
 put-row-requires : tie.Need-put-row-requires Inv-loop μ-loop
 put-row-requires c κs = let f = fits (c .before .before) in (f .few, f .some, f .room, f .long)
 
-add-p : tie.Need-add-p Inv-loop μ-loop
-add-p c = search needs
-
-loop-less : tie.Need-loop-less Inv-loop μ-loop
-loop-less c = search needs
-
 loop-again : tie.Need-loop-again Inv-loop μ-loop
 loop-again c =
     let i = c .before .before .before in
@@ -97,21 +91,6 @@ returns c =
 pub put-leaf-spec : {M : Type 1} → statement M
 put-leaf-spec =
     tie.close
-    (tie.spec
-    Inv-loop
-    μ-loop
-    loop-holds
-    cast-begins
-    mul-begins
-    element-write-begins
-    cast-leaves
-    mul-leaves
-    element-write-leaves
-    mul-put-row
-    element-copy-out-put-row
-    cast-put-row
-    put-row-requires
-    add-p
-    loop-less
-    loop-again
-    returns)
+    (tie.spec Inv-loop μ-loop loop-holds cast-begins mul-begins element-write-begins cast-leaves mul-leaves
+    element-write-leaves mul-put-row element-copy-out-put-row cast-put-row put-row-requires (λ c. search needs)
+    (λ c. search needs) loop-again returns)

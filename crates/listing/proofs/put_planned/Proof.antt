@@ -27,30 +27,6 @@ left c =
     planned-accepted (held s) (s .args .workers) (s .args .p) (s .pre .0) (replicate maxRows 0) (replicate maxFields 0) (length-replicate {A = ℕ} maxRows 0) (length-replicate {A = ℕ} maxFields 0) (c .made2 .given .0 .0)
     (ap replyOf (sym (c .made2 .given .1)) ∙ w .plan .ensures .0) _ _ (w .plan .ensures .1 .0) (w .plan .ensures .1 .1)
 
-slice-aggregate-plan : tie.Need-slice-aggregate-plan
-slice-aggregate-plan c = search needs
-
-slice-aggregate-plan-2 : tie.Need-slice-aggregate-plan-2
-slice-aggregate-plan-2 c = search needs
-
-plan-requires : tie.Need-plan-requires
-plan-requires c κs = search needs
-
-enum-known-made : tie.Need-enum-known-made
-enum-known-made c = search needs
-
-put-refusal-requires : tie.Need-put-refusal-requires
-put-refusal-requires c κs = search needs
-
-enum-known-made-2 : tie.Need-enum-known-made-2
-enum-known-made-2 c = search needs
-
-slice-aggregate-put-plan : tie.Need-slice-aggregate-put-plan
-slice-aggregate-put-plan c = search needs
-
-slice-aggregate-put-plan-2 : tie.Need-slice-aggregate-put-plan-2
-slice-aggregate-put-plan-2 c = search needs
-
 put-plan-requires : tie.Need-put-plan-requires
 put-plan-requires c κs =
     let m = c .before .before .before .before in
@@ -60,9 +36,6 @@ put-plan-requires c κs =
     let count = left m .few in
     let long = w .plan .kept .1 .1 .1 .1 .1 .1 .1 in
     (omega (arith, long .0, length-replicate {A = ℕ} maxRows 0), omega (arith, long .1 .0, length-replicate {A = ℕ} maxFields 0), omega (arith, s .pre .1))
-
-same-length : tie.Need-same-length
-same-length c = search needs
 
 returns : tie.Need-returns
 returns c =
@@ -74,9 +47,6 @@ returns c =
     (ap replyOf (sym (m .made .given .1)) ∙ w .plan .ensures .0) in
     put-as (sym e) (r .put-refusal .ensures)
 
-same-length-2 : tie.Need-same-length-2
-same-length-2 c = search needs
-
 returns-2 : tie.Need-returns-2
 returns-2 c =
     let l = c .before .before in
@@ -85,17 +55,6 @@ returns-2 c =
 pub put-planned-spec : {M : Type 1} → statement M
 put-planned-spec =
     tie.close
-    (tie.spec
-    slice-aggregate-plan
-    slice-aggregate-plan-2
-    plan-requires
-    enum-known-made
-    put-refusal-requires
-    enum-known-made-2
-    slice-aggregate-put-plan
-    slice-aggregate-put-plan-2
-    put-plan-requires
-    same-length
-    returns
-    same-length-2
-    returns-2)
+    (tie.spec (λ c. search needs) (λ c. search needs) (λ c κs. search needs) (λ c. search needs)
+    (λ c κs. search needs) (λ c. search needs) (λ c. search needs) (λ c. search needs) put-plan-requires
+    (λ c. search needs) returns (λ c. search needs) returns-2)

@@ -21,17 +21,8 @@ loop-holds c =
     let a = s .args in
     loading-start (a .keys .now) (a .ends .now) (a .stretch .now) (levelsIn 0 (a .ends .now) (a .stretch .now)) (s .pre .1) (s .pre .2) (a .loads .now) (s .pre .3)
 
-mul-to : tie.Need-mul-to Inv-loop μ-loop
-mul-to c = search needs
-
-shared-slice-read-to : tie.Need-shared-slice-read-to Inv-loop μ-loop
-shared-slice-read-to c = search needs
-
 cast-to : tie.Need-cast-to Inv-loop μ-loop
 cast-to c = omega (arith, c .shared-slice-known3 .given (c .before .before .loop .k))
-
-mul-load : tie.Need-mul-load Inv-loop μ-loop
-mul-load c = search needs
 
 sub-load : tie.Need-sub-load Inv-loop μ-loop
 sub-load c =
@@ -61,9 +52,6 @@ load-requires c κs =
     let l = c .before .before .before .loop in
     weighed-part (a .keys .now) (a .stretch .now) (l .from) (getD (a .ends .now) (l .k) 0 - l .from) (s .pre .0)
 
-mul-loads : tie.Need-mul-loads Inv-loop μ-loop
-mul-loads c = search needs
-
 element-write-loads : tie.Need-element-write-loads Inv-loop μ-loop
 element-write-loads c = omega (arith, c .before .before .before .before .loop .inv .long, c .before .before .before .before .before .before .before .pre .2)
 
@@ -78,12 +66,6 @@ add-sum c =
       load-split (a .keys .now) (getD (a .ends .now) (l .k) 0) (a .stretch .now),
       s .pre .0 .few,
     )
-
-add-k : tie.Need-add-k Inv-loop μ-loop
-add-k c = search needs
-
-loop-less : tie.Need-loop-less Inv-loop μ-loop
-loop-less c = search needs
 
 loop-again : tie.Need-loop-again Inv-loop μ-loop
 loop-again c =
@@ -102,22 +84,6 @@ returns c =
 pub level-loads-spec : {M : Type 1} → statement M
 level-loads-spec =
     tie.close
-    (tie.spec
-    Inv-loop
-    μ-loop
-    loop-holds
-    mul-to
-    shared-slice-read-to
-    cast-to
-    mul-load
-    sub-load
-    part-load-start
-    part-load-end
-    load-requires
-    mul-loads
-    element-write-loads
-    add-sum
-    add-k
-    loop-less
-    loop-again
-    returns)
+    (tie.spec Inv-loop μ-loop loop-holds (λ c. search needs) (λ c. search needs) cast-to (λ c. search needs) sub-load
+    part-load-start part-load-end load-requires (λ c. search needs) element-write-loads add-sum (λ c. search needs)
+    (λ c. search needs) loop-again returns)

@@ -20,12 +20,6 @@ abbrev μ-loop : tie.MeasureT-loop
 loop-holds : tie.Need-loop-holds Inv-loop μ-loop
 loop-holds c = (search needs, refl)
 
-mul-weight : tie.Need-mul-weight Inv-loop μ-loop
-mul-weight c = search needs
-
-shared-slice-read-weight : tie.Need-shared-slice-read-weight Inv-loop μ-loop
-shared-slice-read-weight c = search needs
-
 weight-requires : tie.Need-weight-requires Inv-loop μ-loop
 weight-requires c κs =
     let s = c .before .before .before .before in
@@ -40,12 +34,6 @@ add-sum c =
     let keys = s .args .keys .now in
     let rows = s .args .rows .now in
     omega (arith, l .inv .1, c .weight .ensures, load-next keys rows (l .i) (omega arith), load-split keys (l .i + 1) rows, s .pre .few)
-
-add-i : tie.Need-add-i Inv-loop μ-loop
-add-i c = search needs
-
-loop-less : tie.Need-loop-less Inv-loop μ-loop
-loop-less c = search needs
 
 loop-again : tie.Need-loop-again Inv-loop μ-loop
 loop-again c =
@@ -62,15 +50,5 @@ returns c =
 pub load-spec : {M : Type 1} → statement M
 load-spec =
     tie.close
-    (tie.spec
-    Inv-loop
-    μ-loop
-    loop-holds
-    mul-weight
-    shared-slice-read-weight
-    weight-requires
-    add-sum
-    add-i
-    loop-less
-    loop-again
-    returns)
+    (tie.spec Inv-loop μ-loop loop-holds (λ c. search needs) (λ c. search needs) weight-requires add-sum
+    (λ c. search needs) (λ c. search needs) loop-again returns)

@@ -4,9 +4,6 @@ use borrow.Author.Needs.{needs}
 use Rattle.loads.proofs.weight.Statement.{statement}
 use Rattle.loads.proofs.weight.Tie as tie
 
-wide-requires : tie.Need-wide-requires
-wide-requires c κs = search needs
-
 mul-result : tie.Need-mul-result
 mul-result c = record { fits = omega (arith, c .wide .ensures, c .before .pre .0) }
 
@@ -20,4 +17,4 @@ returns : tie.Need-returns
 returns c = rw (c .before .wide .ensures)
 
 pub weight-spec : {M : Type 1} → statement M
-weight-spec = tie.close (tie.spec wide-requires mul-result element-copy-out-result sub-result returns)
+weight-spec = tie.close (tie.spec (λ c κs. search needs) mul-result element-copy-out-result sub-result returns)

@@ -15,12 +15,6 @@ use Rattle.multiply.proofs.check_displacements.Tie as tie
 returns : tie.Need-returns
 returns c = sym (displacements-other _ _ (c .if1 .taken))
 
-all-within-requires : tie.Need-all-within-requires
-all-within-requires c κs = search needs
-
-first-past-requires : tie.Need-first-past-requires
-first-past-requires c κs = search needs
-
 cast-t8 : tie.Need-cast-t8
 cast-t8 c =
     let x = c .before .before .before .before .args .displacements .now in
@@ -43,4 +37,4 @@ returns-3 c =
 pub check-displacements-spec : {M : Type 1} → statement M
 check-displacements-spec =
     tie.close
-    (tie.spec returns all-within-requires first-past-requires cast-t8 returns-2 returns-3)
+    (tie.spec returns (λ c κs. search needs) (λ c κs. search needs) cast-t8 returns-2 returns-3)

@@ -61,12 +61,6 @@ mul-force c = let l = c .before .before .before .before in omega (arith, l .befo
 slice-set-from-force : tie.Need-slice-set-from-force Inv-loop μ-loop
 slice-set-from-force c = let l = c .before .before .before .before in omega (arith, kept l, l .before .before .before .pre .long)
 
-add-i : tie.Need-add-i Inv-loop μ-loop
-add-i c = omega arith
-
-loop-less : tie.Need-loop-less Inv-loop μ-loop
-loop-less c = omega arith
-
 loop-again : tie.Need-loop-again Inv-loop μ-loop
 loop-again c =
     let v = c .before in
@@ -91,17 +85,5 @@ returns c =
 pub fill-spec : {M : Type 1} → statement M
 fill-spec =
     tie.close
-    (tie.spec
-    Inv-loop
-    μ-loop
-    loop-holds
-    columns-of-requires
-    values-of-requires
-    force-requires
-    mul-force
-    slice-set-from-force
-    add-i
-    loop-less
-    loop-again
-    same-length
-    returns)
+    (tie.spec Inv-loop μ-loop loop-holds columns-of-requires values-of-requires force-requires mul-force
+    slice-set-from-force (λ c. omega arith) (λ c. omega arith) loop-again same-length returns)

@@ -12,19 +12,10 @@ use Rattle.multiply.proofs.product.Tie as tie
 abbrev given : tie.Start → Matrix
 given c = let a = c .args in matrixOf (a .n) (a .starts .now) (a .columns .now) (a .values .now)
 
-is-matrix-requires : tie.Need-is-matrix-requires
-is-matrix-requires c κs = search needs
-
 returns : tie.Need-returns
 returns c =
     let a = c .before .before .before .before in
     refused-forces (given a) _ _ _ _ _ (product-unmade (given a) _ _ (fails (c .before .is-matrix .ensures) (c .if1 .taken)))
-
-check-displacements-requires : tie.Need-check-displacements-requires
-check-displacements-requires c κs = search needs
-
-enum-known-checked : tie.Need-enum-known-checked
-enum-known-checked c = search needs
 
 is-made : (c : tie.Else1) → isMatrix (given (c .before .before .before .before)) ≡ true
 is-made c = holds (c .before .is-matrix .ensures) (c .if1 .left)
@@ -34,9 +25,6 @@ returns-2 c =
     let d = c .before .before .before in
     let a = d .before .before .before .before .before in
     refused-forces (given a) _ _ _ _ _ (product-unmoved (given a) _ _ (is-made (d .before)) _ _ (ap replyOf (sym (c .before .checked .given .1)) ∙ d .check-displacements .ensures))
-
-enum-told : tie.Need-enum-told
-enum-told c = search needs
 
 returns-3 : tie.Need-returns-3
 returns-3 c =
@@ -51,9 +39,6 @@ fill-requires c κs =
     let a = d .before .before .before .before .before in
     product-loaded (given a) _ _ (is-made (d .before)) _ (ap replyOf (sym (t .enum-told .given .1)) ∙ d .check-displacements .ensures) (c .before .if2 .left)
 
-same-length : tie.Need-same-length
-same-length c = search needs
-
 returns-4 : tie.Need-returns-4
 returns-4 c =
     let e = c .before .before .before in
@@ -66,14 +51,5 @@ returns-4 c =
 pub product-spec : {M : Type 1} → statement M
 product-spec =
     tie.close
-    (tie.spec
-    is-matrix-requires
-    returns
-    check-displacements-requires
-    enum-known-checked
-    returns-2
-    enum-told
-    returns-3
-    fill-requires
-    same-length
-    returns-4)
+    (tie.spec (λ c κs. search needs) returns (λ c κs. search needs) (λ c. search needs) returns-2 (λ c. search needs)
+    returns-3 fill-requires (λ c. search needs) returns-4)

@@ -188,25 +188,7 @@ returns-5 c =
 pub plan-spec : {M : Type 1} → statement M
 plan-spec =
     tie.close
-    (tie.spec
-    is-matrix-requires
-    returns
-    are-parameters-requires
-    returns-2
-    returns-3
-    array-borrow-prefix-list
-    slice-aggregate-plan-rows
-    slice-aggregate-plan-rows-2
-    plan-rows-requires
-    cast-made
-    returns-4
-    mul-size
-    array-share-prefix-list
-    slice-aggregate-copy
-    copy-requires
-    array-share-prefix-records
-    slice-aggregate-copy-2
-    copy-requires-2
-    same-length
-    same-length-2
-    returns-5)
+    (tie.spec is-matrix-requires returns are-parameters-requires returns-2 returns-3 array-borrow-prefix-list
+    slice-aggregate-plan-rows slice-aggregate-plan-rows-2 plan-rows-requires cast-made returns-4 mul-size
+    array-share-prefix-list slice-aggregate-copy copy-requires array-share-prefix-records slice-aggregate-copy-2
+    copy-requires-2 same-length same-length-2 returns-5)

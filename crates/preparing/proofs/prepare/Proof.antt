@@ -14,19 +14,10 @@ use Rattle.preparing.proofs.Prepares.{lists-refused, lists-prepared}
 use Rattle.preparing.proofs.prepare.Statement.{statement}
 use Rattle.preparing.proofs.prepare.Tie as tie
 
-check-job-requires : tie.Need-check-job-requires
-check-job-requires c κs = search needs
-
-enum-known-checked : tie.Need-enum-known-checked
-enum-known-checked c = search needs
-
 returns : tie.Need-returns
 returns c =
     let d = c .before .before .before in
     lists-refused _ _ _ _ _ _ _ _ (ap replyOf (sym (c .before .checked .given .1)) ∙ d .check-job .ensures)
-
-enum-told : tie.Need-enum-told
-enum-told c = search needs
 
 -- ---- the lists pass
 
@@ -40,9 +31,6 @@ passed c = ap replyOf (sym (c .enum-told .given .1)) ∙ c .before .before .chec
 holds-job : (c : tie.After-enum-told) → let a = start c .args in Given (a .n) (a .starts .now) (a .columns .now) (a .values .now) (a .displacements .now) (a .order .now) (a .groups .now) (a .count)
 holds-job c = passed-given _ (passed c)
 
-mul-size : tie.Need-mul-size
-mul-size c = search needs
-
 slice-aggregate-records : tie.Need-slice-aggregate-records
 slice-aggregate-records c =
     let e = c .before in
@@ -50,9 +38,6 @@ slice-aggregate-records c =
 
 store-job-requires : tie.Need-store-job-requires
 store-job-requires c κs = let g = holds-job (c .before .before) in cut-given _ _ (g .groups-long) g
-
-same-length : tie.Need-same-length
-same-length c = search needs
 
 returns-2 : tie.Need-returns-2
 returns-2 c =
@@ -62,13 +47,5 @@ returns-2 c =
 pub prepare-spec : {M : Type 1} → statement M
 prepare-spec =
     tie.close
-    (tie.spec
-    check-job-requires
-    enum-known-checked
-    returns
-    enum-told
-    mul-size
-    slice-aggregate-records
-    store-job-requires
-    same-length
-    returns-2)
+    (tie.spec (λ c κs. search needs) (λ c. search needs) returns (λ c. search needs) (λ c. search needs)
+    slice-aggregate-records store-job-requires (λ c. search needs) returns-2)

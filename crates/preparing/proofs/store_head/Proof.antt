@@ -10,18 +10,6 @@ use borrow.Author.Needs.{needs}
 use Rattle.preparing.proofs.store_head.Statement.{statement}
 use Rattle.preparing.proofs.store_head.Tie as tie
 
-head-numbers-requires : tie.Need-head-numbers-requires
-head-numbers-requires c κs = search needs
-
-slice-aggregate-store-numbers : tie.Need-slice-aggregate-store-numbers
-slice-aggregate-store-numbers c = search needs
-
-store-numbers-requires : tie.Need-store-numbers-requires
-store-numbers-requires c κs = search needs
-
-same-length : tie.Need-same-length
-same-length c = search needs
-
 returns : tie.Need-returns
 unfolding workers
 returns c =
@@ -34,9 +22,4 @@ returns c =
 pub store-head-spec : {M : Type 1} → statement M
 store-head-spec =
     tie.close
-    (tie.spec
-    head-numbers-requires
-    slice-aggregate-store-numbers
-    store-numbers-requires
-    same-length
-    returns)
+    (tie.spec (λ c κs. search needs) (λ c. search needs) (λ c κs. search needs) (λ c. search needs) returns)

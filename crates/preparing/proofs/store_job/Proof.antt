@@ -147,6 +147,6 @@ returns-2 c =
 pub store-job-spec : {M : Type 1} → statement M
 store-job-spec =
     tie.close
-    (tie.spec upper-requires first-updates-requires (search needs) size-of-requires (search needs) returns
-    displace-requires record-at-requires cast-store-head store-head-requires store-tables-requires
-    (search needs) (search needs) store-places-requires cast-t28 (search needs) returns-2)
+    (tie.spec upper-requires first-updates-requires (λ c. search needs) size-of-requires (λ c. search needs) returns
+    displace-requires record-at-requires cast-store-head store-head-requires store-tables-requires (λ c. search needs)
+    (λ c. search needs) store-places-requires cast-t28 (λ c. search needs) returns-2)

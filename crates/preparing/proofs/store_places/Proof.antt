@@ -12,12 +12,6 @@ use borrow.Author.Needs.{needs}
 use Rattle.preparing.proofs.store_places.Statement.{statement}
 use Rattle.preparing.proofs.store_places.Tie as tie
 
-put-positions-requires : tie.Need-put-positions-requires
-put-positions-requires c κs = search needs
-
-array-share-prefix-places : tie.Need-array-share-prefix-places
-array-share-prefix-places c = search needs
-
 abbrev start : tie.After-put-positions → tie.Start
 start p = p .before .before .before .before
 
@@ -31,9 +25,6 @@ slice-aggregate-store-numbers c = sym (long (c .before .before))
 store-numbers-requires : tie.Need-store-numbers-requires
 store-numbers-requires c κs = let p = c .before .before in rw (long p) (start p .pre .0)
 
-same-length : tie.Need-same-length
-same-length c = search needs
-
 returns : tie.Need-returns
 returns c =
     let x = c .before .before in
@@ -46,10 +37,5 @@ returns c =
 pub store-places-spec : {M : Type 1} → statement M
 store-places-spec =
     tie.close
-    (tie.spec
-    put-positions-requires
-    array-share-prefix-places
-    slice-aggregate-store-numbers
-    store-numbers-requires
-    same-length
-    returns)
+    (tie.spec (λ c κs. search needs) (λ c. search needs) slice-aggregate-store-numbers store-numbers-requires
+    (λ c. search needs) returns)

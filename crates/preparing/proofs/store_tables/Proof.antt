@@ -25,12 +25,6 @@ start l = l .before .before .before .before .before .before .before
 all-gates-requires : tie.Need-all-gates-requires
 all-gates-requires c κs = planned-recorded (start (c .before) .pre .1)
 
-array-read-wide : tie.Need-array-read-wide
-array-read-wide c = search needs
-
-wide-requires : tie.Need-wide-requires
-wide-requires c κs = search needs
-
 -- how many updates there are
 count-is : (w : tie.After-wide) (j : Job) → Counted j (start (w .before .before .before) .args .t5) → w .wide .result ≡ firstOf j maxWorkers
 count-is w j k = w .wide .ensures ∙ k .is maxWorkers (omega arith)
@@ -64,9 +58,6 @@ store-gates-requires c κs =
     let long = o .store-updates .kept .0 in
     (omega (arith, count-is w (s .0) (s .2), s .5, long), omega (arith, s .4, matrix-facts (s .0 .matrix) (s .1 .sized .accepted .matrix) .few), t .1 .leaf-low)
 
-same-length : tie.Need-same-length
-same-length c = search needs
-
 returns : tie.Need-returns
 returns c =
     λ j g k t e.
@@ -86,14 +77,5 @@ returns c =
 pub store-tables-spec : {M : Type 1} → statement M
 store-tables-spec =
     tie.close
-    (tie.spec
-    lay-requires
-    all-gates-requires
-    array-read-wide
-    wide-requires
-    store-updates-requires
-    mul-store-gates
-    add-store-gates
-    store-gates-requires
-    same-length
-    returns)
+    (tie.spec lay-requires all-gates-requires (λ c. search needs) (λ c κs. search needs) store-updates-requires
+    mul-store-gates add-store-gates store-gates-requires (λ c. search needs) returns)

@@ -110,6 +110,10 @@ returns c =
 pub picks-both-in-spec : {M : Type 1} → statement M
 picks-both-in-spec =
     tie.close
-    (tie.spec (search needs) (search needs) (search needs) (search needs) (search needs) (search needs) (search needs) (search needs) (search needs) (search needs) (search needs) (search needs) (search needs) (search needs) (search needs) (search needs) (search needs) (search needs) (search needs) array-borrow-prefix-new0 slice-aggregate-picks-both (search needs)
-    slice-aggregate-picks-both-2 (search needs) slice-aggregate-store-both slice-aggregate-store-both-2
-    store-both-requires (search needs) (search needs) (search needs) (search needs) returns)
+    (tie.spec (λ c. search needs) (λ c. search needs) (λ c. search needs) (λ c. search needs) (λ c. search needs)
+    (λ c. search needs) (λ c. search needs) (λ c. search needs) (λ c. search needs) (λ c. search needs)
+    (λ c. search needs) (λ c. search needs) (λ c. search needs) (λ c. search needs) (λ c. search needs)
+    (λ c. search needs) (λ c. search needs) (λ c. search needs) (λ c. search needs) array-borrow-prefix-new0
+    slice-aggregate-picks-both (λ c. search needs) slice-aggregate-picks-both-2 (λ c. search needs)
+    slice-aggregate-store-both slice-aggregate-store-both-2 store-both-requires (λ c. search needs)
+    (λ c. search needs) (λ c. search needs) (λ c. search needs) returns)

@@ -65,5 +65,9 @@ returns c =
 pub ready-both-in-spec : {M : Type 1} → statement M
 ready-both-in-spec =
     tie.close
-    (tie.spec (search needs) (search needs) (search needs) (search needs) (search needs) (search needs) (search needs) (search needs) (search needs) (search needs) (search needs) (search needs) (search needs) (search needs) (search needs) (search needs) (search needs) (search needs) (search needs) array-share-prefix-new0 slice-aggregate-ready-both (search needs)
-    slice-aggregate-ready-both-2 (search needs) word-of-sets-requires returns)
+    (tie.spec (λ c. search needs) (λ c. search needs) (λ c. search needs) (λ c. search needs) (λ c. search needs)
+    (λ c. search needs) (λ c. search needs) (λ c. search needs) (λ c. search needs) (λ c. search needs)
+    (λ c. search needs) (λ c. search needs) (λ c. search needs) (λ c. search needs) (λ c. search needs)
+    (λ c. search needs) (λ c. search needs) (λ c. search needs) (λ c. search needs) array-share-prefix-new0
+    slice-aggregate-ready-both (λ c. search needs) slice-aggregate-ready-both-2 (λ c. search needs)
+    word-of-sets-requires returns)

@@ -8,9 +8,6 @@ use borrow.Author.Needs.{needs}
 use Rattle.rack.proofs.forces.Statement.{statement}
 use Rattle.rack.proofs.forces.Tie as tie
 
-refusal-of-requires : tie.Need-refusal-of-requires
-refusal-of-requires c κs = search needs
-
 returns : tie.Need-returns
 returns c = gave-none _ _ _ _ (c .before .refusal-of .ensures) (c .if1 .taken)
 
@@ -27,9 +24,6 @@ free c = fine _ _ _ (sym (c .before .refusal-of .ensures) ∙ none c)
 sizes-of-requires : tie.Need-sizes-of-requires
 sizes-of-requires c κs = free c .prepared
 
-load-state-requires : tie.Need-load-state-requires
-load-state-requires c κs = search needs
-
 is-over-requires : tie.Need-is-over-requires
 is-over-requires c κs = let z = c .before .before .before in (free (z .before) .prepared, z .sizes-of .ensures .few)
 
@@ -40,9 +34,6 @@ returns-2 c =
     let z = l .before in
     let f = free (z .before) in
     gave-early f (z .sizes-of .ensures) (l .load-state .ensures (f .whole)) _ (sym (fails (o .is-over .ensures) (c .if2 .taken)))
-
-cast-t15 : tie.Need-cast-t15
-cast-t15 c = search needs
 
 returns-3 : tie.Need-returns-3
 returns-3 c =
@@ -58,9 +49,6 @@ store-forces-requires c κs =
     let z = c .before .before .before .before .before .before .before in
     (z .sizes-of .ensures, z .sizes-of .ensures .rows-are ∙ free (z .before) .rows, omega (arith, c .before .if3 .left))
 
-same-length : tie.Need-same-length
-same-length c = search needs
-
 returns-4 : tie.Need-returns-4
 returns-4 c =
     let x = c .before .before in
@@ -75,15 +63,5 @@ returns-4 c =
 pub forces-spec : {M : Type 1} → statement M
 forces-spec =
     tie.close
-    (tie.spec
-    refusal-of-requires
-    returns
-    sizes-of-requires
-    load-state-requires
-    is-over-requires
-    returns-2
-    cast-t15
-    returns-3
-    store-forces-requires
-    same-length
-    returns-4)
+    (tie.spec (λ c κs. search needs) returns sizes-of-requires (λ c κs. search needs) is-over-requires returns-2
+    (λ c. search needs) returns-3 store-forces-requires (λ c. search needs) returns-4)

@@ -8,9 +8,6 @@ use borrow.Author.Needs.{needs}
 use Rattle.rack.proofs.ready.Statement.{statement}
 use Rattle.rack.proofs.ready.Tie as tie
 
-refusal-of-requires : tie.Need-refusal-of-requires
-refusal-of-requires c κs = search needs
-
 returns : tie.Need-returns
 returns c = let e = c .before .refusal-of .ensures in (λ zs. ap (λ (k : ℕ). denied k 0) e ∙ refused-all _ _ _ (λ q. c .if1 .taken (e ∙ q)) _, refused-low _ _)
 
@@ -27,14 +24,8 @@ free c = fine _ _ _ (sym (c .before .refusal-of .ensures) ∙ none c)
 sizes-of-requires : tie.Need-sizes-of-requires
 sizes-of-requires c κs = free c .prepared
 
-load-state-requires : tie.Need-load-state-requires
-load-state-requires c κs = search needs
-
 ready-bits-requires : tie.Need-ready-bits-requires
 ready-bits-requires c κs = c .before .before .before .sizes-of .ensures
-
-cast-t11 : tie.Need-cast-t11
-cast-t11 c = search needs
 
 returns-2 : tie.Need-returns-2
 returns-2 c =
@@ -46,11 +37,5 @@ returns-2 c =
 pub ready-spec : {M : Type 1} → statement M
 ready-spec =
     tie.close
-    (tie.spec
-    refusal-of-requires
-    returns
-    sizes-of-requires
-    load-state-requires
-    ready-bits-requires
-    cast-t11
-    returns-2)
+    (tie.spec (λ c κs. search needs) returns sizes-of-requires (λ c κs. search needs) ready-bits-requires
+    (λ c. search needs) returns-2)

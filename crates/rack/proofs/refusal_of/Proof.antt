@@ -10,9 +10,6 @@ use borrow.Author.Needs.{needs}
 use Rattle.rack.proofs.refusal_of.Statement.{statement}
 use Rattle.rack.proofs.refusal_of.Tie as tie
 
-is-prepared-requires : tie.Need-is-prepared-requires
-is-prepared-requires c κs = search needs
-
 returns : tie.Need-returns
 returns c =
     let s = c .before .before .before .before .before in
@@ -31,9 +28,6 @@ returns-3 : tie.Need-returns-3
 returns-3 c =
     let e = c .before .before .before in
     other-rows _ _ _ (prepared (e .before)) (e .if2 .left) (λ q. c .if3 .taken (q ∙ sym (c .before .before .sizes-of .ensures .rows-are)))
-
-load-state-requires : tie.Need-load-state-requires
-load-state-requires c κs = search needs
 
 is-fine-requires : tie.Need-is-fine-requires
 is-fine-requires c κs = prepared (c .before .before .before .before .before .before .before)
@@ -63,13 +57,5 @@ returns-5 c =
 pub refusal-of-spec : {M : Type 1} → statement M
 refusal-of-spec =
     tie.close
-    (tie.spec
-    is-prepared-requires
-    returns
-    returns-2
-    sizes-of-requires
-    returns-3
-    load-state-requires
-    is-fine-requires
-    returns-4
-    returns-5)
+    (tie.spec (λ c κs. search needs) returns returns-2 sizes-of-requires returns-3 (λ c κs. search needs)
+    is-fine-requires returns-4 returns-5)

@@ -6,15 +6,6 @@ use borrow.Author.Needs.{needs}
 use Rattle.rack.proofs.take.Statement.{statement}
 use Rattle.rack.proofs.take.Tie as tie
 
-refusal-of-requires : tie.Need-refusal-of-requires
-refusal-of-requires c κs = search needs
-
-same-length : tie.Need-same-length
-same-length c = search needs
-
-same-length-2 : tie.Need-same-length-2
-same-length-2 c = search needs
-
 returns : tie.Need-returns
 returns c = took-refused _ _ _ _ (c .before .refusal-of .ensures) (c .if1 .taken)
 
@@ -31,9 +22,6 @@ free c = fine _ _ _ (sym (c .before .refusal-of .ensures) ∙ none c)
 sizes-of-requires : tie.Need-sizes-of-requires
 sizes-of-requires c κs = free c .prepared
 
-load-state-requires : tie.Need-load-state-requires
-load-state-requires c κs = search needs
-
 walk-requires : tie.Need-walk-requires
 walk-requires c κs =
     let z = c .before .before .before in
@@ -41,15 +29,6 @@ walk-requires c κs =
 
 store-state-requires : tie.Need-store-state-requires
 store-state-requires c κs = free (c .before .before .before .before .before .before .before .before .before) .whole
-
-told-requires : tie.Need-told-requires
-told-requires c κs = search needs
-
-same-length-3 : tie.Need-same-length-3
-same-length-3 c = search needs
-
-same-length-4 : tie.Need-same-length-4
-same-length-4 c = search needs
 
 returns-2 : tie.Need-returns-2
 returns-2 c =
@@ -68,16 +47,6 @@ returns-2 c =
 pub take-spec : {M : Type 1} → statement M
 take-spec =
     tie.close
-    (tie.spec
-    refusal-of-requires
-    same-length
-    same-length-2
-    returns
-    sizes-of-requires
-    load-state-requires
-    walk-requires
-    store-state-requires
-    told-requires
-    same-length-3
-    same-length-4
-    returns-2)
+    (tie.spec (λ c κs. search needs) (λ c. search needs) (λ c. search needs) returns sizes-of-requires
+    (λ c κs. search needs) walk-requires store-state-requires (λ c κs. search needs) (λ c. search needs)
+    (λ c. search needs) returns-2)

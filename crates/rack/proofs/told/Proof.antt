@@ -6,13 +6,10 @@ use borrow.Author.Needs.{needs}
 use Rattle.rack.proofs.told.Statement.{statement}
 use Rattle.rack.proofs.told.Tie as tie
 
-place-of-requires : tie.Need-place-of-requires
-place-of-requires c κs = search needs
-
 returns : tie.Need-returns
 returns c =
     let w = c .before .before .args .walked in
     ap (λ (p : ℕ). Picked (w .taken % 2 ^ 24) (w .number) (p % 2 ^ 32)) (c .place-of .ensures)
 
 pub told-spec : {M : Type 1} → statement M
-told-spec = tie.close (tie.spec place-of-requires returns)
+told-spec = tie.close (tie.spec (λ c κs. search needs) returns)

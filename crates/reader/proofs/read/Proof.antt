@@ -18,15 +18,6 @@ good c =
     let k = c .before .before in
     k .parse-text .ensures .0 ∙ ap (λ (r : Scanned). parsed r (k .parse-text .last .1 .0) (k .parse-text .last .1 .1 .0) (k .parse-text .last .1 .1 .1 .0)) (c .found2 .given .1)
 
-parse-text-requires : tie.Need-parse-text-requires
-parse-text-requires c κs = search needs
-
-enum-known-found : tie.Need-enum-known-found
-enum-known-found c = search needs
-
-enum-known-found-2 : tie.Need-enum-known-found-2
-enum-known-found-2 c = search needs
-
 place-rows-requires : tie.Need-place-rows-requires
 place-rows-requires c κs =
     let g = c .before .before .before .before .before .before .before in
@@ -41,15 +32,6 @@ returns c =
     let p = placed-rejected (a .starts .now) (a .columns .now) (a .values .now) e in
     (p .reply, (p .starts, (p .columns, p .values)))
 
-same-length : tie.Need-same-length
-same-length c = search needs
-
-same-length-2 : tie.Need-same-length-2
-same-length-2 c = search needs
-
-same-length-3 : tie.Need-same-length-3
-same-length-3 c = search needs
-
 returns-2 : tie.Need-returns-2
 returns-2 c =
     let x = c .before .before .before .before .before in
@@ -61,16 +43,6 @@ returns-2 c =
 pub read-spec : {M : Type 1} → statement M
 read-spec =
     tie.close
-    (tie.spec
-    parse-text-requires
-    enum-known-found
-    enum-known-found-2
-    (search needs)
-    (search needs)
-    (search needs)
-    place-rows-requires
-    returns
-    same-length
-    same-length-2
-    same-length-3
+    (tie.spec (λ c κs. search needs) (λ c. search needs) (λ c. search needs) (λ c. search needs) (λ c. search needs)
+    (λ c. search needs) place-rows-requires returns (λ c. search needs) (λ c. search needs) (λ c. search needs)
     returns-2)

@@ -7,15 +7,6 @@ use Rattle.search.proofs.AllComponents.{between-old, root-frontier, bet
 use Rattle.search.proofs.component.Statement.{statement}
 use Rattle.search.proofs.component.Tie as tie
 
-mul-wide : tie.Need-mul-wide
-mul-wide c = search needs
-
-shared-slice-read-wide : tie.Need-shared-slice-read-wide
-shared-slice-read-wide c = search needs
-
-wide-requires : tie.Need-wide-requires
-wide-requires c κs = search needs
-
 -- the row is a row
 below : (c : tie.After-wide) → c .wide .result < c .before .before .before .before .before .args .n
 below c = let a = c .before .before .before .before .before in rw (c .wide .ensures) (a .pre .1 .below (a .args .i) (a .pre .2))
@@ -31,16 +22,10 @@ returns c =
     let a = c .before .before .before .before .before .before .before in
     (between-old (a .pre .3) (rw (c .before .before .wide .ensures) at (c .if1 .taken)), kept-refl (a .args .marks .now))
 
-add-visit : tie.Need-add-visit
-add-visit c = search needs
-
 visit-requires : tie.Need-visit-requires
 visit-requires c κs =
     let a = c .before .before .before .before .before .before .before .before .before in
     (a .pre .3 .frontier .ready, below (c .before .before .before .before), λ e. omega arith)
-
-add-spread : tie.Need-add-spread
-add-spread c = search needs
 
 spread-requires : tie.Need-spread-requires
 spread-requires c κs =
@@ -57,15 +42,5 @@ returns-2 c =
 pub component-spec : {M : Type 1} → statement M
 component-spec =
     tie.close
-    (tie.spec
-    mul-wide
-    shared-slice-read-wide
-    wide-requires
-    mul-if1
-    element-copy-out-if1
-    returns
-    add-visit
-    visit-requires
-    add-spread
-    spread-requires
-    returns-2)
+    (tie.spec (λ c. search needs) (λ c. search needs) (λ c κs. search needs) mul-if1 element-copy-out-if1 returns
+    (λ c. search needs) visit-requires (λ c. search needs) spread-requires returns-2)

@@ -30,12 +30,6 @@ component-requires c κs =
     let a = c .before .before .before .before .before .before .before in
     (a .pre .0, a .pre .1, omega arith, c .before .before .before .loop .inv .0)
 
-add-i : tie.Need-add-i Inv-loop μ-loop
-add-i c = search needs
-
-loop-less : tie.Need-loop-less Inv-loop μ-loop
-loop-less c = search needs
-
 loop-again : tie.Need-loop-again Inv-loop μ-loop
 loop-again c =
     let a = c .before .before .before .before .before .before .before .before in
@@ -54,4 +48,4 @@ returns c =
 pub components-spec : {M : Type 1} → statement M
 components-spec =
     tie.close
-    (tie.spec Inv-loop μ-loop loop-holds component-requires add-i loop-less loop-again returns)
+    (tie.spec Inv-loop μ-loop loop-holds component-requires (λ c. search needs) (λ c. search needs) loop-again returns)

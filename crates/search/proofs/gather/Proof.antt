@@ -27,9 +27,6 @@ collect-requires c κs =
     let a = c .before .before .before .before .before .before in
     (a .pre .0, a .pre .2 ∙ sym (ap length (marked (c .before .before)) ∙ own-length (a .pre .1)))
 
-same-length : tie.Need-same-length
-same-length c = search needs
-
 returns : tie.Need-returns
 returns c =
     let a = c .before .before .before .before .before .before .before .before .before in
@@ -42,4 +39,4 @@ returns c =
     }
 
 pub gather-spec : {M : Type 1} → statement M
-gather-spec = tie.close (tie.spec mark-requires collect-requires same-length returns)
+gather-spec = tie.close (tie.spec mark-requires collect-requires (λ c. search needs) returns)

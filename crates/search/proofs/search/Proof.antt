@@ -25,8 +25,5 @@ components-requires c κs =
       region-small adj (a .args .n) rows (a .args .reach - 1) (m .last .1 .1 .1 .0) within,
     )
 
-returns : tie.Need-returns
-returns c = search needs
-
 pub search-spec : {M : Type 1} → statement M
-search-spec = tie.close (tie.spec mark-region-requires components-requires returns)
+search-spec = tie.close (tie.spec mark-region-requires components-requires (λ c. search needs))

@@ -46,13 +46,4 @@ returns c = spreading-end (c .before .loop .inv) (omega arith)
 pub spread-spec : {M : Type 1} → statement M
 spread-spec =
     tie.close
-    (tie.spec
-    Inv-loop
-    μ-loop
-    loop-holds
-    add-next-level
-    next-level-requires
-    add-d
-    loop-less
-    loop-again
-    returns)
+    (tie.spec Inv-loop μ-loop loop-holds add-next-level next-level-requires add-d loop-less loop-again returns)

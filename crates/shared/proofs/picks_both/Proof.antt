@@ -16,22 +16,10 @@ use Rattle.shared.proofs.Sharing.{states-short0, states-short1, picks-r
 use Rattle.shared.proofs.picks_both.Statement.{statement}
 use Rattle.shared.proofs.picks_both.Tie as tie
 
-check-roof-requires : tie.Need-check-roof-requires
-check-roof-requires c κs = search needs
-
-enum-known-checked : tie.Need-enum-known-checked
-enum-known-checked c = search needs
-
-answered-requires : tie.Need-answered-requires
-answered-requires c κs = search needs
-
 returns : tie.Need-returns
 returns c =
     let e = ap replyOf (sym (c .before .before .checked .given .1)) ∙ c .before .before .before .before .check-roof .ensures in
     rw (c .answered .ensures .0, c .answered .ensures .1) (record { answers = lent-refused _ _ _ _ _ _ _ _ e _; leaves = lent-stay _ _ _ _ _ _ _ _ e _ })
-
-enum-told : tie.Need-enum-told
-enum-told c = search needs
 
 -- ---- the lists pass
 
@@ -49,9 +37,6 @@ holds-job : (c : tie.After-enum-told) (d : Crew) → let a = start c .args in
     Given (a .n) (a .starts .now) (a .columns .now) (a .values .now) (ownOf (record { of0 = a .displacements0 .now; of1 = a .displacements1 .now }) d) (a .order .now) (a .groups .now) (a .count)
 holds-job c d = roof-given _ _ _ _ _ _ (sym (passed c)) d
 
-answered-requires-2 : tie.Need-answered-requires-2
-answered-requires-2 c κs = search needs
-
 returns-2 : tie.Need-returns-2
 unfolding roofOf
 returns-2 c =
@@ -59,9 +44,6 @@ returns-2 c =
     let no = states-short0 (roofOf (given e) _ _ _ _) _ (c .before .if1 .taken) in
     rw (c .answered2 .ensures .0, c .answered2 .ensures .1)
     (record { answers = lent-answered _ _ _ _ _ _ _ (passed e) _ refl (picks-refused _ _ no _); leaves = lent-left _ _ _ _ _ _ _ (passed e) _ refl (picks-stay _ _ no _) })
-
-answered-requires-3 : tie.Need-answered-requires-3
-answered-requires-3 c κs = search needs
 
 returns-3 : tie.Need-returns-3
 unfolding roofOf
@@ -73,9 +55,6 @@ returns-3 c =
 
 -- ---- the plan's records, and the picks
 
-mul-size : tie.Need-mul-size
-mul-size c = search needs
-
 slice-aggregate-records : tie.Need-slice-aggregate-records
 slice-aggregate-records c =
     let e = c .before .before .before in
@@ -86,12 +65,6 @@ take-picks-requires c κs =
     let l = c .before .before .before in
     let e = l .before .before in
     (λ d. (let g = holds-job e d in rw (l .before .if1 .left) (cut-given _ _ (g .groups-long) g)), l .if2 .left ∙ sym (l .before .if1 .left))
-
-same-length : tie.Need-same-length
-same-length c = search needs
-
-same-length-2 : tie.Need-same-length-2
-same-length-2 c = search needs
 
 returns-4 : tie.Need-returns-4
 returns-4 c =
@@ -105,19 +78,6 @@ returns-4 c =
 pub picks-both-spec : {M : Type 1} → statement M
 picks-both-spec =
     tie.close
-    (tie.spec
-    check-roof-requires
-    enum-known-checked
-    answered-requires
-    returns
-    enum-told
-    answered-requires-2
-    returns-2
-    answered-requires-3
-    returns-3
-    mul-size
-    slice-aggregate-records
-    take-picks-requires
-    same-length
-    same-length-2
-    returns-4)
+    (tie.spec (λ c κs. search needs) (λ c. search needs) (λ c κs. search needs) returns (λ c. search needs)
+    (λ c κs. search needs) returns-2 (λ c κs. search needs) returns-3 (λ c. search needs) slice-aggregate-records
+    take-picks-requires (λ c. search needs) (λ c. search needs) returns-4)

@@ -16,17 +16,8 @@ use Rattle.shared.proofs.Sharing.{states-short0, states-short1, cut-roo
 use Rattle.shared.proofs.ready_both.Statement.{statement}
 use Rattle.shared.proofs.ready_both.Tie as tie
 
-check-roof-requires : tie.Need-check-roof-requires
-check-roof-requires c κs = search needs
-
-enum-known-checked : tie.Need-enum-known-checked
-enum-known-checked c = search needs
-
 returns : tie.Need-returns
 returns c = lent-sets-refused _ _ _ _ _ _ _ _ (ap replyOf (sym (c .before .checked .given .1)) ∙ c .before .before .before .check-roof .ensures)
-
-enum-told : tie.Need-enum-told
-enum-told c = search needs
 
 -- ---- the lists pass
 
@@ -56,9 +47,6 @@ returns-3 c =
     let e = c .before .before in
     lent-sets _ _ _ _ _ _ _ (passed e) refl (sets-refused _ _ (states-short1 (roofOf (given e) _ _ _ _) _ (c .if2 .taken)))
 
-mul-size : tie.Need-mul-size
-mul-size c = search needs
-
 slice-aggregate-look : tie.Need-slice-aggregate-look
 slice-aggregate-look c =
     let e = c .before .before .before in
@@ -81,14 +69,5 @@ returns-4 c =
 pub ready-both-spec : {M : Type 1} → statement M
 ready-both-spec =
     tie.close
-    (tie.spec
-    check-roof-requires
-    enum-known-checked
-    returns
-    enum-told
-    returns-2
-    returns-3
-    mul-size
-    slice-aggregate-look
-    look-requires
-    returns-4)
+    (tie.spec (λ c κs. search needs) (λ c. search needs) returns (λ c. search needs) returns-2 returns-3
+    (λ c. search needs) slice-aggregate-look look-requires returns-4)

@@ -117,5 +117,6 @@ returns-2 c =
 pub take-picks-spec : {M : Type 1} → statement M
 take-picks-spec =
     tie.close
-    (tie.spec upper-requires first-updates-requires are-fine-requires (search needs) returns displace-requires
-    displace-requires-2 take-requires (search needs) (search needs) (search needs) (search needs) returns-2)
+    (tie.spec upper-requires first-updates-requires are-fine-requires (λ c. search needs) returns displace-requires
+    displace-requires-2 take-requires (λ c. search needs) (λ c. search needs) (λ c. search needs) (λ c. search needs)
+    returns-2)

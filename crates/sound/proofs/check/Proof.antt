@@ -11,9 +11,6 @@ use Rattle.plan.specs.Sound.{maxDistance, isDistance, checkReply}
 use Rattle.sound.proofs.check.Statement.{statement}
 use Rattle.sound.proofs.check.Tie as tie
 
-is-matrix-requires : tie.Need-is-matrix-requires
-is-matrix-requires c κs = search needs
-
 returns : tie.Need-returns
 unfolding checkReply matrixCheck inTurn
 returns c = sym (rw (fails (c .before .is-matrix .ensures) (c .if1 .taken)))
@@ -58,4 +55,6 @@ returns-4 c =
     sym (rw (is p, distance p, holds (c .before .is-plan-at .ensures (start p .args .values .now)) (c .if3 .left)))
 
 pub check-spec : {M : Type 1} → statement M
-check-spec = tie.close (tie.spec is-matrix-requires returns is-distance-requires returns-2 is-plan-at-requires returns-3 returns-4)
+check-spec =
+    tie.close
+    (tie.spec (λ c κs. search needs) returns is-distance-requires returns-2 is-plan-at-requires returns-3 returns-4)

@@ -33,16 +33,10 @@ returns-3 c values =
     let a = start (c .before .before) .args in
     sym (many-groups (a .k) (a .n) (a .starts .now) (a .columns .now) values (a .order .now) (a .groups .now) (a .count) (c .if3 .taken))
 
-mul-if4 : tie.Need-mul-if4
-mul-if4 c = search needs
-
 returns-4 : tie.Need-returns-4
 returns-4 c values =
     let a = start (c .before .before .before) .args in
     sym (groups-short (a .k) (a .n) (a .starts .now) (a .columns .now) values (a .order .now) (a .groups .now) (a .count) (c .if4 .taken))
-
-record-at-requires : tie.Need-record-at-requires
-record-at-requires c κs = omega arith
 
 is-whole-requires : tie.Need-is-whole-requires
 is-whole-requires c κs = tt
@@ -109,18 +103,5 @@ returns-8 c values =
 pub is-plan-at-spec : {M : Type 1} → statement M
 is-plan-at-spec =
     tie.close
-    (tie.spec
-    returns
-    returns-2
-    returns-3
-    mul-if4
-    returns-4
-    record-at-requires
-    is-whole-requires
-    returns-5
-    each-once-requires
-    returns-6
-    depth-first-requires
-    returns-7
-    all-sound-requires
-    returns-8)
+    (tie.spec returns returns-2 returns-3 (λ c. search needs) returns-4 (λ c κs. omega arith) is-whole-requires
+    returns-5 each-once-requires returns-6 depth-first-requires returns-7 all-sound-requires returns-8)

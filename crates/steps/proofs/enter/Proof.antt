@@ -74,12 +74,4 @@ returns-4 c =
 pub enter-spec : {M : Type 1} → statement M
 enter-spec =
     tie.close
-    (tie.spec
-    returns
-    mul-if2
-    element-copy-out-if2
-    returns-2
-    refusal-requires
-    returns-3
-    look-up-requires
-    returns-4)
+    (tie.spec returns mul-if2 element-copy-out-if2 returns-2 refusal-requires returns-3 look-up-requires returns-4)

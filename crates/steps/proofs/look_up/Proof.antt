@@ -60,9 +60,6 @@ mul-wide c = let h = place c in search needs
 element-copy-out-wide : tie.Need-element-copy-out-wide
 element-copy-out-wide c = let h = place c in search needs
 
-wide-requires : tie.Need-wide-requires
-wide-requires c κs = search needs
-
 mul-k : tie.Need-mul-k
 mul-k c = let h = row c in search needs
 
@@ -78,23 +75,11 @@ sub-k c = let h = row (c .before) in search needs
 target-of-requires : tie.Need-target-of-requires
 target-of-requires c κs = let r = row (c .before) in (omega (arith, r .low, r .few), r .inside)
 
-mul-targets : tie.Need-mul-targets
-mul-targets c = search needs
-
-element-write-targets : tie.Need-element-write-targets
-element-write-targets c = search needs
-
 amount-of-requires : tie.Need-amount-of-requires
 amount-of-requires c κs =
     let w = c .before .before in
     let r = row w in
     (_, record { few = r .few; at-low = w .before .before .before .pre .2 .2 .at-low; row-low = r .low; inside = r .inside })
-
-mul-t15 : tie.Need-mul-t15
-mul-t15 c = search needs
-
-element-set-from-adds : tie.Need-element-set-from-adds
-element-set-from-adds c = search needs
 
 in-range : (c : tie.After-amount-of) → SFits w64 (c .amount-of .result)
 in-range c = search needs
@@ -111,19 +96,6 @@ returns c =
 pub look-up-spec : {M : Type 1} → statement M
 look-up-spec =
     tie.close
-    (tie.spec
-    next-place-requires
-    mul-wide
-    element-copy-out-wide
-    wide-requires
-    mul-k
-    element-copy-out-k
-    cast-k
-    sub-k
-    target-of-requires
-    mul-targets
-    element-write-targets
-    amount-of-requires
-    mul-t15
-    element-set-from-adds
-    returns)
+    (tie.spec next-place-requires mul-wide element-copy-out-wide (λ c κs. search needs) mul-k element-copy-out-k
+    cast-k sub-k target-of-requires (λ c. search needs) (λ c. search needs) amount-of-requires (λ c. search needs)
+    (λ c. search needs) returns)

@@ -60,12 +60,6 @@ returns c = rw (le-ltb _ _ (c .if1 .taken))
 accesses-requires : tie.Need-accesses-requires
 accesses-requires c κs = (worker c, c .before .pre .1 .1 .rising)
 
-mul-if2 : tie.Need-mul-if2
-mul-if2 c = search needs
-
-element-copy-out-if2 : tie.Need-element-copy-out-if2
-element-copy-out-if2 c = search needs
-
 returns-2 : tie.Need-returns-2
 unfolding reason
 returns-2 c =
@@ -81,17 +75,11 @@ mul-wide c = let h = place c in search needs
 element-copy-out-wide : tie.Need-element-copy-out-wide
 element-copy-out-wide c = let h = place c in search needs
 
-wide-requires : tie.Need-wide-requires
-wide-requires c κs = search needs
-
 mul-wide-2 : tie.Need-mul-wide-2
 mul-wide-2 c = let h = low c in search needs
 
 element-copy-out-wide-2 : tie.Need-element-copy-out-wide-2
 element-copy-out-wide-2 c = let h = low c in search needs
-
-wide-requires-2 : tie.Need-wide-requires-2
-wide-requires-2 c κs = search needs
 
 element-copy-out-if3 : tie.Need-element-copy-out-if3
 element-copy-out-if3 c = let h = leaf c in search needs
@@ -107,19 +95,6 @@ returns-4 c = rw (in-plan (c .before .before), has-left (c .before .before), ←
 pub refusal-spec : {M : Type 1} → statement M
 refusal-spec =
     tie.close
-    (tie.spec
-    returns
-    accesses-requires
-    mul-if2
-    element-copy-out-if2
-    returns-2
-    next-place-requires
-    mul-wide
-    element-copy-out-wide
-    wide-requires
-    mul-wide-2
-    element-copy-out-wide-2
-    wide-requires-2
-    element-copy-out-if3
-    returns-3
-    returns-4)
+    (tie.spec returns accesses-requires (λ c. search needs) (λ c. search needs) returns-2 next-place-requires mul-wide
+    element-copy-out-wide (λ c κs. search needs) mul-wide-2 element-copy-out-wide-2 (λ c κs. search needs)
+    element-copy-out-if3 returns-3 returns-4)

@@ -153,6 +153,7 @@ returns-8 c =
 pub survey-spec : {M : Type 1} → statement M
 survey-spec =
     tie.close
-    (tie.spec (search needs) returns (search needs) (search needs) returns-2 (search needs) returns-3 returns-4
-    returns-5 (search needs) put-amounts-requires (search needs) returns-6 returns-7 put-amounts-requires-2
-    columns-of-requires values-of-requires put-shift-requires (search needs) (search needs) returns-8)
+    (tie.spec (λ c. search needs) returns (λ c. search needs) (λ c. search needs) returns-2 (λ c. search needs)
+    returns-3 returns-4 returns-5 (λ c. search needs) put-amounts-requires (λ c. search needs) returns-6 returns-7
+    put-amounts-requires-2 columns-of-requires values-of-requires put-shift-requires (λ c. search needs)
+    (λ c. search needs) returns-8)

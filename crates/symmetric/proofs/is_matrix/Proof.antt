@@ -13,9 +13,6 @@ use Rattle.symmetric.proofs.is_matrix.Tie as tie
 abbrev given : tie.Start → Matrix
 given c = let a = c .args in matrixOf (a .n) (a .starts .now) (a .columns .now) (a .values .now)
 
-is-shaped-requires : tie.Need-is-shaped-requires
-is-shaped-requires c κs = search needs
-
 returns : tie.Need-returns
 returns c = sym (matrix-unshaped _ (fails (c .before .is-shaped .ensures) (c .if1 .taken)))
 
@@ -44,10 +41,4 @@ returns-3 c =
 pub is-matrix-spec : {M : Type 1} → statement M
 is-matrix-spec =
     tie.close
-    (tie.spec
-    is-shaped-requires
-    returns
-    is-small-requires
-    returns-2
-    is-regular-requires
-    returns-3)
+    (tie.spec (λ c κs. search needs) returns is-small-requires returns-2 is-regular-requires returns-3)

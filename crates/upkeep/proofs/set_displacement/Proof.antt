@@ -144,28 +144,8 @@ returns-4 c =
 pub set-displacement-spec : {M : Type 1} → statement M
 set-displacement-spec =
     tie.close
-    (tie.spec
-    (search needs)
-    (search needs)
-    (search needs)
-    (search needs)
-    returns
-    (search needs)
-    (search needs)
-    (search needs)
-    returns-2
-    (search needs)
-    (search needs)
-    (search needs)
-    returns-3
-    columns-of-requires
-    values-of-requires
-    (search needs)
-    slice-copy-out-difference
-    (search needs)
-    add-row-requires
-    (search needs)
-    slice-set-from-to
-    (search needs)
-    (search needs)
+    (tie.spec (λ c. search needs) (λ c. search needs) (λ c. search needs) (λ c. search needs) returns
+    (λ c. search needs) (λ c. search needs) (λ c. search needs) returns-2 (λ c. search needs) (λ c. search needs)
+    (λ c. search needs) returns-3 columns-of-requires values-of-requires (λ c. search needs) slice-copy-out-difference
+    (λ c. search needs) add-row-requires (λ c. search needs) slice-set-from-to (λ c. search needs) (λ c. search needs)
     returns-4)

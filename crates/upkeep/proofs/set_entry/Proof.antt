@@ -258,37 +258,9 @@ returns-4 c =
 pub set-entry-spec : {M : Type 1} → statement M
 set-entry-spec =
     tie.close
-    (tie.spec
-    (search needs)
-    (search needs)
-    (search needs)
-    (search needs)
-    returns
-    (search needs)
-    has-entry-requires
-    (search needs)
-    (search needs)
-    returns-2
-    (search needs)
-    (search needs)
-    (search needs)
-    returns-3
-    entry-place-requires
-    entry-place-requires-2
-    mul-difference
-    slice-copy-out-difference
-    (search needs)
-    (search needs)
-    shared-slice-copy-out-times
-    times-requires
-    (search needs)
-    shared-slice-copy-out-times-2
-    times-requires-2
-    add-both-requires
-    mul-to
-    slice-set-from-to
-    mul-to-2
-    slice-set-from-to-2
-    (search needs)
-    (search needs)
-    returns-4)
+    (tie.spec (λ c. search needs) (λ c. search needs) (λ c. search needs) (λ c. search needs) returns
+    (λ c. search needs) has-entry-requires (λ c. search needs) (λ c. search needs) returns-2 (λ c. search needs)
+    (λ c. search needs) (λ c. search needs) returns-3 entry-place-requires entry-place-requires-2 mul-difference
+    slice-copy-out-difference (λ c. search needs) (λ c. search needs) shared-slice-copy-out-times times-requires
+    (λ c. search needs) shared-slice-copy-out-times-2 times-requires-2 add-both-requires mul-to slice-set-from-to
+    mul-to-2 slice-set-from-to-2 (λ c. search needs) (λ c. search needs) returns-4)

@@ -137,9 +137,6 @@ column c =
       column-inside (matrix s) (order s) (s .args .position .now) (b .0) (s .pre .0 .ordered) (s .pre .1) (b .1) (s .args .q) (s .pre .2) (columns v) (values v) (l .loop .k) (c .before .loop-test .taken),
     )
 
-wide-at-requires : tie.Need-wide-at-requires Inv-loop μ-loop
-wide-at-requires c κs = search needs
-
 mul-own : tie.Need-mul-own Inv-loop μ-loop
 mul-own c = let b = own-bounds (c .before .before .before .before) in search needs
 
@@ -178,9 +175,6 @@ values-of-requires c κs =
 loop-holds : tie.Need-loop-holds Inv-loop μ-loop
 loop-holds c = (search needs, λ begins parts u. u)
 
-wide-at-requires-2 : tie.Need-wide-at-requires-2 Inv-loop μ-loop
-wide-at-requires-2 c κs = search needs
-
 mul-p : tie.Need-mul-p Inv-loop μ-loop
 mul-p c = let h = column c in search needs
 
@@ -189,12 +183,6 @@ element-copy-out-p c = let h = column c in search needs
 
 cast-p : tie.Need-cast-p Inv-loop μ-loop
 cast-p c = let b = bounds (c .before) in search needs
-
-add-k : tie.Need-add-k Inv-loop μ-loop
-add-k c = search needs
-
-loop-less : tie.Need-loop-less Inv-loop μ-loop
-loop-less c = search needs
 
 loop-again : tie.Need-loop-again Inv-loop μ-loop
 loop-again c =
@@ -225,9 +213,6 @@ mul-at-2 c = let b = bounds (c .before .before .before) in search needs
 element-write-at-2 : tie.Need-element-write-at-2 Inv-loop μ-loop
 element-write-at-2 c = let b = bounds (c .before .before .before) in search needs
 
-mul-beside-2 : tie.Need-mul-beside-2 Inv-loop μ-loop
-mul-beside-2 c = search needs
-
 shared-slice-copy-out-beside : tie.Need-shared-slice-copy-out-beside Inv-loop μ-loop
 shared-slice-copy-out-beside c = turn-given (c .before .before .before) .beside-long
 
@@ -239,9 +224,6 @@ element-set-from-beside c = let b = bounds (c .before .before .before .before) i
 
 cast-next : tie.Need-cast-next Inv-loop μ-loop
 cast-next c = let b = bounds (c .before .before .before .before) in search needs
-
-cast-next-2 : tie.Need-cast-next-2 Inv-loop μ-loop
-cast-next-2 c = search needs
 
 add-next : tie.Need-add-next Inv-loop μ-loop
 add-next c =
@@ -255,12 +237,6 @@ mul-next c = let b = bounds (c .before .before .before .before) in search needs
 
 element-write-next : tie.Need-element-write-next Inv-loop μ-loop
 element-write-next c = let b = bounds (c .before .before .before .before) in search needs
-
-add-k-2 : tie.Need-add-k-2 Inv-loop μ-loop
-add-k-2 c = search needs
-
-loop-less-2 : tie.Need-loop-less-2 Inv-loop μ-loop
-loop-less-2 c = search needs
 
 loop-again-2 : tie.Need-loop-again-2 Inv-loop μ-loop
 loop-again-2 c =
@@ -296,48 +272,10 @@ returns c =
 pub join-spec : {M : Type 1} → statement M
 join-spec =
     tie.close
-    (tie.spec
-    Inv-loop
-    μ-loop
-    wide-at-requires
-    mul-own
-    element-copy-out-own
-    cast-own
-    cast-at
-    mul-at
-    element-write-at
-    mul-beside
-    element-set-of-beside
-    columns-of-requires
-    values-of-requires
-    loop-holds
-    wide-at-requires-2
-    mul-p
-    element-copy-out-p
-    cast-p
-    add-k
-    loop-less
-    loop-again
-    mul-place
-    element-copy-out-place
-    cast-place
-    cast-at-2
-    mul-at-2
-    element-write-at-2
-    mul-beside-2
-    shared-slice-copy-out-beside
-    mul-t29
-    element-set-from-beside
-    cast-next
-    cast-next-2
-    add-next
-    mul-next
-    element-write-next
-    add-k-2
-    loop-less-2
-    loop-again-2
-    cast-next-3
-    add-next-2
-    mul-next-2
-    element-write-next-2
-    returns)
+    (tie.spec Inv-loop μ-loop (λ c κs. search needs) mul-own element-copy-out-own cast-own cast-at mul-at
+    element-write-at mul-beside element-set-of-beside columns-of-requires values-of-requires loop-holds
+    (λ c κs. search needs) mul-p element-copy-out-p cast-p (λ c. search needs) (λ c. search needs) loop-again
+    mul-place element-copy-out-place cast-place cast-at-2 mul-at-2 element-write-at-2 (λ c. search needs)
+    shared-slice-copy-out-beside mul-t29 element-set-from-beside cast-next (λ c. search needs) add-next mul-next
+    element-write-next (λ c. search needs) (λ c. search needs) loop-again-2 cast-next-3 add-next-2 mul-next-2
+    element-write-next-2 returns)

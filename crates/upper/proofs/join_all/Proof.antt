@@ -37,12 +37,6 @@ join-requires c κs =
     let l = i .before in
     (start (l .before) .pre .0, l .before .positions .ensures, i .loop-test .taken, (_, parts (l .before), l .loop .inv .1))
 
-add-q : tie.Need-add-q Inv-loop μ-loop
-add-q c = search needs
-
-loop-less : tie.Need-loop-less Inv-loop μ-loop
-loop-less c = search needs
-
 loop-again : tie.Need-loop-again Inv-loop μ-loop
 loop-again c =
     let l = c .before .before .before .before .before .before in
@@ -58,13 +52,5 @@ returns c =
 pub join-all-spec : {M : Type 1} → statement M
 join-all-spec =
     tie.close
-    (tie.spec
-    Inv-loop
-    μ-loop
-    positions-requires
-    loop-holds
-    join-requires
-    add-q
-    loop-less
-    loop-again
-    returns)
+    (tie.spec Inv-loop μ-loop positions-requires loop-holds join-requires (λ c. search needs) (λ c. search needs)
+    loop-again returns)

@@ -19,9 +19,6 @@ abbrev μ-loop : tie.MeasureT-loop
 loop-holds : tie.Need-loop-holds Inv-loop μ-loop
 loop-holds c = (search needs, ahead-none (c .before .args .groups .now) (c .before .args .ends .now) (c .before .args .made .now) 4294967295)
 
-record-at-requires : tie.Need-record-at-requires Inv-loop μ-loop
-record-at-requires c κs = search needs
-
 -- the worker's number is an index
 first-low : (c : tie.After-record-at Inv-loop μ-loop) → c .record-at .result .first < 16
 first-low c =
@@ -29,38 +26,14 @@ first-low c =
     let s = l .before .before in
     omega (arith, ap (λ (g : Group). g .first) (c .record-at .ensures .is), s .pre .firsts (l .loop .i) (c .before .loop-test .taken))
 
-mul-next-end : tie.Need-mul-next-end Inv-loop μ-loop
-mul-next-end c = search needs
-
 element-copy-out-next-end : tie.Need-element-copy-out-next-end Inv-loop μ-loop
 element-copy-out-next-end c = let low = first-low c in search needs
-
-mul-next-end-2 : tie.Need-mul-next-end-2 Inv-loop μ-loop
-mul-next-end-2 c = search needs
-
-element-copy-out-next-end-2 : tie.Need-element-copy-out-next-end-2 Inv-loop μ-loop
-element-copy-out-next-end-2 c = search needs
-
-mul-next-end-3 : tie.Need-mul-next-end-3 Inv-loop μ-loop
-mul-next-end-3 c = search needs
 
 array-read-next-end : tie.Need-array-read-next-end Inv-loop μ-loop
 array-read-next-end c = let low = first-low (c .before .before) in search needs
 
-next-end-requires : tie.Need-next-end-requires Inv-loop μ-loop
-next-end-requires c κs = search needs
-
-mul-stops : tie.Need-mul-stops Inv-loop μ-loop
-mul-stops c = search needs
-
 array-write-stops : tie.Need-array-write-stops Inv-loop μ-loop
 array-write-stops c = let low = first-low (c .before .before .before) in search needs
-
-add-i : tie.Need-add-i Inv-loop μ-loop
-add-i c = search needs
-
-loop-less : tie.Need-loop-less Inv-loop μ-loop
-loop-less c = search needs
 
 loop-again : tie.Need-loop-again Inv-loop μ-loop
 loop-again c =
@@ -83,21 +56,6 @@ returns c =
 pub next-ends-spec : {M : Type 1} → statement M
 next-ends-spec =
     tie.close
-    (tie.spec
-    Inv-loop
-    μ-loop
-    loop-holds
-    record-at-requires
-    mul-next-end
-    element-copy-out-next-end
-    mul-next-end-2
-    element-copy-out-next-end-2
-    mul-next-end-3
-    array-read-next-end
-    next-end-requires
-    mul-stops
-    array-write-stops
-    add-i
-    loop-less
-    loop-again
-    returns)
+    (tie.spec Inv-loop μ-loop loop-holds (λ c κs. search needs) (λ c. search needs) element-copy-out-next-end
+    (λ c. search needs) (λ c. search needs) (λ c. search needs) array-read-next-end (λ c κs. search needs)
+    (λ c. search needs) array-write-stops (λ c. search needs) (λ c. search needs) loop-again returns)

@@ -21,12 +21,6 @@ loop-holds c =
     let a = s .args in
     (s .pre .some, search needs, backward-none (a .count) (a .groups .now) (a .ends .now) (a .made .now))
 
-sub-i : tie.Need-sub-i Inv-loop μ-loop
-sub-i c = search needs
-
-record-at-requires : tie.Need-record-at-requires Inv-loop μ-loop
-record-at-requires c κs = search needs
-
 -- the record's numbers are indices
 parent-low : (c : tie.After-record-at Inv-loop μ-loop) → c .record-at .result .parent < 512
 parent-low c =
@@ -40,26 +34,8 @@ first-low c =
     let s = l .before .before in
     omega (arith, ap (λ (g : Group). g .first) (c .record-at .ensures .is), s .pre .firsts (l .loop .i - 1) (omega (arith, l .loop .inv .1, c .before .loop-test .taken)))
 
-array-read-open-if : tie.Need-array-read-open-if Inv-loop μ-loop
-array-read-open-if c = search needs
-
-array-read-open-if-2 : tie.Need-array-read-open-if-2 Inv-loop μ-loop
-array-read-open-if-2 c = search needs
-
-mul-open-if : tie.Need-mul-open-if Inv-loop μ-loop
-mul-open-if c = search needs
-
 element-copy-out-open-if : tie.Need-element-copy-out-open-if Inv-loop μ-loop
 element-copy-out-open-if c = let low = first-low c in search needs
-
-mul-open-if-2 : tie.Need-mul-open-if-2 Inv-loop μ-loop
-mul-open-if-2 c = search needs
-
-element-copy-out-open-if-2 : tie.Need-element-copy-out-open-if-2 Inv-loop μ-loop
-element-copy-out-open-if-2 c = search needs
-
-open-if-requires : tie.Need-open-if-requires Inv-loop μ-loop
-open-if-requires c κs = search needs
 
 array-write-parents : tie.Need-array-write-parents Inv-loop μ-loop
 array-write-parents c = let low = parent-low (c .before .before .before) in search needs
@@ -73,14 +49,8 @@ array-write-opens c = let low = parent-low (c .before .before .before) in search
 array-read-reds : tie.Need-array-read-reds Inv-loop μ-loop
 array-read-reds c = let low = parent-low (c .before .before .before) in search needs
 
-open-red-requires : tie.Need-open-red-requires Inv-loop μ-loop
-open-red-requires c κs = search needs
-
 array-write-reds : tie.Need-array-write-reds Inv-loop μ-loop
 array-write-reds c = let low = parent-low (c .before .before .before .before) in search needs
-
-loop-less : tie.Need-loop-less Inv-loop μ-loop
-loop-less c = search needs
 
 loop-again : tie.Need-loop-again Inv-loop μ-loop
 loop-again c =
@@ -105,25 +75,7 @@ returns c =
 pub open-reds-spec : {M : Type 1} → statement M
 open-reds-spec =
     tie.close
-    (tie.spec
-    Inv-loop
-    μ-loop
-    loop-holds
-    sub-i
-    record-at-requires
-    array-read-open-if
-    array-read-open-if-2
-    mul-open-if
-    element-copy-out-open-if
-    mul-open-if-2
-    element-copy-out-open-if-2
-    open-if-requires
-    array-write-parents
-    array-read-opens
-    array-write-opens
-    array-read-reds
-    open-red-requires
-    array-write-reds
-    loop-less
-    loop-again
-    returns)
+    (tie.spec Inv-loop μ-loop loop-holds (λ c. search needs) (λ c κs. search needs) (λ c. search needs)
+    (λ c. search needs) (λ c. search needs) element-copy-out-open-if (λ c. search needs) (λ c. search needs)
+    (λ c κs. search needs) array-write-parents array-read-opens array-write-opens array-read-reds
+    (λ c κs. search needs) array-write-reds (λ c. search needs) loop-again returns)

@@ -19,9 +19,6 @@ abbrev μ-loop : tie.MeasureT-loop
 loop-holds : tie.Need-loop-holds Inv-loop μ-loop
 loop-holds c = (search needs, c .before .pre .some, passed-none (c .before .args .groups .now) (c .before .args .reds .now))
 
-record-at-requires : tie.Need-record-at-requires Inv-loop μ-loop
-record-at-requires c κs = search needs
-
 -- the parent's number is an index
 parent-low : (c : tie.After-record-at Inv-loop μ-loop) → c .record-at .result .parent < 512
 parent-low c =
@@ -34,18 +31,6 @@ array-read-blocked-if c = let low = parent-low c in search needs
 
 element-copy-out-blocked-if : tie.Need-element-copy-out-blocked-if Inv-loop μ-loop
 element-copy-out-blocked-if c = let low = parent-low c in search needs
-
-blocked-if-requires : tie.Need-blocked-if-requires Inv-loop μ-loop
-blocked-if-requires c κs = search needs
-
-array-write-blocks : tie.Need-array-write-blocks Inv-loop μ-loop
-array-write-blocks c = search needs
-
-add-i : tie.Need-add-i Inv-loop μ-loop
-add-i c = search needs
-
-loop-less : tie.Need-loop-less Inv-loop μ-loop
-loop-less c = search needs
 
 loop-again : tie.Need-loop-again Inv-loop μ-loop
 loop-again c =
@@ -69,16 +54,5 @@ returns c =
 pub pass-down-spec : {M : Type 1} → statement M
 pass-down-spec =
     tie.close
-    (tie.spec
-    Inv-loop
-    μ-loop
-    loop-holds
-    record-at-requires
-    array-read-blocked-if
-    element-copy-out-blocked-if
-    blocked-if-requires
-    array-write-blocks
-    add-i
-    loop-less
-    loop-again
-    returns)
+    (tie.spec Inv-loop μ-loop loop-holds (λ c κs. search needs) array-read-blocked-if element-copy-out-blocked-if
+    (λ c κs. search needs) (λ c. search needs) (λ c. search needs) (λ c. search needs) loop-again returns)

@@ -25,4 +25,5 @@ returns-2 c = (
 pub renew-spec : {M : Type 1} → statement M
 renew-spec =
     tie.close
-    (tie.spec (search needs) (search needs) (search needs) (search needs) returns find-requires returns-2)
+    (tie.spec (λ c. search needs) (λ c. search needs) (λ c. search needs) (λ c. search needs) returns find-requires
+    returns-2)

@@ -72,9 +72,6 @@ whole c =
 room-left : (c : tie.After-put-rows) → let w = c .before .before .before .before .before .before .before .before .before .before .before in 51 + w .line-width .result + w .before .tally-rows .result .bytes ≤ length (w .before .before .before .before .before .before .before .args .text .now)
 room-left c = c .before .before .before .before .before .before .before .before .before .before .if2 .left
 
-is-matrix-requires : tie.Need-is-matrix-requires
-is-matrix-requires c κs = search needs
-
 returns : tie.Need-returns
 returns c =
     let k = c .before in
@@ -107,9 +104,6 @@ returns-2 c =
     let e = write-short (held s) (is-one (w .before .before)) (length (s .args .text .now)) (needed w) (c .if2 .taken) in
     (sym e, sym (lent-refused (written (held s)) (s .args .text .now) _ _ _ e))
 
-put-header-requires : tie.Need-put-header-requires
-put-header-requires c κs = search needs
-
 put-line-requires : tie.Need-put-line-requires
 put-line-requires c κs =
     let h = c .before .before .before in
@@ -132,9 +126,6 @@ cast-t25 c =
     let f = few (w .before) in
     omega (arith, whole r .next, needed w, short w)
 
-same-length : tie.Need-same-length
-same-length c = search needs
-
 returns-3 : tie.Need-returns-3
 returns-3 c =
     let r = c .before .before in
@@ -146,19 +137,6 @@ returns-3 c =
 pub write-spec : {M : Type 1} → statement M
 write-spec =
     tie.close
-    (tie.spec
-    is-matrix-requires
-    returns
-    tally-rows-requires
-    cast-count
-    line-width-requires
-    add-needed
-    add-needed-2
-    cast-t18
-    returns-2
-    put-header-requires
-    put-line-requires
-    put-rows-requires
-    cast-t25
-    same-length
-    returns-3)
+    (tie.spec (λ c κs. search needs) returns tally-rows-requires cast-count line-width-requires add-needed
+    add-needed-2 cast-t18 returns-2 (λ c κs. search needs) put-line-requires put-rows-requires cast-t25
+    (λ c. search needs) returns-3)

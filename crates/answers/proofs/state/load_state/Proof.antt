@@ -31,5 +31,5 @@ returns-2 c whole =
 pub load-state-spec : {M : Type 1} → statement M
 load-state-spec =
     tie.close
-    (tie.spec (search needs) returns slice-aggregate-load-u32 (search needs) (search needs) (search needs)
-    (search needs) (search needs) (search needs) (search needs) returns-2)
+    (tie.spec (λ c. search needs) returns slice-aggregate-load-u32 (λ c. search needs) (λ c. search needs)
+    (λ c. search needs) (λ c. search needs) (λ c. search needs) (λ c. search needs) (λ c. search needs) returns-2)

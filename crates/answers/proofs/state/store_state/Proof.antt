@@ -21,5 +21,6 @@ returns c =
 pub store-state-spec : {M : Type 1} → statement M
 store-state-spec =
     tie.close
-    (tie.spec (λ c. search needs) (search needs) slice-aggregate-store-u32-2 (search needs) (λ c. search needs)
-    (search needs) (search needs) (search needs) (search needs) (search needs) returns)
+    (tie.spec (λ c. search needs) (λ c. search needs) slice-aggregate-store-u32-2 (λ c. search needs)
+    (λ c. search needs) (λ c. search needs) (λ c. search needs) (λ c. search needs) (λ c. search needs)
+    (λ c. search needs) returns)

@@ -28,4 +28,4 @@ returns-2 c =
 pub store-forces-spec : {M : Type 1} → statement M
 store-forces-spec =
     tie.close
-    (tie.spec (search needs) returns slice-aggregate-store-i64 (search needs) (search needs) returns-2)
+    (tie.spec (λ c. search needs) returns slice-aggregate-store-i64 (λ c. search needs) (λ c. search needs) returns-2)

@@ -40,5 +40,5 @@ returns-2 c =
 pub store-picks-spec : {M : Type 1} → statement M
 store-picks-spec =
     tie.close
-    (tie.spec (search needs) returns store-state-requires slice-aggregate-store-i64 (search needs) (search needs)
-    (search needs) returns-2)
+    (tie.spec (λ c. search needs) returns store-state-requires slice-aggregate-store-i64 (λ c. search needs)
+    (λ c. search needs) (λ c. search needs) returns-2)

@@ -22,4 +22,5 @@ returns-2 c forces = rw (c .before .answer .given .1)
 pub set-of-spec : {M : Type 1} → statement M
 set-of-spec =
     tie.close
-    (tie.spec (search needs) returns (search needs) mul-result (search needs) (search needs) add-result returns-2)
+    (tie.spec (λ c. search needs) returns (λ c. search needs) mul-result (λ c. search needs) (λ c. search needs)
+    add-result returns-2)

@@ -34,6 +34,6 @@ returns-5 c forces = rw (c .before .before .answer4 .given .1) (c .word-of-end2 
 pub word-of-spec : {M : Type 1} → statement M
 word-of-spec =
     tie.close
-    (tie.spec (search needs) word-of-end-requires (search needs) (search needs) (search needs) (search needs)
-    (search needs) (search needs) (search needs) (search needs) (search needs) word-of-end-requires-2 returns
-    returns-2 returns-3 returns-4 returns-5)
+    (tie.spec (λ c. search needs) word-of-end-requires (λ c. search needs) (λ c. search needs) (λ c. search needs)
+    (λ c. search needs) (λ c. search needs) (λ c. search needs) (λ c. search needs) (λ c. search needs)
+    (λ c. search needs) word-of-end-requires-2 returns returns-2 returns-3 returns-4 returns-5)

@@ -15,4 +15,4 @@ returns-2 : tie.Need-returns-2
 returns-2 c = let a = c .before .before .args in c .word-of .ensures ∙ ap word (sym (ended (a .taken) (a .number) (a .place) (c .before .if1 .left)))
 
 pub word-of-end-spec : {M : Type 1} → statement M
-word-of-end-spec = tie.close (tie.spec returns (search needs) (search needs) returns-2)
+word-of-end-spec = tie.close (tie.spec returns (λ c. search needs) (λ c. search needs) returns-2)

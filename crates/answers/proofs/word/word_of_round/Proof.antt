@@ -32,5 +32,5 @@ returns-3 c forces = rw (c .before .before .answer .given .1) (round-ended _ _ _
 pub word-of-round-spec : {M : Type 1} → statement M
 word-of-round-spec =
     tie.close
-    (tie.spec (search needs) word-of-requires returns mul-moves add-result returns-2 (search needs) (search needs)
-    (search needs) add-result-3 returns-3)
+    (tie.spec (λ c. search needs) word-of-requires returns mul-moves add-result returns-2 (λ c. search needs)
+    (λ c. search needs) (λ c. search needs) add-result-3 returns-3)

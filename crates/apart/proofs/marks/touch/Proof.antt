@@ -1,21 +1,13 @@
 -- `marks::touch`: one row.
 use mathlib.Core.Path.{_≡_, sym, ap, _∙_}
 use mathlib.Core.Logic.{inl, inr}
-use mathlib.Core.List.{List}
 use native.Mathlib.Omega.{arith}
-use Prim.Native.Nat.{ℕ}
 use lib.ListN.{getD, set}
 use lib.Seq.{set-getD}
 use borrow.Author.Needs.{needs}
 use Rattle.apart.proofs.Touching.{touched-clash, touched-free}
 use Rattle.apart.proofs.marks.touch.Statement.{statement}
 use Rattle.apart.proofs.marks.touch.Tie as tie
-
-mul-m : tie.Need-mul-m
-mul-m c = search needs
-
-element-copy-out-m : tie.Need-element-copy-out-m
-element-copy-out-m c = search needs
 
 -- a row that has the mark keeps it
 returns : tie.Need-returns
@@ -31,12 +23,6 @@ returns-2 c =
     let a = c .before .before .before .args in
     touched-clash (a .low) (a .mine) (a .marks .now) (a .marks .now) (a .z) (c .if2 .taken) (c .before .if1 .left)
 
-mul-marks : tie.Need-mul-marks
-mul-marks c = search needs
-
-element-write-marks : tie.Need-element-write-marks
-element-write-marks c = search needs
-
 returns-3 : tie.Need-returns-3
 returns-3 c =
     let s = c .before .before .before in
@@ -45,4 +31,6 @@ returns-3 c =
 
 pub touch-spec : {M : Type 1} → statement M
 touch-spec =
-    tie.close (tie.spec mul-m element-copy-out-m returns returns-2 mul-marks element-write-marks returns-3)
+    tie.close
+    (tie.spec (λ c. search needs) (λ c. search needs) returns returns-2 (λ c. search needs) (λ c. search needs)
+    returns-3)

@@ -21,9 +21,6 @@ abbrev μ-loop : tie.MeasureT-loop
 loop-holds : tie.Need-loop-holds Inv-loop μ-loop
 loop-holds c = let a = c .before .args in (touched-none (a .low) (a .mine) (a .marks .now), omega arith)
 
-wide-at-requires : tie.Need-wide-at-requires Inv-loop μ-loop
-wide-at-requires c κs = omega arith
-
 touch-requires : tie.Need-touch-requires Inv-loop μ-loop
 touch-requires c κs =
     let l = c .before .before .before in
@@ -46,12 +43,6 @@ returns c =
     let a = l .before .before .args in
     touched-stops (a .low) (a .mine) (a .rows .now) (l .loop .j) (t .before .before .before .loop-test .taken) (a .marks .now) (l .loop .marks) (t .touch .last .0) (l .loop .inv .0) (touched t false (fails refl (c .if1 .taken)))
 
-add-j : tie.Need-add-j Inv-loop μ-loop
-add-j c = omega arith
-
-loop-less : tie.Need-loop-less Inv-loop μ-loop
-loop-less c = omega arith
-
 loop-again : tie.Need-loop-again Inv-loop μ-loop
 loop-again c =
     let t = c .before in
@@ -70,14 +61,5 @@ returns-2 c =
 pub touch-all-spec : {M : Type 1} → statement M
 touch-all-spec =
     tie.close
-    (tie.spec
-    Inv-loop
-    μ-loop
-    loop-holds
-    wide-at-requires
-    touch-requires
-    returns
-    add-j
-    loop-less
-    loop-again
-    returns-2)
+    (tie.spec Inv-loop μ-loop loop-holds (λ c κs. omega arith) touch-requires returns (λ c. omega arith)
+    (λ c. omega arith) loop-again returns-2)

@@ -30,9 +30,6 @@ loop-holds c =
     let a = s .args in
     widening-start (a .n) (a .starts .now) (a .columns .now) (a .low) (a .mine) (rowOf (a .n) (a .starts .now) (a .columns .now)) (a .rows .now) (a .marks .now) (a .done .now) (s .pre .2)
 
-wide-at-requires : tie.Need-wide-at-requires Inv-loop μ-loop
-wide-at-requires c κs = omega arith
-
 touch-once-requires : tie.Need-touch-once-requires Inv-loop μ-loop
 touch-once-requires c κs =
     let l = c .before .before .before .before in
@@ -52,12 +49,6 @@ returns c =
     let a = start l .args in
     widening-stops (a .n) (a .starts .now) (a .columns .now) (a .low) (a .mine) (rowOf (a .n) (a .starts .now) (a .columns .now)) (a .rows .now) (a .marks .now) (l .loop .inv) (t .before .before .before .before .loop-test .taken) (t .before .before .before .wide-at .ensures .0) (t .touch-once .ensures) (fails refl (c .if1 .taken)) (t .touch-once .last .1 .1 .1 .1 .0)
 
-add-j : tie.Need-add-j Inv-loop μ-loop
-add-j c = omega arith
-
-loop-less : tie.Need-loop-less Inv-loop μ-loop
-loop-less c = omega arith
-
 loop-again : tie.Need-loop-again Inv-loop μ-loop
 loop-again c =
     let t = c .before in
@@ -74,14 +65,5 @@ returns-2 c =
 pub touch-each-spec : {M : Type 1} → statement M
 touch-each-spec =
     tie.close
-    (tie.spec
-    Inv-loop
-    μ-loop
-    loop-holds
-    wide-at-requires
-    touch-once-requires
-    returns
-    add-j
-    loop-less
-    loop-again
-    returns-2)
+    (tie.spec Inv-loop μ-loop loop-holds (λ c κs. omega arith) touch-once-requires returns (λ c. omega arith)
+    (λ c. omega arith) loop-again returns-2)

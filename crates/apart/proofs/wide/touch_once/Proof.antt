@@ -30,9 +30,6 @@ mul-done c = record { fits = omega (arith, low (c .before .before .before .befor
 element-write-done : tie.Need-element-write-done
 element-write-done c = low (c .before .before .before .before)
 
-touch-row-requires : tie.Need-touch-row-requires
-touch-row-requires c κs = search needs
-
 returns-2 : tie.Need-returns-2
 returns-2 c =
     let s = c .before .before .before .before .before .before in
@@ -41,4 +38,5 @@ returns-2 c =
 
 pub touch-once-spec : {M : Type 1} → statement M
 touch-once-spec =
-    tie.close (tie.spec mul-if1 element-copy-out-if1 returns mul-done element-write-done touch-row-requires returns-2)
+    tie.close
+    (tie.spec mul-if1 element-copy-out-if1 returns mul-done element-write-done (λ c κs. search needs) returns-2)

@@ -32,9 +32,6 @@ loop-holds c =
     let a = s .args in
     widening-start (a .n) (a .starts .now) (a .columns .now) (a .low) (a .mine) (rowOf (a .n) (a .starts .now) (a .columns .now)) (a .rows .now) (a .marks .now) (a .done .now) (s .pre .2)
 
-wide-at-requires : tie.Need-wide-at-requires Inv-loop μ-loop
-wide-at-requires c κs = omega arith
-
 touch-around-requires : tie.Need-touch-around-requires Inv-loop μ-loop
 touch-around-requires c κs =
     let l = c .before .before .before .before in
@@ -55,12 +52,6 @@ returns c =
     subst (λ (zs : List ℕ). Widened (a .n) (a .starts .now) (a .columns .now) (a .low) (a .mine) zs (a .marks .now) (t .touch-around .last .1 .1 .1 .1 .0) (t .touch-around .last .1 .1 .1 .0) false) (around-two (a .n) (a .starts .now) (a .columns .now) (a .rows .now))
     (widening-stops (a .n) (a .starts .now) (a .columns .now) (a .low) (a .mine) (rowOf (a .n) (a .starts .now) (a .columns .now)) (a .rows .now) (a .marks .now) (l .loop .inv) (t .before .before .before .before .loop-test .taken) (t .before .before .before .wide-at .ensures .0) (t .touch-around .ensures) (fails refl (c .if1 .taken)) (t .touch-around .last .1 .1 .1 .1 .0))
 
-add-j : tie.Need-add-j Inv-loop μ-loop
-add-j c = omega arith
-
-loop-less : tie.Need-loop-less Inv-loop μ-loop
-loop-less c = omega arith
-
 loop-again : tie.Need-loop-again Inv-loop μ-loop
 loop-again c =
     let t = c .before in
@@ -78,14 +69,5 @@ returns-2 c =
 pub touch-wide-spec : {M : Type 1} → statement M
 touch-wide-spec =
     tie.close
-    (tie.spec
-    Inv-loop
-    μ-loop
-    loop-holds
-    wide-at-requires
-    touch-around-requires
-    returns
-    add-j
-    loop-less
-    loop-again
-    returns-2)
+    (tie.spec Inv-loop μ-loop loop-holds (λ c κs. omega arith) touch-around-requires returns (λ c. omega arith)
+    (λ c. omega arith) loop-again returns-2)

@@ -7,39 +7,6 @@ use Rattle.barrier.proofs.BarrierUnit.{refused-same}
 use Rattle.barrier.proofs.Barrier.after.Statement.{statement}
 use Rattle.barrier.proofs.Barrier.after.Tie as tie
 
-with-low-requires : tie.Need-with-low-requires
-with-low-requires c κs = search needs
-
-joining-requires : tie.Need-joining-requires
-joining-requires c κs = search needs
-
-with-high-requires : tie.Need-with-high-requires
-with-high-requires c κs = search needs
-
-joining-requires-2 : tie.Need-joining-requires-2
-joining-requires-2 c κs = search needs
-
-arriving-requires : tie.Need-arriving-requires
-arriving-requires c κs = search needs
-
-as-high-requires : tie.Need-as-high-requires
-as-high-requires c κs = search needs
-
-arriving-requires-2 : tie.Need-arriving-requires-2
-arriving-requires-2 c κs = search needs
-
-bit-0-requires : tie.Need-bit-0-requires
-bit-0-requires c κs = search needs
-
-acknowledging-requires : tie.Need-acknowledging-requires
-acknowledging-requires c κs = search needs
-
-bit-0-requires-2 : tie.Need-bit-0-requires-2
-bit-0-requires-2 c κs = search needs
-
-enabling-requires : tie.Need-enabling-requires
-enabling-requires c κs = search needs
-
 returns : tie.Need-returns
 unfolding afterWrite
 returns c = c .joining .ensures ∙ rw (c .before .before .match .keys1, c .before .with-low .ensures)
@@ -70,22 +37,6 @@ returns-7 c = let a = c .before .args in sym (refused-same (a .self) (a .address
 pub after-spec : {M : Type 1} → statement M
 after-spec =
     tie.close
-    (tie.spec
-    with-low-requires
-    joining-requires
-    with-high-requires
-    joining-requires-2
-    arriving-requires
-    as-high-requires
-    arriving-requires-2
-    bit-0-requires
-    acknowledging-requires
-    bit-0-requires-2
-    enabling-requires
-    returns
-    returns-2
-    returns-3
-    returns-4
-    returns-5
-    returns-6
-    returns-7)
+    (tie.spec (λ c κs. search needs) (λ c κs. search needs) (λ c κs. search needs) (λ c κs. search needs)
+    (λ c κs. search needs) (λ c κs. search needs) (λ c κs. search needs) (λ c κs. search needs) (λ c κs. search needs)
+    (λ c κs. search needs) (λ c κs. search needs) returns returns-2 returns-3 returns-4 returns-5 returns-6 returns-7)

@@ -4,9 +4,6 @@ use borrow.Author.Tests.{eq-eqb, ne-eqb}
 use Rattle.barrier.proofs.Barrier.arriving.Statement.{statement}
 use Rattle.barrier.proofs.Barrier.arriving.Tie as tie
 
-wrapping-add-u32-requires : tie.Need-wrapping-add-u32-requires
-wrapping-add-u32-requires c κs = search needs
-
 returns : tie.Need-returns
 returns c =
     let a = c .before .before .before .before .args in
@@ -21,4 +18,4 @@ returns-3 : tie.Need-returns-3
 returns-3 c = rw (eq-eqb (c .before .before .args .self .members) 0 (c .if1 .left))
 
 pub arriving-spec : {M : Type 1} → statement M
-arriving-spec = tie.close (tie.spec wrapping-add-u32-requires returns returns-2 returns-3)
+arriving-spec = tie.close (tie.spec (λ c κs. search needs) returns returns-2 returns-3)

@@ -10,15 +10,9 @@ returns : tie.Need-returns
 unfolding addressed inTurn
 returns c = rw (lt-leb _ 5 (c .if1 .taken))
 
-register-requires : tie.Need-register-requires
-register-requires c κs = search needs
-
-cast-t5 : tie.Need-cast-t5
-cast-t5 c = search needs
-
 returns-2 : tie.Need-returns-2
 unfolding addressed inTurn
 returns-2 c = rw (le-leb _ 5 (c .before .if1 .left), c .register .ensures)
 
 pub read-spec : {M : Type 1} → statement M
-read-spec = tie.close (tie.spec returns register-requires cast-t5 returns-2)
+read-spec = tie.close (tie.spec returns (λ c κs. search needs) (λ c. search needs) returns-2)

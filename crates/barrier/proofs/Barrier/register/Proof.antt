@@ -7,24 +7,6 @@ use Rattle.barrier.proofs.BarrierUnit.{read-enable}
 use Rattle.barrier.proofs.Barrier.register.Statement.{statement}
 use Rattle.barrier.proofs.Barrier.register.Tie as tie
 
-low-requires : tie.Need-low-requires
-low-requires c κs = search needs
-
-high-requires : tie.Need-high-requires
-high-requires c κs = search needs
-
-low-requires-2 : tie.Need-low-requires-2
-low-requires-2 c κs = search needs
-
-high-requires-2 : tie.Need-high-requires-2
-high-requires-2 c κs = search needs
-
-cast-result : tie.Need-cast-result
-cast-result c = search needs
-
-cast-result-2 : tie.Need-cast-result-2
-cast-result-2 c = search needs
-
 returns : tie.Need-returns
 unfolding register
 returns c = rw (c .before .match .keys1, c .low .ensures)
@@ -51,16 +33,5 @@ returns-6 c = let a = c .before .before .args in rw (read-enable (a .self) (a .a
 pub register-spec : {M : Type 1} → statement M
 register-spec =
     tie.close
-    (tie.spec
-    low-requires
-    high-requires
-    low-requires-2
-    high-requires-2
-    cast-result
-    cast-result-2
-    returns
-    returns-2
-    returns-3
-    returns-4
-    returns-5
-    returns-6)
+    (tie.spec (λ c κs. search needs) (λ c κs. search needs) (λ c κs. search needs) (λ c κs. search needs)
+    (λ c. search needs) (λ c. search needs) returns returns-2 returns-3 returns-4 returns-5 returns-6)

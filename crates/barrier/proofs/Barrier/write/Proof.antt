@@ -6,9 +6,6 @@ use Rattle.barrier.specs.Registers.{addressed}
 use Rattle.barrier.proofs.Barrier.write.Statement.{statement}
 use Rattle.barrier.proofs.Barrier.write.Tie as tie
 
-after-requires : tie.Need-after-requires
-after-requires c κs = search needs
-
 returns : tie.Need-returns
 unfolding addressed inTurn
 returns c = (rw (lt-leb _ 5 (c .if1 .taken)), c .before .after .ensures)
@@ -18,4 +15,4 @@ unfolding addressed inTurn
 returns-2 c = (rw (le-leb _ 5 (c .if1 .left)), c .before .after .ensures)
 
 pub write-spec : {M : Type 1} → statement M
-write-spec = tie.close (tie.spec after-requires returns returns-2)
+write-spec = tie.close (tie.spec (λ c κs. search needs) returns returns-2)

@@ -5,12 +5,6 @@ use borrow.Author.Needs.{needs}
 use Rattle.base.proofs.slices.wide_at.Statement.{statement}
 use Rattle.base.proofs.slices.wide_at.Tie as tie
 
-mul-result : tie.Need-mul-result
-mul-result c = search needs
-
-shared-slice-read-result : tie.Need-shared-slice-read-result
-shared-slice-read-result c = search needs
-
 cast-result : tie.Need-cast-result
 cast-result c = omega (arith, c .shared-slice-known .given (c .before .args .at))
 
@@ -18,4 +12,4 @@ returns : tie.Need-returns
 returns c = let b = c .shared-slice-known .given (c .before .args .at) in (refl, b .fits)
 
 pub wide-at-spec : {M : Type 1} → statement M
-wide-at-spec = tie.close (tie.spec mul-result shared-slice-read-result cast-result returns)
+wide-at-spec = tie.close (tie.spec (λ c. search needs) (λ c. search needs) cast-result returns)

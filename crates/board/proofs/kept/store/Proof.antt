@@ -9,44 +9,20 @@ use Rattle.board.proofs.Stored.{unit-stored}
 use Rattle.board.proofs.kept.store.Statement.{statement}
 use Rattle.board.proofs.kept.store.Tie as tie
 
-low-requires : tie.Need-low-requires
-low-requires c κs = search needs
-
-slice-write-bytes : tie.Need-slice-write-bytes
-slice-write-bytes c = search needs
-
-high-requires : tie.Need-high-requires
-high-requires c κs = search needs
-
 slice-write-bytes-2 : tie.Need-slice-write-bytes-2
 slice-write-bytes-2 c = simp length-set (omega arith)
-
-low-requires-2 : tie.Need-low-requires-2
-low-requires-2 c κs = search needs
 
 slice-write-bytes-3 : tie.Need-slice-write-bytes-3
 slice-write-bytes-3 c = simp length-set (omega arith)
 
-high-requires-2 : tie.Need-high-requires-2
-high-requires-2 c κs = search needs
-
 slice-write-bytes-4 : tie.Need-slice-write-bytes-4
 slice-write-bytes-4 c = simp length-set (omega arith)
-
-cast-bytes : tie.Need-cast-bytes
-cast-bytes c = search needs
 
 slice-write-bytes-5 : tie.Need-slice-write-bytes-5
 slice-write-bytes-5 c = simp length-set (omega arith)
 
-cast-bytes-2 : tie.Need-cast-bytes-2
-cast-bytes-2 c = search needs
-
 slice-write-bytes-6 : tie.Need-slice-write-bytes-6
 slice-write-bytes-6 c = simp length-set (omega arith)
-
-write-u32-requires : tie.Need-write-u32-requires
-write-u32-requires c κs = search needs
 
 same-length : tie.Need-same-length
 same-length c =
@@ -63,19 +39,6 @@ returns c =
 pub store-spec : {M : Type 1} → statement M
 store-spec =
     tie.close
-    (tie.spec
-    low-requires
-    slice-write-bytes
-    high-requires
-    slice-write-bytes-2
-    low-requires-2
-    slice-write-bytes-3
-    high-requires-2
-    slice-write-bytes-4
-    cast-bytes
-    slice-write-bytes-5
-    cast-bytes-2
-    slice-write-bytes-6
-    write-u32-requires
-    same-length
-    returns)
+    (tie.spec (λ c κs. search needs) (λ c. search needs) (λ c κs. search needs) slice-write-bytes-2
+    (λ c κs. search needs) slice-write-bytes-3 (λ c κs. search needs) slice-write-bytes-4 (λ c. search needs)
+    slice-write-bytes-5 (λ c. search needs) slice-write-bytes-6 (λ c κs. search needs) same-length returns)

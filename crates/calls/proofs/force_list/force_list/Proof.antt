@@ -12,12 +12,6 @@ returns c j rows is = listed-early j rows _ _ (fails refl (c .if1 .taken))
 returns-2 : tie.Need-returns-2
 returns-2 c j rows is = listed-short j rows _ _ (holds refl (c .before .if1 .left)) (c .if2 .taken)
 
-scatter-requires : tie.Need-scatter-requires
-scatter-requires c κs = search needs
-
-same-length : tie.Need-same-length
-same-length c = search needs
-
 returns-3 : tie.Need-returns-3
 returns-3 c j rows is =
     let e = c .before .before .before in
@@ -25,4 +19,4 @@ returns-3 c j rows is =
     listed j rows _ _ (holds refl (e .before .if1 .left)) (s .args .order .now) is (s .pre .1) (e .if2 .left) (c .before .scatter .ensures)
 
 pub force-list-spec : {M : Type 1} → statement M
-force-list-spec = tie.close (tie.spec returns returns-2 scatter-requires same-length returns-3)
+force-list-spec = tie.close (tie.spec returns returns-2 (λ c κs. search needs) (λ c. search needs) returns-3)

@@ -23,24 +23,12 @@ abbrev μ-loop : tie.MeasureT-loop
 loop-holds : tie.Need-loop-holds Inv-loop μ-loop
 loop-holds c = let a = c .before .args in (search needs, scattered-none (a .n) _ (once _ _ (c .before .pre .1)) _ _ (c .before .pre .3))
 
-mul-forces : tie.Need-mul-forces Inv-loop μ-loop
-mul-forces c = search needs
-
-shared-slice-copy-out-forces : tie.Need-shared-slice-copy-out-forces Inv-loop μ-loop
-shared-slice-copy-out-forces c = search needs
-
-wide-at-requires : tie.Need-wide-at-requires Inv-loop μ-loop
-wide-at-requires c κs = search needs
-
 -- the row at p
 row : (c : tie.After-wide-at Inv-loop μ-loop) → let l = c .before .before .before in let a = l .before .before .args in c .wide-at .result ≡ getD (take (a .n) (a .order .now)) (l .loop .p) 0
 row c =
     let l = c .before .before .before in
     let a = l .before .before .args in
     c .wide-at .ensures .0 ∙ sym (getD-take (a .n) (a .order .now) (l .loop .p) 0 (c .before .before .loop-test .taken))
-
-mul-t11 : tie.Need-mul-t11 Inv-loop μ-loop
-mul-t11 c = search needs
 
 slice-set-from-forces : tie.Need-slice-set-from-forces Inv-loop μ-loop
 slice-set-from-forces c =
@@ -50,12 +38,6 @@ slice-set-from-forces c =
     let h = place-below (a .n) (take (a .n) (a .order .now)) (once _ _ (s .pre .1)) (a .sums .now) (a .forces .now) (s .pre .3) (l .loop .p) (c .before .before .loop-test .taken) (l .loop .forces) (l .loop .inv .1) in
     let e = row c in
     search needs
-
-add-p : tie.Need-add-p Inv-loop μ-loop
-add-p c = search needs
-
-loop-less : tie.Need-loop-less Inv-loop μ-loop
-loop-less c = search needs
 
 loop-again : tie.Need-loop-again Inv-loop μ-loop
 loop-again c =
@@ -81,17 +63,5 @@ returns c =
 pub scatter-spec : {M : Type 1} → statement M
 scatter-spec =
     tie.close
-    (tie.spec
-    Inv-loop
-    μ-loop
-    loop-holds
-    mul-forces
-    shared-slice-copy-out-forces
-    wide-at-requires
-    mul-t11
-    slice-set-from-forces
-    add-p
-    loop-less
-    loop-again
-    same-length
-    returns)
+    (tie.spec Inv-loop μ-loop loop-holds (λ c. search needs) (λ c. search needs) (λ c κs. search needs)
+    (λ c. search needs) slice-set-from-forces (λ c. search needs) (λ c. search needs) loop-again same-length returns)

@@ -27,5 +27,5 @@ returns-5 c = rw (c .enum-told5 .given .1)
 pub is-taken-spec : {M : Type 1} → statement M
 is-taken-spec =
     tie.close
-    (tie.spec (search needs) (search needs) (search needs) (search needs) (search needs) returns returns-2 returns-3
-    returns-4 returns-5)
+    (tie.spec (λ c. search needs) (λ c. search needs) (λ c. search needs) (λ c. search needs) (λ c. search needs)
+    returns returns-2 returns-3 returns-4 returns-5)

@@ -96,5 +96,5 @@ returns-2 c zs =
 pub picks-spec : {M : Type 1} → statement M
 picks-spec =
     tie.close
-    (tie.spec upper-requires first-updates-requires is-fine-requires (search needs) returns displace-requires
-    (search needs) take-requires (search needs) (search needs) (search needs) returns-2)
+    (tie.spec upper-requires first-updates-requires is-fine-requires (λ c. search needs) returns displace-requires
+    (λ c. search needs) take-requires (λ c. search needs) (λ c. search needs) (λ c. search needs) returns-2)

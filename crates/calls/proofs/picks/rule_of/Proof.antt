@@ -13,4 +13,4 @@ returns-2 : tie.Need-returns-2
 returns-2 c = rule-stops (c .before .args .call) (c .match .keys2)
 
 pub rule-of-spec : {M : Type 1} → statement M
-rule-of-spec = tie.close (tie.spec (search needs) returns returns-2)
+rule-of-spec = tie.close (tie.spec (λ c. search needs) returns returns-2)

@@ -18,4 +18,4 @@ returns-2 c zs =
     ap (picked (a .taken) (a .number)) (p .place-of .ensures) ∙ told-picks (a .call) (c .match .keys2) _ _
 
 pub told-spec : {M : Type 1} → statement M
-told-spec = tie.close (tie.spec (search needs) (search needs) returns returns-2)
+told-spec = tie.close (tie.spec (λ c. search needs) (λ c. search needs) returns returns-2)

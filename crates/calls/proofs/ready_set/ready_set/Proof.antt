@@ -14,13 +14,10 @@ ready-workers-requires c κs =
     let s = l .before .before .before .before .before .before .pre in
     (whole-few (s .1), planned-recorded (s .1), (_, l .lay .ensures _ (s .1) (s .2) (planned-blank (s .1)) .1))
 
-cast-t25 : tie.Need-cast-t25
-cast-t25 c = search needs
-
 returns : tie.Need-returns
 returns c j zs g k =
     let l = c .before .before .before .before .before .before .before in
     ready-bits j _ _ (c .ready-workers .ensures j _ (g .sized .accepted) (g .groups-are) (l .lay .ensures j g k (planned-blank g) .0))
 
 pub ready-set-spec : {M : Type 1} → statement M
-ready-set-spec = tie.close (tie.spec lay-requires ready-workers-requires cast-t25 returns)
+ready-set-spec = tie.close (tie.spec lay-requires ready-workers-requires (λ c. search needs) returns)

@@ -69,8 +69,9 @@ returns-2 c =
 pub survey-of-spec : {M : Type 1} → statement M
 survey-of-spec =
     tie.close
-    (tie.spec (search needs) (search needs) (search needs) slice-aggregate-survey (search needs)
-    slice-aggregate-survey-2 (search needs) (search needs) (search needs) (search needs) (search needs)
-    (search needs) returns (search needs) slice-reshare-prefix-store-i64 slice-aggregate-store-i64 (search needs)
-    slice-reshare-prefix-store-i32 slice-aggregate-store-i32 (search needs) (search needs) (search needs)
-    (search needs) (search needs) (search needs) returns-2)
+    (tie.spec (λ c. search needs) (λ c. search needs) (λ c. search needs) slice-aggregate-survey (λ c. search needs)
+    slice-aggregate-survey-2 (λ c. search needs) (λ c. search needs) (λ c. search needs) (λ c. search needs)
+    (λ c. search needs) (λ c. search needs) returns (λ c. search needs) slice-reshare-prefix-store-i64
+    slice-aggregate-store-i64 (λ c. search needs) slice-reshare-prefix-store-i32 slice-aggregate-store-i32
+    (λ c. search needs) (λ c. search needs) (λ c. search needs) (λ c. search needs) (λ c. search needs)
+    (λ c. search needs) returns-2)

@@ -121,4 +121,7 @@ returns-2 c =
 
 pub gather-spec : {M : Type 1} → statement M
 gather-spec =
-    tie.close (tie.spec Inv-loop μ-loop loop-holds (search needs) element-copy-out-row-in (search needs) row-columns-requires row-values-requires row-columns-requires-2 row-values-requires-2 cast-put-row put-row-requires returns add-i (search needs) loop-again returns-2)
+    tie.close
+    (tie.spec Inv-loop μ-loop loop-holds (λ c. search needs) element-copy-out-row-in (λ c. search needs)
+    row-columns-requires row-values-requires row-columns-requires-2 row-values-requires-2 cast-put-row
+    put-row-requires returns add-i (λ c. search needs) loop-again returns-2)

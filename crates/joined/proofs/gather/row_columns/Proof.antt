@@ -19,4 +19,4 @@ returns-2 : tie.Need-returns-2
 returns-2 c = let a = c .before .before .before .before .args in c .columns-of .ensures ∙ sym (columns-part (pattern (a .n) (a .starts .now) (a .columns .now)) (a .i) (c .before .if1 .left))
 
 pub row-columns-spec : {M : Type 1} → statement M
-row-columns-spec = tie.close (tie.spec (search needs) returns columns-of-requires returns-2)
+row-columns-spec = tie.close (tie.spec (λ c. search needs) returns columns-of-requires returns-2)

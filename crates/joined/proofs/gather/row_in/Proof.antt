@@ -12,4 +12,4 @@ returns-2 : tie.Need-returns-2
 returns-2 c = ((λ e. absurd (c .if1 .left e)), λ k e. omega (arith, e))
 
 pub row-in-spec : {M : Type 1} → statement M
-row-in-spec = tie.close (tie.spec returns (search needs) (search needs) returns-2)
+row-in-spec = tie.close (tie.spec returns (λ c. search needs) (λ c. search needs) returns-2)

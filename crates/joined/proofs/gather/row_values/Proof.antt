@@ -20,4 +20,4 @@ unfolding valuesOf partOf
 returns-2 c = let a = c .before .before .before .args in c .values-of .ensures ∙ sym (values-part (matrixOf (a .n) (a .starts .now) [] (a .values .now)) (a .i) (c .before .if1 .left))
 
 pub row-values-spec : {M : Type 1} → statement M
-row-values-spec = tie.close (tie.spec (search needs) returns values-of-requires returns-2)
+row-values-spec = tie.close (tie.spec (λ c. search needs) returns values-of-requires returns-2)

@@ -10,4 +10,4 @@ returns : tie.Need-returns
 returns c = simp (toZ-ofZ (c .fits .v)) (within-both (c .args .v) maxValue)
 
 pub is-small-spec : {M : Type 1} → statement M
-is-small-spec = tie.close (tie.spec (search needs) (search needs) returns)
+is-small-spec = tie.close (tie.spec (λ c. search needs) (λ c. search needs) returns)

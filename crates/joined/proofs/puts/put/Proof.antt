@@ -48,4 +48,7 @@ returns-3 c =
     simp (toZ-ofZ (s .fits .v), toZ-ofZ (narrow (s .args .v) small)) (emitted-one (s .pre) (omega (arith, c .if2 .left)) _ _ (s .args .v) small)
 
 pub put-spec : {M : Type 1} → statement M
-put-spec = tie.close (tie.spec (search needs) returns returns-2 (search needs) element-write-rs (search needs) element-write-cs cast-vs (search needs) element-set-from-vs (search needs) returns-3)
+put-spec =
+    tie.close
+    (tie.spec (λ c. search needs) returns returns-2 (λ c. search needs) element-write-rs (λ c. search needs)
+    element-write-cs cast-vs (λ c. search needs) element-set-from-vs (λ c. search needs) returns-3)

@@ -36,4 +36,6 @@ returns-2 c =
     rw (ne-eqb _ _ (c .before .before .before .before .if1 .left), and-true (leb (s .args .j) (s .args .i))) (simp (toZ-ofZ (s .fits .v), toZ-ofZ (wide s)) at (c .put-low .ensures))
 
 pub put-new-spec : {M : Type 1} → statement M
-put-new-spec = tie.close (tie.spec (search needs) element-copy-out-if1 add-if1 returns cast-put-low put-low-requires returns-2)
+put-new-spec =
+    tie.close
+    (tie.spec (λ c. search needs) element-copy-out-if1 add-if1 returns cast-put-low put-low-requires returns-2)

@@ -18,4 +18,6 @@ returns-2 : tie.Need-returns-2
 returns-2 c = rw (ne-eqb _ _ (c .if1 .left)) (search needs)
 
 pub held-at-spec : {M : Type 1} → statement M
-held-at-spec = tie.close (tie.spec (search needs) element-copy-out-if1 (search needs) element-copy-out-result returns returns-2)
+held-at-spec =
+    tie.close
+    (tie.spec (λ c. search needs) element-copy-out-if1 (λ c. search needs) element-copy-out-result returns returns-2)

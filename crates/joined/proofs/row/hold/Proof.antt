@@ -66,5 +66,6 @@ returns c =
 pub hold-spec : {M : Type 1} → statement M
 hold-spec =
     tie.close
-    (tie.spec Inv-loop μ-loop loop-holds (search needs) (search needs) cast-c mul-p shared-slice-read-p cast-p mul-marks element-write-marks (search needs)
-    shared-slice-copy-out-held mul-t19 element-set-from-held (search needs) (search needs) loop-again returns)
+    (tie.spec Inv-loop μ-loop loop-holds (λ c. search needs) (λ c. search needs) cast-c mul-p shared-slice-read-p
+    cast-p mul-marks element-write-marks (λ c. search needs) shared-slice-copy-out-held mul-t19 element-set-from-held
+    (λ c. search needs) (λ c. search needs) loop-again returns)

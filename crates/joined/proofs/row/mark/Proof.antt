@@ -38,4 +38,7 @@ returns : tie.Need-returns Inv-loop μ-loop
 returns c = let l = c .before in seen-all (l .before .args .turn) (l .before .args .columns .now) {k = l .loop .k} (l .loop .inv .1) (omega (arith, l .loop .inv .0, c .loop-test .left))
 
 pub mark-spec : {M : Type 1} → statement M
-mark-spec = tie.close (tie.spec Inv-loop μ-loop loop-holds (search needs) (search needs) cast-c mul-seen element-write-seen (search needs) (search needs) loop-again returns)
+mark-spec =
+    tie.close
+    (tie.spec Inv-loop μ-loop loop-holds (λ c. search needs) (λ c. search needs) cast-c mul-seen element-write-seen
+    (λ c. search needs) (λ c. search needs) loop-again returns)

@@ -86,4 +86,6 @@ returns-2 c =
 pub put-first-spec : {M : Type 1} → statement M
 put-first-spec =
     tie.close
-    (tie.spec Inv-loop μ-loop loop-holds (search needs) (search needs) (search needs) shared-slice-copy-out-plus add-held-at held-at-requires (search needs) put-low-requires returns (search needs) (search needs) loop-again returns-2)
+    (tie.spec Inv-loop μ-loop loop-holds (λ c. search needs) (λ c. search needs) (λ c. search needs)
+    shared-slice-copy-out-plus add-held-at held-at-requires (λ c. search needs) put-low-requires returns
+    (λ c. search needs) (λ c. search needs) loop-again returns-2)

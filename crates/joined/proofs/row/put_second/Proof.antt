@@ -87,4 +87,6 @@ returns-2 c =
 pub put-second-spec : {M : Type 1} → statement M
 put-second-spec =
     tie.close
-    (tie.spec Inv-loop μ-loop loop-holds (search needs) (search needs) cast-c mul-j shared-slice-read-j (search needs) shared-slice-copy-out-put-new put-new-requires returns (search needs) (search needs) loop-again returns-2)
+    (tie.spec Inv-loop μ-loop loop-holds (λ c. search needs) (λ c. search needs) cast-c mul-j shared-slice-read-j
+    (λ c. search needs) shared-slice-copy-out-put-new put-new-requires returns (λ c. search needs) (λ c. search needs)
+    loop-again returns-2)

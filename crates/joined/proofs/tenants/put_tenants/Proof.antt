@@ -54,5 +54,6 @@ returns-3 c = let l = c .before in (sym (all-distinct (l .before .args .n) (l .b
 pub put-tenants-spec : {M : Type 1} → statement M
 put-tenants-spec =
     tie.close
-    (tie.spec Inv-loop μ-loop loop-holds (search needs) (search needs) cast-p returns (search needs) element-copy-out-if2 returns-2 (search needs) cast-tenants
-    (search needs) element-write-tenants (search needs) loop-again returns-3)
+    (tie.spec Inv-loop μ-loop loop-holds (λ c. search needs) (λ c. search needs) cast-p returns (λ c. search needs)
+    element-copy-out-if2 returns-2 (λ c. search needs) cast-tenants (λ c. search needs) element-write-tenants
+    (λ c. search needs) loop-again returns-3)

@@ -44,12 +44,6 @@ loop-holds c = (search needs, λ j g. numbers-none j refl (getD-zeros 17))
 is-leaf-requires : tie.Need-is-leaf-requires Inv-loop μ-loop
 is-leaf-requires c κs = let g = start c .pre .1 in (g .groups-long, in-order g .0, c .loop-test .taken)
 
-add-i : tie.Need-add-i Inv-loop μ-loop
-add-i c = search needs
-
-loop-less : tie.Need-loop-less Inv-loop μ-loop
-loop-less c = search needs
-
 loop-again : tie.Need-loop-again Inv-loop μ-loop
 loop-again c =
     let t = c .before .before in
@@ -115,12 +109,6 @@ add-first-2 c = let f = fits c in search needs
 array-write-first : tie.Need-array-write-first Inv-loop μ-loop
 array-write-first c = let f = fits c in search needs
 
-add-i-2 : tie.Need-add-i-2 Inv-loop μ-loop
-add-i-2 c = search needs
-
-loop-less-2 : tie.Need-loop-less-2 Inv-loop μ-loop
-loop-less-2 c = search needs
-
 loop-again-2 : tie.Need-loop-again-2 Inv-loop μ-loop
 loop-again-2 c =
     let r = c .before .before in
@@ -141,24 +129,6 @@ returns c =
 pub count-updates-spec : {M : Type 1} → statement M
 count-updates-spec =
     tie.close
-    (tie.spec
-    Inv-loop
-    μ-loop
-    loop-holds
-    is-leaf-requires
-    add-i
-    loop-less
-    loop-again
-    record-at-requires
-    add-leaf-updates
-    leaf-updates-requires
-    cast-first
-    add-first
-    mul-first
-    array-read-first
-    add-first-2
-    array-write-first
-    add-i-2
-    loop-less-2
-    loop-again-2
-    returns)
+    (tie.spec Inv-loop μ-loop loop-holds is-leaf-requires (λ c. search needs) (λ c. search needs) loop-again
+    record-at-requires add-leaf-updates leaf-updates-requires cast-first add-first mul-first array-read-first
+    add-first-2 array-write-first (λ c. search needs) (λ c. search needs) loop-again-2 returns)

@@ -16,32 +16,8 @@ abbrev μ-loop : tie.MeasureT-loop
 loop-holds : tie.Need-loop-holds Inv-loop μ-loop
 loop-holds c = (search needs, summed-none _ (c .pre .0) (c .pre .1))
 
-mul-first : tie.Need-mul-first Inv-loop μ-loop
-mul-first c = search needs
-
-array-read-first : tie.Need-array-read-first Inv-loop μ-loop
-array-read-first c = search needs
-
-add-first : tie.Need-add-first Inv-loop μ-loop
-add-first c = search needs
-
-mul-first-2 : tie.Need-mul-first-2 Inv-loop μ-loop
-mul-first-2 c = search needs
-
-array-read-first-2 : tie.Need-array-read-first-2 Inv-loop μ-loop
-array-read-first-2 c = search needs
-
 add-first-2 : tie.Need-add-first-2 Inv-loop μ-loop
 add-first-2 c = let l = c .before in omega (arith, next-few _ (c .loop-test .taken) (l .loop .inv .1) (l .before .pre .2))
-
-array-write-first : tie.Need-array-write-first Inv-loop μ-loop
-array-write-first c = search needs
-
-add-w : tie.Need-add-w Inv-loop μ-loop
-add-w c = search needs
-
-loop-less : tie.Need-loop-less Inv-loop μ-loop
-loop-less c = search needs
 
 loop-again : tie.Need-loop-again Inv-loop μ-loop
 loop-again c = (search needs, summed-next _ (c .loop-test .taken) (c .before .loop .inv .1))
@@ -52,18 +28,6 @@ returns c = let t = c .before .loop .inv .1 in (t .long, λ w l. t .sums w (omeg
 pub cumulate-spec : {M : Type 1} → statement M
 cumulate-spec =
     tie.close
-    (tie.spec
-    Inv-loop
-    μ-loop
-    loop-holds
-    mul-first
-    array-read-first
-    add-first
-    mul-first-2
-    array-read-first-2
-    add-first-2
-    array-write-first
-    add-w
-    loop-less
-    loop-again
-    returns)
+    (tie.spec Inv-loop μ-loop loop-holds (λ c. search needs) (λ c. search needs) (λ c. search needs)
+    (λ c. search needs) (λ c. search needs) add-first-2 (λ c. search needs) (λ c. search needs) (λ c. search needs)
+    loop-again returns)

@@ -53,12 +53,6 @@ sub-updates c = let f = fits (c .before) in search needs
 add-updates : tie.Need-add-updates Inv-loop μ-loop
 add-updates c = let f = fits (c .before) in search needs
 
-add-p : tie.Need-add-p Inv-loop μ-loop
-add-p c = search needs
-
-loop-less : tie.Need-loop-less Inv-loop μ-loop
-loop-less c = search needs
-
 loop-again : tie.Need-loop-again Inv-loop μ-loop
 loop-again c =
     let l = c .before .before in (
@@ -77,17 +71,5 @@ returns c =
 pub leaf-updates-spec : {M : Type 1} → statement M
 leaf-updates-spec =
     tie.close
-    (tie.spec
-    Inv-loop
-    μ-loop
-    loop-holds
-    mul-updates
-    element-copy-out-updates
-    cast-updates
-    mul-updates-2
-    sub-updates
-    add-updates
-    add-p
-    loop-less
-    loop-again
-    returns)
+    (tie.spec Inv-loop μ-loop loop-holds mul-updates element-copy-out-updates cast-updates mul-updates-2 sub-updates
+    add-updates (λ c. search needs) (λ c. search needs) loop-again returns)

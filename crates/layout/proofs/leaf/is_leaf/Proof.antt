@@ -8,16 +8,10 @@ use borrow.Author.Needs.{needs}
 use Rattle.layout.proofs.leaf.is_leaf.Statement.{statement}
 use Rattle.layout.proofs.leaf.is_leaf.Tie as tie
 
-add-next : tie.Need-add-next
-add-next c = search needs
-
 returns : tie.Need-returns
 returns c =
     let s = c .before .before in
     ap not (sym (last-none (s .args .count) (s .args .groups .now) (s .pre .1) (s .args .i) (search needs)))
-
-record-at-requires : tie.Need-record-at-requires
-record-at-requires c κs = search needs
 
 returns-2 : tie.Need-returns-2
 returns-2 c =
@@ -25,4 +19,4 @@ returns-2 c =
     ap not (ap (λ (g : Group). eqb (g .parent) (s .args .i)) (c .before .record-at .ensures .is) ∙ sym (next-child (s .args .count) (s .args .groups .now) (s .pre .1) (s .args .i) (search needs)))
 
 pub is-leaf-spec : {M : Type 1} → statement M
-is-leaf-spec = tie.close (tie.spec add-next returns record-at-requires returns-2)
+is-leaf-spec = tie.close (tie.spec (λ c. search needs) returns (λ c κs. search needs) returns-2)

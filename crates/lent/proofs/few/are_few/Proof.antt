@@ -8,8 +8,5 @@ use Rattle.lent.proofs.few.are_few.Tie as tie
 returns : tie.Need-returns
 returns c q = absurd (clash q refl)
 
-returns-2 : tie.Need-returns-2
-returns-2 c = search needs
-
 pub are-few-spec : {M : Type 1} → statement M
-are-few-spec = tie.close (tie.spec returns returns-2)
+are-few-spec = tie.close (tie.spec returns (λ c. search needs))

@@ -12,4 +12,4 @@ returns : tie.Need-returns
 returns c = let l = c .before .before .before in let a = l .before .before .before .args in loaded-is (signedNumber 4) 4 (a .bytes .now) (a .array .now) (l .load-i32 .ensures .0) (l .load-i32 .ensures .1)
 
 pub load-signed-spec : {M : Type 1} → statement M
-load-signed-spec = tie.close (tie.spec (search needs) slice-aggregate-result returns)
+load-signed-spec = tie.close (tie.spec (λ c. search needs) slice-aggregate-result returns)

@@ -12,4 +12,4 @@ returns : tie.Need-returns
 returns c = let l = c .before .before .before .before in let a = l .before .before .before .before .args in loaded-is number 4 (a .bytes .now) (a .array .now) (l .load-u32 .ensures .0) (l .load-u32 .ensures .1)
 
 pub load-unsigned-spec : {M : Type 1} → statement M
-load-unsigned-spec = tie.close (tie.spec (search needs) slice-aggregate-result returns)
+load-unsigned-spec = tie.close (tie.spec (λ c. search needs) slice-aggregate-result returns)

@@ -26,38 +26,14 @@ one c = sym (c .first .given .1) ∙ c .before .before .read-number .ensures
 two : (c : tie.After-second) → let f = c .before .before .before .before .before .before .before in num.At (c .second .given .0 .0) (c .second .given .0 .1 .0) ≡ numberAt (gap f + 1) (numeral (drop (gap f + 1) (line f)))
 two c = sym (c .second .given .1) ∙ c .before .before .read-number2 .ensures
 
-read-number-requires : tie.Need-read-number-requires
-read-number-requires c κs = search needs
-
-enum-known-first : tie.Need-enum-known-first
-enum-known-first c = search needs
-
-enum-told : tie.Need-enum-told
-enum-told c = search needs
-
 returns : tie.Need-returns
 returns c = no-first (c .before .before .before .before .args .line .now) (sym (c .enum-told .given .1) ∙ c .before .before .read-number .ensures)
 
 returns-2 : tie.Need-returns-2
 returns-2 c = let f = c .before .before in no-gap (line f) (one f) (c .if1 .taken)
 
-shared-slice-read-if2 : tie.Need-shared-slice-read-if2
-shared-slice-read-if2 c = search needs
-
 returns-3 : tie.Need-returns-3
 returns-3 c = let f = c .before .before .before .before in other-gap (line f) (one f) (c .if2 .taken)
-
-add-read-number : tie.Need-add-read-number
-add-read-number c = search needs
-
-read-number-requires-2 : tie.Need-read-number-requires-2
-read-number-requires-2 c κs = search needs
-
-enum-known-second : tie.Need-enum-known-second
-enum-known-second c = search needs
-
-enum-told-2 : tie.Need-enum-told-2
-enum-told-2 c = search needs
 
 returns-4 : tie.Need-returns-4
 returns-4 c =
@@ -74,12 +50,6 @@ returns-5 c =
     let f = e .before .before in
     more-after (line f) (one f) (e .if1 .left) (t .if2 .left) (two g) (c .if3 .taken)
 
-narrow-requires : tie.Need-narrow-requires
-narrow-requires c κs = search needs
-
-narrow-requires-2 : tie.Need-narrow-requires-2
-narrow-requires-2 c κs = search needs
-
 returns-6 : tie.Need-returns-6
 returns-6 c =
     let g = c .before .before .before .before in
@@ -91,20 +61,6 @@ returns-6 c =
 pub read-parameters-spec : {M : Type 1} → statement M
 read-parameters-spec =
     tie.close
-    (tie.spec
-    read-number-requires
-    enum-known-first
-    enum-told
-    returns
-    returns-2
-    shared-slice-read-if2
-    returns-3
-    add-read-number
-    read-number-requires-2
-    enum-known-second
-    enum-told-2
-    returns-4
-    returns-5
-    narrow-requires
-    narrow-requires-2
-    returns-6)
+    (tie.spec (λ c κs. search needs) (λ c. search needs) (λ c. search needs) returns returns-2 (λ c. search needs)
+    returns-3 (λ c. search needs) (λ c κs. search needs) (λ c. search needs) (λ c. search needs) returns-4 returns-5
+    (λ c κs. search needs) (λ c κs. search needs) returns-6)

@@ -69,12 +69,6 @@ put-fields-requires c κs =
     let r = room i in
     rw (part i) (omega (arith, n .put-number .ensures .next, n .put-number .ensures .long))
 
-add-i : tie.Need-add-i Inv-loop μ-loop
-add-i c = search needs
-
-loop-less : tie.Need-loop-less Inv-loop μ-loop
-loop-less c = search needs
-
 loop-again : tie.Need-loop-again Inv-loop μ-loop
 loop-again c =
     let f = c .before .before in
@@ -95,19 +89,6 @@ returns c =
 pub put-groups-spec : {M : Type 1} → statement M
 put-groups-spec =
     tie.close
-    (tie.spec
-    Inv-loop
-    μ-loop
-    loop-holds
-    put-number-requires
-    add-to
-    mul-put-fields
-    sub-put-fields
-    part-put-fields-start
-    part-put-fields-end
-    put-fields-requires
-    add-i
-    loop-less
-    loop-again
-    same-length
-    returns)
+    (tie.spec Inv-loop μ-loop loop-holds put-number-requires add-to mul-put-fields sub-put-fields
+    part-put-fields-start part-put-fields-end put-fields-requires (λ c. search needs) (λ c. search needs) loop-again
+    same-length returns)

@@ -7,20 +7,11 @@ use Rattle.listing.proofs.Printed.{fields-few}
 use Rattle.listing.proofs.lines.put_order.Statement.{statement}
 use Rattle.listing.proofs.lines.put_order.Tie as tie
 
-slice-aggregate-put-bytes : tie.Need-slice-aggregate-put-bytes
-slice-aggregate-put-bytes c = search needs
-
-put-bytes-requires : tie.Need-put-bytes-requires
-put-bytes-requires c κs = search needs
-
 put-fields-requires : tie.Need-put-fields-requires
 put-fields-requires c κs =
     let b = c .before .before .before in
     let s = b .before .before .before .before .before in
     omega (arith, s .pre, b .put-bytes .ensures .next, b .put-bytes .ensures .long, fields-few (s .args .order .now))
-
-slice-aggregate-put-bytes-2 : tie.Need-slice-aggregate-put-bytes-2
-slice-aggregate-put-bytes-2 c = search needs
 
 put-bytes-requires-2 : tie.Need-put-bytes-requires-2
 put-bytes-requires-2 c κs =
@@ -28,9 +19,6 @@ put-bytes-requires-2 c κs =
     let b = f .before .before .before .before in
     let s = b .before .before .before .before .before in
     omega (arith, s .pre, b .put-bytes .ensures .next, b .put-bytes .ensures .long, f .put-fields .ensures .next, f .put-fields .ensures .long, fields-few (s .args .order .now))
-
-same-length : tie.Need-same-length
-same-length c = search needs
 
 returns : tie.Need-returns
 unfolding orderLine titleLine
@@ -43,11 +31,5 @@ returns c =
 pub put-order-spec : {M : Type 1} → statement M
 put-order-spec =
     tie.close
-    (tie.spec
-    slice-aggregate-put-bytes
-    put-bytes-requires
-    put-fields-requires
-    slice-aggregate-put-bytes-2
-    put-bytes-requires-2
-    same-length
-    returns)
+    (tie.spec (λ c. search needs) (λ c κs. search needs) put-fields-requires (λ c. search needs) put-bytes-requires-2
+    (λ c. search needs) returns)

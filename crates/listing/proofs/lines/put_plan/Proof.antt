@@ -27,9 +27,6 @@ put-groups-requires c κs =
     let s = o .before .before .before .before .before .before in
     (s .pre .1, omega (arith, s .pre .2, o .put-order .ensures .next, o .put-order .ensures .long, order-long s, order-few (take (s .args .n) (s .args .order .now))))
 
-same-length : tie.Need-same-length
-same-length c = search needs
-
 returns : tie.Need-returns
 unfolding planListing planOf
 returns c =
@@ -40,4 +37,4 @@ returns c =
 pub put-plan-spec : {M : Type 1} → statement M
 put-plan-spec =
     tie.close
-    (tie.spec slice-aggregate-put-order put-order-requires put-groups-requires same-length returns)
+    (tie.spec slice-aggregate-put-order put-order-requires put-groups-requires (λ c. search needs) returns)

@@ -8,23 +8,11 @@ use Rattle.listing.proofs.Printed.{fields-few}
 use Rattle.listing.proofs.lines.put_refusal.Statement.{statement}
 use Rattle.listing.proofs.lines.put_refusal.Tie as tie
 
-slice-aggregate-put-bytes : tie.Need-slice-aggregate-put-bytes
-slice-aggregate-put-bytes c = search needs
-
-put-bytes-requires : tie.Need-put-bytes-requires
-put-bytes-requires c κs = search needs
-
-slice-aggregate-put-fields : tie.Need-slice-aggregate-put-fields
-slice-aggregate-put-fields c = search needs
-
 put-fields-requires : tie.Need-put-fields-requires
 put-fields-requires c κs =
     let b = c .before .before .before .before in
     let s = b .before .before .before .before in
     omega (arith, s .pre, b .put-bytes .ensures .next, b .put-bytes .ensures .long, fields-few (s .args .number ∷ s .args .place ∷ []))
-
-same-length : tie.Need-same-length
-same-length c = search needs
 
 returns : tie.Need-returns
 unfolding refusedLine
@@ -36,10 +24,5 @@ returns c =
 pub put-refusal-spec : {M : Type 1} → statement M
 put-refusal-spec =
     tie.close
-    (tie.spec
-    slice-aggregate-put-bytes
-    put-bytes-requires
-    slice-aggregate-put-fields
-    put-fields-requires
-    same-length
+    (tie.spec (λ c. search needs) (λ c κs. search needs) (λ c. search needs) put-fields-requires (λ c. search needs)
     returns)

@@ -28,21 +28,6 @@ loop-holds c = (search needs, λ j begins ends e laid waits. refl)
 refusal-requires : tie.Need-refusal-requires Inv-loop μ-loop
 refusal-requires c κs = c .before .before .pre
 
-cast-set : tie.Need-cast-set Inv-loop μ-loop
-cast-set c = search needs
-
-cast-set-2 : tie.Need-cast-set-2 Inv-loop μ-loop
-cast-set-2 c = search needs
-
-shl-set : tie.Need-shl-set Inv-loop μ-loop
-shl-set c = search needs
-
-add-w : tie.Need-add-w Inv-loop μ-loop
-add-w c = search needs
-
-loop-less : tie.Need-loop-less Inv-loop μ-loop
-loop-less c = search needs
-
 loop-again : tie.Need-loop-again Inv-loop μ-loop
 loop-again c =
     let l = c .before .before in
@@ -68,15 +53,5 @@ returns c =
 pub ready-bits-spec : {M : Type 1} → statement M
 ready-bits-spec =
     tie.close
-    (tie.spec
-    Inv-loop
-    μ-loop
-    loop-holds
-    refusal-requires
-    cast-set
-    cast-set-2
-    shl-set
-    add-w
-    loop-less
-    loop-again
-    returns)
+    (tie.spec Inv-loop μ-loop loop-holds refusal-requires (λ c. search needs) (λ c. search needs) (λ c. search needs)
+    (λ c. search needs) (λ c. search needs) loop-again returns)

@@ -16,12 +16,6 @@ start r = r .before .before
 crew : (r : tie.After-record-at) → r .record-at .result .workers ≡ recordAt (start r .args .groups .now) 0 .workers
 crew r = ap (λ (g : Group). g .workers) (r .record-at .ensures .is)
 
-record-at-requires : tie.Need-record-at-requires
-record-at-requires c κs = search needs
-
-blocked-groups-requires : tie.Need-blocked-groups-requires
-blocked-groups-requires c κs = search needs
-
 ready-bits-requires : tie.Need-ready-bits-requires
 ready-bits-requires c κs = let r = c .before .before in let p = start r .pre in (omega (arith, crew r, p .0), p .2)
 
@@ -34,4 +28,4 @@ returns c j begins ok is laid =
 
 pub ready-workers-spec : {M : Type 1} → statement M
 ready-workers-spec =
-    tie.close (tie.spec record-at-requires blocked-groups-requires ready-bits-requires returns)
+    tie.close (tie.spec (λ c κs. search needs) (λ c κs. search needs) ready-bits-requires returns)

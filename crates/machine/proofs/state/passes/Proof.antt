@@ -6,12 +6,6 @@ use Rattle.machine.specs.code.Stepped.{passesOver}
 use Rattle.machine.proofs.state.passes.Statement.{statement}
 use Rattle.machine.proofs.state.passes.Tie as tie
 
-enum-told : tie.Need-enum-told
-enum-told c = search needs
-
-enum-told-2 : tie.Need-enum-told-2
-enum-told-2 c = search needs
-
 returns : tie.Need-returns
 unfolding passesOver skips
 returns c = rw (c .enum-told .given .1)
@@ -25,4 +19,4 @@ unfolding passesOver skips
 returns-3 c = rw (c .before .enum-told2 .given .1, ne-eqb _ _ (c .if1 .left))
 
 pub passes-spec : {M : Type 1} → statement M
-passes-spec = tie.close (tie.spec enum-told enum-told-2 returns returns-2 returns-3)
+passes-spec = tie.close (tie.spec (λ c. search needs) (λ c. search needs) returns returns-2 returns-3)

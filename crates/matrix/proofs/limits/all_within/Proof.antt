@@ -30,26 +30,11 @@ most-is c = toZ-pos w32 (omega (arith, c .pre))
 least-fits : (c : tie.Start Inv-loop μ-loop) → SFits w32 (pos 0 -ℤ pos (c .args .limit))
 least-fits c = fits-abs (omega (arith, abs-sub (pos 0) (pos (c .args .limit)), c .pre))
 
-cast-most : tie.Need-cast-most Inv-loop μ-loop
-cast-most c = search needs
-
 sub-least : tie.Need-sub-least Inv-loop μ-loop
 sub-least c = rw (most-is c) (least-fits c)
 
 loop-holds : tie.Need-loop-holds Inv-loop μ-loop
 loop-holds c = found-none _ _
-
-mul-z : tie.Need-mul-z Inv-loop μ-loop
-mul-z c = search needs
-
-shared-slice-copy-out-z : tie.Need-shared-slice-copy-out-z Inv-loop μ-loop
-shared-slice-copy-out-z c = search needs
-
-add-k : tie.Need-add-k Inv-loop μ-loop
-add-k c = search needs
-
-loop-less : tie.Need-loop-less Inv-loop μ-loop
-loop-less c = search needs
 
 loop-again : tie.Need-loop-again Inv-loop μ-loop
 loop-again c =
@@ -69,15 +54,5 @@ returns c = found-all _ _ (c .before .loop .inv) (c .loop-test .left)
 pub all-within-spec : {M : Type 1} → statement M
 all-within-spec =
     tie.close
-    (tie.spec
-    Inv-loop
-    μ-loop
-    cast-most
-    sub-least
-    loop-holds
-    mul-z
-    shared-slice-copy-out-z
-    add-k
-    loop-less
-    loop-again
-    returns)
+    (tie.spec Inv-loop μ-loop (λ c. search needs) sub-least loop-holds (λ c. search needs) (λ c. search needs)
+    (λ c. search needs) (λ c. search needs) loop-again returns)

@@ -9,4 +9,4 @@ returns : tie.Need-returns
 returns c = let made = c .before .before .before .before in movement-said (toZ-ofZ (made .before .before .before .before .before .before .before .before .fits .value)) (made .set-movement-in .ensures)
 
 pub mzk-set-movement-spec : {M : Type 1} → statement M
-mzk-set-movement-spec = tie.close (tie.spec (search needs) (search needs) (search needs) returns)
+mzk-set-movement-spec = tie.close (tie.spec (λ c. search needs) (λ c. search needs) (λ c. search needs) returns)

@@ -7,15 +7,6 @@ use borrow.Author.Needs.{needs}
 use Rattle.mazhoketh.proofs.prepared_runs.mzk_prepared_forces.Statement.{statement}
 use Rattle.mazhoketh.proofs.prepared_runs.mzk_prepared_forces.Tie as tie
 
-forces-requires : tie.Need-forces-requires
-forces-requires c κs = search needs
-
-word-of-requires : tie.Need-word-of-requires
-word-of-requires c κs = search needs
-
-same-length : tie.Need-same-length
-same-length c = search needs
-
 returns : tie.Need-returns
 returns c =
     let g = c .before .before .before .forces .ensures in
@@ -23,4 +14,4 @@ returns c =
 
 pub mzk-prepared-forces-spec : {M : Type 1} → statement M
 mzk-prepared-forces-spec =
-    tie.close (tie.spec forces-requires word-of-requires same-length returns)
+    tie.close (tie.spec (λ c κs. search needs) (λ c κs. search needs) (λ c. search needs) returns)

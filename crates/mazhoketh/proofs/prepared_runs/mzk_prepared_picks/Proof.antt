@@ -9,18 +9,6 @@ use borrow.Author.Needs.{needs}
 use Rattle.mazhoketh.proofs.prepared_runs.mzk_prepared_picks.Statement.{statement}
 use Rattle.mazhoketh.proofs.prepared_runs.mzk_prepared_picks.Tie as tie
 
-take-requires : tie.Need-take-requires
-take-requires c κs = search needs
-
-word-of-requires : tie.Need-word-of-requires
-word-of-requires c κs = search needs
-
-same-length : tie.Need-same-length
-same-length c = search needs
-
-same-length-2 : tie.Need-same-length-2
-same-length-2 c = search needs
-
 returns : tie.Need-returns
 unfolding takes
 returns c =
@@ -29,4 +17,4 @@ returns c =
 
 pub mzk-prepared-picks-spec : {M : Type 1} → statement M
 mzk-prepared-picks-spec =
-    tie.close (tie.spec take-requires word-of-requires same-length same-length-2 returns)
+    tie.close (tie.spec (λ c κs. search needs) (λ c κs. search needs) (λ c. search needs) (λ c. search needs) returns)

@@ -8,14 +8,8 @@ use borrow.Author.Needs.{needs}
 use Rattle.mazhoketh.proofs.prepared_runs.mzk_prepared_ready.Statement.{statement}
 use Rattle.mazhoketh.proofs.prepared_runs.mzk_prepared_ready.Tie as tie
 
-ready-requires : tie.Need-ready-requires
-ready-requires c κs = search needs
-
-word-of-requires : tie.Need-word-of-requires
-word-of-requires c κs = search needs
-
 returns : tie.Need-returns
 returns c = c .word-of .ensures [] ∙ ap (λ (a : Answer). word (replyTo a)) (c .before .ready .ensures .0 [])
 
 pub mzk-prepared-ready-spec : {M : Type 1} → statement M
-mzk-prepared-ready-spec = tie.close (tie.spec ready-requires word-of-requires returns)
+mzk-prepared-ready-spec = tie.close (tie.spec (λ c κs. search needs) (λ c κs. search needs) returns)

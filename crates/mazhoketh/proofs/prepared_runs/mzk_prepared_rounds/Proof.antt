@@ -8,18 +8,6 @@ use borrow.Author.Needs.{needs}
 use Rattle.mazhoketh.proofs.prepared_runs.mzk_prepared_rounds.Statement.{statement}
 use Rattle.mazhoketh.proofs.prepared_runs.mzk_prepared_rounds.Tie as tie
 
-take-requires : tie.Need-take-requires
-take-requires c κs = search needs
-
-word-of-round-requires : tie.Need-word-of-round-requires
-word-of-round-requires c κs = search needs
-
-same-length : tie.Need-same-length
-same-length c = search needs
-
-same-length-2 : tie.Need-same-length-2
-same-length-2 c = search needs
-
 returns : tie.Need-returns
 unfolding takes
 returns c =
@@ -28,4 +16,4 @@ returns c =
 
 pub mzk-prepared-rounds-spec : {M : Type 1} → statement M
 mzk-prepared-rounds-spec =
-    tie.close (tie.spec take-requires word-of-round-requires same-length same-length-2 returns)
+    tie.close (tie.spec (λ c κs. search needs) (λ c κs. search needs) (λ c. search needs) (λ c. search needs) returns)

@@ -15,4 +15,4 @@ returns c = ran-preview (c .before .before .before .perform-in .ensures) (c .wor
 pub mzk-preview-spec : {M : Type 1} → statement M
 mzk-preview-spec =
     tie.close
-    (tie.spec (search needs) (search needs) (search needs) word-of-preview-requires returns)
+    (tie.spec (λ c. search needs) (λ c. search needs) (λ c. search needs) word-of-preview-requires returns)

@@ -5,18 +5,6 @@ use Rattle.lent.specs.Word.{word}
 use Rattle.mazhoketh.proofs.read_plan.mzk_read_plan.Statement.{statement}
 use Rattle.mazhoketh.proofs.read_plan.mzk_read_plan.Tie as tie
 
-read-requires : tie.Need-read-requires
-read-requires c κs = search needs
-
-word-of-requires : tie.Need-word-of-requires
-word-of-requires c κs = search needs
-
-same-length : tie.Need-same-length
-same-length c = search needs
-
-same-length-2 : tie.Need-same-length-2
-same-length-2 c = search needs
-
 returns : tie.Need-returns
 returns c =
     let e = c .before .before .before .before .before .read .ensures in
@@ -25,4 +13,4 @@ returns c =
 
 pub mzk-read-plan-spec : {M : Type 1} → statement M
 mzk-read-plan-spec =
-    tie.close (tie.spec read-requires word-of-requires same-length same-length-2 returns)
+    tie.close (tie.spec (λ c κs. search needs) (λ c κs. search needs) (λ c. search needs) (λ c. search needs) returns)

@@ -19,5 +19,5 @@ returns c =
 pub mzk-rounds-spec : {M : Type 1} → statement M
 mzk-rounds-spec =
     tie.close
-    (tie.spec (search needs) (search needs) (search needs) (search needs) store-picks-requires word-of-round-requires
-    (search needs) (search needs) returns)
+    (tie.spec (λ c. search needs) (λ c. search needs) (λ c. search needs) (λ c. search needs) store-picks-requires
+    word-of-round-requires (λ c. search needs) (λ c. search needs) returns)

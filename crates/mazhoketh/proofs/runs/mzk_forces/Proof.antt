@@ -15,4 +15,4 @@ returns c = let r = c .before .before .before .before .perform-in .ensures in re
 pub mzk-forces-spec : {M : Type 1} → statement M
 mzk-forces-spec =
     tie.close
-    (tie.spec (search needs) (search needs) (search needs) word-of-requires (search needs) returns)
+    (tie.spec (λ c. search needs) (λ c. search needs) (λ c. search needs) word-of-requires (λ c. search needs) returns)

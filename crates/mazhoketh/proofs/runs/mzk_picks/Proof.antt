@@ -22,5 +22,5 @@ returns c =
 pub mzk-picks-spec : {M : Type 1} → statement M
 mzk-picks-spec =
     tie.close
-    (tie.spec (search needs) (search needs) (search needs) (search needs) store-picks-requires word-of-requires
-    (search needs) (search needs) returns)
+    (tie.spec (λ c. search needs) (λ c. search needs) (λ c. search needs) (λ c. search needs) store-picks-requires
+    word-of-requires (λ c. search needs) (λ c. search needs) returns)

@@ -15,4 +15,4 @@ returns c = ran-word (c .before .before .before .perform-in .ensures) (c .word-o
 pub mzk-ready-spec : {M : Type 1} → statement M
 mzk-ready-spec =
     tie.close
-    (tie.spec (search needs) (search needs) (search needs) (search needs) word-of-requires returns)
+    (tie.spec (λ c. search needs) (λ c. search needs) (λ c. search needs) (λ c. search needs) word-of-requires returns)

@@ -22,18 +22,6 @@ Inv-loop numbers limit k₀ k = (k ≤ length numbers) × (firstPast limit numbe
 abbrev μ-loop : tie.MeasureT-loop
 μ-loop numbers limit k₀ k = length numbers - k
 
-loop-holds : tie.Need-loop-holds Inv-loop μ-loop
-loop-holds c = omega arith
-
-mul-is-within : tie.Need-mul-is-within Inv-loop μ-loop
-mul-is-within c = omega arith
-
-shared-slice-copy-out-is-within : tie.Need-shared-slice-copy-out-is-within Inv-loop μ-loop
-shared-slice-copy-out-is-within c = omega arith
-
-is-within-requires : tie.Need-is-within-requires Inv-loop μ-loop
-is-within-requires c κs = search needs
-
 -- what the call tests
 tested : (c : tie.After-is-within Inv-loop μ-loop) → within (c .before .before .before .before .args .limit) (getD (c .before .before .before .before .args .numbers .now) (c .before .before .before .loop .k) (pos 0)) ≡ c .is-within .result
 tested c =
@@ -44,12 +32,6 @@ returns : tie.Need-returns Inv-loop μ-loop
 returns c =
     let l = c .before .before .before .before in
     omega (arith, past-here (l .before .args .limit) (l .before .args .numbers .now) (l .loop .k) (omega arith) (tested (c .before) ∙ not-true _ (c .if1 .taken)))
-
-add-k : tie.Need-add-k Inv-loop μ-loop
-add-k c = omega arith
-
-loop-less : tie.Need-loop-less Inv-loop μ-loop
-loop-less c = omega arith
 
 loop-again : tie.Need-loop-again Inv-loop μ-loop
 loop-again c =
@@ -66,15 +48,5 @@ returns-2 c =
 pub first-past-spec : {M : Type 1} → statement M
 first-past-spec =
     tie.close
-    (tie.spec
-    Inv-loop
-    μ-loop
-    loop-holds
-    mul-is-within
-    shared-slice-copy-out-is-within
-    is-within-requires
-    returns
-    add-k
-    loop-less
-    loop-again
-    returns-2)
+    (tie.spec Inv-loop μ-loop (λ c. omega arith) (λ c. omega arith) (λ c. omega arith) (λ c κs. search needs) returns
+    (λ c. omega arith) (λ c. omega arith) loop-again returns-2)

@@ -21,9 +21,6 @@ negated c = fits-abs (omega (arith, abs-sub (pos 0) (c .args .z), natAbs-le (c .
 cast-wide : tie.Need-cast-wide
 cast-wide c = let f = wide c in search needs
 
-cast-most : tie.Need-cast-most
-cast-most c = search needs
-
 sub-result : tie.Need-sub-result
 sub-result c =
     let a = c .before in
@@ -44,4 +41,4 @@ returns-2 c =
     (within-positive (a .args .z) (a .args .limit) (simp (toZ-ofZ (a .fits .z), toZ-ofZ (wide a)) at (c .if1 .left)))
 
 pub is-within-spec : {M : Type 1} → statement M
-is-within-spec = tie.close (tie.spec cast-wide cast-most sub-result returns returns-2)
+is-within-spec = tie.close (tie.spec cast-wide (λ c. search needs) sub-result returns returns-2)

@@ -24,12 +24,6 @@ loop-holds : tie.Need-loop-holds Inv-loop μ-loop
 unfolding sumℤ
 loop-holds c = (omega arith, refl)
 
-mul-j : tie.Need-mul-j Inv-loop μ-loop
-mul-j c = omega arith
-
-shared-slice-read-j : tie.Need-shared-slice-read-j Inv-loop μ-loop
-shared-slice-read-j c = omega arith
-
 cast-j : tie.Need-cast-j Inv-loop μ-loop
 cast-j c = omega (arith, c .shared-slice-known .given (c .before .before .loop .k))
 
@@ -62,12 +56,6 @@ add-sum : tie.Need-add-sum Inv-loop μ-loop
 unfolding displacement
 add-sum c = let t = now-turn (c .before .before .before) in rw (c .before .before .before .before .loop .inv .1) (search needs)
 
-add-k : tie.Need-add-k Inv-loop μ-loop
-add-k c = omega arith
-
-loop-less : tie.Need-loop-less Inv-loop μ-loop
-loop-less c = omega arith
-
 loop-again : tie.Need-loop-again Inv-loop μ-loop
 unfolding displacement sumℤ
 loop-again c =
@@ -85,22 +73,6 @@ returns c =
 pub force-spec : {M : Type 1} → statement M
 force-spec =
     tie.close
-    (tie.spec
-    Inv-loop
-    μ-loop
-    loop-holds
-    mul-j
-    shared-slice-read-j
-    cast-j
-    mul-sum
-    shared-slice-copy-out-sum
-    cast-sum
-    mul-sum-2
-    shared-slice-copy-out-sum-2
-    cast-sum-2
-    mul-sum-3
-    add-sum
-    add-k
-    loop-less
-    loop-again
-    returns)
+    (tie.spec Inv-loop μ-loop loop-holds (λ c. omega arith) (λ c. omega arith) cast-j mul-sum
+    shared-slice-copy-out-sum cast-sum mul-sum-2 shared-slice-copy-out-sum-2 cast-sum-2 mul-sum-3 add-sum
+    (λ c. omega arith) (λ c. omega arith) loop-again returns)

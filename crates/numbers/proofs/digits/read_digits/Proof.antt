@@ -23,32 +23,17 @@ digit c = sym (c .before .class-of .ensures) ∙ c .if1 .left
 loop-holds : tie.Need-loop-holds Inv-loop μ-loop
 loop-holds c = let a = c .before .args in reading-start (a .text .now) (a .at)
 
-shared-slice-read-b : tie.Need-shared-slice-read-b Inv-loop μ-loop
-shared-slice-read-b c = search needs
-
-class-of-requires : tie.Need-class-of-requires Inv-loop μ-loop
-class-of-requires c κs = search needs
-
 returns : tie.Need-returns Inv-loop μ-loop
 returns c =
     let l = c .before .before .before .before in
     let a = l .before .before .args in
     reading-done (a .text .now) (a .at) (l .loop .inv) (digits-stop (a .text .now) (l .loop .i) (c .before .before .before .loop-test .taken) (λ e. c .if1 .taken (c .before .class-of .ensures ∙ e)))
 
-wide64-requires : tie.Need-wide64-requires Inv-loop μ-loop
-wide64-requires c κs = search needs
-
 sub-more : tie.Need-sub-more Inv-loop μ-loop
 sub-more c = omega (arith, digit-range _ (digit (c .before)), c .wide64 .ensures)
 
 more-requires : tie.Need-more-requires Inv-loop μ-loop
 more-requires c κs = omega (arith, digit-range _ (digit (c .before)), c .wide64 .ensures)
-
-add-i : tie.Need-add-i Inv-loop μ-loop
-add-i c = search needs
-
-loop-less : tie.Need-loop-less Inv-loop μ-loop
-loop-less c = search needs
 
 loop-again : tie.Need-loop-again Inv-loop μ-loop
 loop-again c =
@@ -65,17 +50,5 @@ returns-2 c =
 pub read-digits-spec : {M : Type 1} → statement M
 read-digits-spec =
     tie.close
-    (tie.spec
-    Inv-loop
-    μ-loop
-    loop-holds
-    shared-slice-read-b
-    class-of-requires
-    returns
-    wide64-requires
-    sub-more
-    more-requires
-    add-i
-    loop-less
-    loop-again
-    returns-2)
+    (tie.spec Inv-loop μ-loop loop-holds (λ c. search needs) (λ c κs. search needs) returns (λ c κs. search needs)
+    sub-more more-requires (λ c. search needs) (λ c. search needs) loop-again returns-2)

@@ -10,9 +10,6 @@ use Rattle.numbers.proofs.line.is_whole.Tie as tie
 returns : tie.Need-returns
 returns c = let a = c .before .args in whole-none (digits (drop (a .at) (a .text .now))) (omega arith)
 
-sub-if2 : tie.Need-sub-if2
-sub-if2 c = search needs
-
 returns-2 : tie.Need-returns-2
 returns-2 c = let a = c .before .before .args in whole-one (digits (drop (a .at) (a .text .now))) (omega arith) (omega arith)
 
@@ -23,4 +20,4 @@ returns-3 : tie.Need-returns-3
 returns-3 c = let a = c .before .before .before .args in rw (← first-digit (a .text .now) (a .at) (omega arith) .1) (whole-more (digits (drop (a .at) (a .text .now))) (omega arith))
 
 pub is-whole-spec : {M : Type 1} → statement M
-is-whole-spec = tie.close (tie.spec returns sub-if2 returns-2 shared-slice-read-result returns-3)
+is-whole-spec = tie.close (tie.spec returns (λ c. search needs) returns-2 shared-slice-read-result returns-3)

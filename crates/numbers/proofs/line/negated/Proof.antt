@@ -4,15 +4,6 @@ use Rattle.numbers.proofs.line.Bits.{negative-fits, negative-past}
 use Rattle.numbers.proofs.line.negated.Statement.{statement}
 use Rattle.numbers.proofs.line.negated.Tie as tie
 
-returns : tie.Need-returns
-returns c = search needs
-
-sub-t4 : tie.Need-sub-t4
-sub-t4 c = search needs
-
-sub-t5 : tie.Need-sub-t5
-sub-t5 c = search needs
-
 returns-2 : tie.Need-returns-2
 returns-2 c = negative-fits _ _ (c .before .if1 .left) (c .if2 .taken)
 
@@ -20,4 +11,4 @@ returns-3 : tie.Need-returns-3
 returns-3 c = negative-past _ _ (c .if2 .left)
 
 pub negated-spec : {M : Type 1} → statement M
-negated-spec = tie.close (tie.spec returns sub-t4 sub-t5 returns-2 returns-3)
+negated-spec = tie.close (tie.spec (λ c. search needs) (λ c. search needs) (λ c. search needs) returns-2 returns-3)

@@ -31,12 +31,6 @@ end c = eq-eqb _ 4 (sym (c .before .class-at2 .ensures) ∙ c .if2 .left)
 ended : (c : tie.Else2) → c .before .before .before .before .read-digits .result .next < length (c .before .before .before .before .before .before .before .args .text .now)
 ended c = end-inside (c .before .before .before .before .before .before .before .args .text .now) (c .before .before .before .before .read-digits .result .next) (end c)
 
-class-at-requires : tie.Need-class-at-requires
-class-at-requires c κs = search needs
-
-cast-first : tie.Need-cast-first
-cast-first c = search needs
-
 add-first : tie.Need-add-first
 add-first c = go (eqb (c .class-at .result) 2) (ap (λ (x : ℕ). eqb x 2) (sym (c .class-at .ensures)))
   where
@@ -44,17 +38,8 @@ add-first c = go (eqb (c .class-at .result) 2) (ap (λ (x : ℕ). eqb x 2) (sym 
     go true e = omega (arith, sign-inside (c .before .before .args .text .now) (c .before .before .args .at) e)
     go false e = omega arith
 
-read-digits-requires : tie.Need-read-digits-requires
-read-digits-requires c κs = search needs
-
-is-whole-requires : tie.Need-is-whole-requires
-is-whole-requires c κs = search needs
-
 returns : tie.Need-returns
 returns c = let w = c .before in let d = w .before in line-none _ _ (signed d) (d .read-digits .ensures .0) (d .read-digits .ensures .1) (fails (w .is-whole .ensures) (c .if1 .taken))
-
-class-at-requires-2 : tie.Need-class-at-requires-2
-class-at-requires-2 c κs = search needs
 
 returns-2 : tie.Need-returns-2
 returns-2 c =
@@ -65,9 +50,6 @@ returns-2 c =
 add-negated : tie.Need-add-negated
 add-negated c = omega (arith, ended (c .before))
 
-negated-requires : tie.Need-negated-requires
-negated-requires c κs = search needs
-
 returns-3 : tie.Need-returns-3
 returns-3 c =
     let e = c .before .before in
@@ -76,9 +58,6 @@ returns-3 c =
 
 add-plain : tie.Need-add-plain
 add-plain c = omega (arith, ended (c .before))
-
-plain-requires : tie.Need-plain-requires
-plain-requires c κs = search needs
 
 returns-4 : tie.Need-returns-4
 returns-4 c =
@@ -89,18 +68,6 @@ returns-4 c =
 pub read-line-spec : {M : Type 1} → statement M
 read-line-spec =
     tie.close
-    (tie.spec
-    class-at-requires
-    cast-first
-    add-first
-    read-digits-requires
-    is-whole-requires
-    returns
-    class-at-requires-2
-    returns-2
-    add-negated
-    negated-requires
-    returns-3
-    add-plain
-    plain-requires
-    returns-4)
+    (tie.spec (λ c κs. search needs) (λ c. search needs) add-first (λ c κs. search needs) (λ c κs. search needs)
+    returns (λ c κs. search needs) returns-2 add-negated (λ c κs. search needs) returns-3 add-plain
+    (λ c κs. search needs) returns-4)

@@ -17,29 +17,14 @@ loop-holds c = let a = c .args in spelling-start (a .v) (a .end) (a .text .now) 
 sub-i : tie.Need-sub-i Inv-loop μ-loop
 sub-i c = omega (arith, spelling-some (c .before .loop .inv))
 
-add-text : tie.Need-add-text Inv-loop μ-loop
-add-text c = search needs
-
-cast-text : tie.Need-cast-text Inv-loop μ-loop
-cast-text c = search needs
-
 slice-write-text : tie.Need-slice-write-text Inv-loop μ-loop
 slice-write-text c = let g = c .before .loop .inv in omega (arith, spelling-some g, g .inside, g .long)
-
-loop-less : tie.Need-loop-less Inv-loop μ-loop
-loop-less c = search needs
 
 loop-again : tie.Need-loop-again Inv-loop μ-loop
 loop-again c = spelling-more (c .before .loop .inv) (c .loop-test .taken)
 
 sub-i-2 : tie.Need-sub-i-2 Inv-loop μ-loop
 sub-i-2 c = omega (arith, spelling-some (c .before .loop .inv))
-
-add-text-2 : tie.Need-add-text-2 Inv-loop μ-loop
-add-text-2 c = search needs
-
-cast-text-2 : tie.Need-cast-text-2 Inv-loop μ-loop
-cast-text-2 c = search needs
 
 slice-write-text-2 : tie.Need-slice-write-text-2 Inv-loop μ-loop
 slice-write-text-2 c = let g = c .before .loop .inv in omega (arith, spelling-some g, g .inside, g .long)
@@ -53,19 +38,6 @@ returns c = spelling-last (c .before .loop .inv) (c .loop-test .left)
 pub put-digits-spec : {M : Type 1} → statement M
 put-digits-spec =
     tie.close
-    (tie.spec
-    Inv-loop
-    μ-loop
-    loop-holds
-    sub-i
-    add-text
-    cast-text
-    slice-write-text
-    loop-less
-    loop-again
-    sub-i-2
-    add-text-2
-    cast-text-2
-    slice-write-text-2
-    same-length
+    (tie.spec Inv-loop μ-loop loop-holds sub-i (λ c. search needs) (λ c. search needs) slice-write-text
+    (λ c. search needs) loop-again sub-i-2 (λ c. search needs) (λ c. search needs) slice-write-text-2 same-length
     returns)

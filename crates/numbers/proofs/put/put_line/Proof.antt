@@ -13,9 +13,6 @@ sub-feed c = omega (arith, c .before .pre, line-width (c .before .args .bits))
 slice-write-text : tie.Need-slice-write-text
 slice-write-text c = omega (arith, c .before .pre, line-width (c .before .args .bits))
 
-magnitude-requires : tie.Need-magnitude-requires
-magnitude-requires c κs = search needs
-
 put-digits-requires : tie.Need-put-digits-requires
 put-digits-requires c κs =
     let s = c .before .before .before in
@@ -43,14 +40,5 @@ returns-2 c = let d = c .before .before .before in let s = d .before .before .be
 pub put-line-spec : {M : Type 1} → statement M
 put-line-spec =
     tie.close
-    (tie.spec
-    sub-feed
-    slice-write-text
-    magnitude-requires
-    put-digits-requires
-    same-length
-    returns
-    sub-sign
-    slice-write-text-2
-    same-length-2
-    returns-2)
+    (tie.spec sub-feed slice-write-text (λ c κs. search needs) put-digits-requires same-length returns sub-sign
+    slice-write-text-2 same-length-2 returns-2)

@@ -31,12 +31,6 @@ never c =
 loop-holds : tie.Need-loop-holds Inv-loop μ-loop
 loop-holds c = let s = c .before .before in filling-start (s .args .text .now) (s .pre .0) (s .args .list .now)
 
-read-line-requires : tie.Need-read-line-requires Inv-loop μ-loop
-read-line-requires c κs = search needs
-
-enum-known-line : tie.Need-enum-known-line Inv-loop μ-loop
-enum-known-line c = search needs
-
 same-length : tie.Need-same-length Inv-loop μ-loop
 same-length c = absurd (never c)
 
@@ -54,9 +48,6 @@ write-u64-requires c κs =
     let l = c .before .before .before .before .before .before in
     let s = l .before .before .before in
     filling-room (s .args .text .now) (s .pre .0) (s .args .list .now) (s .pre .1) (l .loop .inv) (number (c .before .before))
-
-add-k : tie.Need-add-k Inv-loop μ-loop
-add-k c = search needs
 
 loop-less : tie.Need-loop-less Inv-loop μ-loop
 loop-less c = let n = number (c .before .before .before .before .before) in omega (arith, n .after)
@@ -77,18 +68,5 @@ returns-2 c = let l = c .before in let s = l .before .before .before in filling-
 pub fill-spec : {M : Type 1} → statement M
 fill-spec =
     tie.close
-    (tie.spec
-    Inv-loop
-    μ-loop
-    loop-holds
-    read-line-requires
-    enum-known-line
-    same-length
-    returns
-    mul-write-u64
-    write-u64-requires
-    add-k
-    loop-less
-    loop-again
-    same-length-2
-    returns-2)
+    (tie.spec Inv-loop μ-loop loop-holds (λ c κs. search needs) (λ c. search needs) same-length returns mul-write-u64
+    write-u64-requires (λ c. search needs) loop-less loop-again same-length-2 returns-2)

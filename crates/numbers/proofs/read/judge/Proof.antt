@@ -26,12 +26,6 @@ number c = number-told _ _ _ _ (sym (c .line .given .1) ∙ c .before .before .r
 loop-holds : tie.Need-loop-holds Inv-loop μ-loop
 loop-holds c = judging-start (c .before .args .text .now)
 
-read-line-requires : tie.Need-read-line-requires Inv-loop μ-loop
-read-line-requires c κs = search needs
-
-enum-known-line : tie.Need-enum-known-line Inv-loop μ-loop
-enum-known-line c = search needs
-
 add-count : tie.Need-add-count Inv-loop μ-loop
 add-count c = let l = c .before .before .before .before .before in omega (arith, l .loop .inv .few)
 
@@ -41,17 +35,11 @@ loop-less c = let n = number (c .before) in omega (arith, n .after)
 loop-again : tie.Need-loop-again Inv-loop μ-loop
 loop-again c = let l = c .before .before .before .before .before in judging-more _ (l .loop .inv) (number (c .before))
 
-enum-told : tie.Need-enum-told Inv-loop μ-loop
-enum-told c = search needs
-
 add-t8 : tie.Need-add-t8 Inv-loop μ-loop
 add-t8 c = let l = c .before .before .before .before in omega (arith, l .loop .inv .few)
 
 returns : tie.Need-returns Inv-loop μ-loop
 returns c = let l = c .before .before .before .before in sym (ap judgedOf (judging-past _ (l .loop .inv) (past-told _ _ (sym (c .enum-told .given .1) ∙ c .before .before .read-line .ensures))))
-
-enum-told-2 : tie.Need-enum-told-2 Inv-loop μ-loop
-enum-told-2 c = search needs
 
 add-t9 : tie.Need-add-t9 Inv-loop μ-loop
 add-t9 c = let l = c .before .before .before .before in omega (arith, l .loop .inv .few)
@@ -65,19 +53,5 @@ returns-3 c = let l = c .before in let d = judging-done _ (l .loop .inv) (c .loo
 pub judge-spec : {M : Type 1} → statement M
 judge-spec =
     tie.close
-    (tie.spec
-    Inv-loop
-    μ-loop
-    loop-holds
-    read-line-requires
-    enum-known-line
-    add-count
-    loop-less
-    loop-again
-    enum-told
-    add-t8
-    returns
-    enum-told-2
-    add-t9
-    returns-2
-    returns-3)
+    (tie.spec Inv-loop μ-loop loop-holds (λ c κs. search needs) (λ c. search needs) add-count loop-less loop-again
+    (λ c. search needs) add-t8 returns (λ c. search needs) add-t9 returns-2 returns-3)

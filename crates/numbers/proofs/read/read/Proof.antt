@@ -7,21 +7,6 @@ use Rattle.numbers.proofs.read.Replies.{read-faulty, judged-numbers, re
 use Rattle.numbers.proofs.read.read.Statement.{statement}
 use Rattle.numbers.proofs.read.read.Tie as tie
 
-judge-requires : tie.Need-judge-requires
-judge-requires c κs = search needs
-
-enum-known-judged : tie.Need-enum-known-judged
-enum-known-judged c = search needs
-
-low-requires : tie.Need-low-requires
-low-requires c κs = search needs
-
-enum-known-judged-2 : tie.Need-enum-known-judged-2
-enum-known-judged-2 c = search needs
-
-low-requires-2 : tie.Need-low-requires-2
-low-requires-2 c κs = search needs
-
 returns : tie.Need-returns
 unfolding lent
 returns c =
@@ -34,17 +19,11 @@ fill-requires c κs =
     let j = judged-numbers _ 0 (d .judged2 .given .0 .0) (sym (d .judged2 .given .1) ∙ d .before .before .judge .ensures) in
     (j .0, omega (arith, j .1, c .before .if1 .left))
 
-low-requires-3 : tie.Need-low-requires-3
-low-requires-3 c κs = search needs
-
 returns-2 : tie.Need-returns-2
 unfolding lent
 returns-2 c =
     let d = c .before .before in
     (read-faulty _ _ (d .judged .given .0 .0) (d .judged .given .0 .1 .0) _ (sym (d .judged .given .1) ∙ d .before .before .judge .ensures) (c .low .ensures), refl)
-
-same-length : tie.Need-same-length
-same-length c = search needs
 
 returns-3 : tie.Need-returns-3
 unfolding lent
@@ -56,15 +35,5 @@ returns-3 c =
 pub read-spec : {M : Type 1} → statement M
 read-spec =
     tie.close
-    (tie.spec
-    judge-requires
-    enum-known-judged
-    low-requires
-    enum-known-judged-2
-    low-requires-2
-    returns
-    fill-requires
-    low-requires-3
-    returns-2
-    same-length
-    returns-3)
+    (tie.spec (λ c κs. search needs) (λ c. search needs) (λ c κs. search needs) (λ c. search needs)
+    (λ c κs. search needs) returns fill-requires (λ c κs. search needs) returns-2 (λ c. search needs) returns-3)

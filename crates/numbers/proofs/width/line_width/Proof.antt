@@ -8,14 +8,8 @@ use Rattle.numbers.proofs.width.Widths.{bool-small, line-width, magnitu
 use Rattle.numbers.proofs.width.line_width.Statement.{statement}
 use Rattle.numbers.proofs.width.line_width.Tie as tie
 
-magnitude-requires : tie.Need-magnitude-requires
-magnitude-requires c κs = search needs
-
 width-requires : tie.Need-width-requires
 width-requires c κs = rw (c .magnitude .ensures) (magnitude-small (c .before .args .bits) (c .before .fits .bits .fits))
-
-cast-result : tie.Need-cast-result
-cast-result c = search needs
 
 add-result : tie.Need-add-result
 add-result c = omega (arith, c .width .ensures, decimal-few 19 (c .before .magnitude .result), bool-small (leb 9223372036854775808 (c .before .before .args .bits)))
@@ -29,4 +23,4 @@ returns c = rw (c .width .ensures, c .before .magnitude .ensures) (sym (line-wid
 pub line-width-spec : {M : Type 1} → statement M
 line-width-spec =
     tie.close
-    (tie.spec magnitude-requires width-requires cast-result add-result add-result-2 returns)
+    (tie.spec (λ c κs. search needs) width-requires (λ c. search needs) add-result add-result-2 returns)

@@ -8,14 +8,8 @@ use Rattle.numbers.proofs.width.magnitude.Tie as tie
 returns : tie.Need-returns
 returns c = rw (low-half _ (c .if1 .taken))
 
-sub-result : tie.Need-sub-result
-sub-result c = search needs
-
-add-result : tie.Need-add-result
-add-result c = search needs
-
 returns-2 : tie.Need-returns-2
 returns-2 c = rw (high-half _ (c .if1 .left)) (omega arith)
 
 pub magnitude-spec : {M : Type 1} → statement M
-magnitude-spec = tie.close (tie.spec returns sub-result add-result returns-2)
+magnitude-spec = tie.close (tie.spec returns (λ c. search needs) (λ c. search needs) returns-2)

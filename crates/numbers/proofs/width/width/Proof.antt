@@ -16,32 +16,17 @@ Inv-loop v digits₀ x₀ digits x = (x < 10 ^ 19) × (digits + length (decimal 
 abbrev μ-loop : tie.MeasureT-loop
 μ-loop v digits₀ x₀ digits x = x
 
-loop-holds : tie.Need-loop-holds Inv-loop μ-loop
-loop-holds c = search needs
-
 add-digits : tie.Need-add-digits Inv-loop μ-loop
 add-digits c = let l = c .before in omega (arith, l .loop .inv .1, decimal-few 19 (l .before .args .v))
-
-loop-less : tie.Need-loop-less Inv-loop μ-loop
-loop-less c = search needs
 
 loop-again : tie.Need-loop-again Inv-loop μ-loop
 loop-again c = let l = c .before in (omega arith, omega (arith, l .loop .inv .1, length-four (l .loop .x) (c .loop-test .taken) (l .loop .inv .0)))
 
-cast-result : tie.Need-cast-result Inv-loop μ-loop
-cast-result c = search needs
-
 add-result : tie.Need-add-result Inv-loop μ-loop
 add-result c = let l = c .before in omega (arith, l .loop .inv .1, length-small (l .loop .x) (c .loop-test .left), decimal-few 19 (l .before .args .v))
 
-cast-result-2 : tie.Need-cast-result-2 Inv-loop μ-loop
-cast-result-2 c = search needs
-
 add-result-2 : tie.Need-add-result-2 Inv-loop μ-loop
 add-result-2 c = let l = c .before in omega (arith, l .loop .inv .1, length-small (l .loop .x) (c .loop-test .left), decimal-few 19 (l .before .args .v))
-
-cast-result-3 : tie.Need-cast-result-3 Inv-loop μ-loop
-cast-result-3 c = search needs
 
 add-result-3 : tie.Need-add-result-3 Inv-loop μ-loop
 add-result-3 c = let l = c .before in omega (arith, l .loop .inv .1, length-small (l .loop .x) (c .loop-test .left), decimal-few 19 (l .before .args .v))
@@ -52,17 +37,5 @@ returns c = let l = c .before in omega (arith, l .loop .inv .1, length-small (l 
 pub width-spec : {M : Type 1} → statement M
 width-spec =
     tie.close
-    (tie.spec
-    Inv-loop
-    μ-loop
-    loop-holds
-    add-digits
-    loop-less
-    loop-again
-    cast-result
-    add-result
-    cast-result-2
-    add-result-2
-    cast-result-3
-    add-result-3
-    returns)
+    (tie.spec Inv-loop μ-loop (λ c. search needs) add-digits (λ c. search needs) loop-again (λ c. search needs)
+    add-result (λ c. search needs) add-result-2 (λ c. search needs) add-result-3 returns)

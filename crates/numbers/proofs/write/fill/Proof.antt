@@ -32,9 +32,6 @@ loop-holds c =
     let b = s .args .numbers .now in
     writing-start (signed 8 b) (s .args .text .now) (sym (length-decoded (signedNumber 8) 8 b)) (s .pre .0) (s .pre .1)
 
-sub-k : tie.Need-sub-k Inv-loop μ-loop
-sub-k c = search needs
-
 mul-read-u64 : tie.Need-mul-read-u64 Inv-loop μ-loop
 mul-read-u64 c = let l = c .before .before in omega (arith, l .loop .inv .far, length-decoded (signedNumber 8) 8 (l .before .before .before .args .numbers .now))
 
@@ -46,9 +43,6 @@ put-line-requires c κs =
     let l = c .before .before .before in
     let s = l .before .before .before in
     rw (next c) (writing-room (signed 8 (s .args .numbers .now)) (s .args .text .now) (l .loop .inv) (c .before .before .loop-test .taken))
-
-loop-less : tie.Need-loop-less Inv-loop μ-loop
-loop-less c = search needs
 
 loop-again : tie.Need-loop-again Inv-loop μ-loop
 loop-again c =
@@ -69,15 +63,5 @@ returns c =
 pub fill-spec : {M : Type 1} → statement M
 fill-spec =
     tie.close
-    (tie.spec
-    Inv-loop
-    μ-loop
-    loop-holds
-    sub-k
-    mul-read-u64
-    read-u64-requires
-    put-line-requires
-    loop-less
-    loop-again
-    same-length
-    returns)
+    (tie.spec Inv-loop μ-loop loop-holds (λ c. search needs) mul-read-u64 read-u64-requires put-line-requires
+    (λ c. search needs) loop-again same-length returns)

@@ -29,38 +29,14 @@ line c =
 loop-holds : tie.Need-loop-holds Inv-loop μ-loop
 loop-holds c = let a = c .before .args in measure-start (signed 8 (a .numbers .now)) (a .room)
 
-mul-read-u64 : tie.Need-mul-read-u64 Inv-loop μ-loop
-mul-read-u64 c = search needs
-
-read-u64-requires : tie.Need-read-u64-requires Inv-loop μ-loop
-read-u64-requires c κs = search needs
-
-line-width-requires : tie.Need-line-width-requires Inv-loop μ-loop
-line-width-requires c κs = search needs
-
 cast-wrapping-add-u32 : tie.Need-cast-wrapping-add-u32 Inv-loop μ-loop
 cast-wrapping-add-u32 c = omega (arith, c .line-width .ensures, line-few (c .before .read-u64 .result))
-
-wrapping-add-u32-requires : tie.Need-wrapping-add-u32-requires Inv-loop μ-loop
-wrapping-add-u32-requires c κs = search needs
-
-cast-over : tie.Need-cast-over Inv-loop μ-loop
-cast-over c = search needs
 
 add-over : tie.Need-add-over Inv-loop μ-loop
 add-over c = let l = c .before .before .before .before in omega (arith, l .loop .inv .few, bool-small (ltb (l .loop .left) (c .before .line-width .result)))
 
-least-requires : tie.Need-least-requires Inv-loop μ-loop
-least-requires c κs = search needs
-
 sub-left : tie.Need-sub-left Inv-loop μ-loop
 sub-left c = omega (arith, c .least .ensures)
-
-add-k : tie.Need-add-k Inv-loop μ-loop
-add-k c = search needs
-
-loop-less : tie.Need-loop-less Inv-loop μ-loop
-loop-less c = search needs
 
 loop-again : tie.Need-loop-again Inv-loop μ-loop
 loop-again c =
@@ -87,22 +63,6 @@ returns-2 c =
 pub measure-spec : {M : Type 1} → statement M
 measure-spec =
     tie.close
-    (tie.spec
-    Inv-loop
-    μ-loop
-    loop-holds
-    mul-read-u64
-    read-u64-requires
-    line-width-requires
-    cast-wrapping-add-u32
-    wrapping-add-u32-requires
-    cast-over
-    add-over
-    least-requires
-    sub-left
-    add-k
-    loop-less
-    loop-again
-    returns
-    sub-t9
-    returns-2)
+    (tie.spec Inv-loop μ-loop loop-holds (λ c. search needs) (λ c κs. search needs) (λ c κs. search needs)
+    cast-wrapping-add-u32 (λ c κs. search needs) (λ c. search needs) add-over (λ c κs. search needs) sub-left
+    (λ c. search needs) (λ c. search needs) loop-again returns sub-t9 returns-2)

@@ -23,27 +23,12 @@ short : (c : tie.After-size) → let s = c .before .before .before .before .befo
     (c .size .given .0 .0 ≡ needed % 2 ^ 32) × (length (s .args .text .now) < needed)
 short c = size-short _ _ (c .size .given .0 .0) (sym (c .size .given .1) ∙ c .before .before .measure .ensures)
 
-measure-requires : tie.Need-measure-requires
-measure-requires c κs = search needs
-
-enum-known-size : tie.Need-enum-known-size
-enum-known-size c = search needs
-
-enum-known-size-2 : tie.Need-enum-known-size-2
-enum-known-size-2 c = search needs
-
 fill-requires : tie.Need-fill-requires
 fill-requires c κs = let f = fits (c .before .before) in (f .0, omega (arith, f))
-
-low-requires : tie.Need-low-requires
-low-requires c κs = search needs
 
 returns : tie.Need-returns
 unfolding lent writeNumbersReply
 returns c = let n = short (c .before) in (filled-short _ _ _ (n .0) (n .1), refl)
-
-same-length : tie.Need-same-length
-same-length c = search needs
 
 returns-2 : tie.Need-returns-2
 unfolding lent writeNumbersReply
@@ -55,12 +40,5 @@ returns-2 c =
 pub write-spec : {M : Type 1} → statement M
 write-spec =
     tie.close
-    (tie.spec
-    measure-requires
-    enum-known-size
-    enum-known-size-2
-    fill-requires
-    low-requires
-    returns
-    same-length
-    returns-2)
+    (tie.spec (λ c κs. search needs) (λ c. search needs) (λ c. search needs) fill-requires (λ c κs. search needs)
+    returns (λ c. search needs) returns-2)

@@ -64,8 +64,9 @@ returns-2 c = plan-stored (held (c .before .before .before .before .before .befo
 pub plan-of-spec : {M : Type 1} → statement M
 plan-of-spec =
     tie.close
-    (tie.spec (search needs) (search needs) (search needs) slice-aggregate-plan (search needs)
-    slice-aggregate-plan-2 (search needs) (search needs) (search needs) (search needs) (search needs) (search needs)
-    returns (search needs) (search needs) slice-reshare-prefix-store-u32 slice-aggregate-store-u32 (search needs)
-    slice-reshare-prefix-store-u32-2 slice-aggregate-store-u32-2 (search needs) (search needs) (search needs)
-    (search needs) (search needs) (search needs) returns-2)
+    (tie.spec (λ c. search needs) (λ c. search needs) (λ c. search needs) slice-aggregate-plan (λ c. search needs)
+    slice-aggregate-plan-2 (λ c. search needs) (λ c. search needs) (λ c. search needs) (λ c. search needs)
+    (λ c. search needs) (λ c. search needs) returns (λ c. search needs) (λ c. search needs)
+    slice-reshare-prefix-store-u32 slice-aggregate-store-u32 (λ c. search needs) slice-reshare-prefix-store-u32-2
+    slice-aggregate-store-u32-2 (λ c. search needs) (λ c. search needs) (λ c. search needs) (λ c. search needs)
+    (λ c. search needs) (λ c. search needs) returns-2)

@@ -67,6 +67,7 @@ returns-2 c =
 pub product-of-spec : {M : Type 1} → statement M
 product-of-spec =
     tie.close
-    (tie.spec (search needs) (search needs) slice-aggregate-product (search needs) (search needs) (search needs)
-    (search needs) (search needs) returns slice-reshare-prefix-store-i64 slice-aggregate-store-i64 (search needs)
-    (search needs) (search needs) (search needs) returns-2)
+    (tie.spec (λ c. search needs) (λ c. search needs) slice-aggregate-product (λ c. search needs) (λ c. search needs)
+    (λ c. search needs) (λ c. search needs) (λ c. search needs) returns slice-reshare-prefix-store-i64
+    slice-aggregate-store-i64 (λ c. search needs) (λ c. search needs) (λ c. search needs) (λ c. search needs)
+    returns-2)

@@ -28,43 +28,10 @@ Inv-loop list rows crew count sums forces₀ places i₀ forces i =
 abbrev μ-loop : tie.MeasureT-loop
 μ-loop list rows crew count sums forces₀ places i₀ forces i = rows - i
 
-mul-places : tie.Need-mul-places Inv-loop μ-loop
-mul-places c = search needs
-
-add-places : tie.Need-add-places Inv-loop μ-loop
-add-places c = search needs
-
-mul-places-2 : tie.Need-mul-places-2 Inv-loop μ-loop
-mul-places-2 c = search needs
-
-add-places-2 : tie.Need-add-places-2 Inv-loop μ-loop
-add-places-2 c = search needs
-
 loop-holds : tie.Need-loop-holds Inv-loop μ-loop
 loop-holds c =
     let a = c .before .before .before .args in
     store-none (signedBytesOf 8) 8 (length-signedBytesOf 8) (originalBy (tablesIn (a .list .now)) (signed 8 (a .sums .now))) (a .forces .now) (a .rows)
-
-mul-number-at : tie.Need-mul-number-at Inv-loop μ-loop
-mul-number-at c = search needs
-
-add-number-at : tie.Need-add-number-at Inv-loop μ-loop
-add-number-at c = search needs
-
-number-at-requires : tie.Need-number-at-requires Inv-loop μ-loop
-number-at-requires c κs = search needs
-
-load-at-requires : tie.Need-load-at-requires Inv-loop μ-loop
-load-at-requires c κs = search needs
-
-store-at-requires : tie.Need-store-at-requires Inv-loop μ-loop
-store-at-requires c κs = search needs
-
-add-i : tie.Need-add-i Inv-loop μ-loop
-add-i c = search needs
-
-loop-less : tie.Need-loop-less Inv-loop μ-loop
-loop-less c = search needs
 
 loaded-fits : (x : tie.After-load-at Inv-loop μ-loop) → SFits w64 (x .load-at .result)
 loaded-fits x = search needs
@@ -87,9 +54,6 @@ loop-again c =
     (o .store-at .ensures ∙ sym (stored-is (l .loop .forces) (a .rows) i (t .loop-test .taken) (toZ w64 (ofZ w64 (x .load-at .result)))) ∙ ap (λ (z : ℤ). sets (l .loop .forces) (i * 8) (signedBytesOf 8 z)) value)
     (l .loop .inv)
 
-same-length : tie.Need-same-length Inv-loop μ-loop
-same-length c = search needs
-
 returns : tie.Need-returns Inv-loop μ-loop
 returns c =
     let l = c .before in
@@ -103,21 +67,6 @@ returns c =
 pub store-forces-spec : {M : Type 1} → statement M
 store-forces-spec =
     tie.close
-    (tie.spec
-    Inv-loop
-    μ-loop
-    mul-places
-    add-places
-    mul-places-2
-    add-places-2
-    loop-holds
-    mul-number-at
-    add-number-at
-    number-at-requires
-    load-at-requires
-    store-at-requires
-    add-i
-    loop-less
-    loop-again
-    same-length
-    returns)
+    (tie.spec Inv-loop μ-loop (λ c. search needs) (λ c. search needs) (λ c. search needs) (λ c. search needs)
+    loop-holds (λ c. search needs) (λ c. search needs) (λ c κs. search needs) (λ c κs. search needs)
+    (λ c κs. search needs) (λ c. search needs) (λ c. search needs) loop-again (λ c. search needs) returns)

@@ -17,27 +17,6 @@ abbrev μ-loop : tie.MeasureT-loop
 loop-holds : tie.Need-loop-holds Inv-loop μ-loop
 loop-holds c = (omega arith, behind-start _ _)
 
-mul-late : tie.Need-mul-late Inv-loop μ-loop
-mul-late c = search needs
-
-element-copy-out-late : tie.Need-element-copy-out-late Inv-loop μ-loop
-element-copy-out-late c = search needs
-
-mul-read-u32 : tie.Need-mul-read-u32 Inv-loop μ-loop
-mul-read-u32 c = search needs
-
-add-read-u32 : tie.Need-add-read-u32 Inv-loop μ-loop
-add-read-u32 c = search needs
-
-read-u32-requires : tie.Need-read-u32-requires Inv-loop μ-loop
-read-u32-requires c κs = search needs
-
-add-v : tie.Need-add-v Inv-loop μ-loop
-add-v c = search needs
-
-loop-less : tie.Need-loop-less Inv-loop μ-loop
-loop-less c = search needs
-
 loop-again : tie.Need-loop-again Inv-loop μ-loop
 loop-again c = (search needs, behind-turn _ _ _ _ _ (c .before .before .before .loop .inv .1) (c .read-u32 .ensures))
 
@@ -47,16 +26,5 @@ returns c = let e : c .before .loop .v ≡ 16 = search needs in behind-all _ _ _
 pub is-behind-spec : {M : Type 1} → statement M
 is-behind-spec =
     tie.close
-    (tie.spec
-    Inv-loop
-    μ-loop
-    loop-holds
-    mul-late
-    element-copy-out-late
-    mul-read-u32
-    add-read-u32
-    read-u32-requires
-    add-v
-    loop-less
-    loop-again
-    returns)
+    (tie.spec Inv-loop μ-loop loop-holds (λ c. search needs) (λ c. search needs) (λ c. search needs)
+    (λ c. search needs) (λ c κs. search needs) (λ c. search needs) (λ c. search needs) loop-again returns)

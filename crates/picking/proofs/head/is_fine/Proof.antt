@@ -27,9 +27,6 @@ Inv-loop list made w₀ w = (w ≤ 16) × (allBelow (fineAt list made) w ≡ all
 abbrev μ-loop : tie.MeasureT-loop
 μ-loop list made w₀ w = w
 
-loop-holds : tie.Need-loop-holds Inv-loop μ-loop
-loop-holds c = search needs
-
 -- from a turn back to the function's entry
 abbrev entry : tie.In-loop Inv-loop μ-loop → tie.Start Inv-loop μ-loop
 entry t = t .before .before .before
@@ -40,23 +37,8 @@ long s = at.long (s .args .list .now) (s .pre)
 low : (t : tie.In-loop Inv-loop μ-loop) → t .before .loop .w - 1 < 16
 low t = omega (arith, t .loop-test .taken, t .before .loop .inv .0)
 
-sub-w : tie.Need-sub-w Inv-loop μ-loop
-sub-w c = search needs
-
-mul-read-u32 : tie.Need-mul-read-u32 Inv-loop μ-loop
-mul-read-u32 c = search needs
-
-add-read-u32 : tie.Need-add-read-u32 Inv-loop μ-loop
-add-read-u32 c = search needs
-
 read-u32-requires : tie.Need-read-u32-requires Inv-loop μ-loop
 read-u32-requires c κs = omega (arith, long (entry c), low c)
-
-mul-if1 : tie.Need-mul-if1 Inv-loop μ-loop
-mul-if1 c = search needs
-
-element-copy-out-if1 : tie.Need-element-copy-out-if1 Inv-loop μ-loop
-element-copy-out-if1 c = search needs
 
 -- what is read is how many accesses the worker makes
 most : (r : tie.After-read-u32 Inv-loop μ-loop) → let t = r .before in r .read-u32 .result ≡ tablesIn (entry t .args .list .now) .most (t .before .loop .w - 1)
@@ -69,9 +51,6 @@ returns c =
     let l = t .before in
     let a = entry t .args in
     below-fail (fineAt (a .list .now) (a .made .now)) (l .loop .w) (t .loop-test .taken) (lt-leb _ _ (rw (most r) at (c .if1 .taken))) ∙ l .loop .inv .1 ∙ fine-below (tablesIn (a .list .now)) (a .made .now) 16
-
-loop-less : tie.Need-loop-less Inv-loop μ-loop
-loop-less c = search needs
 
 loop-again : tie.Need-loop-again Inv-loop μ-loop
 loop-again c =
@@ -90,17 +69,5 @@ returns-2 c =
 pub is-fine-spec : {M : Type 1} → statement M
 is-fine-spec =
     tie.close
-    (tie.spec
-    Inv-loop
-    μ-loop
-    loop-holds
-    sub-w
-    mul-read-u32
-    add-read-u32
-    read-u32-requires
-    mul-if1
-    element-copy-out-if1
-    returns
-    loop-less
-    loop-again
-    returns-2)
+    (tie.spec Inv-loop μ-loop (λ c. search needs) (λ c. search needs) (λ c. search needs) (λ c. search needs)
+    read-u32-requires (λ c. search needs) (λ c. search needs) returns (λ c. search needs) loop-again returns-2)

@@ -27,9 +27,6 @@ Inv-loop list crew made w₀ w = (w ≤ crew) × (allBelow (madeAt list made) w 
 abbrev μ-loop : tie.MeasureT-loop
 μ-loop list crew made w₀ w = w
 
-loop-holds : tie.Need-loop-holds Inv-loop μ-loop
-loop-holds c = search needs
-
 -- from a turn back to the function's entry
 abbrev entry : tie.In-loop Inv-loop μ-loop → tie.Start Inv-loop μ-loop
 entry t = t .before .before .before
@@ -39,9 +36,6 @@ long s = at.long (s .args .list .now) (s .pre .0)
 
 low : (t : tie.In-loop Inv-loop μ-loop) → t .before .loop .w - 1 < 16
 low t = omega (arith, t .loop-test .taken, t .before .loop .inv .0, entry t .pre .1)
-
-sub-w : tie.Need-sub-w Inv-loop μ-loop
-sub-w c = search needs
 
 mul-if1 : tie.Need-mul-if1 Inv-loop μ-loop
 mul-if1 c = let l = low c in search needs
@@ -70,9 +64,6 @@ returns c =
     let a = entry t .args in
     below-fail (madeAt (a .list .now) (a .made .now)) (l .loop .w) (t .loop-test .taken) (lt-leb _ _ (rw (most r) at (c .if1 .taken))) ∙ l .loop .inv .1 ∙ made-below (tablesIn (a .list .now)) (a .made .now) (a .crew)
 
-loop-less : tie.Need-loop-less Inv-loop μ-loop
-loop-less c = search needs
-
 loop-again : tie.Need-loop-again Inv-loop μ-loop
 loop-again c =
     let r = c .before in
@@ -90,17 +81,5 @@ returns-2 c =
 pub is-over-spec : {M : Type 1} → statement M
 is-over-spec =
     tie.close
-    (tie.spec
-    Inv-loop
-    μ-loop
-    loop-holds
-    sub-w
-    mul-if1
-    element-copy-out-if1
-    mul-read-u32
-    add-read-u32
-    read-u32-requires
-    returns
-    loop-less
-    loop-again
-    returns-2)
+    (tie.spec Inv-loop μ-loop (λ c. search needs) (λ c. search needs) mul-if1 element-copy-out-if1 mul-read-u32
+    add-read-u32 read-u32-requires returns (λ c. search needs) loop-again returns-2)

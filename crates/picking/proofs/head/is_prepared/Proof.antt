@@ -12,9 +12,6 @@ use Rattle.picking.proofs.head.is_prepared.Tie as tie
 returns : tie.Need-returns
 returns c = short-list (c .before .before .args .list .now) (c .if1 .taken)
 
-read-u32-requires : tie.Need-read-u32-requires
-read-u32-requires c κs = search needs
-
 -- the head is there, and its mark is
 long : (c : tie.Else1) → 144 ≤ length (c .before .before .args .list .now)
 long c = search needs
@@ -27,32 +24,11 @@ returns-2 c =
     let l = c .before .before in
     other-mark (l .before .before .args .list .now) (long l) (λ q. c .if2 .taken (c .before .read-u32 .ensures ∙ q))
 
-number-at-requires : tie.Need-number-at-requires
-number-at-requires c κs = search needs
-
 returns-3 : tie.Need-returns-3
 returns-3 c =
     let m = c .before .before in
     let l = m .before .before in
     too-many (l .before .before .args .list .now) (long l) (same m) (omega (arith, c .if3 .taken, c .before .number-at .ensures .0))
-
-number-at-requires-2 : tie.Need-number-at-requires-2
-number-at-requires-2 c κs = search needs
-
-number-at-requires-3 : tie.Need-number-at-requires-3
-number-at-requires-3 c κs = search needs
-
-mul-result : tie.Need-mul-result
-mul-result c = search needs
-
-add-result : tie.Need-add-result
-add-result c = search needs
-
-mul-result-2 : tie.Need-mul-result-2
-mul-result-2 c = search needs
-
-add-result-2 : tie.Need-add-result-2
-add-result-2 c = search needs
 
 returns-4 : tie.Need-returns-4
 returns-4 c =
@@ -64,16 +40,5 @@ returns-4 c =
 pub is-prepared-spec : {M : Type 1} → statement M
 is-prepared-spec =
     tie.close
-    (tie.spec
-    returns
-    read-u32-requires
-    returns-2
-    number-at-requires
-    returns-3
-    number-at-requires-2
-    number-at-requires-3
-    mul-result
-    add-result
-    mul-result-2
-    add-result-2
-    returns-4)
+    (tie.spec returns (λ c κs. search needs) returns-2 (λ c κs. search needs) returns-3 (λ c κs. search needs)
+    (λ c κs. search needs) (λ c. search needs) (λ c. search needs) (λ c. search needs) (λ c. search needs) returns-4)

@@ -15,39 +15,6 @@ use Rattle.picking.proofs.Turns.{loaded-signed, stored-signed, stored-k
 use Rattle.picking.proofs.pick.access.Statement.{statement}
 use Rattle.picking.proofs.pick.access.Tie as tie
 
-mul-loads : tie.Need-mul-loads
-mul-loads c = search needs
-
-element-copy-out-loads : tie.Need-element-copy-out-loads
-element-copy-out-loads c = search needs
-
-load-at-requires : tie.Need-load-at-requires
-load-at-requires c κs = search needs
-
-mul-either : tie.Need-mul-either
-mul-either c = search needs
-
-element-copy-out-either : tie.Need-element-copy-out-either
-element-copy-out-either c = search needs
-
-either-requires : tie.Need-either-requires
-either-requires c κs = search needs
-
-either-requires-2 : tie.Need-either-requires-2
-either-requires-2 c κs = search needs
-
-add-checked-requires : tie.Need-add-checked-requires
-add-checked-requires c κs = search needs
-
-enum-known-sum : tie.Need-enum-known-sum
-enum-known-sum c = search needs
-
-enum-told : tie.Need-enum-told
-enum-told c = search needs
-
-same-length : tie.Need-same-length
-same-length c = search needs
-
 -- the sum as it is
 loaded-is : (x : tie.After-load-at) → let a = x .before .before .before .before .before .args in x .load-at .result ≡ getD (signed 8 (a .sums .now)) (a .e .target) (pos 0)
 loaded-is x = let s = x .before .before .before .before .before in x .load-at .ensures ∙ loaded-signed (s .args .sums .now) (s .args .rows) (s .args .e .target) (s .pre .2)
@@ -87,30 +54,6 @@ returns c =
     let f : SFits w64 (o .load-at .result) = search needs in
     (access-passes (a .made .now) (a .held .now) (signed 8 (a .sums .now)) (a .w) (updateOf (a .e)) (rw (loaded-is o) at f) (sym (sum-is x) ∙ c .enum-told .given .1), record { long = refl; past = refl })
 
-store-at-requires : tie.Need-store-at-requires
-store-at-requires c κs = search needs
-
-mul-from : tie.Need-mul-from
-mul-from c = search needs
-
-element-set-from-from : tie.Need-element-set-from-from
-element-set-from-from c = search needs
-
-mul-made : tie.Need-mul-made
-mul-made c = search needs
-
-element-copy-out-made : tie.Need-element-copy-out-made
-element-copy-out-made c = search needs
-
-add-made : tie.Need-add-made
-add-made c = search needs
-
-element-write-made : tie.Need-element-write-made
-element-write-made c = search needs
-
-same-length-2 : tie.Need-same-length-2
-same-length-2 c = search needs
-
 in-range : (k : tie.After-known-told) → SFits w64 (k .before .sum .given .0 .0)
 in-range k = search needs
 
@@ -135,25 +78,7 @@ returns-2 c =
 pub access-spec : {M : Type 1} → statement M
 access-spec =
     tie.close
-    (tie.spec
-    mul-loads
-    element-copy-out-loads
-    load-at-requires
-    mul-either
-    element-copy-out-either
-    either-requires
-    either-requires-2
-    add-checked-requires
-    enum-known-sum
-    enum-told
-    same-length
-    returns
-    store-at-requires
-    mul-from
-    element-set-from-from
-    mul-made
-    element-copy-out-made
-    add-made
-    element-write-made
-    same-length-2
-    returns-2)
+    (tie.spec (λ c. search needs) (λ c. search needs) (λ c κs. search needs) (λ c. search needs) (λ c. search needs)
+    (λ c κs. search needs) (λ c κs. search needs) (λ c κs. search needs) (λ c. search needs) (λ c. search needs)
+    (λ c. search needs) returns (λ c κs. search needs) (λ c. search needs) (λ c. search needs) (λ c. search needs)
+    (λ c. search needs) (λ c. search needs) (λ c. search needs) (λ c. search needs) returns-2)

@@ -6,30 +6,6 @@ use borrow.Author.Needs.{needs}
 use Rattle.picking.proofs.pick.next_update.Statement.{statement}
 use Rattle.picking.proofs.pick.next_update.Tie as tie
 
-mul-number-at : tie.Need-mul-number-at
-mul-number-at c = search needs
-
-add-number-at : tie.Need-add-number-at
-add-number-at c = search needs
-
-number-at-requires : tie.Need-number-at-requires
-number-at-requires c κs = search needs
-
-mul-update-number : tie.Need-mul-update-number
-mul-update-number c = search needs
-
-element-copy-out-update-number : tie.Need-element-copy-out-update-number
-element-copy-out-update-number c = search needs
-
-update-number-requires : tie.Need-update-number-requires
-update-number-requires c κs = search needs
-
-add-update-at : tie.Need-add-update-at
-add-update-at c = search needs
-
-update-at-requires : tie.Need-update-at-requires
-update-at-requires c κs = search needs
-
 returns : tie.Need-returns
 returns c =
     let u = c .before in
@@ -40,13 +16,5 @@ returns c =
 pub next-update-spec : {M : Type 1} → statement M
 next-update-spec =
     tie.close
-    (tie.spec
-    mul-number-at
-    add-number-at
-    number-at-requires
-    mul-update-number
-    element-copy-out-update-number
-    update-number-requires
-    add-update-at
-    update-at-requires
-    returns)
+    (tie.spec (λ c. search needs) (λ c. search needs) (λ c κs. search needs) (λ c. search needs) (λ c. search needs)
+    (λ c κs. search needs) (λ c. search needs) (λ c κs. search needs) returns)

@@ -12,9 +12,6 @@ use borrow.Author.Needs.{needs}
 use Rattle.picking.proofs.pick.pick.Statement.{statement}
 use Rattle.picking.proofs.pick.pick.Tie as tie
 
-refusal-requires : tie.Need-refusal-requires
-refusal-requires c κs = search needs
-
 returns : tie.Need-returns
 returns c =
     let s = c .before .before .before .before .before .before in
@@ -58,9 +55,6 @@ access-requires c κs =
     let e = c .before .before .before .before .before in
     (worker e, low e, start e .pre .1)
 
-same-length : tie.Need-same-length
-same-length c = search needs
-
 returns-2 : tie.Need-returns-2
 unfolding updateOf
 returns-2 c =
@@ -78,12 +72,5 @@ returns-2 c =
 pub pick-spec : {M : Type 1} → statement M
 pick-spec =
     tie.close
-    (tie.spec
-    refusal-requires
-    returns
-    next-update-requires
-    mul-seen
-    element-write-seen
-    access-requires
-    same-length
-    returns-2)
+    (tie.spec (λ c κs. search needs) returns next-update-requires mul-seen element-write-seen access-requires
+    (λ c. search needs) returns-2)

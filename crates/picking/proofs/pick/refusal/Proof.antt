@@ -21,21 +21,6 @@ returns c =
     let a = s .args in
     refused-by (s .pre .0) (a .made .now) (a .w) false _ _ (le-ltb (a .w) (a .crew) (c .if1 .taken)) refl refl
 
-mul-read-u32 : tie.Need-mul-read-u32
-mul-read-u32 c = search needs
-
-add-read-u32 : tie.Need-add-read-u32
-add-read-u32 c = search needs
-
-read-u32-requires : tie.Need-read-u32-requires
-read-u32-requires c κs = search needs
-
-mul-if2 : tie.Need-mul-if2
-mul-if2 c = search needs
-
-element-copy-out-if2 : tie.Need-element-copy-out-if2
-element-copy-out-if2 c = search needs
-
 -- the worker is one of the plan
 mine : (c : tie.Else1) → c .before .before .args .w < c .before .before .args .crew
 mine c = search needs
@@ -49,9 +34,6 @@ returns-2 c =
     let m : mostAt (s .pre .0) (a .made .now) (a .w) ≤ count (a .made .now) (a .w) = omega (arith, c .if2 .taken, c .before .before .read-u32 .ensures) in
     refused-by (s .pre .0) (a .made .now) (a .w) true true _ (lt-ltb (a .w) (a .crew) l) (le-leb _ _ m) refl
 
-next-update-requires : tie.Need-next-update-requires
-next-update-requires c κs = search needs
-
 -- .. and has an access left
 record Left (w crew made most : ℕ) : Type 0 where
   worker : w < crew
@@ -59,12 +41,6 @@ record Left (w crew made most : ℕ) : Type 0 where
 
 left : (c : tie.Else2) → let s = c .before .before .before .before .before in let a = s .args in Left (a .w) (a .crew) (count (a .made .now) (a .w)) (mostAt (s .pre .0) (a .made .now) (a .w))
 left c = record { worker = mine (c .before .before .before); left = omega (arith, c .if2 .left, c .before .before .read-u32 .ensures) }
-
-mul-if3 : tie.Need-mul-if3
-mul-if3 c = search needs
-
-element-copy-out-if3 : tie.Need-element-copy-out-if3
-element-copy-out-if3 c = search needs
 
 abbrev start : tie.After-next-update → tie.Start
 start u = u .before .before .before .before .before .before
@@ -88,15 +64,6 @@ returns-3 c =
     let row : nextAt (s .pre .0) (a .made .now) (a .w) .row ≡ getD (a .seen .now) (a .w) 0 = sym (row-is u) ∙ c .if3 .taken in
     let e = ap (λ (r : ℕ). shutAt (a .list .now) (gatesFrom (a .count)) (a .rows) r (a .made .now)) row ∙ s .pre .1 (a .w) (omega (arith, f .worker, s .pre .0 .few)) in
     refused-by (s .pre .0) (a .made .now) (a .w) true false false (lt-ltb (a .w) (a .crew) (f .worker)) (lt-leb _ _ (f .left)) e
-
-mul-is-shut : tie.Need-mul-is-shut
-mul-is-shut c = search needs
-
-add-is-shut : tie.Need-add-is-shut
-add-is-shut c = search needs
-
-is-shut-requires : tie.Need-is-shut-requires
-is-shut-requires c κs = search needs
 
 returns-4 : tie.Need-returns-4
 unfolding reason
@@ -123,20 +90,6 @@ returns-5 c =
 pub refusal-spec : {M : Type 1} → statement M
 refusal-spec =
     tie.close
-    (tie.spec
-    returns
-    mul-read-u32
-    add-read-u32
-    read-u32-requires
-    mul-if2
-    element-copy-out-if2
-    returns-2
-    next-update-requires
-    mul-if3
-    element-copy-out-if3
-    returns-3
-    mul-is-shut
-    add-is-shut
-    is-shut-requires
-    returns-4
-    returns-5)
+    (tie.spec returns (λ c. search needs) (λ c. search needs) (λ c κs. search needs) (λ c. search needs)
+    (λ c. search needs) returns-2 (λ c κs. search needs) (λ c. search needs) (λ c. search needs) returns-3
+    (λ c. search needs) (λ c. search needs) (λ c κs. search needs) returns-4 returns-5)

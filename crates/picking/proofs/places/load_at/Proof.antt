@@ -11,18 +11,9 @@ use Rattle.picking.proofs.places.load_at.Tie as tie
 returns : tie.Need-returns
 returns c = loaded-none _ _ _ (search needs)
 
-mul-read-u64 : tie.Need-mul-read-u64
-mul-read-u64 c = search needs
-
-read-u64-requires : tie.Need-read-u64-requires
-read-u64-requires c κs = search needs
-
-to-i64-requires : tie.Need-to-i64-requires
-to-i64-requires c κs = search needs
-
 returns-2 : tie.Need-returns-2
 returns-2 c = let h : SFits w64 (c .to-i64 .result) = search needs in toZ-ofZ h ∙ c .to-i64 .ensures ∙ ap (toSigned 8) (c .before .read-u64 .ensures) ∙ loaded-is _ _ _ (search needs)
 
 pub load-at-spec : {M : Type 1} → statement M
 load-at-spec =
-    tie.close (tie.spec returns mul-read-u64 read-u64-requires to-i64-requires returns-2)
+    tie.close (tie.spec returns (λ c. search needs) (λ c κs. search needs) (λ c κs. search needs) returns-2)

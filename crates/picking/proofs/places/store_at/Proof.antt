@@ -10,18 +10,6 @@ use borrow.Author.Needs.{needs}
 use Rattle.picking.proofs.places.store_at.Statement.{statement}
 use Rattle.picking.proofs.places.store_at.Tie as tie
 
-mul-write-u64 : tie.Need-mul-write-u64
-mul-write-u64 c = search needs
-
-of-i64-requires : tie.Need-of-i64-requires
-of-i64-requires c κs = search needs
-
-write-u64-requires : tie.Need-write-u64-requires
-write-u64-requires c κs = search needs
-
-same-length : tie.Need-same-length
-same-length c = search needs
-
 returns : tie.Need-returns
 returns c =
     let a = c .before .before .before .before .before .before .before .args in
@@ -35,4 +23,4 @@ returns-2 c = stored-none _ _ _ (search needs) _
 pub store-at-spec : {M : Type 1} → statement M
 store-at-spec =
     tie.close
-    (tie.spec mul-write-u64 of-i64-requires write-u64-requires same-length returns returns-2)
+    (tie.spec (λ c. search needs) (λ c κs. search needs) (λ c κs. search needs) (λ c. search needs) returns returns-2)

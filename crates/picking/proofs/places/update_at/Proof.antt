@@ -11,30 +11,6 @@ use Rattle.picking.proofs.places.update_at.Tie as tie
 returns : tie.Need-returns
 returns c = update-none _ _ _ (search needs)
 
-mul-at : tie.Need-mul-at
-mul-at c = search needs
-
-add-at : tie.Need-add-at
-add-at c = search needs
-
-read-u64-requires : tie.Need-read-u64-requires
-read-u64-requires c κs = search needs
-
-to-i64-requires : tie.Need-to-i64-requires
-to-i64-requires c κs = search needs
-
-add-number-at : tie.Need-add-number-at
-add-number-at c = search needs
-
-number-at-requires : tie.Need-number-at-requires
-number-at-requires c κs = search needs
-
-add-number-at-2 : tie.Need-add-number-at-2
-add-number-at-2 c = search needs
-
-number-at-requires-2 : tie.Need-number-at-requires-2
-number-at-requires-2 c κs = search needs
-
 returns-2 : tie.Need-returns-2
 returns-2 c =
     let h : SFits w64 (c .before .before .to-i64 .result) = search needs in
@@ -43,14 +19,5 @@ returns-2 c =
 pub update-at-spec : {M : Type 1} → statement M
 update-at-spec =
     tie.close
-    (tie.spec
-    returns
-    mul-at
-    add-at
-    read-u64-requires
-    to-i64-requires
-    add-number-at
-    number-at-requires
-    add-number-at-2
-    number-at-requires-2
-    returns-2)
+    (tie.spec returns (λ c. search needs) (λ c. search needs) (λ c κs. search needs) (λ c κs. search needs)
+    (λ c. search needs) (λ c κs. search needs) (λ c. search needs) (λ c κs. search needs) returns-2)

@@ -31,20 +31,8 @@ refusal-requires c κs =
     let a = s .args in
     (s .pre, opened-start (a .list .now) (a .rows) (a .count) (a .made .now) (replicate 16 4294967295) (s .pre .rows-low) (λ w l. getD-replicate 16 w 4294967295 0 l))
 
-cast-set : tie.Need-cast-set Inv-loop μ-loop
-cast-set c = search needs
-
-cast-set-2 : tie.Need-cast-set-2 Inv-loop μ-loop
-cast-set-2 c = search needs
-
 shl-set : tie.Need-shl-set Inv-loop μ-loop
 shl-set c = let few = c .before .before .before .before .before .pre .few in search needs
-
-add-w : tie.Need-add-w Inv-loop μ-loop
-add-w c = search needs
-
-loop-less : tie.Need-loop-less Inv-loop μ-loop
-loop-less c = search needs
 
 loop-again : tie.Need-loop-again Inv-loop μ-loop
 loop-again c =
@@ -65,15 +53,5 @@ returns c =
 pub ready-bits-spec : {M : Type 1} → statement M
 ready-bits-spec =
     tie.close
-    (tie.spec
-    Inv-loop
-    μ-loop
-    loop-holds
-    refusal-requires
-    cast-set
-    cast-set-2
-    shl-set
-    add-w
-    loop-less
-    loop-again
-    returns)
+    (tie.spec Inv-loop μ-loop loop-holds refusal-requires (λ c. search needs) (λ c. search needs) shl-set
+    (λ c. search needs) (λ c. search needs) loop-again returns)

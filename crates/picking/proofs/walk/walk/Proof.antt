@@ -34,9 +34,6 @@ loop-holds c =
     let a = s .args in
     (search needs, search needs, going-start refl (record { made-long = (let g = s .good in search needs); seen-long = refl; opened = opened-start (a .list .now) (a .rows) (a .count) (a .state .made) (replicate 16 4294967295) (s .pre .0 .rows-low) (λ w l. getD-replicate 16 w 4294967295 0 l) }))
 
-shared-slice-read-w : tie.Need-shared-slice-read-w Inv-loop μ-loop
-shared-slice-read-w c = search needs
-
 cast-w : tie.Need-cast-w Inv-loop μ-loop
 cast-w c = omega (arith, c .shared-slice-known3 .given (c .before .before .loop .k))
 
@@ -45,15 +42,6 @@ pick-requires c κs =
     let t = c .before .before .before .before .before in
     let g = t .before .loop .inv .2 in
     (entry t .pre .0, omega (arith, entry t .pre .1, g .kept .long), g .rows-seen)
-
-passes-requires : tie.Need-passes-requires Inv-loop μ-loop
-passes-requires c κs = search needs
-
-ended-requires : tie.Need-ended-requires Inv-loop μ-loop
-ended-requires c κs = search needs
-
-same-length : tie.Need-same-length Inv-loop μ-loop
-same-length c = search needs
 
 returns : tie.Need-returns Inv-loop μ-loop
 returns c =
@@ -102,12 +90,6 @@ loop-again-2 c =
       going-on (l .loop .inv .2) (t .loop-test .taken) (q .pick .ensures .0) (q .pick .ensures .2) (q .pick .ensures .1) refl (none c),
     )
 
-ended-requires-2 : tie.Need-ended-requires-2 Inv-loop μ-loop
-ended-requires-2 c κs = search needs
-
-same-length-2 : tie.Need-same-length-2 Inv-loop μ-loop
-same-length-2 c = search needs
-
 returns-2 : tie.Need-returns-2 Inv-loop μ-loop
 returns-2 c =
     let g = c .before .before .loop .inv .2 in
@@ -116,24 +98,6 @@ returns-2 c =
 pub walk-spec : {M : Type 1} → statement M
 walk-spec =
     tie.close
-    (tie.spec
-    Inv-loop
-    μ-loop
-    loop-holds
-    shared-slice-read-w
-    cast-w
-    pick-requires
-    passes-requires
-    ended-requires
-    same-length
-    returns
-    add-k
-    loop-less
-    loop-again
-    add-taken
-    add-k-2
-    loop-less-2
-    loop-again-2
-    ended-requires-2
-    same-length-2
-    returns-2)
+    (tie.spec Inv-loop μ-loop loop-holds (λ c. search needs) cast-w pick-requires (λ c κs. search needs)
+    (λ c κs. search needs) (λ c. search needs) returns add-k loop-less loop-again add-taken add-k-2 loop-less-2
+    loop-again-2 (λ c κs. search needs) (λ c. search needs) returns-2)

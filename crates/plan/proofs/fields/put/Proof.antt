@@ -20,8 +20,9 @@ returns c =
 pub put-spec : {M : Type 1} → statement M
 put-spec =
     tie.close
-    (tie.spec (search needs) (search needs) (search needs)
-    (search needs) (search needs) (λ c. simp length-set (omega arith)) (search needs) (search needs) (λ c. simp length-set (omega arith))
-    (search needs) (search needs) (λ c. simp length-set (omega arith)) (search needs) (search needs) (λ c. simp length-set (omega arith))
-    (search needs) (search needs) (λ c. simp length-set (omega arith)) (search needs) (search needs) (λ c. simp length-set (omega arith))
-    (search needs) returns)
+    (tie.spec (λ c. search needs) (λ c. search needs) (λ c. search needs) (λ c. search needs) (λ c. search needs)
+    (λ c. simp length-set (omega arith)) (λ c. search needs) (λ c. search needs) (λ c. simp length-set (omega arith))
+    (λ c. search needs) (λ c. search needs) (λ c. simp length-set (omega arith)) (λ c. search needs)
+    (λ c. search needs) (λ c. simp length-set (omega arith)) (λ c. search needs) (λ c. search needs)
+    (λ c. simp length-set (omega arith)) (λ c. search needs) (λ c. search needs) (λ c. simp length-set (omega arith))
+    (λ c. search needs) returns)

@@ -6,27 +6,6 @@ use Rattle.plan.proofs.fields.record_at.Tie as tie
 use Rattle.base.proofs.numbers.wide.Reads as wide-reads
 use Rattle.plan.proofs.fields.get.Reads as get-reads
 
-get-requires : tie.Need-get-requires
-get-requires c κs = search needs
-
-wide-requires : tie.Need-wide-requires
-wide-requires c κs = search needs
-
-wide-requires-2 : tie.Need-wide-requires-2
-wide-requires-2 c κs = search needs
-
-wide-requires-3 : tie.Need-wide-requires-3
-wide-requires-3 c κs = search needs
-
-wide-requires-4 : tie.Need-wide-requires-4
-wide-requires-4 c κs = search needs
-
-wide-requires-5 : tie.Need-wide-requires-5
-wide-requires-5 c κs = search needs
-
-wide-requires-6 : tie.Need-wide-requires-6
-wide-requires-6 c κs = search needs
-
 returns : tie.Need-returns
 returns c =
     let w₅ = c .before in
@@ -43,12 +22,5 @@ returns c =
 pub record-at-spec : {M : Type 1} → statement M
 record-at-spec =
     tie.close
-    (tie.spec
-    get-requires
-    wide-requires
-    wide-requires-2
-    wide-requires-3
-    wide-requires-4
-    wide-requires-5
-    wide-requires-6
-    returns)
+    (tie.spec (λ c κs. search needs) (λ c κs. search needs) (λ c κs. search needs) (λ c κs. search needs)
+    (λ c κs. search needs) (λ c κs. search needs) (λ c κs. search needs) returns)

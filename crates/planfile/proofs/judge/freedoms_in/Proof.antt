@@ -6,15 +6,9 @@ use Rattle.planfile.specs.File.{freedomsIn}
 use Rattle.planfile.proofs.judge.freedoms_in.Statement.{statement}
 use Rattle.planfile.proofs.judge.freedoms_in.Tie as tie
 
-number-at-requires : tie.Need-number-at-requires
-number-at-requires c κs = search needs
-
-cast-result : tie.Need-cast-result
-cast-result c = search needs
-
 returns : tie.Need-returns
 unfolding freedomsIn
 returns c = ap (λ (v : ℕ). v / 4) (c .number-at .ensures)
 
 pub freedoms-in-spec : {M : Type 1} → statement M
-freedoms-in-spec = tie.close (tie.spec number-at-requires cast-result returns)
+freedoms-in-spec = tie.close (tie.spec (λ c κs. search needs) (λ c. search needs) returns)

@@ -16,20 +16,8 @@ use Rattle.planfile.proofs.judge.is_file.Tie as tie
 counted : (c : tie.Else2) → let g = c .before .before in isSized (g .before .freedoms-in .result) (g .groups-in .result) ≡ true
 counted c = holds (c .before .is-sized .ensures) (c .if2 .left)
 
-mul-if1 : tie.Need-mul-if1
-mul-if1 c = search needs
-
 returns : tie.Need-returns
 returns c = sym (no-table (c .before .before .args .file .now) (omega arith))
-
-freedoms-in-requires : tie.Need-freedoms-in-requires
-freedoms-in-requires c κs = search needs
-
-groups-in-requires : tie.Need-groups-in-requires
-groups-in-requires c κs = search needs
-
-is-sized-requires : tie.Need-is-sized-requires
-is-sized-requires c κs = search needs
 
 returns-2 : tie.Need-returns-2
 returns-2 c =
@@ -49,12 +37,6 @@ returns-3 c =
 contents-of-requires : tie.Need-contents-of-requires
 contents-of-requires c κs = let s = sized _ _ (counted (c .before .before)) in (s .few, s .records)
 
-slice-aggregate-has-table : tie.Need-slice-aggregate-has-table
-slice-aggregate-has-table c = search needs
-
-has-table-requires : tie.Need-has-table-requires
-has-table-requires c κs = search needs
-
 returns-4 : tie.Need-returns-4
 returns-4 c =
     let t = c .before .before in
@@ -68,16 +50,5 @@ returns-4 c =
 pub is-file-spec : {M : Type 1} → statement M
 is-file-spec =
     tie.close
-    (tie.spec
-    mul-if1
-    returns
-    freedoms-in-requires
-    groups-in-requires
-    is-sized-requires
-    returns-2
-    file-size-requires
-    returns-3
-    contents-of-requires
-    slice-aggregate-has-table
-    has-table-requires
-    returns-4)
+    (tie.spec (λ c. search needs) returns (λ c κs. search needs) (λ c κs. search needs) (λ c κs. search needs)
+    returns-2 file-size-requires returns-3 contents-of-requires (λ c. search needs) (λ c κs. search needs) returns-4)

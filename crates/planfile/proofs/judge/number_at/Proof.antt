@@ -5,14 +5,8 @@ use Rattle.words.proofs.Bytes.{four-number}
 use Rattle.planfile.proofs.judge.number_at.Statement.{statement}
 use Rattle.planfile.proofs.judge.number_at.Tie as tie
 
-mul-read-u32 : tie.Need-mul-read-u32
-mul-read-u32 c = search needs
-
-read-u32-requires : tie.Need-read-u32-requires
-read-u32-requires c κs = search needs
-
 returns : tie.Need-returns
 returns c = let s = c .before .before in c .read-u32 .ensures ∙ four-number (s .args .file .now) (s .args .k) (s .pre)
 
 pub number-at-spec : {M : Type 1} → statement M
-number-at-spec = tie.close (tie.spec mul-read-u32 read-u32-requires returns)
+number-at-spec = tie.close (tie.spec (λ c. search needs) (λ c κs. search needs) returns)

@@ -22,21 +22,6 @@ rows-few c =
     let f = c .before .before .before .before .before in
     omega (arith, whole-file (readable (f .before)), f .freedoms-in .ensures)
 
-reply-requires : tie.Need-reply-requires
-reply-requires c κs = search needs
-
-enum-told : tie.Need-enum-told
-enum-told c = search needs
-
-enum-told-2 : tie.Need-enum-told-2
-enum-told-2 c = search needs
-
-same-length : tie.Need-same-length
-same-length c = search needs
-
-same-length-2 : tie.Need-same-length-2
-same-length-2 c = search needs
-
 returns : tie.Need-returns
 returns c =
     let m = c .before .before .reply in
@@ -51,9 +36,6 @@ groups-in-requires c κs = omega (arith, whole-file (readable (c .before)))
 
 mul-fields : tie.Need-mul-fields
 mul-fields c = record { fits = omega (arith, whole-file (readable (c .before .before)), c .groups-in .ensures) }
-
-mul-copy : tie.Need-mul-copy
-mul-copy c = search needs
 
 mul-copy-2 : tie.Need-mul-copy-2
 mul-copy-2 c = record { fits = omega (arith, whole-file (readable (c .before .before)), c .before .freedoms-in .ensures) }
@@ -81,12 +63,6 @@ copy-requires-2 c κs =
     let r = readable (g .before .before) in
     (omega (arith, whole-file r, g .before .freedoms-in .ensures, g .groups-in .ensures), omega (arith, r .fields, g .groups-in .ensures))
 
-same-length-3 : tie.Need-same-length-3
-same-length-3 c = search needs
-
-same-length-4 : tie.Need-same-length-4
-same-length-4 c = search needs
-
 returns-2 : tie.Need-returns-2
 returns-2 c =
     let g = c .before .before .before .before .before .before .before .before in
@@ -106,23 +82,6 @@ returns-2 c =
 pub read-spec : {M : Type 1} → statement M
 read-spec =
     tie.close
-    (tie.spec
-    reply-requires
-    enum-told
-    enum-told-2
-    same-length
-    same-length-2
-    returns
-    freedoms-in-requires
-    groups-in-requires
-    mul-fields
-    mul-copy
-    mul-copy-2
-    copy-requires
-    add-copy
-    mul-copy-3
-    mul-copy-4
-    copy-requires-2
-    same-length-3
-    same-length-4
-    returns-2)
+    (tie.spec (λ c κs. search needs) (λ c. search needs) (λ c. search needs) (λ c. search needs) (λ c. search needs)
+    returns freedoms-in-requires groups-in-requires mul-fields (λ c. search needs) mul-copy-2 copy-requires add-copy
+    mul-copy-3 mul-copy-4 copy-requires-2 (λ c. search needs) (λ c. search needs) returns-2)

@@ -23,9 +23,6 @@ few c =
     let s = file-sized _ (made (c .before .before)) in
     (rw (c .before .freedoms-in .ensures) (s .few), rw (c .groups-in .ensures) (s .records))
 
-is-file-requires : tie.Need-is-file-requires
-is-file-requires c κs = search needs
-
 returns : tie.Need-returns
 unfolding readPlanReply inTurn
 returns c = rw (fails (c .before .is-file .ensures) (c .if1 .taken))
@@ -72,16 +69,5 @@ returns-4 c =
 pub reply-spec : {M : Type 1} → statement M
 reply-spec =
     tie.close
-    (tie.spec
-    is-file-requires
-    returns
-    freedoms-in-requires
-    groups-in-requires
-    cast-t10
-    returns-2
-    cast-t12
-    returns-3
-    mul-t8
-    add-t9
-    cast-t13
-    returns-4)
+    (tie.spec (λ c κs. search needs) returns freedoms-in-requires groups-in-requires cast-t10 returns-2 cast-t12
+    returns-3 mul-t8 add-t9 cast-t13 returns-4)

@@ -12,36 +12,12 @@ use Rattle.planfile.proofs.write.fill.Tie as tie
 contents-of-requires : tie.Need-contents-of-requires
 contents-of-requires c κs = let s = sized _ _ (c .before .before .before .pre .sized) in (s .few, s .records)
 
-slice-aggregate-store-u32 : tie.Need-slice-aggregate-store-u32
-slice-aggregate-store-u32 c = search needs
-
-store-u32-requires : tie.Need-store-u32-requires
-store-u32-requires c κs = search needs
-
-mul-copy : tie.Need-mul-copy
-mul-copy c = search needs
-
-mul-copy-2 : tie.Need-mul-copy-2
-mul-copy-2 c = search needs
-
 copy-requires : tie.Need-copy-requires
 copy-requires c κs =
     let store = c .before .before .before in
     let start = store .before .before .before .before .before .before .before in
     let w = start .pre in
     (omega (arith, w .rows), rw (store .store-u32 .kept .1 .0) (omega (arith, room _ _ _ _ (start .args .file .now) w)))
-
-mul-copy-3 : tie.Need-mul-copy-3
-mul-copy-3 c = search needs
-
-mul-copy-4 : tie.Need-mul-copy-4
-mul-copy-4 c = search needs
-
-add-copy : tie.Need-add-copy
-add-copy c = search needs
-
-mul-copy-5 : tie.Need-mul-copy-5
-mul-copy-5 c = search needs
 
 copy-requires-2 : tie.Need-copy-requires-2
 copy-requires-2 c κs =
@@ -50,9 +26,6 @@ copy-requires-2 c κs =
     let start = store .before .before .before .before .before .before .before in
     let w = start .pre in
     (omega (arith, w .fields), rw (copied .copy .kept .1 .1 .1 .0, store .store-u32 .kept .1 .0) (omega (arith, room _ _ _ _ (start .args .file .now) w)))
-
-same-length : tie.Need-same-length
-same-length c = search needs
 
 returns : tie.Need-returns
 returns c =
@@ -71,17 +44,6 @@ returns c =
 pub fill-spec : {M : Type 1} → statement M
 fill-spec =
     tie.close
-    (tie.spec
-    contents-of-requires
-    slice-aggregate-store-u32
-    store-u32-requires
-    mul-copy
-    mul-copy-2
-    copy-requires
-    mul-copy-3
-    mul-copy-4
-    add-copy
-    mul-copy-5
-    copy-requires-2
-    same-length
-    returns)
+    (tie.spec contents-of-requires (λ c. search needs) (λ c κs. search needs) (λ c. search needs) (λ c. search needs)
+    copy-requires (λ c. search needs) (λ c. search needs) (λ c. search needs) (λ c. search needs) copy-requires-2
+    (λ c. search needs) returns)

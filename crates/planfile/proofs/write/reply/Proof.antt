@@ -15,9 +15,6 @@ use Rattle.planfile.proofs.write.reply.Tie as tie
 counted : (c : tie.Else1) → let a = c .before .before .before .before .args in isSized (a .n) (a .group-count) ≡ true
 counted c = holds (c .before .is-sized .ensures) (c .if1 .left)
 
-is-sized-requires : tie.Need-is-sized-requires
-is-sized-requires c κs = search needs
-
 returns : tie.Need-returns
 unfolding writePlanReply inTurn
 returns c = rw (fails (c .before .is-sized .ensures) (c .if1 .taken))
@@ -26,9 +23,6 @@ returns-2 : tie.Need-returns-2
 unfolding writePlanReply inTurn
 returns-2 c = rw (counted (c .before), lt-leb _ _ (c .if2 .taken))
 
-mul-if3 : tie.Need-mul-if3
-mul-if3 c = search needs
-
 returns-3 : tie.Need-returns-3
 unfolding writePlanReply inTurn
 returns-3 c = rw (counted (c .before .before), le-leb _ _ (c .before .if2 .left), lt-leb _ _ (c .if3 .taken))
@@ -36,17 +30,11 @@ returns-3 c = rw (counted (c .before .before), le-leb _ _ (c .before .if2 .left)
 file-size-requires : tie.Need-file-size-requires
 file-size-requires c κs = let s = sized _ _ (counted (c .before .before)) in (s .few, s .records)
 
-cast-t14 : tie.Need-cast-t14
-cast-t14 c = search needs
-
 returns-4 : tie.Need-returns-4
 unfolding writePlanReply inTurn
 returns-4 c =
     let e = c .before .before in
     rw (counted (e .before .before), le-leb _ _ (e .before .if2 .left), le-leb _ _ (e .if3 .left), ← c .before .file-size .ensures .0, lt-leb _ _ (c .if4 .taken))
-
-cast-t15 : tie.Need-cast-t15
-cast-t15 c = search needs
 
 returns-5 : tie.Need-returns-5
 unfolding writePlanReply inTurn
@@ -57,14 +45,5 @@ returns-5 c =
 pub reply-spec : {M : Type 1} → statement M
 reply-spec =
     tie.close
-    (tie.spec
-    is-sized-requires
-    returns
-    returns-2
-    mul-if3
-    returns-3
-    file-size-requires
-    cast-t14
-    returns-4
-    cast-t15
-    returns-5)
+    (tie.spec (λ c κs. search needs) returns returns-2 (λ c. search needs) returns-3 file-size-requires
+    (λ c. search needs) returns-4 (λ c. search needs) returns-5)

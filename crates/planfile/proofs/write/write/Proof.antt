@@ -7,15 +7,6 @@ use Rattle.planfile.proofs.Parts.{write-accepted}
 use Rattle.planfile.proofs.write.write.Statement.{statement}
 use Rattle.planfile.proofs.write.write.Tie as tie
 
-reply-requires : tie.Need-reply-requires
-reply-requires c κs = search needs
-
-enum-told : tie.Need-enum-told
-enum-told c = search needs
-
-enum-told-2 : tie.Need-enum-told-2
-enum-told-2 c = search needs
-
 returns : tie.Need-returns
 returns c =
     let m = c .before .before .reply in
@@ -23,9 +14,6 @@ returns c =
 
 fill-requires : tie.Need-fill-requires
 fill-requires c κs = write-accepted _ _ _ _ _ _ (sym (c .before .before .before .reply .ensures) ∙ ap replyOf (c .before .enum-told .given .1))
-
-same-length : tie.Need-same-length
-same-length c = search needs
 
 returns-2 : tie.Need-returns-2
 returns-2 c =
@@ -36,4 +24,5 @@ returns-2 c =
 pub write-spec : {M : Type 1} → statement M
 write-spec =
     tie.close
-    (tie.spec reply-requires enum-told enum-told-2 returns fill-requires same-length returns-2)
+    (tie.spec (λ c κs. search needs) (λ c. search needs) (λ c. search needs) returns fill-requires (λ c. search needs)
+    returns-2)

@@ -94,15 +94,5 @@ returns-2 c =
 pub plan-rows-spec : {M : Type 1} → statement M
 plan-rows-spec =
     tie.close
-    (tie.spec
-    number-requires
-    put-degrees-requires
-    cast-t15
-    plan-group-requires
-    sort-rows-requires
-    same-length
-    same-length-2
-    returns
-    same-length-3
-    same-length-4
-    returns-2)
+    (tie.spec number-requires put-degrees-requires cast-t15 plan-group-requires sort-rows-requires same-length
+    same-length-2 returns same-length-3 same-length-4 returns-2)

@@ -26,30 +26,12 @@ loop-holds c =
     let f : ℕ → ℕ = gateNumber (a .leaves .now) (a .table .now) in
     fill-none (fourOf f) 4 (four-long f) (a .out .now) (a .from) (a .n * 16)
 
-mul-loop : tie.Need-mul-loop Inv-loop μ-loop
-mul-loop c = search needs
-
-mul-wide : tie.Need-mul-wide Inv-loop μ-loop
-mul-wide c = search needs
-
-element-copy-out-wide : tie.Need-element-copy-out-wide Inv-loop μ-loop
-element-copy-out-wide c = search needs
-
-wide-requires : tie.Need-wide-requires Inv-loop μ-loop
-wide-requires c κs = search needs
-
 -- the leaf's number is an index
 leaf-low : (w : tie.After-wide Inv-loop μ-loop) → w .wide .result < 512
 leaf-low w =
     let l = w .before .before .before in
     let s = l .before .before in
     omega (arith, w .wide .ensures, s .pre .2 (l .loop .k / 16))
-
-mul-write-u32 : tie.Need-mul-write-u32 Inv-loop μ-loop
-mul-write-u32 c = search needs
-
-add-write-u32 : tie.Need-add-write-u32 Inv-loop μ-loop
-add-write-u32 c = search needs
 
 mul-write-u32-2 : tie.Need-mul-write-u32-2 Inv-loop μ-loop
 mul-write-u32-2 c = let low = leaf-low (c .before) in search needs
@@ -63,15 +45,6 @@ mul-write-u32-3 c = let low = leaf-low (c .before) in search needs
 element-copy-out-write-u32 : tie.Need-element-copy-out-write-u32 Inv-loop μ-loop
 element-copy-out-write-u32 c = let low = leaf-low (c .before) in search needs
 
-write-u32-requires : tie.Need-write-u32-requires Inv-loop μ-loop
-write-u32-requires c κs = search needs
-
-add-k : tie.Need-add-k Inv-loop μ-loop
-add-k c = search needs
-
-loop-less : tie.Need-loop-less Inv-loop μ-loop
-loop-less c = search needs
-
 loop-again : tie.Need-loop-again Inv-loop μ-loop
 loop-again c =
     let w = c .before .before in
@@ -82,9 +55,6 @@ loop-again c =
     let f : ℕ → ℕ = gateNumber (a .leaves .now) (a .table .now) in
     fill-more (fourOf f) 4 (four-long f) (a .out .now) (a .from) (a .n * 16) (l .loop .out) _ (l .loop .k) (t .loop-test .taken)
     (w .write-u32 .ensures ∙ ap (λ (i : ℕ). sets (l .loop .out) (a .from + l .loop .k * 4) (bytesOf 4 (getD (a .table .now) (i * 16 + l .loop .k % 16) 0))) (x .wide .ensures)) (l .loop .inv)
-
-same-length : tie.Need-same-length Inv-loop μ-loop
-same-length c = search needs
 
 returns : tie.Need-returns Inv-loop μ-loop
 returns c =
@@ -97,23 +67,7 @@ returns c =
 pub store-gates-spec : {M : Type 1} → statement M
 store-gates-spec =
     tie.close
-    (tie.spec
-    Inv-loop
-    μ-loop
-    loop-holds
-    mul-loop
-    mul-wide
-    element-copy-out-wide
-    wide-requires
-    mul-write-u32
-    add-write-u32
-    mul-write-u32-2
-    add-write-u32-2
-    mul-write-u32-3
-    element-copy-out-write-u32
-    write-u32-requires
-    add-k
-    loop-less
-    loop-again
-    same-length
-    returns)
+    (tie.spec Inv-loop μ-loop loop-holds (λ c. search needs) (λ c. search needs) (λ c. search needs)
+    (λ c κs. search needs) (λ c. search needs) (λ c. search needs) mul-write-u32-2 add-write-u32-2 mul-write-u32-3
+    element-copy-out-write-u32 (λ c κs. search needs) (λ c. search needs) (λ c. search needs) loop-again
+    (λ c. search needs) returns)

@@ -24,27 +24,6 @@ loop-holds c =
     let a = c .before .before .args in
     fill-none (fourOf (λ i. getD (a .numbers .now) i 0)) 4 (four-long (λ i. getD (a .numbers .now) i 0)) (a .out .now) (a .from) (length (a .numbers .now))
 
-mul-write-u32 : tie.Need-mul-write-u32 Inv-loop μ-loop
-mul-write-u32 c = search needs
-
-add-write-u32 : tie.Need-add-write-u32 Inv-loop μ-loop
-add-write-u32 c = search needs
-
-mul-write-u32-2 : tie.Need-mul-write-u32-2 Inv-loop μ-loop
-mul-write-u32-2 c = search needs
-
-shared-slice-read-write-u32 : tie.Need-shared-slice-read-write-u32 Inv-loop μ-loop
-shared-slice-read-write-u32 c = search needs
-
-write-u32-requires : tie.Need-write-u32-requires Inv-loop μ-loop
-write-u32-requires c κs = search needs
-
-add-k : tie.Need-add-k Inv-loop μ-loop
-add-k c = search needs
-
-loop-less : tie.Need-loop-less Inv-loop μ-loop
-loop-less c = search needs
-
 loop-again : tie.Need-loop-again Inv-loop μ-loop
 loop-again c =
     let w = c .before .before in
@@ -53,9 +32,6 @@ loop-again c =
     let a = l .before .before .before .args in
     let f : ℕ → ℕ = λ i. getD (a .numbers .now) i 0 in
     fill-more (fourOf f) 4 (four-long f) (a .out .now) (a .from) (length (a .numbers .now)) (l .loop .out) _ (l .loop .k) (t .loop-test .taken) (w .write-u32 .ensures) (l .loop .inv)
-
-same-length : tie.Need-same-length Inv-loop μ-loop
-same-length c = search needs
 
 returns : tie.Need-returns Inv-loop μ-loop
 returns c =
@@ -69,17 +45,6 @@ returns c =
 pub store-numbers-spec : {M : Type 1} → statement M
 store-numbers-spec =
     tie.close
-    (tie.spec
-    Inv-loop
-    μ-loop
-    loop-holds
-    mul-write-u32
-    add-write-u32
-    mul-write-u32-2
-    shared-slice-read-write-u32
-    write-u32-requires
-    add-k
-    loop-less
-    loop-again
-    same-length
+    (tie.spec Inv-loop μ-loop loop-holds (λ c. search needs) (λ c. search needs) (λ c. search needs)
+    (λ c. search needs) (λ c κs. search needs) (λ c. search needs) (λ c. search needs) loop-again (λ c. search needs)
     returns)

@@ -14,33 +14,6 @@ use borrow.Author.Needs.{needs}
 use Rattle.preparing.proofs.fill.store_update.Statement.{statement}
 use Rattle.preparing.proofs.fill.store_update.Tie as tie
 
-of-i64-requires : tie.Need-of-i64-requires
-of-i64-requires c κs = search needs
-
-write-u64-requires : tie.Need-write-u64-requires
-write-u64-requires c κs = search needs
-
-add-write-u32 : tie.Need-add-write-u32
-add-write-u32 c = search needs
-
-cast-write-u32 : tie.Need-cast-write-u32
-cast-write-u32 c = search needs
-
-write-u32-requires : tie.Need-write-u32-requires
-write-u32-requires c κs = search needs
-
-add-write-u32-2 : tie.Need-add-write-u32-2
-add-write-u32-2 c = search needs
-
-cast-write-u32-2 : tie.Need-cast-write-u32-2
-cast-write-u32-2 c = search needs
-
-write-u32-requires-2 : tie.Need-write-u32-requires-2
-write-u32-requires-2 c κs = search needs
-
-same-length : tie.Need-same-length
-same-length c = search needs
-
 amount-fits : (s : tie.Start) → SFits w64 (s .args .amount)
 amount-fits s = search needs
 
@@ -61,14 +34,5 @@ returns c =
 pub store-update-spec : {M : Type 1} → statement M
 store-update-spec =
     tie.close
-    (tie.spec
-    of-i64-requires
-    write-u64-requires
-    add-write-u32
-    cast-write-u32
-    write-u32-requires
-    add-write-u32-2
-    cast-write-u32-2
-    write-u32-requires-2
-    same-length
-    returns)
+    (tie.spec (λ c κs. search needs) (λ c κs. search needs) (λ c. search needs) (λ c. search needs)
+    (λ c κs. search needs) (λ c. search needs) (λ c. search needs) (λ c κs. search needs) (λ c. search needs) returns)

@@ -36,15 +36,6 @@ loop-holds c =
 abbrev entry : tie.In-loop Inv-loop μ-loop → tie.Start Inv-loop μ-loop
 entry t = t .before .before .before
 
-mul-wide : tie.Need-mul-wide Inv-loop μ-loop
-mul-wide c = search needs
-
-element-copy-out-wide : tie.Need-element-copy-out-wide Inv-loop μ-loop
-element-copy-out-wide c = search needs
-
-wide-requires : tie.Need-wide-requires Inv-loop μ-loop
-wide-requires c κs = search needs
-
 -- the row of update number k
 row-is : (w : tie.After-wide Inv-loop μ-loop) → let t = w .before .before in w .wide .result ≡ getD (entry t .args .row .now) (t .before .loop .k) 0
 row-is w = search needs
@@ -60,9 +51,6 @@ mul-wide-2 c = let low = row-low c in search needs
 
 element-copy-out-wide-2 : tie.Need-element-copy-out-wide-2 Inv-loop μ-loop
 element-copy-out-wide-2 c = let low = row-low c in search needs
-
-wide-requires-2 : tie.Need-wide-requires-2 Inv-loop μ-loop
-wide-requires-2 c κs = search needs
 
 -- where its row's begin, and its entry
 record Reads (n p b begin k entry : ℕ) : Type 0 where
@@ -113,12 +101,6 @@ target-low y =
     let low : targetIn (s .args .parts .now) (s .args .at .now) (w .wide .result) (t .before .loop .k - x .wide2 .result) < n = by-low (t .before .loop .k - x .wide2 .result) _ (w .wide .result) (s .pre .2 .1 .at-low _) (r .low) in
     omega (arith, y .target-of .ensures, low, r .few)
 
-mul-store-update : tie.Need-mul-store-update Inv-loop μ-loop
-mul-store-update c = search needs
-
-add-store-update : tie.Need-add-store-update Inv-loop μ-loop
-add-store-update c = search needs
-
 store-update-requires : tie.Need-store-update-requires Inv-loop μ-loop
 store-update-requires c κs =
     let y = c .before .before in
@@ -127,12 +109,6 @@ store-update-requires c κs =
     let t = w .before .before in
     let s = entry t in
     (omega (arith, t .loop-test .taken, s .pre .0, t .before .loop .inv .long), omega (arith, target-low y), omega (arith, row-low w))
-
-add-k : tie.Need-add-k Inv-loop μ-loop
-add-k c = search needs
-
-loop-less : tie.Need-loop-less Inv-loop μ-loop
-loop-less c = search needs
 
 amount-fits : (z : tie.After-amount-of Inv-loop μ-loop) → SFits w64 (z .amount-of .result)
 amount-fits z = search needs
@@ -156,9 +132,6 @@ loop-again c =
     fill-more (updateOf f) 16 (update-long f) (a .out .now) (a .from) (a .count) (l .loop .out) _ k (t .loop-test .taken)
     (o .store-update .ensures ∙ ap (λ (u : Update). sets (l .loop .out) (a .from + k * 16) (bytesOfUpdate u)) same) (l .loop .inv)
 
-same-length : tie.Need-same-length Inv-loop μ-loop
-same-length c = search needs
-
 returns : tie.Need-returns Inv-loop μ-loop
 returns c =
     let l = c .before in
@@ -170,24 +143,7 @@ returns c =
 pub store-updates-spec : {M : Type 1} → statement M
 store-updates-spec =
     tie.close
-    (tie.spec
-    Inv-loop
-    μ-loop
-    loop-holds
-    mul-wide
-    element-copy-out-wide
-    wide-requires
-    mul-wide-2
-    element-copy-out-wide-2
-    wide-requires-2
-    sub-c
-    target-of-requires
-    amount-of-requires
-    mul-store-update
-    add-store-update
-    store-update-requires
-    add-k
-    loop-less
-    loop-again
-    same-length
+    (tie.spec Inv-loop μ-loop loop-holds (λ c. search needs) (λ c. search needs) (λ c κs. search needs) mul-wide-2
+    element-copy-out-wide-2 (λ c κs. search needs) sub-c target-of-requires amount-of-requires (λ c. search needs)
+    (λ c. search needs) store-update-requires (λ c. search needs) (λ c. search needs) loop-again (λ c. search needs)
     returns)

@@ -6,9 +6,6 @@ use borrow.Author.Needs.{needs}
 use Rattle.preparing.proofs.gates.gate_if.Statement.{statement}
 use Rattle.preparing.proofs.gates.gate_if.Tie as tie
 
-larger-requires : tie.Need-larger-requires
-larger-requires c κs = search needs
-
 returns : tie.Need-returns
 returns c = c .larger .ensures ∙ rw (eq-eqb _ _ (c .before .if1 .taken))
 
@@ -16,4 +13,4 @@ returns-2 : tie.Need-returns-2
 returns-2 c = rw (ne-eqb _ _ (c .if1 .left)) (omega arith)
 
 pub gate-if-spec : {M : Type 1} → statement M
-gate-if-spec = tie.close (tie.spec larger-requires returns returns-2)
+gate-if-spec = tie.close (tie.spec (λ c κs. search needs) returns returns-2)

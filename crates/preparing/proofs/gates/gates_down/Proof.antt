@@ -19,9 +19,6 @@ abbrev μ-loop : tie.MeasureT-loop
 loop-holds : tie.Need-loop-holds Inv-loop μ-loop
 loop-holds c = (search needs, c .before .pre .some, gated-none (c .before .args .groups .now) (c .before .args .reds .now))
 
-record-at-requires : tie.Need-record-at-requires Inv-loop μ-loop
-record-at-requires c κs = search needs
-
 -- the parent's number is an index
 parent-low : (c : tie.After-record-at Inv-loop μ-loop) → c .record-at .result .parent < 512
 parent-low c =
@@ -40,21 +37,6 @@ mul-gate-if-2 c = let low = parent-low c in search needs
 
 element-copy-out-gate-if : tie.Need-element-copy-out-gate-if Inv-loop μ-loop
 element-copy-out-gate-if c = let low = parent-low c in search needs
-
-gate-if-requires : tie.Need-gate-if-requires Inv-loop μ-loop
-gate-if-requires c κs = search needs
-
-mul-gates : tie.Need-mul-gates Inv-loop μ-loop
-mul-gates c = search needs
-
-array-write-gates : tie.Need-array-write-gates Inv-loop μ-loop
-array-write-gates c = search needs
-
-add-i : tie.Need-add-i Inv-loop μ-loop
-add-i c = search needs
-
-loop-less : tie.Need-loop-less Inv-loop μ-loop
-loop-less c = search needs
 
 loop-again : tie.Need-loop-again Inv-loop μ-loop
 loop-again c =
@@ -78,19 +60,6 @@ returns c =
 pub gates-down-spec : {M : Type 1} → statement M
 gates-down-spec =
     tie.close
-    (tie.spec
-    Inv-loop
-    μ-loop
-    loop-holds
-    record-at-requires
-    mul-gate-if
-    array-read-gate-if
-    mul-gate-if-2
-    element-copy-out-gate-if
-    gate-if-requires
-    mul-gates
-    array-write-gates
-    add-i
-    loop-less
-    loop-again
-    returns)
+    (tie.spec Inv-loop μ-loop loop-holds (λ c κs. search needs) mul-gate-if array-read-gate-if mul-gate-if-2
+    element-copy-out-gate-if (λ c κs. search needs) (λ c. search needs) (λ c. search needs) (λ c. search needs)
+    (λ c. search needs) loop-again returns)

@@ -23,39 +23,12 @@ loop-holds c =
     let a = s .args in
     (s .pre .some, search needs, backward-none (a .count) (a .groups .now) (a .ends .now) (a .v))
 
-sub-i : tie.Need-sub-i Inv-loop μ-loop
-sub-i c = search needs
-
-record-at-requires : tie.Need-record-at-requires Inv-loop μ-loop
-record-at-requires c κs = search needs
-
 -- the parent's number is an index
 parent-low : (c : tie.After-record-at Inv-loop μ-loop) → c .record-at .result .parent < 512
 parent-low c =
     let l = c .before .before in
     let s = l .before .before in
     omega (arith, ap (λ (g : Group). g .parent) (c .record-at .ensures .is), s .pre .parents (l .loop .i - 1) (omega (arith, c .before .loop-test .taken)) (omega (arith, l .loop .inv .1, c .before .loop-test .taken)), s .pre .few, l .loop .inv .1)
-
-array-read-last-if : tie.Need-array-read-last-if Inv-loop μ-loop
-array-read-last-if c = search needs
-
-mul-last-if : tie.Need-mul-last-if Inv-loop μ-loop
-mul-last-if c = search needs
-
-array-read-last-if-2 : tie.Need-array-read-last-if-2 Inv-loop μ-loop
-array-read-last-if-2 c = search needs
-
-mul-own-end : tie.Need-mul-own-end Inv-loop μ-loop
-mul-own-end c = search needs
-
-element-copy-out-own-end : tie.Need-element-copy-out-own-end Inv-loop μ-loop
-element-copy-out-own-end c = search needs
-
-own-end-requires : tie.Need-own-end-requires Inv-loop μ-loop
-own-end-requires c κs = search needs
-
-last-if-requires : tie.Need-last-if-requires Inv-loop μ-loop
-last-if-requires c κs = search needs
 
 array-write-parents : tie.Need-array-write-parents Inv-loop μ-loop
 array-write-parents c = let low = parent-low (c .before .before .before) in search needs
@@ -66,17 +39,11 @@ mul-larger c = let low = parent-low (c .before .before .before) in search needs
 array-read-larger : tie.Need-array-read-larger Inv-loop μ-loop
 array-read-larger c = let low = parent-low (c .before .before .before) in search needs
 
-larger-requires : tie.Need-larger-requires Inv-loop μ-loop
-larger-requires c κs = search needs
-
 mul-lasts : tie.Need-mul-lasts Inv-loop μ-loop
 mul-lasts c = let low = parent-low (c .before .before .before .before) in search needs
 
 array-write-lasts : tie.Need-array-write-lasts Inv-loop μ-loop
 array-write-lasts c = let low = parent-low (c .before .before .before .before) in search needs
-
-red-last-requires : tie.Need-red-last-requires Inv-loop μ-loop
-red-last-requires c κs = search needs
 
 mul-larger-2 : tie.Need-mul-larger-2 Inv-loop μ-loop
 mul-larger-2 c = let low = parent-low (c .before .before .before .before .before) in search needs
@@ -84,17 +51,11 @@ mul-larger-2 c = let low = parent-low (c .before .before .before .before .before
 array-read-larger-2 : tie.Need-array-read-larger-2 Inv-loop μ-loop
 array-read-larger-2 c = let low = parent-low (c .before .before .before .before .before) in search needs
 
-larger-requires-2 : tie.Need-larger-requires-2 Inv-loop μ-loop
-larger-requires-2 c κs = search needs
-
 mul-reds : tie.Need-mul-reds Inv-loop μ-loop
 mul-reds c = let low = parent-low (c .before .before .before .before .before .before) in search needs
 
 array-write-reds : tie.Need-array-write-reds Inv-loop μ-loop
 array-write-reds c = let low = parent-low (c .before .before .before .before .before .before) in search needs
-
-loop-less : tie.Need-loop-less Inv-loop μ-loop
-loop-less c = search needs
 
 loop-again : tie.Need-loop-again Inv-loop μ-loop
 loop-again c =
@@ -123,31 +84,8 @@ returns c =
 pub red-ends-spec : {M : Type 1} → statement M
 red-ends-spec =
     tie.close
-    (tie.spec
-    Inv-loop
-    μ-loop
-    loop-holds
-    sub-i
-    record-at-requires
-    array-read-last-if
-    mul-last-if
-    array-read-last-if-2
-    mul-own-end
-    element-copy-out-own-end
-    own-end-requires
-    last-if-requires
-    array-write-parents
-    mul-larger
-    array-read-larger
-    larger-requires
-    mul-lasts
-    array-write-lasts
-    red-last-requires
-    mul-larger-2
-    array-read-larger-2
-    larger-requires-2
-    mul-reds
-    array-write-reds
-    loop-less
-    loop-again
-    returns)
+    (tie.spec Inv-loop μ-loop loop-holds (λ c. search needs) (λ c κs. search needs) (λ c. search needs)
+    (λ c. search needs) (λ c. search needs) (λ c. search needs) (λ c. search needs) (λ c κs. search needs)
+    (λ c κs. search needs) array-write-parents mul-larger array-read-larger (λ c κs. search needs) mul-lasts
+    array-write-lasts (λ c κs. search needs) mul-larger-2 array-read-larger-2 (λ c κs. search needs) mul-reds
+    array-write-reds (λ c. search needs) loop-again returns)

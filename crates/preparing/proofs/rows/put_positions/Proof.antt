@@ -26,12 +26,6 @@ room s = omega (arith, s .pre .1, s .pre .3)
 loop-holds : tie.Need-loop-holds Inv-loop μ-loop
 loop-holds c = let s = c .before in (search needs, positions-none (s .args .n) _ (each s) _ (room s))
 
-cast-places : tie.Need-cast-places Inv-loop μ-loop
-cast-places c = search needs
-
-wide-at-requires : tie.Need-wide-at-requires Inv-loop μ-loop
-wide-at-requires c κs = search needs
-
 -- the row at p
 row : (c : tie.After-wide-at Inv-loop μ-loop) → let l = c .before .before in let a = l .before .before .args in c .wide-at .result ≡ getD (take (a .n) (a .order .now)) (l .loop .p) 0
 row c =
@@ -50,12 +44,6 @@ mul-places c = let low = row-low c in search needs
 
 element-write-places : tie.Need-element-write-places Inv-loop μ-loop
 element-write-places c = let low = row-low c in search needs
-
-add-p : tie.Need-add-p Inv-loop μ-loop
-add-p c = search needs
-
-loop-less : tie.Need-loop-less Inv-loop μ-loop
-loop-less c = search needs
 
 loop-again : tie.Need-loop-again Inv-loop μ-loop
 loop-again c =
@@ -77,15 +65,5 @@ returns c =
 pub put-positions-spec : {M : Type 1} → statement M
 put-positions-spec =
     tie.close
-    (tie.spec
-    Inv-loop
-    μ-loop
-    loop-holds
-    cast-places
-    wide-at-requires
-    mul-places
-    element-write-places
-    add-p
-    loop-less
-    loop-again
-    returns)
+    (tie.spec Inv-loop μ-loop loop-holds (λ c. search needs) (λ c κs. search needs) mul-places element-write-places
+    (λ c. search needs) (λ c. search needs) loop-again returns)

@@ -22,12 +22,6 @@ worker-gates-requires c κs = c .before .before .before .pre
 put-column-requires : tie.Need-put-column-requires Inv-loop μ-loop
 put-column-requires c κs = let t = c .before .before .before in (t .loop-test .taken, t .before .loop .inv .1 .long)
 
-add-v : tie.Need-add-v Inv-loop μ-loop
-add-v c = search needs
-
-loop-less : tie.Need-loop-less Inv-loop μ-loop
-loop-less c = search needs
-
 loop-again : tie.Need-loop-again Inv-loop μ-loop
 loop-again c =
     let w = c .before .before .before in
@@ -46,13 +40,5 @@ returns c =
 pub all-gates-spec : {M : Type 1} → statement M
 all-gates-spec =
     tie.close
-    (tie.spec
-    Inv-loop
-    μ-loop
-    loop-holds
-    worker-gates-requires
-    put-column-requires
-    add-v
-    loop-less
-    loop-again
-    returns)
+    (tie.spec Inv-loop μ-loop loop-holds worker-gates-requires put-column-requires (λ c. search needs)
+    (λ c. search needs) loop-again returns)

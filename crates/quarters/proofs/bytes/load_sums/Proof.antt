@@ -22,4 +22,4 @@ returns-2 c =
     }
 
 pub load-sums-spec : {M : Type 1} → statement M
-load-sums-spec = tie.close (tie.spec returns (search needs) (search needs) returns-2)
+load-sums-spec = tie.close (tie.spec returns (λ c. search needs) (λ c. search needs) returns-2)

@@ -33,5 +33,5 @@ returns c =
 pub store-both-spec : {M : Type 1} → statement M
 store-both-spec =
     tie.close
-    (tie.spec store-picks-requires store-picks-requires-2 word-of-requires (search needs) (search needs) (search needs)
-    (search needs) returns)
+    (tie.spec store-picks-requires store-picks-requires-2 word-of-requires (λ c. search needs) (λ c. search needs)
+    (λ c. search needs) (λ c. search needs) returns)

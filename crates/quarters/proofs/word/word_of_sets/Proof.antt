@@ -30,5 +30,6 @@ returns-2 c = rw (c .before .before .sets2 .given .1) (c .word-of .ensures)
 pub word-of-sets-spec : {M : Type 1} → statement M
 word-of-sets-spec =
     tie.close
-    (tie.spec (search needs) (search needs) (search needs) (search needs) (search needs) (search needs) mul-result-2
-    add-result-2 (search needs) mul-result-3 add-result-3 (search needs) (search needs) returns returns-2)
+    (tie.spec (λ c. search needs) (λ c. search needs) (λ c. search needs) (λ c. search needs) (λ c. search needs)
+    (λ c. search needs) mul-result-2 add-result-2 (λ c. search needs) mul-result-3 add-result-3 (λ c. search needs)
+    (λ c. search needs) returns returns-2)

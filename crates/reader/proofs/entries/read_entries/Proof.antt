@@ -8,19 +8,10 @@ use Rattle.reader.proofs.entries.read_entries.Tie as tie
 abbrev start-of : tie.After-read-sorted → tie.Start
 start-of k = k .before .before .before .before .before
 
-read-sorted-requires : tie.Need-read-sorted-requires
-read-sorted-requires c κs = search needs
-
-read-marked-requires : tie.Need-read-marked-requires
-read-marked-requires c κs = search needs
-
 returns : tie.Need-returns
 returns c =
     let k = c .before .before .before .before .before .before in
     (sym (k .read-sorted .ensures .1 (start-of k .args .line)) ∙ c .read-marked .ensures .0, c .read-marked .ensures .1)
-
-ended-requires : tie.Need-ended-requires
-ended-requires c κs = search needs
 
 returns-2 : tie.Need-returns-2
 returns-2 c =
@@ -33,4 +24,4 @@ returns-2 c =
 pub read-entries-spec : {M : Type 1} → statement M
 read-entries-spec =
     tie.close
-    (tie.spec read-sorted-requires read-marked-requires returns ended-requires returns-2)
+    (tie.spec (λ c κs. search needs) (λ c κs. search needs) returns (λ c κs. search needs) returns-2)

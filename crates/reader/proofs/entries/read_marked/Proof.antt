@@ -64,18 +64,6 @@ mark-all-requires c κs =
 loop-holds : tie.Need-loop-holds Inv-loop μ-loop
 loop-holds c = let s = c .before .before .before .before .before in record { held = s .pre .1; marks = c .mark-all .ensures (s .args .values .now); same = refl }
 
-cast-here : tie.Need-cast-here Inv-loop μ-loop
-cast-here c = search needs
-
-add-here : tie.Need-add-here Inv-loop μ-loop
-add-here c = search needs
-
-read-entry-requires : tie.Need-read-entry-requires Inv-loop μ-loop
-read-entry-requires c κs = search needs
-
-enum-known-found : tie.Need-enum-known-found Inv-loop μ-loop
-enum-known-found c = search needs
-
 returns : tie.Need-returns Inv-loop μ-loop
 returns c =
     let f = c .before in
@@ -84,9 +72,6 @@ returns c =
     let a = start-of l .args in
     let g = l .loop .inv in
     (sym (g .same) ∙ refused-line (g .held) (a .s .now) (l .loop .p) (t .loop-test .taken) (subst (EntryAt (a .s .now) (l .loop .p) (a .n)) (f .found .given .1) (f .before .before .read-entry .ensures)) (a .line), g .held .arrays)
-
-enum-known-found-2 : tie.Need-enum-known-found-2 Inv-loop μ-loop
-enum-known-found-2 c = search needs
 
 bit-of-requires : tie.Need-bit-of-requires Inv-loop μ-loop
 bit-of-requires c κs =
@@ -105,30 +90,6 @@ returns-2 c =
     let g = l .loop .inv in
     (sym (g .same) ∙ again-line (g .held) (a .s .now) (l .loop .p) (t .loop-test .taken) (value f) (next f) (found f) (was (c .before) ∙ c .if1 .taken) (a .line), g .held .arrays)
 
-mul-rows : tie.Need-mul-rows Inv-loop μ-loop
-mul-rows c = search needs
-
-element-write-rows : tie.Need-element-write-rows Inv-loop μ-loop
-element-write-rows c = search needs
-
-mul-columns : tie.Need-mul-columns Inv-loop μ-loop
-mul-columns c = search needs
-
-element-write-columns : tie.Need-element-write-columns Inv-loop μ-loop
-element-write-columns c = search needs
-
-mul-value : tie.Need-mul-value Inv-loop μ-loop
-mul-value c = search needs
-
-element-set-from-value : tie.Need-element-set-from-value Inv-loop μ-loop
-element-set-from-value c = search needs
-
-add-i : tie.Need-add-i Inv-loop μ-loop
-add-i c = search needs
-
-loop-less : tie.Need-loop-less Inv-loop μ-loop
-loop-less c = search needs
-
 loop-again : tie.Need-loop-again Inv-loop μ-loop
 loop-again c =
     let b = c .before .before in
@@ -136,9 +97,6 @@ loop-again c =
     let f = k .before in
     let t = f .before .before .before in
     going-more (t .before .loop .inv) (t .loop-test .taken) (next f) (found f) (toZ-ofZ (in-range k)) (was (c .before) ∙ c .if1 .left) (b .bit-of .ensures .0) (b .bit-of .ensures .1) (c .before .mark .ensures .1)
-
-ended-requires : tie.Need-ended-requires Inv-loop μ-loop
-ended-requires c κs = search needs
 
 returns-3 : tie.Need-returns-3 Inv-loop μ-loop
 returns-3 c =
@@ -150,28 +108,7 @@ returns-3 c =
 pub read-marked-spec : {M : Type 1} → statement M
 read-marked-spec =
     tie.close
-    (tie.spec
-    Inv-loop
-    μ-loop
-    mark-all-requires
-    loop-holds
-    cast-here
-    add-here
-    read-entry-requires
-    enum-known-found
-    returns
-    enum-known-found-2
-    bit-of-requires
-    mark-requires
-    returns-2
-    mul-rows
-    element-write-rows
-    mul-columns
-    element-write-columns
-    mul-value
-    element-set-from-value
-    add-i
-    loop-less
-    loop-again
-    ended-requires
-    returns-3)
+    (tie.spec Inv-loop μ-loop mark-all-requires loop-holds (λ c. search needs) (λ c. search needs)
+    (λ c κs. search needs) (λ c. search needs) returns (λ c. search needs) bit-of-requires mark-requires returns-2
+    (λ c. search needs) (λ c. search needs) (λ c. search needs) (λ c. search needs) (λ c. search needs)
+    (λ c. search needs) (λ c. search needs) (λ c. search needs) loop-again (λ c κs. search needs) returns-3)

@@ -44,15 +44,6 @@ in-range c = search needs
 loop-holds : tie.Need-loop-holds Inv-loop μ-loop
 loop-holds c = let a = c .before .args in sorted-start (a .s .now) (a .at) (a .n) (a .m) (a .rows .now) (a .columns .now) (a .values .now) (c .before .pre)
 
-read-entry-requires : tie.Need-read-entry-requires Inv-loop μ-loop
-read-entry-requires c κs = search needs
-
-enum-known-found : tie.Need-enum-known-found Inv-loop μ-loop
-enum-known-found c = search needs
-
-enum-told : tie.Need-enum-told Inv-loop μ-loop
-enum-told c = search needs
-
 returns : tie.Need-returns Inv-loop μ-loop
 returns c = let g = c .before .before .before .before .loop .inv in (g .held, g .same)
 
@@ -65,32 +56,8 @@ add-key c = let l = found (c .before) in omega (arith, l .0, l .1, c .before .be
 returns-2 : tie.Need-returns-2 Inv-loop μ-loop
 returns-2 c = let g = c .before .before .before .before .before .before .loop .inv in (g .held, g .same)
 
-mul-rows : tie.Need-mul-rows Inv-loop μ-loop
-mul-rows c = search needs
-
-element-write-rows : tie.Need-element-write-rows Inv-loop μ-loop
-element-write-rows c = search needs
-
-mul-columns : tie.Need-mul-columns Inv-loop μ-loop
-mul-columns c = search needs
-
-element-write-columns : tie.Need-element-write-columns Inv-loop μ-loop
-element-write-columns c = search needs
-
-mul-value : tie.Need-mul-value Inv-loop μ-loop
-mul-value c = search needs
-
-element-set-from-value : tie.Need-element-set-from-value Inv-loop μ-loop
-element-set-from-value c = search needs
-
 add-low : tie.Need-add-low Inv-loop μ-loop
 add-low c = let l = found (c .before .before) in omega (arith, l .0, l .1, c .before .before .before .before .before .before .loop .inv .held .rows)
-
-add-i : tie.Need-add-i Inv-loop μ-loop
-add-i c = search needs
-
-loop-less : tie.Need-loop-less Inv-loop μ-loop
-loop-less c = search needs
 
 loop-again : tie.Need-loop-again Inv-loop μ-loop
 loop-again c =
@@ -104,25 +71,6 @@ returns-3 c = let g = c .before .loop .inv in (g .held, g .same)
 pub read-sorted-spec : {M : Type 1} → statement M
 read-sorted-spec =
     tie.close
-    (tie.spec
-    Inv-loop
-    μ-loop
-    loop-holds
-    read-entry-requires
-    enum-known-found
-    enum-told
-    returns
-    mul-key
-    add-key
-    returns-2
-    mul-rows
-    element-write-rows
-    mul-columns
-    element-write-columns
-    mul-value
-    element-set-from-value
-    add-low
-    add-i
-    loop-less
-    loop-again
-    returns-3)
+    (tie.spec Inv-loop μ-loop loop-holds (λ c κs. search needs) (λ c. search needs) (λ c. search needs) returns
+    mul-key add-key returns-2 (λ c. search needs) (λ c. search needs) (λ c. search needs) (λ c. search needs)
+    (λ c. search needs) (λ c. search needs) add-low (λ c. search needs) (λ c. search needs) loop-again returns-3)

@@ -51,20 +51,8 @@ is-one c = sym (answer (c .before)) ∙ not-false (c .before .is-entry .result) 
 entry : (c : tie.Else1) → let f = c .before .before .before in Inside (start-of f .args .n) (row f) (column f) (value f)
 entry c = let f = c .before .before .before in inside _ (row f) (column f) (value f) (is-one c)
 
-read-line-requires : tie.Need-read-line-requires
-read-line-requires c κs = search needs
-
-enum-known-found : tie.Need-enum-known-found
-enum-known-found c = search needs
-
-enum-told : tie.Need-enum-told
-enum-told c = search needs
-
 returns : tie.Need-returns
 returns c = let a = c .before .before .before .before .args in broken-line (a .s .now) (a .at) (a .n) (sym (c .enum-told .given .1) ∙ c .before .before .read-line .ensures)
-
-is-entry-requires : tie.Need-is-entry-requires
-is-entry-requires c κs = search needs
 
 returns-2 : tie.Need-returns-2
 returns-2 c =
@@ -98,16 +86,5 @@ returns-3 c =
 pub read-entry-spec : {M : Type 1} → statement M
 read-entry-spec =
     tie.close
-    (tie.spec
-    read-line-requires
-    enum-known-found
-    enum-told
-    returns
-    is-entry-requires
-    returns-2
-    sub-t11
-    cast-t12
-    sub-t13
-    cast-t14
-    cast-t15
-    returns-3)
+    (tie.spec (λ c κs. search needs) (λ c. search needs) (λ c. search needs) returns (λ c κs. search needs) returns-2
+    sub-t11 cast-t12 sub-t13 cast-t14 cast-t15 returns-3)

@@ -5,9 +5,6 @@ use Rattle.reader.proofs.marks.Triangle.{triangle-is, square}
 use Rattle.reader.proofs.marks.bit_of.Statement.{statement}
 use Rattle.reader.proofs.marks.bit_of.Tie as tie
 
-add-result : tie.Need-add-result
-add-result c = search needs
-
 mul-result : tie.Need-mul-result
 mul-result c = omega (arith, square (c .args .r) (c .pre .1))
 
@@ -21,4 +18,4 @@ returns : tie.Need-returns
 returns c = (omega (arith, triangle-is (c .args .r)), omega (arith, square (c .args .r) (c .pre .1)))
 
 pub bit-of-spec : {M : Type 1} → statement M
-bit-of-spec = tie.close (tie.spec add-result mul-result add-result-2 cast-result returns)
+bit-of-spec = tie.close (tie.spec (λ c. search needs) mul-result add-result-2 cast-result returns)

@@ -23,29 +23,11 @@ abbrev μ-loop : tie.MeasureT-loop
 loop-holds : tie.Need-loop-holds Inv-loop μ-loop
 loop-holds c = (omega arith, λ vs. rw (triplets-none (c .args .rows .now) (c .args .columns .now) vs) (c .pre .4))
 
-mul-bit-of : tie.Need-mul-bit-of Inv-loop μ-loop
-mul-bit-of c = search needs
-
-element-copy-out-bit-of : tie.Need-element-copy-out-bit-of Inv-loop μ-loop
-element-copy-out-bit-of c = search needs
-
-mul-bit-of-2 : tie.Need-mul-bit-of-2 Inv-loop μ-loop
-mul-bit-of-2 c = search needs
-
-element-copy-out-bit-of-2 : tie.Need-element-copy-out-bit-of-2 Inv-loop μ-loop
-element-copy-out-bit-of-2 c = search needs
-
 bit-of-requires : tie.Need-bit-of-requires Inv-loop μ-loop
 bit-of-requires c κs = let l = c .before .before .before .before in l .before .pre .3 (l .loop .k) (c .before .before .before .loop-test .taken)
 
 mark-requires : tie.Need-mark-requires Inv-loop μ-loop
 mark-requires c κs = (c .bit-of .ensures .1, c .before .before .before .before .before .loop .inv .1 [] .long)
-
-add-k : tie.Need-add-k Inv-loop μ-loop
-add-k c = search needs
-
-loop-less : tie.Need-loop-less Inv-loop μ-loop
-loop-less c = search needs
 
 loop-again : tie.Need-loop-again Inv-loop μ-loop
 loop-again c =
@@ -69,17 +51,5 @@ returns c vs =
 pub mark-all-spec : {M : Type 1} → statement M
 mark-all-spec =
     tie.close
-    (tie.spec
-    Inv-loop
-    μ-loop
-    loop-holds
-    mul-bit-of
-    element-copy-out-bit-of
-    mul-bit-of-2
-    element-copy-out-bit-of-2
-    bit-of-requires
-    mark-requires
-    add-k
-    loop-less
-    loop-again
-    returns)
+    (tie.spec Inv-loop μ-loop loop-holds (λ c. search needs) (λ c. search needs) (λ c. search needs)
+    (λ c. search needs) bit-of-requires mark-requires (λ c. search needs) (λ c. search needs) loop-again returns)

@@ -32,23 +32,11 @@ returns c =
     let l = c .before .before in
     sym (begins-short (l .before .args .s .now) header (l .loop .i) (in-header (l .loop .i) (c .before .loop-test .taken)) (c .if1 .taken)) ∙ l .loop .inv .1
 
-shared-slice-read-if2 : tie.Need-shared-slice-read-if2 Inv-loop μ-loop
-shared-slice-read-if2 c = search needs
-
-array-read-if2 : tie.Need-array-read-if2 Inv-loop μ-loop
-array-read-if2 c = search needs
-
 returns-2 : tie.Need-returns-2 Inv-loop μ-loop
 unfolding header
 returns-2 c =
     let l = c .before .before .before .before in
     sym (begins-bad (l .before .args .s .now) header (l .loop .i) (in-header (l .loop .i) (c .before .before .before .loop-test .taken)) (c .before .before .if1 .left) (c .if2 .taken)) ∙ l .loop .inv .1
-
-add-i : tie.Need-add-i Inv-loop μ-loop
-add-i c = search needs
-
-loop-less : tie.Need-loop-less Inv-loop μ-loop
-loop-less c = search needs
 
 loop-again : tie.Need-loop-again Inv-loop μ-loop
 unfolding header
@@ -64,15 +52,5 @@ returns-3 c =
 pub has-header-spec : {M : Type 1} → statement M
 has-header-spec =
     tie.close
-    (tie.spec
-    Inv-loop
-    μ-loop
-    loop-holds
-    returns
-    shared-slice-read-if2
-    array-read-if2
-    returns-2
-    add-i
-    loop-less
-    loop-again
-    returns-3)
+    (tie.spec Inv-loop μ-loop loop-holds returns (λ c. search needs) (λ c. search needs) returns-2 (λ c. search needs)
+    (λ c. search needs) loop-again returns-3)

@@ -56,15 +56,6 @@ tested c =
     let a = f .before .before .before .before .args in
     size-tested (a .s .now) (a .pos) (a .line) (found f) (positive x) (ap natAbs (toZ-ofZ (in-range (x .before)))) (c .is-size .ensures)
 
-read-line-requires : tie.Need-read-line-requires
-read-line-requires c κs = search needs
-
-enum-known-found : tie.Need-enum-known-found
-enum-known-found c = search needs
-
-enum-told : tie.Need-enum-told
-enum-told c = search needs
-
 returns : tie.Need-returns
 returns c =
     let s = c .before .before .before .before in
@@ -79,16 +70,10 @@ returns-2 c =
 cast-m : tie.Need-cast-m
 cast-m c = rw (toZ-ofZ (in-range (c .before))) (not-negative (value (c .before .before)) (positive c), fits-natural (value (c .before .before)) (in-range (c .before)))
 
-is-size-requires : tie.Need-is-size-requires
-is-size-requires c κs = search needs
-
 returns-3 : tie.Need-returns-3
 returns-3 c =
     let k = c .before in
     (rw (not-true (k .is-size .result) (c .if2 .taken)) at (tested k), k .before .before .before .before .before .before .before .pre .1)
-
-add-read-entries : tie.Need-add-read-entries
-add-read-entries c = search needs
 
 read-entries-requires : tie.Need-read-entries-requires
 read-entries-requires c κs =
@@ -106,15 +91,5 @@ returns-4 c =
 pub parse-size-spec : {M : Type 1} → statement M
 parse-size-spec =
     tie.close
-    (tie.spec
-    read-line-requires
-    enum-known-found
-    enum-told
-    returns
-    returns-2
-    cast-m
-    is-size-requires
-    returns-3
-    add-read-entries
-    read-entries-requires
-    returns-4)
+    (tie.spec (λ c κs. search needs) (λ c. search needs) (λ c. search needs) returns returns-2 cast-m
+    (λ c κs. search needs) returns-3 (λ c. search needs) read-entries-requires returns-4)

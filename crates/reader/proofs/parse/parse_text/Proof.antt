@@ -17,9 +17,6 @@ there c = sym (c .before .has-header .ensures) ∙ not-false (c .before .has-hea
 returns : tie.Need-returns
 returns c = (too-long (c .before .before .args .s .now) (c .if1 .taken), c .before .before .pre)
 
-has-header-requires : tie.Need-has-header-requires
-has-header-requires c κs = search needs
-
 returns-2 : tie.Need-returns-2
 returns-2 c =
     let h = c .before in
@@ -30,9 +27,6 @@ skip-comments-requires : tie.Need-skip-comments-requires
 skip-comments-requires c κs =
     (omega arith, header-there (c .before .before .before .before .args .s .now) (there c), c .before .before .if1 .left)
 
-parse-size-requires : tie.Need-parse-size-requires
-parse-size-requires c κs = search needs
-
 returns-3 : tie.Need-returns-3
 returns-3 c =
     let k = c .before .before .before .before in
@@ -42,10 +36,4 @@ returns-3 c =
 pub parse-text-spec : {M : Type 1} → statement M
 parse-text-spec =
     tie.close
-    (tie.spec
-    returns
-    has-header-requires
-    returns-2
-    skip-comments-requires
-    parse-size-requires
-    returns-3)
+    (tie.spec returns (λ c κs. search needs) returns-2 skip-comments-requires (λ c κs. search needs) returns-3)

@@ -26,43 +26,16 @@ three c = sym (c .third .given .1) ∙ c .before .before .read-value-field .ensu
 in-range : (c : tie.After-known-told3) → SFits w64 (c .before .third .given .0 .0)
 in-range c = search needs
 
-read-number-requires : tie.Need-read-number-requires
-read-number-requires c κs = search needs
-
-enum-known-first : tie.Need-enum-known-first
-enum-known-first c = search needs
-
-enum-told : tie.Need-enum-told
-enum-told c = search needs
-
 returns : tie.Need-returns
 returns c =
     let a = c .before .before .before .before .args in
     line-one (a .s .now) (a .at) (sym (c .enum-told .given .1) ∙ c .before .before .read-number .ensures)
-
-read-field-requires : tie.Need-read-field-requires
-read-field-requires c κs = search needs
-
-enum-known-second : tie.Need-enum-known-second
-enum-known-second c = search needs
-
-enum-told-2 : tie.Need-enum-told-2
-enum-told-2 c = search needs
 
 returns-2 : tie.Need-returns-2
 returns-2 c =
     let f = c .before .before .before .before in
     let a = f .before .before .before .before .args in
     line-two (a .s .now) (a .at) (f .first .given .0 .0) (f .first .given .0 .1 .0) (one f) (sym (c .enum-told2 .given .1) ∙ c .before .before .read-field .ensures)
-
-read-value-field-requires : tie.Need-read-value-field-requires
-read-value-field-requires c κs = search needs
-
-enum-known-third : tie.Need-enum-known-third
-enum-known-third c = search needs
-
-enum-told-3 : tie.Need-enum-told-3
-enum-told-3 c = search needs
 
 returns-3 : tie.Need-returns-3
 returns-3 c =
@@ -79,12 +52,6 @@ returns-4 c =
     let a = f .before .before .before .before .args in
     line-short (a .s .now) (a .at) (f .first .given .0 .0) (f .first .given .0 .1 .0) (one f) (g .second .given .0 .0) (g .second .given .0 .1 .0) (two g) (h .third .given .0 .0) (h .third .given .0 .1 .0) (three h) (c .if1 .taken)
 
-shared-slice-read-z : tie.Need-shared-slice-read-z
-shared-slice-read-z c = search needs
-
-class-of-requires : tie.Need-class-of-requires
-class-of-requires c κs = search needs
-
 returns-5 : tie.Need-returns-5
 returns-5 c =
     let h = c .before .before .before .before .before in
@@ -92,9 +59,6 @@ returns-5 c =
     let f = g .before .before .before .before in
     let a = f .before .before .before .before .args in
     line-bad (a .s .now) (a .at) (f .first .given .0 .0) (f .first .given .0 .1 .0) (one f) (g .second .given .0 .0) (g .second .given .0 .1 .0) (two g) (h .third .given .0 .0) (h .third .given .0 .1 .0) (three h) (c .before .before .before .if1 .left) (λ e. c .if2 .taken (c .before .class-of .ensures ∙ e))
-
-add-t13 : tie.Need-add-t13
-add-t13 c = search needs
 
 returns-6 : tie.Need-returns-6
 returns-6 c =
@@ -108,22 +72,6 @@ returns-6 c =
 pub read-line-spec : {M : Type 1} → statement M
 read-line-spec =
     tie.close
-    (tie.spec
-    read-number-requires
-    enum-known-first
-    enum-told
-    returns
-    read-field-requires
-    enum-known-second
-    enum-told-2
-    returns-2
-    read-value-field-requires
-    enum-known-third
-    enum-told-3
-    returns-3
-    returns-4
-    shared-slice-read-z
-    class-of-requires
-    returns-5
-    add-t13
-    returns-6)
+    (tie.spec (λ c κs. search needs) (λ c. search needs) (λ c. search needs) returns (λ c κs. search needs)
+    (λ c. search needs) (λ c. search needs) returns-2 (λ c κs. search needs) (λ c. search needs) (λ c. search needs)
+    returns-3 returns-4 (λ c. search needs) (λ c κs. search needs) returns-5 (λ c. search needs) returns-6)

@@ -26,24 +26,6 @@ bound2 c =
 returns : tie.Need-returns
 returns c = value-end (c .before .before .args .s .now) (c .before .before .args .at) (c .if1 .taken)
 
-shared-slice-read-b : tie.Need-shared-slice-read-b
-shared-slice-read-b c = search needs
-
-class-of-requires : tie.Need-class-of-requires
-class-of-requires c κs = search needs
-
-add-read-number : tie.Need-add-read-number
-add-read-number c = search needs
-
-read-number-requires : tie.Need-read-number-requires
-read-number-requires c κs = search needs
-
-enum-known-found : tie.Need-enum-known-found
-enum-known-found c = search needs
-
-enum-told : tie.Need-enum-told
-enum-told c = search needs
-
 returns-2 : tie.Need-returns-2
 returns-2 c =
     let k = c .before .before .before in
@@ -73,15 +55,6 @@ returns-4 c =
     rw (e, toZ-ofZ (minus-fits v (bound c)))
     (signed-some (a .s .now) (a .at) (k .before .before .before .if1 .left) v (f .found .given .0 .1 .0) (c .if3 .left) (sym (k .before .class-of .ensures) ∙ k .if2 .taken) (sym (f .found .given .1) ∙ f .before .before .read-number .ensures))
 
-read-number-requires-2 : tie.Need-read-number-requires-2
-read-number-requires-2 c κs = search needs
-
-enum-known-plain : tie.Need-enum-known-plain
-enum-known-plain c = search needs
-
-enum-told-2 : tie.Need-enum-told-2
-enum-told-2 c = search needs
-
 returns-5 : tie.Need-returns-5
 returns-5 c =
     let k = c .before .before .before in
@@ -104,22 +77,6 @@ returns-6 c =
 pub read-value-spec : {M : Type 1} → statement M
 read-value-spec =
     tie.close
-    (tie.spec
-    returns
-    shared-slice-read-b
-    class-of-requires
-    add-read-number
-    read-number-requires
-    enum-known-found
-    enum-told
-    returns-2
-    returns-3
-    cast-m
-    sub-t17
-    returns-4
-    read-number-requires-2
-    enum-known-plain
-    enum-told-2
-    returns-5
-    cast-t18
-    returns-6)
+    (tie.spec returns (λ c. search needs) (λ c κs. search needs) (λ c. search needs) (λ c κs. search needs)
+    (λ c. search needs) (λ c. search needs) returns-2 returns-3 cast-m sub-t17 returns-4 (λ c κs. search needs)
+    (λ c. search needs) (λ c. search needs) returns-5 cast-t18 returns-6)

@@ -5,16 +5,10 @@ use Rattle.scan.proofs.numbers.Answers.{field-none, field-some}
 use Rattle.scan.proofs.numbers.read_field.Statement.{statement}
 use Rattle.scan.proofs.numbers.read_field.Tie as tie
 
-skip-spaces-requires : tie.Need-skip-spaces-requires
-skip-spaces-requires c κs = search needs
-
 returns : tie.Need-returns
 returns c =
     let a = c .before .before .before .args in
     field-none (a .s .now) (a .at) (c .before .skip-spaces .result) (c .before .skip-spaces .ensures) (c .if1 .taken)
-
-read-number-requires : tie.Need-read-number-requires
-read-number-requires c κs = search needs
 
 returns-2 : tie.Need-returns-2
 returns-2 c =
@@ -23,4 +17,4 @@ returns-2 c =
     c .read-number .ensures ∙ field-some (a .s .now) (a .at) (k .skip-spaces .result) (k .skip-spaces .ensures) (c .before .if1 .left)
 
 pub read-field-spec : {M : Type 1} → statement M
-read-field-spec = tie.close (tie.spec skip-spaces-requires returns read-number-requires returns-2)
+read-field-spec = tie.close (tie.spec (λ c κs. search needs) returns (λ c κs. search needs) returns-2)

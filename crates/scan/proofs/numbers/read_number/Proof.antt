@@ -77,6 +77,7 @@ returns-3 c =
 pub read-number-spec : {M : Type 1} → statement M
 read-number-spec =
     tie.close
-    (tie.spec Inv-loop μ-loop returns (search needs) (search needs) (search needs) (search needs) loop-holds
-    (search needs) (search needs) (search needs) (search needs) returns-2
-    mul-v (search needs) sub-v add-v (search needs) (search needs) loop-again (search needs) (search needs) returns-3)
+    (tie.spec Inv-loop μ-loop returns (λ c. search needs) (λ c. search needs) (λ c. search needs) (λ c. search needs)
+    loop-holds (λ c. search needs) (λ c. search needs) (λ c. search needs) (λ c. search needs) returns-2 mul-v
+    (λ c. search needs) sub-v add-v (λ c. search needs) (λ c. search needs) loop-again (λ c. search needs)
+    (λ c. search needs) returns-3)

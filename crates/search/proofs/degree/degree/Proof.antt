@@ -15,9 +15,6 @@ use Rattle.levels.proofs.Rows.{row-in, row-is}
 use Rattle.search.proofs.degree.degree.Statement.{statement}
 use Rattle.search.proofs.degree.degree.Tie as tie
 
-wide-requires : tie.Need-wide-requires
-wide-requires c κs = search needs
-
 columns-of-requires : tie.Need-columns-of-requires
 columns-of-requires c κs = let a = c .before .before .before in rw (c .wide .ensures) (row-in (a .pre .0) (a .args .v) (a .pre .1))
 
@@ -36,4 +33,4 @@ returns : tie.Need-returns
 returns c = c .others .ensures ∙ counted (c .before)
 
 pub degree-spec : {M : Type 1} → statement M
-degree-spec = tie.close (tie.spec wide-requires columns-of-requires others-requires returns)
+degree-spec = tie.close (tie.spec (λ c κs. search needs) columns-of-requires others-requires returns)

@@ -57,21 +57,12 @@ loop-holds c =
       omega (arith, c .before .before .before .if1 .left),
     )
 
-add-loop : tie.Need-add-loop Inv-loop μ-loop
-add-loop c = search needs
-
 next-level-requires : tie.Need-next-level-requires Inv-loop μ-loop
 next-level-requires c κs =
     let l = c .before .before .before in
     let a = entry l in
     let r = l .loop .inv .0 in
     (a .pre .0, r .ready, r .up, λ e. omega arith, rings-front (rows-graph (a .pre .0)) (a .args .own .now) (low a) r)
-
-add-j : tie.Need-add-j Inv-loop μ-loop
-add-j c = search needs
-
-loop-less : tie.Need-loop-less Inv-loop μ-loop
-loop-less c = search needs
 
 loop-again : tie.Need-loop-again Inv-loop μ-loop
 loop-again c =
@@ -115,21 +106,6 @@ returns-3 c =
 pub mark-region-spec : {M : Type 1} → statement M
 mark-region-spec =
     tie.close
-    (tie.spec
-    Inv-loop
-    μ-loop
-    returns
-    returns-2
-    copy-requires
-    loop-holds
-    add-loop
-    next-level-requires
-    add-j
-    loop-less
-    loop-again
-    mul-mark-columns
-    sub-mark-columns
-    part-mark-columns-start
-    part-mark-columns-end
-    mark-columns-requires
-    returns-3)
+    (tie.spec Inv-loop μ-loop returns returns-2 copy-requires loop-holds (λ c. search needs) next-level-requires
+    (λ c. search needs) (λ c. search needs) loop-again mul-mark-columns sub-mark-columns part-mark-columns-start
+    part-mark-columns-end mark-columns-requires returns-3)

@@ -25,16 +25,10 @@ loop-holds c =
     let a = c .before .before in
     across-start (adjOf (a .args .n) (a .args .starts .now) (a .args .columns .now)) (a .args .m) (a .args .lo) (a .pre .2) (a .pre .1)
 
-mul-wide : tie.Need-mul-wide Inv-loop μ-loop
-mul-wide c = search needs
-
 element-copy-out-wide : tie.Need-element-copy-out-wide Inv-loop μ-loop
 element-copy-out-wide c =
     let a = c .before .before .before .before in
     omega (arith, a .pre .1 .small, a .pre .1 .room)
-
-wide-requires : tie.Need-wide-requires Inv-loop μ-loop
-wide-requires c κs = search needs
 
 -- the row to expand is a row, and has another mark
 here : (c : tie.After-wide Inv-loop μ-loop) →
@@ -63,12 +57,6 @@ visit-all-requires c κs =
       a .pre .3,
     )
 
-add-i : tie.Need-add-i Inv-loop μ-loop
-add-i c = search needs
-
-loop-less : tie.Need-loop-less Inv-loop μ-loop
-loop-less c = search needs
-
 loop-again : tie.Need-loop-again Inv-loop μ-loop
 loop-again c =
     let a = c .before .before .before .before .before .before .before .before .before .before in
@@ -86,16 +74,5 @@ returns c = across-end (c .before .loop .inv) (omega arith)
 pub next-level-spec : {M : Type 1} → statement M
 next-level-spec =
     tie.close
-    (tie.spec
-    Inv-loop
-    μ-loop
-    loop-holds
-    mul-wide
-    element-copy-out-wide
-    wide-requires
-    columns-of-requires
-    visit-all-requires
-    add-i
-    loop-less
-    loop-again
-    returns)
+    (tie.spec Inv-loop μ-loop loop-holds (λ c. search needs) element-copy-out-wide (λ c κs. search needs)
+    columns-of-requires visit-all-requires (λ c. search needs) (λ c. search needs) loop-again returns)

@@ -18,26 +18,11 @@ abbrev μ-loop : tie.MeasureT-loop
 loop-holds : tie.Need-loop-holds Inv-loop μ-loop
 loop-holds c = record { ready = c .before .pre .0; le = omega arith; left = refl }
 
-mul-wide : tie.Need-mul-wide Inv-loop μ-loop
-mul-wide c = search needs
-
-shared-slice-read-wide : tie.Need-shared-slice-read-wide Inv-loop μ-loop
-shared-slice-read-wide c = search needs
-
-wide-requires : tie.Need-wide-requires Inv-loop μ-loop
-wide-requires c κs = search needs
-
 visit-requires : tie.Need-visit-requires Inv-loop μ-loop
 visit-requires c κs =
     let a = c .before .before .before .before .before .before .before in
     let l = c .before .before .before .before .before .loop in
     (l .inv .ready, omega (arith, a .pre .1 (l .i) (omega arith)), a .pre .2)
-
-add-i : tie.Need-add-i Inv-loop μ-loop
-add-i c = search needs
-
-loop-less : tie.Need-loop-less Inv-loop μ-loop
-loop-less c = search needs
 
 loop-again : tie.Need-loop-again Inv-loop μ-loop
 loop-again c = along-step (c .before .before .before .before .before .before .loop .inv) (omega arith) (rw (c .before .wide .ensures) at (c .visit .ensures))
@@ -48,15 +33,5 @@ returns c = along-end (c .before .loop .inv) (omega arith)
 pub visit-all-spec : {M : Type 1} → statement M
 visit-all-spec =
     tie.close
-    (tie.spec
-    Inv-loop
-    μ-loop
-    loop-holds
-    mul-wide
-    shared-slice-read-wide
-    wide-requires
-    visit-requires
-    add-i
-    loop-less
-    loop-again
-    returns)
+    (tie.spec Inv-loop μ-loop loop-holds (λ c. search needs) (λ c. search needs) (λ c κs. search needs) visit-requires
+    (λ c. search needs) (λ c. search needs) loop-again returns)

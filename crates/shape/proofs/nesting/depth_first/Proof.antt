@@ -28,12 +28,6 @@ loop-holds : tie.Need-loop-holds Inv-loop μ-loop
 unfolding pathOf
 loop-holds c = (refl, omega arith, refl)
 
-record-at-requires : tie.Need-record-at-requires Inv-loop μ-loop
-record-at-requires c κs = omega arith
-
-up-to-requires : tie.Need-up-to-requires Inv-loop μ-loop
-up-to-requires c κs = omega arith
-
 -- the tests of record i, and what is left after it
 turn : (c : tie.After-up-to Inv-loop μ-loop) → let l = c .before .before .before .before in let a = l .before .before .args in
     standsDepthFirst (a .count) (a .groups .now)
@@ -58,21 +52,6 @@ returns-3 c =
     let e = c .before .before in
     sym (turn (e .before .before) ∙ rw (le-leb 1 _ (e .before .if1 .left), le-leb _ maxDepth (e .if2 .left), ne-eqb _ _ (c .if3 .taken)))
 
-mul-path : tie.Need-mul-path Inv-loop μ-loop
-mul-path c = search needs
-
-array-write-path : tie.Need-array-write-path Inv-loop μ-loop
-array-write-path c = search needs
-
-add-t : tie.Need-add-t Inv-loop μ-loop
-add-t c = search needs
-
-add-i : tie.Need-add-i Inv-loop μ-loop
-add-i c = search needs
-
-loop-less : tie.Need-loop-less Inv-loop μ-loop
-loop-less c = search needs
-
 loop-again : tie.Need-loop-again Inv-loop μ-loop
 loop-again c =
     let e = c .before .before in
@@ -94,19 +73,6 @@ returns-4 c =
 pub depth-first-spec : {M : Type 1} → statement M
 depth-first-spec =
     tie.close
-    (tie.spec
-    Inv-loop
-    μ-loop
-    loop-holds
-    record-at-requires
-    up-to-requires
-    returns
-    returns-2
-    returns-3
-    mul-path
-    array-write-path
-    add-t
-    add-i
-    loop-less
-    loop-again
+    (tie.spec Inv-loop μ-loop loop-holds (λ c κs. omega arith) (λ c κs. omega arith) returns returns-2 returns-3
+    (λ c. search needs) (λ c. search needs) (λ c. search needs) (λ c. search needs) (λ c. search needs) loop-again
     returns-4)

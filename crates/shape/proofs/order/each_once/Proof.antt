@@ -10,9 +10,6 @@ use Rattle.shape.proofs.order.each_once.Tie as tie
 mark-rows-requires : tie.Need-mark-rows-requires
 mark-rows-requires c κs = (omega arith, omega arith, seen-none (c .before .before .args .n) maxRows refl (omega arith))
 
-all-marked-requires : tie.Need-all-marked-requires
-all-marked-requires c κs = search needs
-
 returns : tie.Need-returns
 returns c =
     let m = c .before .before in
@@ -20,4 +17,4 @@ returns c =
     c .all-marked .ensures ∙ seen-once (s .args .n) (s .args .order .now) (m .mark-rows .last .1 .1 .0) (s .pre .0) (m .mark-rows .ensures)
 
 pub each-once-spec : {M : Type 1} → statement M
-each-once-spec = tie.close (tie.spec mark-rows-requires all-marked-requires returns)
+each-once-spec = tie.close (tie.spec mark-rows-requires (λ c κs. search needs) returns)

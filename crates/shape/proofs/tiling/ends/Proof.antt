@@ -9,19 +9,13 @@ returns : tie.Need-returns
 unfolding complete
 returns c = rw (ne-eqb _ _ (c .if1 .taken))
 
-add-if2 : tie.Need-add-if2
-add-if2 c = omega arith
-
 returns-2 : tie.Need-returns-2
 unfolding complete
 returns-2 c = rw (eq-eqb _ _ (c .before .before .if1 .left), ne-eqb _ _ (c .if2 .taken))
-
-add-result : tie.Need-add-result
-add-result c = omega arith
 
 returns-3 : tie.Need-returns-3
 unfolding complete
 returns-3 c = rw (eq-eqb _ _ (c .before .before .before .if1 .left), eq-eqb _ _ (c .before .if2 .left))
 
 pub ends-spec : {M : Type 1} → statement M
-ends-spec = tie.close (tie.spec returns add-if2 returns-2 add-result returns-3)
+ends-spec = tie.close (tie.spec returns (λ c. omega arith) returns-2 (λ c. omega arith) returns-3)

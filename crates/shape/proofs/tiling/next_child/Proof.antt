@@ -19,9 +19,6 @@ abbrev μ-loop : tie.MeasureT-loop
 loop-holds : tie.Need-loop-holds Inv-loop μ-loop
 loop-holds c = (omega arith, omega arith, refl)
 
-record-at-requires : tie.Need-record-at-requires Inv-loop μ-loop
-record-at-requires c κs = omega arith
-
 -- the parent that was read
 parent : (c : tie.After-record-at Inv-loop μ-loop) → let l = c .before .before in
     recordAt (l .before .before .args .groups .now) (l .loop .i) .parent ≡ c .record-at .result .parent
@@ -49,12 +46,6 @@ returns-2 c =
       child = λ (h : a .count < a .count). absurd (omega arith);
     }
 
-add-i : tie.Need-add-i Inv-loop μ-loop
-add-i c = omega arith
-
-loop-less : tie.Need-loop-less Inv-loop μ-loop
-loop-less c = omega arith
-
 loop-again : tie.Need-loop-again Inv-loop μ-loop
 loop-again c =
     let r = c .before .before .before .before in
@@ -74,14 +65,5 @@ returns-3 c =
 pub next-child-spec : {M : Type 1} → statement M
 next-child-spec =
     tie.close
-    (tie.spec
-    Inv-loop
-    μ-loop
-    loop-holds
-    record-at-requires
-    returns
-    returns-2
-    add-i
-    loop-less
-    loop-again
-    returns-3)
+    (tie.spec Inv-loop μ-loop loop-holds (λ c κs. omega arith) returns returns-2 (λ c. omega arith) (λ c. omega arith)
+    loop-again returns-3)

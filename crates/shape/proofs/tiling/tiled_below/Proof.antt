@@ -21,12 +21,6 @@ Inv-loop groups count k g i₀ s₀ f₀ w₀ i s f w =
 abbrev μ-loop : tie.MeasureT-loop
 μ-loop groups count k g i₀ s₀ f₀ w₀ i s f w = count - i
 
-record-at-requires : tie.Need-record-at-requires Inv-loop μ-loop
-record-at-requires c κs = omega arith
-
-add-next-child : tie.Need-add-next-child Inv-loop μ-loop
-add-next-child c = omega arith
-
 next-child-requires : tie.Need-next-child-requires Inv-loop μ-loop
 next-child-requires c κs = let s = c .before .before in (s .pre .0, s .pre .1, omega arith, omega arith)
 
@@ -90,9 +84,6 @@ add-f c = omega (arith, sums (c .before))
 next-pending-requires : tie.Need-next-pending-requires Inv-loop μ-loop
 next-pending-requires c κs = tt
 
-add-next-child-2 : tie.Need-add-next-child-2 Inv-loop μ-loop
-add-next-child-2 c = omega arith
-
 next-child-requires-2 : tie.Need-next-child-requires-2 Inv-loop μ-loop
 next-child-requires-2 c κs =
     let l = c .before .before .before .before .before .before in
@@ -131,23 +122,6 @@ returns-3 c =
 pub tiled-below-spec : {M : Type 1} → statement M
 tiled-below-spec =
     tie.close
-    (tie.spec
-    Inv-loop
-    μ-loop
-    record-at-requires
-    add-next-child
-    next-child-requires
-    returns
-    loop-holds
-    record-at-requires-2
-    fits-requires
-    returns-2
-    add-s
-    add-f
-    next-pending-requires
-    add-next-child-2
-    next-child-requires-2
-    loop-less
-    loop-again
-    ends-requires
-    returns-3)
+    (tie.spec Inv-loop μ-loop (λ c κs. omega arith) (λ c. omega arith) next-child-requires returns loop-holds
+    record-at-requires-2 fits-requires returns-2 add-s add-f next-pending-requires (λ c. omega arith)
+    next-child-requires-2 loop-less loop-again ends-requires returns-3)

@@ -33,21 +33,6 @@ loop-holds c = (search needs, λ q s c ends e laid a b waits. refl)
 is-free-requires : tie.Need-is-free-requires Inv-loop μ-loop
 is-free-requires c κs = let s = c .before .before in (omega (arith, c .loop-test .taken, s .pre .0), s .pre .0, s .pre .1)
 
-cast-set : tie.Need-cast-set Inv-loop μ-loop
-cast-set c = search needs
-
-cast-set-2 : tie.Need-cast-set-2 Inv-loop μ-loop
-cast-set-2 c = search needs
-
-shl-set : tie.Need-shl-set Inv-loop μ-loop
-shl-set c = search needs
-
-add-w : tie.Need-add-w Inv-loop μ-loop
-add-w c = search needs
-
-loop-less : tie.Need-loop-less Inv-loop μ-loop
-loop-less c = search needs
-
 loop-again : tie.Need-loop-again Inv-loop μ-loop
 loop-again c =
     let l = c .before .before in
@@ -73,15 +58,5 @@ returns c =
 pub crew-bits-spec : {M : Type 1} → statement M
 crew-bits-spec =
     tie.close
-    (tie.spec
-    Inv-loop
-    μ-loop
-    loop-holds
-    is-free-requires
-    cast-set
-    cast-set-2
-    shl-set
-    add-w
-    loop-less
-    loop-again
-    returns)
+    (tie.spec Inv-loop μ-loop loop-holds is-free-requires (λ c. search needs) (λ c. search needs) (λ c. search needs)
+    (λ c. search needs) (λ c. search needs) loop-again returns)

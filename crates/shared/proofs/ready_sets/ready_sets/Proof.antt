@@ -47,12 +47,6 @@ crew-bits-requires-2 c κs =
     let t = r .before .lay .ensures _ (s .1 crew0) (s .2 crew0) (planned-blank (s .1 crew0)) in
     (read-few (s .1 crew0) (r .record-at .result) (r .record-at .ensures), (_, row-tables _ (t .0) (t .1)))
 
-cast-t43 : tie.Need-cast-t43
-cast-t43 c = search needs
-
-cast-t45 : tie.Need-cast-t45
-cast-t45 c = search needs
-
 returns : tie.Need-returns
 unfolding readyBoth
 returns c q s g k e0 e1 =
@@ -67,13 +61,5 @@ returns c q s g k e0 e1 =
 pub ready-sets-spec : {M : Type 1} → statement M
 ready-sets-spec =
     tie.close
-    (tie.spec
-    lay-requires
-    record-at-requires
-    blocked-groups-requires
-    blocked-groups-requires-2
-    crew-bits-requires
-    crew-bits-requires-2
-    cast-t43
-    cast-t45
-    returns)
+    (tie.spec lay-requires record-at-requires blocked-groups-requires blocked-groups-requires-2 crew-bits-requires
+    crew-bits-requires-2 (λ c. search needs) (λ c. search needs) returns)

@@ -12,34 +12,16 @@ use Rattle.shared.proofs.roof.check_roof.Tie as tie
 abbrev given : tie.Start → Matrix
 given c = let a = c .args in matrixOf (a .n) (a .starts .now) (a .columns .now) (a .values .now)
 
-is-matrix-requires : tie.Need-is-matrix-requires
-is-matrix-requires c κs = search needs
-
 returns : tie.Need-returns
 returns c = sym (roof-unmade _ _ _ _ _ (fails (c .before .is-matrix .ensures) (c .if1 .taken)))
 
 is-made : (c : tie.Else1) → isMatrix (given (c .before .before .before .before .before .before)) ≡ true
 is-made c = holds (c .before .is-matrix .ensures) (c .if1 .left)
 
-check-displacements-requires : tie.Need-check-displacements-requires
-check-displacements-requires c κs = search needs
-
-enum-known-checked0 : tie.Need-enum-known-checked0
-enum-known-checked0 c = search needs
-
 returns-2 : tie.Need-returns-2
 returns-2 c =
     let d = c .before .before .before in
     sym (roof-unmoved0 _ _ _ _ _ (is-made (d .before)) _ _ (ap replyOf (sym (c .before .checked0 .given .1)) ∙ d .check-displacements .ensures))
-
-enum-told : tie.Need-enum-told
-enum-told c = search needs
-
-check-displacements-requires-2 : tie.Need-check-displacements-requires-2
-check-displacements-requires-2 c κs = search needs
-
-enum-known-checked1 : tie.Need-enum-known-checked1
-enum-known-checked1 c = search needs
 
 -- crew 0's displacements pass
 abbrev first : tie.After-enum-told → tie.After-check-displacements
@@ -51,9 +33,6 @@ returns-3 c =
     let e = d .before in
     sym (roof-unmoved1 _ _ _ _ _ (is-made (first e .before)) _ (ap replyOf (sym (e .enum-told .given .1)) ∙ first e .check-displacements .ensures) _ _
     (ap replyOf (sym (c .before .checked1 .given .1)) ∙ d .check-displacements2 .ensures))
-
-enum-told-2 : tie.Need-enum-told-2
-enum-told-2 c = search needs
 
 is-plan-requires : tie.Need-is-plan-requires
 is-plan-requires c κs =
@@ -79,17 +58,5 @@ returns-5 c =
 pub check-roof-spec : {M : Type 1} → statement M
 check-roof-spec =
     tie.close
-    (tie.spec
-    is-matrix-requires
-    returns
-    check-displacements-requires
-    enum-known-checked0
-    returns-2
-    enum-told
-    check-displacements-requires-2
-    enum-known-checked1
-    returns-3
-    enum-told-2
-    is-plan-requires
-    returns-4
-    returns-5)
+    (tie.spec (λ c κs. search needs) returns (λ c κs. search needs) (λ c. search needs) returns-2 (λ c. search needs)
+    (λ c κs. search needs) (λ c. search needs) returns-3 (λ c. search needs) is-plan-requires returns-4 returns-5)

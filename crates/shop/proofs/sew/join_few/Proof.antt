@@ -31,4 +31,8 @@ returns c =
     (made .join-of .ensures)
 
 pub join-few-spec : {M : Type 1} → statement M
-join-few-spec = tie.close (tie.spec (search needs) (search needs) (search needs) (search needs) (search needs) (search needs) (search needs) (search needs) (search needs) (search needs) join-of-requires (search needs) (search needs) (search needs) returns)
+join-few-spec =
+    tie.close
+    (tie.spec (λ c. search needs) (λ c. search needs) (λ c. search needs) (λ c. search needs) (λ c. search needs)
+    (λ c. search needs) (λ c. search needs) (λ c. search needs) (λ c. search needs) (λ c. search needs)
+    join-of-requires (λ c. search needs) (λ c. search needs) (λ c. search needs) returns)

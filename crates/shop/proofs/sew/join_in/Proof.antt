@@ -42,4 +42,9 @@ returns-2 : tie.Need-returns-2
 returns-2 c = answered (c .before .before .before .before .before .before .before .before .before .before .before .before .before .before .before .before) (c .before .before .before .before .before .before .before .before .before .join-any .ensures)
 
 pub join-in-spec : {M : Type 1} → statement M
-join-in-spec = tie.close (tie.spec (search needs) (search needs) (search needs) (search needs) (search needs) (search needs) (search needs) (search needs) join-few-requires (search needs) (search needs) (search needs) returns (search needs) (search needs) (search needs) (search needs) returns-2)
+join-in-spec =
+    tie.close
+    (tie.spec (λ c. search needs) (λ c. search needs) (λ c. search needs) (λ c. search needs) (λ c. search needs)
+    (λ c. search needs) (λ c. search needs) (λ c. search needs) join-few-requires (λ c. search needs)
+    (λ c. search needs) (λ c. search needs) returns (λ c. search needs) (λ c. search needs) (λ c. search needs)
+    (λ c. search needs) returns-2)

@@ -108,4 +108,13 @@ returns-2 c =
     join-stored (held (z .before .before)) (z .wide .ensures) (c .word-of2 .ensures) (one .store-u32 .ensures) (next .store-u322 .ensures) (third .store-i32 .ensures)
 
 pub join-of-spec : {M : Type 1} → statement M
-join-of-spec = tie.close (tie.spec (search needs) (search needs) (search needs) (search needs) slice-aggregate-join (search needs) slice-aggregate-join-2 (search needs) slice-aggregate-join-3 (search needs) (search needs) (search needs) (search needs) (search needs) (search needs) returns (search needs) (search needs) array-read-wide (search needs) (search needs) array-share-prefix-starts slice-aggregate-store-u32 (search needs) slice-reshare-prefix-store-u32 slice-aggregate-store-u32-2 (search needs) slice-reshare-prefix-store-i32 slice-aggregate-store-i32 (search needs) (search needs) (search needs) (search needs) (search needs) (search needs) (search needs) returns-2)
+join-of-spec =
+    tie.close
+    (tie.spec (λ c. search needs) (λ c. search needs) (λ c. search needs) (λ c. search needs) slice-aggregate-join
+    (λ c. search needs) slice-aggregate-join-2 (λ c. search needs) slice-aggregate-join-3 (λ c. search needs)
+    (λ c. search needs) (λ c. search needs) (λ c. search needs) (λ c. search needs) (λ c. search needs) returns
+    (λ c. search needs) (λ c. search needs) array-read-wide (λ c. search needs) (λ c. search needs)
+    array-share-prefix-starts slice-aggregate-store-u32 (λ c. search needs) slice-reshare-prefix-store-u32
+    slice-aggregate-store-u32-2 (λ c. search needs) slice-reshare-prefix-store-i32 slice-aggregate-store-i32
+    (λ c. search needs) (λ c. search needs) (λ c. search needs) (λ c. search needs) (λ c. search needs)
+    (λ c. search needs) (λ c. search needs) returns-2)

@@ -87,9 +87,10 @@ returns-2 c =
 pub set-entry-in-spec : {M : Type 1} → statement M
 set-entry-in-spec =
     tie.close
-    (tie.spec (search needs) (search needs) (search needs) (search needs) (search needs) (search needs)
-    (search needs) (search needs) (search needs) (search needs) (search needs) (search needs)
-    slice-aggregate-set-entry-of (search needs) slice-aggregate-set-entry-of-2 set-entry-of-requires (search needs)
-    (search needs) returns (search needs) (search needs) (search needs) (search needs) (search needs)
-    slice-aggregate-set-entry-of-3 (search needs) slice-aggregate-set-entry-of-4 set-entry-of-requires-2
-    (search needs) (search needs) returns-2)
+    (tie.spec (λ c. search needs) (λ c. search needs) (λ c. search needs) (λ c. search needs) (λ c. search needs)
+    (λ c. search needs) (λ c. search needs) (λ c. search needs) (λ c. search needs) (λ c. search needs)
+    (λ c. search needs) (λ c. search needs) slice-aggregate-set-entry-of (λ c. search needs)
+    slice-aggregate-set-entry-of-2 set-entry-of-requires (λ c. search needs) (λ c. search needs) returns
+    (λ c. search needs) (λ c. search needs) (λ c. search needs) (λ c. search needs) (λ c. search needs)
+    slice-aggregate-set-entry-of-3 (λ c. search needs) slice-aggregate-set-entry-of-4 set-entry-of-requires-2
+    (λ c. search needs) (λ c. search needs) returns-2)

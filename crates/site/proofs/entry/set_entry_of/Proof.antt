@@ -69,7 +69,7 @@ returns-2 c =
 pub set-entry-of-spec : {M : Type 1} → statement M
 set-entry-of-spec =
     tie.close
-    (tie.spec (search needs) (search needs) (search needs) (search needs) (search needs) (search needs) returns
-    (search needs) (search needs) shared-slice-read-wide (search needs) slice-reshare-prefix-store-i32
-    slice-aggregate-store-i32 (search needs) (search needs) (search needs) (search needs) (search needs) (search needs)
-    (search needs) returns-2)
+    (tie.spec (λ c. search needs) (λ c. search needs) (λ c. search needs) (λ c. search needs) (λ c. search needs)
+    (λ c. search needs) returns (λ c. search needs) (λ c. search needs) shared-slice-read-wide (λ c. search needs)
+    slice-reshare-prefix-store-i32 slice-aggregate-store-i32 (λ c. search needs) (λ c. search needs)
+    (λ c. search needs) (λ c. search needs) (λ c. search needs) (λ c. search needs) (λ c. search needs) returns-2)

@@ -72,9 +72,10 @@ returns-2 c =
 pub set-movement-in-spec : {M : Type 1} → statement M
 set-movement-in-spec =
     tie.close
-    (tie.spec (search needs) (search needs) (search needs) (search needs) (search needs) (search needs)
-    (search needs) (search needs) (search needs) (search needs) (search needs) (search needs)
-    slice-aggregate-set-movement-of (search needs) slice-aggregate-set-movement-of-2 set-movement-of-requires
-    (search needs) (search needs) returns (search needs) (search needs) (search needs) (search needs) (search needs)
-    slice-aggregate-set-movement-of-3 (search needs) slice-aggregate-set-movement-of-4 set-movement-of-requires-2
-    (search needs) (search needs) returns-2)
+    (tie.spec (λ c. search needs) (λ c. search needs) (λ c. search needs) (λ c. search needs) (λ c. search needs)
+    (λ c. search needs) (λ c. search needs) (λ c. search needs) (λ c. search needs) (λ c. search needs)
+    (λ c. search needs) (λ c. search needs) slice-aggregate-set-movement-of (λ c. search needs)
+    slice-aggregate-set-movement-of-2 set-movement-of-requires (λ c. search needs) (λ c. search needs) returns
+    (λ c. search needs) (λ c. search needs) (λ c. search needs) (λ c. search needs) (λ c. search needs)
+    slice-aggregate-set-movement-of-3 (λ c. search needs) slice-aggregate-set-movement-of-4 set-movement-of-requires-2
+    (λ c. search needs) (λ c. search needs) returns-2)

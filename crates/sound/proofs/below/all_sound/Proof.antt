@@ -92,15 +92,5 @@ returns-2 c =
 pub all-sound-spec : {M : Type 1} → statement M
 all-sound-spec =
     tie.close
-    (tie.spec
-    Inv-loop
-    μ-loop
-    loop-holds
-    cast-sound-below
-    mul-sound-below
-    sound-below-requires
-    returns
-    add-i
-    loop-less
-    loop-again
-    returns-2)
+    (tie.spec Inv-loop μ-loop loop-holds cast-sound-below mul-sound-below sound-below-requires returns add-i loop-less
+    loop-again returns-2)

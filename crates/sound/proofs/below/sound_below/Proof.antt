@@ -14,9 +14,6 @@ use Rattle.sound.proofs.GroupTests.{tiles-fail, sound-colours}
 use Rattle.sound.proofs.below.sound_below.Statement.{statement}
 use Rattle.sound.proofs.below.sound_below.Tie as tie
 
-tiled-below-requires : tie.Need-tiled-below-requires
-tiled-below-requires c κs = search needs
-
 returns : tie.Need-returns
 returns c =
     let a = c .before .before .before .before .before .before .args in
@@ -71,11 +68,5 @@ returns-3 c =
 pub sound-below-spec : {M : Type 1} → statement M
 sound-below-spec =
     tie.close
-    (tie.spec
-    tiled-below-requires
-    returns
-    apart-below-requires
-    returns-2
-    add-apart-below
-    apart-below-requires-2
+    (tie.spec (λ c κs. search needs) returns apart-below-requires returns-2 add-apart-below apart-below-requires-2
     returns-3)

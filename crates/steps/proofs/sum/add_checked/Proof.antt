@@ -11,12 +11,6 @@ use Rattle.base.proofs.Integers.{abs-add, fits-abs, fits-magnitude}
 use Rattle.steps.proofs.sum.add_checked.Statement.{statement}
 use Rattle.steps.proofs.sum.add_checked.Tie as tie
 
-is-near-requires : tie.Need-is-near-requires
-is-near-requires c κs = search needs
-
-is-near-requires-2 : tie.Need-is-near-requires-2
-is-near-requires-2 c κs = search needs
-
 -- the sum of two numbers near 0
 near : (c : tie.Then1) → let a = c .before .before .before .args in natAbs (a .a +ℤ a .b) < 2 ^ 63
 near c =
@@ -36,13 +30,10 @@ add-t6 c = let f = fits c in search needs
 returns : tie.Need-returns
 returns c = let f = fits c in rw (fits-magnitude _ (near c)) (search needs)
 
-add-by-sign-requires : tie.Need-add-by-sign-requires
-add-by-sign-requires c κs = search needs
-
 returns-2 : tie.Need-returns-2
 returns-2 c = let s = c .before .before .before .before in rw (toZ-ofZ (s .fits .a), toZ-ofZ (s .fits .b)) at (c .add-by-sign .ensures)
 
 pub add-checked-spec : {M : Type 1} → statement M
 add-checked-spec =
     tie.close
-    (tie.spec is-near-requires is-near-requires-2 add-t6 returns add-by-sign-requires returns-2)
+    (tie.spec (λ c κs. search needs) (λ c κs. search needs) add-t6 returns (λ c κs. search needs) returns-2)

@@ -25,32 +25,11 @@ in-range c = search needs
 entry-place-requires : tie.Need-entry-place-requires
 entry-place-requires c κs = let r = c .pre .1 in (omega (arith, r .row-low, r .few), r .inside)
 
-mul-wide : tie.Need-mul-wide
-mul-wide c = search needs
-
-element-copy-out-wide : tie.Need-element-copy-out-wide
-element-copy-out-wide c = search needs
-
-wide-requires : tie.Need-wide-requires
-wide-requires c κs = search needs
-
-by-turns-requires : tie.Need-by-turns-requires
-by-turns-requires c κs = search needs
-
-mul-product : tie.Need-mul-product
-mul-product c = search needs
-
-element-copy-out-product : tie.Need-element-copy-out-product
-element-copy-out-product c = search needs
-
 mul-product-2 : tie.Need-mul-product-2
 mul-product-2 c = let h = other (c .before) in search needs
 
 element-copy-out-product-2 : tie.Need-element-copy-out-product-2
 element-copy-out-product-2 c = let h = other (c .before) in search needs
-
-product-requires : tie.Need-product-requires
-product-requires c κs = search needs
 
 returns : tie.Need-returns
 returns c =
@@ -70,15 +49,6 @@ returns c =
 pub amount-of-spec : {M : Type 1} → statement M
 amount-of-spec =
     tie.close
-    (tie.spec
-    entry-place-requires
-    mul-wide
-    element-copy-out-wide
-    wide-requires
-    by-turns-requires
-    mul-product
-    element-copy-out-product
-    mul-product-2
-    element-copy-out-product-2
-    product-requires
-    returns)
+    (tie.spec entry-place-requires (λ c. search needs) (λ c. search needs) (λ c κs. search needs)
+    (λ c κs. search needs) (λ c. search needs) (λ c. search needs) mul-product-2 element-copy-out-product-2
+    (λ c κs. search needs) returns)

@@ -81,12 +81,6 @@ mul-amount-2 c = let l = c .before .before .before in omega (arith, l .before .b
 slice-set-from-amount : tie.Need-slice-set-from-amount Inv-loop μ-loop
 slice-set-from-amount c = let l = c .before .before .before in omega (arith, kept l, l .before .before .before .pre .long)
 
-add-i : tie.Need-add-i Inv-loop μ-loop
-add-i c = omega arith
-
-loop-less : tie.Need-loop-less Inv-loop μ-loop
-loop-less c = omega arith
-
 loop-again : tie.Need-loop-again Inv-loop μ-loop
 loop-again c =
     let l = c .before .before .before in
@@ -110,5 +104,5 @@ returns c =
 pub put-amounts-spec : {M : Type 1} → statement M
 put-amounts-spec =
     tie.close
-    (tie.spec Inv-loop μ-loop (search needs) loop-holds values-of-requires sizes-requires mul-amount mul-amount-2
-    slice-set-from-amount add-i loop-less loop-again same-length returns)
+    (tie.spec Inv-loop μ-loop (λ c. search needs) loop-holds values-of-requires sizes-requires mul-amount mul-amount-2
+    slice-set-from-amount (λ c. omega arith) (λ c. omega arith) loop-again same-length returns)

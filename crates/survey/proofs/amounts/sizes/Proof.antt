@@ -62,5 +62,5 @@ returns c =
 pub sizes-spec : {M : Type 1} → statement M
 sizes-spec =
     tie.close
-    (tie.spec Inv-loop μ-loop loop-holds (search needs) (search needs) (search needs) add-sum (search needs) (search needs)
-    loop-again returns)
+    (tie.spec Inv-loop μ-loop loop-holds (λ c. search needs) (λ c. search needs) (λ c. search needs) add-sum
+    (λ c. search needs) (λ c. search needs) loop-again returns)

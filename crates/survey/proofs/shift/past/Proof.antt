@@ -15,4 +15,4 @@ returns-2 : tie.Need-returns-2
 returns-2 c = passed-same (c .before .before .before .pre) (sym (c .before .stands .ensures) ∙ c .if1 .left)
 
 pub past-spec : {M : Type 1} → statement M
-past-spec = tie.close (tie.spec stands-requires (search needs) returns returns-2)
+past-spec = tie.close (tie.spec stands-requires (λ c. search needs) returns returns-2)

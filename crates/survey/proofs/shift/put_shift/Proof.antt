@@ -50,12 +50,6 @@ slice-set-from-out c = let l = c .before .before .before in omega (arith, kept l
 past-requires : tie.Need-past-requires Inv-loop μ-loop
 past-requires c κs = let l = c .before .before .before in l .loop .inv .1
 
-add-j : tie.Need-add-j Inv-loop μ-loop
-add-j c = omega arith
-
-loop-less : tie.Need-loop-less Inv-loop μ-loop
-loop-less c = omega arith
-
 loop-again : tie.Need-loop-again Inv-loop μ-loop
 loop-again c =
     let s = c .before in
@@ -82,18 +76,5 @@ returns c =
 pub put-shift-spec : {M : Type 1} → statement M
 put-shift-spec =
     tie.close
-    (tie.spec
-    Inv-loop
-    μ-loop
-    loop-holds
-    cast-column
-    value-at-requires
-    with-sign-requires
-    mul-t12
-    slice-set-from-out
-    past-requires
-    add-j
-    loop-less
-    loop-again
-    same-length
-    returns)
+    (tie.spec Inv-loop μ-loop loop-holds cast-column value-at-requires with-sign-requires mul-t12 slice-set-from-out
+    past-requires (λ c. omega arith) (λ c. omega arith) loop-again same-length returns)

@@ -11,4 +11,4 @@ returns-2 : tie.Need-returns-2
 returns-2 c = let a = c .before .before in stands-at (a .pre) (c .before .if1 .left)
 
 pub stands-spec : {M : Type 1} → statement M
-stands-spec = tie.close (tie.spec returns (search needs) (search needs) returns-2)
+stands-spec = tie.close (tie.spec returns (λ c. search needs) (λ c. search needs) returns-2)

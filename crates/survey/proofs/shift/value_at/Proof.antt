@@ -27,4 +27,6 @@ returns-2 c =
     sym (lookup-none (a .j) (a .columns .now) (a .values .now) (sym (c .before .stands .ensures) ∙ c .if1 .left))
 
 pub value-at-spec : {M : Type 1} → statement M
-value-at-spec = tie.close (tie.spec stands-requires (search needs) shared-slice-copy-out-result returns returns-2)
+value-at-spec =
+    tie.close
+    (tie.spec stands-requires (λ c. search needs) shared-slice-copy-out-result returns returns-2)

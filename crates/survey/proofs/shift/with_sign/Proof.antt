@@ -30,4 +30,4 @@ returns-3 : tie.Need-returns-3
 returns-3 c = let a = c .before .before in sign-none (a .args .t) (a .args .v) (simp (toZ-ofZ (a .fits .v)) at (c .before .if1 .left)) (simp (toZ-ofZ (a .fits .v)) at (c .if2 .left))
 
 pub with-sign-spec : {M : Type 1} → statement M
-with-sign-spec = tie.close (tie.spec (search needs) returns sub-result returns-2 returns-3)
+with-sign-spec = tie.close (tie.spec (λ c. search needs) returns sub-result returns-2 returns-3)

@@ -4,14 +4,8 @@ use Rattle.matrix.proofs.Checks.{shape}
 use Rattle.symmetric.proofs.passes.is_regular.Statement.{statement}
 use Rattle.symmetric.proofs.passes.is_regular.Tie as tie
 
-slice-aggregate-meet-rows : tie.Need-slice-aggregate-meet-rows
-slice-aggregate-meet-rows c = search needs
-
 meet-rows-requires : tie.Need-meet-rows-requires
 meet-rows-requires c κs = let a = c .before .before .before .pre in (a, shape _ a .few)
 
-returns : tie.Need-returns
-returns c = search needs
-
 pub is-regular-spec : {M : Type 1} → statement M
-is-regular-spec = tie.close (tie.spec slice-aggregate-meet-rows meet-rows-requires returns)
+is-regular-spec = tie.close (tie.spec (λ c. search needs) meet-rows-requires (λ c. search needs))

@@ -22,17 +22,8 @@ returns-3 c =
     let a = c .before .before .before .before .before .args in
     sym (shape-fails _ 1 (lt-leb (suc (a .n)) (length (a .starts .now)) (omega arith)))
 
-shared-slice-read-if4 : tie.Need-shared-slice-read-if4
-shared-slice-read-if4 c = search needs
-
 returns-4 : tie.Need-returns-4
 returns-4 c = sym (shape-fails _ 2 (ne-eqb _ 0 (c .if4 .taken)))
-
-mul-end : tie.Need-mul-end
-mul-end c = search needs
-
-shared-slice-read-end : tie.Need-shared-slice-read-end
-shared-slice-read-end c = search needs
 
 cast-end : tie.Need-cast-end
 cast-end c = omega (arith, c .shared-slice-known4 .given (c .before .before .before .before .before .before .before .before .args .n))
@@ -43,25 +34,11 @@ returns-5 c = sym (shape-fails _ 3 (lt-leb _ _ (c .if5 .taken)))
 returns-6 : tie.Need-returns-6
 returns-6 c = sym (shape-fails _ 4 (lt-leb _ _ (c .if6 .taken)))
 
-starts-rise-requires : tie.Need-starts-rise-requires
-starts-rise-requires c κs = search needs
-
 returns-7 : tie.Need-returns-7
 returns-7 c = c .starts-rise .ensures ∙ shape-rises _ (omega arith) (omega arith) (omega arith) (omega arith) (omega arith) (omega arith)
 
 pub is-shaped-spec : {M : Type 1} → statement M
 is-shaped-spec =
     tie.close
-    (tie.spec
-    returns
-    returns-2
-    returns-3
-    shared-slice-read-if4
-    returns-4
-    mul-end
-    shared-slice-read-end
-    cast-end
-    returns-5
-    returns-6
-    starts-rise-requires
-    returns-7)
+    (tie.spec returns returns-2 returns-3 (λ c. search needs) returns-4 (λ c. search needs) (λ c. search needs)
+    cast-end returns-5 returns-6 (λ c κs. search needs) returns-7)

@@ -35,20 +35,11 @@ start c = c .before .before .before .before .before .before
 abbrev column : tie.At-loop Inv-loop μ-loop → ℕ
 column c = getD (start c .args .columns .now) (c .loop .p) 0
 
-add-end : tie.Need-add-end Inv-loop μ-loop
-add-end c = search needs
-
-mul-end : tie.Need-mul-end Inv-loop μ-loop
-mul-end c = search needs
-
 shared-slice-read-end : tie.Need-shared-slice-read-end Inv-loop μ-loop
 shared-slice-read-end c = let a = c .before .before .before .before in columns-in (given a) (a .pre .shape) (a .args .i) (a .pre .below) .starts-long
 
 cast-end : tie.Need-cast-end Inv-loop μ-loop
 cast-end c = omega (arith, c .shared-slice-known3 .given (c .before .before .before .before .args .i + 1))
-
-mul-p : tie.Need-mul-p Inv-loop μ-loop
-mul-p c = search needs
 
 shared-slice-read-p : tie.Need-shared-slice-read-p Inv-loop μ-loop
 shared-slice-read-p c = let a = c .before .before .before .before .before in omega (arith, columns-in (given a) (a .pre .shape) (a .args .i) (a .pre .below) .starts-long)
@@ -221,46 +212,9 @@ returns-3 c =
 pub meet-row-spec : {M : Type 1} → statement M
 meet-row-spec =
     tie.close
-    (tie.spec
-    Inv-loop
-    μ-loop
-    add-end
-    mul-end
-    shared-slice-read-end
-    cast-end
-    mul-p
-    shared-slice-read-p
-    cast-p
-    loop-holds
-    is-below-requires
-    mul-j
-    shared-slice-read-j
-    cast-j
-    same-length
-    returns
-    mul-q
-    slice-read-q
-    add-stop
-    mul-stop
-    shared-slice-read-stop
-    cast-stop
-    cast-is-at
-    cast-is-at-2
-    mul-is-at
-    shared-slice-copy-out-is-at
-    is-at-requires
-    same-length-2
-    returns-2
-    add-cursors
-    mul-cursors
-    slice-write-cursors
-    add-least
-    add-p
-    loop-less
-    loop-again
-    past-requires
-    cast-cursors
-    mul-cursors-2
-    slice-write-cursors-2
-    same-length-3
-    returns-3)
+    (tie.spec Inv-loop μ-loop (λ c. search needs) (λ c. search needs) shared-slice-read-end cast-end
+    (λ c. search needs) shared-slice-read-p cast-p loop-holds is-below-requires mul-j shared-slice-read-j cast-j
+    same-length returns mul-q slice-read-q add-stop mul-stop shared-slice-read-stop cast-stop cast-is-at cast-is-at-2
+    mul-is-at shared-slice-copy-out-is-at is-at-requires same-length-2 returns-2 add-cursors mul-cursors
+    slice-write-cursors add-least add-p loop-less loop-again past-requires cast-cursors mul-cursors-2
+    slice-write-cursors-2 same-length-3 returns-3)

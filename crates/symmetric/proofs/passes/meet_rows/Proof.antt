@@ -88,12 +88,6 @@ add-lower c =
     let l = c .before .before .before .before .before .before .before .before in
     omega (arith, next (c .before .before) .bounded, c .shared-slice-known3 .given (l .loop .i + 1))
 
-add-i : tie.Need-add-i Inv-loop μ-loop
-add-i c = omega arith
-
-loop-less : tie.Need-loop-less Inv-loop μ-loop
-loop-less c = omega arith
-
 loop-again : tie.Need-loop-again Inv-loop μ-loop
 loop-again c =
     let d = c .before .before .before .before .before in
@@ -123,25 +117,6 @@ returns-3 c =
 pub meet-rows-spec : {M : Type 1} → statement M
 meet-rows-spec =
     tie.close
-    (tie.spec
-    Inv-loop
-    μ-loop
-    loop-holds
-    meet-row-requires
-    same-length
-    returns
-    mul-lower
-    slice-read-lower
-    mul-lower-2
-    shared-slice-read-lower
-    sub-lower
-    cast-lower
-    add-lower
-    add-i
-    loop-less
-    loop-again
-    same-length-2
-    returns-2
-    are-ended-requires
-    same-length-3
-    returns-3)
+    (tie.spec Inv-loop μ-loop loop-holds meet-row-requires same-length returns mul-lower slice-read-lower mul-lower-2
+    shared-slice-read-lower sub-lower cast-lower add-lower (λ c. omega arith) (λ c. omega arith) loop-again
+    same-length-2 returns-2 are-ended-requires same-length-3 returns-3)

@@ -17,27 +17,6 @@ abbrev μ-loop : tie.MeasureT-loop
 loop-holds : tie.Need-loop-holds Inv-loop μ-loop
 loop-holds c = found-none _ _
 
-mul-rise : tie.Need-mul-rise Inv-loop μ-loop
-mul-rise c = search needs
-
-shared-slice-read-rise : tie.Need-shared-slice-read-rise Inv-loop μ-loop
-shared-slice-read-rise c = search needs
-
-add-rise : tie.Need-add-rise Inv-loop μ-loop
-add-rise c = search needs
-
-mul-rise-2 : tie.Need-mul-rise-2 Inv-loop μ-loop
-mul-rise-2 c = search needs
-
-shared-slice-read-rise-2 : tie.Need-shared-slice-read-rise-2 Inv-loop μ-loop
-shared-slice-read-rise-2 c = search needs
-
-add-i : tie.Need-add-i Inv-loop μ-loop
-add-i c = search needs
-
-loop-less : tie.Need-loop-less Inv-loop μ-loop
-loop-less c = search needs
-
 loop-again : tie.Need-loop-again Inv-loop μ-loop
 loop-again c =
     let t = c .before .before in
@@ -49,16 +28,5 @@ returns c = found-numbers _ _ (c .before .loop .inv) (c .loop-test .left)
 pub starts-rise-spec : {M : Type 1} → statement M
 starts-rise-spec =
     tie.close
-    (tie.spec
-    Inv-loop
-    μ-loop
-    loop-holds
-    mul-rise
-    shared-slice-read-rise
-    add-rise
-    mul-rise-2
-    shared-slice-read-rise-2
-    add-i
-    loop-less
-    loop-again
-    returns)
+    (tie.spec Inv-loop μ-loop loop-holds (λ c. search needs) (λ c. search needs) (λ c. search needs)
+    (λ c. search needs) (λ c. search needs) (λ c. search needs) (λ c. search needs) loop-again returns)

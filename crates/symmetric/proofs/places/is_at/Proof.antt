@@ -13,20 +13,8 @@ use Rattle.symmetric.proofs.places.is_at.Tie as tie
 returns : tie.Need-returns
 returns c = rw (le-ltb _ _ (c .if1 .taken))
 
-mul-if2 : tie.Need-mul-if2
-mul-if2 c = omega arith
-
-shared-slice-read-if2 : tie.Need-shared-slice-read-if2
-shared-slice-read-if2 c = omega arith
-
 returns-2 : tie.Need-returns-2
 returns-2 c = rw (lt-ltb _ _ (c .before .before .if1 .left), ne-eqb _ _ (c .if2 .taken))
-
-mul-if3 : tie.Need-mul-if3
-mul-if3 c = omega arith
-
-shared-slice-copy-out-if3 : tie.Need-shared-slice-copy-out-if3
-shared-slice-copy-out-if3 c = omega arith
 
 returns-3 : tie.Need-returns-3
 returns-3 c =
@@ -43,12 +31,5 @@ returns-4 c =
 pub is-at-spec : {M : Type 1} → statement M
 is-at-spec =
     tie.close
-    (tie.spec
-    returns
-    mul-if2
-    shared-slice-read-if2
-    returns-2
-    mul-if3
-    shared-slice-copy-out-if3
-    returns-3
+    (tie.spec returns (λ c. omega arith) (λ c. omega arith) returns-2 (λ c. omega arith) (λ c. omega arith) returns-3
     returns-4)

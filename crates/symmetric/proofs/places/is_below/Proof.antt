@@ -8,12 +8,6 @@ use Rattle.symmetric.proofs.places.is_below.Tie as tie
 returns : tie.Need-returns
 returns c = rw (le-ltb _ _ (c .if1 .taken))
 
-mul-result : tie.Need-mul-result
-mul-result c = search needs
-
-shared-slice-read-result : tie.Need-shared-slice-read-result
-shared-slice-read-result c = search needs
-
 cast-result : tie.Need-cast-result
 cast-result c = omega (arith, c .shared-slice-known .given (c .before .before .args .p))
 
@@ -22,4 +16,4 @@ returns-2 c = rw (lt-ltb _ _ (c .before .if1 .left))
 
 pub is-below-spec : {M : Type 1} → statement M
 is-below-spec =
-    tie.close (tie.spec returns mul-result shared-slice-read-result cast-result returns-2)
+    tie.close (tie.spec returns (λ c. search needs) (λ c. search needs) cast-result returns-2)

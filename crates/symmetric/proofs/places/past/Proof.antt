@@ -8,20 +8,11 @@ use Rattle.symmetric.proofs.places.past.Tie as tie
 returns : tie.Need-returns
 returns c = rw (le-ltb _ _ (c .if1 .taken)) (omega arith)
 
-mul-if2 : tie.Need-mul-if2
-mul-if2 c = search needs
-
-shared-slice-read-if2 : tie.Need-shared-slice-read-if2
-shared-slice-read-if2 c = search needs
-
 cast-if2 : tie.Need-cast-if2
 cast-if2 c = omega (arith, c .shared-slice-known .given (c .before .before .args .p))
 
 returns-2 : tie.Need-returns-2
 returns-2 c = rw (lt-ltb _ _ (c .before .before .if1 .left), ne-eqb _ _ (c .if2 .taken)) (omega arith)
-
-add-result : tie.Need-add-result
-add-result c = search needs
 
 returns-3 : tie.Need-returns-3
 returns-3 c = rw (lt-ltb _ _ (c .before .before .if1 .left), eq-eqb _ _ (c .if2 .left))
@@ -29,4 +20,4 @@ returns-3 c = rw (lt-ltb _ _ (c .before .before .if1 .left), eq-eqb _ _ (c .if2 
 pub past-spec : {M : Type 1} → statement M
 past-spec =
     tie.close
-    (tie.spec returns mul-if2 shared-slice-read-if2 cast-if2 returns-2 add-result returns-3)
+    (tie.spec returns (λ c. search needs) (λ c. search needs) cast-if2 returns-2 (λ c. search needs) returns-3)

@@ -10,15 +10,10 @@ read-of-requires c κs =
     let h = few .before .are-few .ensures (few .if1 .taken) in
     (omega arith, omega (arith, h .0), omega (arith, h .1))
 
-returns : tie.Need-returns
-returns c = search needs
-
-returns-2 : tie.Need-returns-2
-returns-2 c = search needs
-
 pub read-in-spec : {M : Type 1} → statement M
 read-in-spec =
     tie.close
-    (tie.spec (search needs) (search needs) (search needs) (search needs) read-of-requires (search needs) (search needs)
-    (search needs) returns (search needs) (search needs) (search needs) (search needs) (search needs) (search needs)
-    (search needs) returns-2)
+    (tie.spec (λ c. search needs) (λ c. search needs) (λ c. search needs) (λ c. search needs) read-of-requires
+    (λ c. search needs) (λ c. search needs) (λ c. search needs) (λ c. search needs) (λ c. search needs)
+    (λ c. search needs) (λ c. search needs) (λ c. search needs) (λ c. search needs) (λ c. search needs)
+    (λ c. search needs) (λ c. search needs))

@@ -75,10 +75,11 @@ returns-2 c =
 pub read-of-spec : {M : Type 1} → statement M
 read-of-spec =
     tie.close
-    (tie.spec (search needs) (search needs) (search needs) (search needs) slice-aggregate-read (search needs)
-    slice-aggregate-read-2 (search needs) slice-aggregate-read-3 (search needs) (search needs) (search needs)
-    (search needs) (search needs) (search needs) (search needs) returns (search needs) (search needs)
-    slice-read-wide (search needs) (search needs) slice-reshare-prefix-store-u32 slice-aggregate-store-u32
-    (search needs) slice-reshare-prefix-store-u32-2 slice-aggregate-store-u32-2 (search needs)
-    slice-reshare-prefix-store-i32 slice-aggregate-store-i32 (search needs) (search needs) (search needs)
-    (search needs) (search needs) (search needs) (search needs) (search needs) returns-2)
+    (tie.spec (λ c. search needs) (λ c. search needs) (λ c. search needs) (λ c. search needs) slice-aggregate-read
+    (λ c. search needs) slice-aggregate-read-2 (λ c. search needs) slice-aggregate-read-3 (λ c. search needs)
+    (λ c. search needs) (λ c. search needs) (λ c. search needs) (λ c. search needs) (λ c. search needs)
+    (λ c. search needs) returns (λ c. search needs) (λ c. search needs) slice-read-wide (λ c. search needs)
+    (λ c. search needs) slice-reshare-prefix-store-u32 slice-aggregate-store-u32 (λ c. search needs)
+    slice-reshare-prefix-store-u32-2 slice-aggregate-store-u32-2 (λ c. search needs) slice-reshare-prefix-store-i32
+    slice-aggregate-store-i32 (λ c. search needs) (λ c. search needs) (λ c. search needs) (λ c. search needs)
+    (λ c. search needs) (λ c. search needs) (λ c. search needs) (λ c. search needs) returns-2)

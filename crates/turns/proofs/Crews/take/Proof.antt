@@ -30,16 +30,10 @@ walk-requires c κs =
     let t = l .lay .ensures _ (s .1 crew0) (s .2 crew0) (planned-blank (s .1 crew0)) in
     (whole-few (s .1 crew0), planned-recorded (s .1 crew0), rw (s .4) (step-tables _ (t .0) (t .1) (s .3)), s .5 ∙ sym (s .4))
 
-same-length : tie.Need-same-length
-same-length c = search needs
-
-same-length-2 : tie.Need-same-length-2
-same-length-2 c = search needs
-
 returns : tie.Need-returns
 returns c q g k t u =
     let l = c .before .before .before .before .before .before .before .before .before .before .before in
     c .before .before .walk .ensures q (λ d. g d .sized .accepted) (g crew0 .groups-are) (λ d. l .lay .ensures _ (g d) (k d) (planned-blank (g d)) .0) (for-each q t u)
 
 pub take-spec : {M : Type 1} → statement M
-take-spec = tie.close (tie.spec lay-requires walk-requires same-length same-length-2 returns)
+take-spec = tie.close (tie.spec lay-requires walk-requires (λ c. search needs) (λ c. search needs) returns)

@@ -72,12 +72,6 @@ made0-long s = let g = s .good .0 in search needs
 made1-long : (s : tie.Start Inv-loop μ-loop) → length (s .args .self .made1) ≡ 16
 made1-long s = let g = s .good .0 in search needs
 
-counts-requires : tie.Need-counts-requires Inv-loop μ-loop
-counts-requires c κs = search needs
-
-numbers-requires : tie.Need-numbers-requires Inv-loop μ-loop
-numbers-requires c κs = search needs
-
 record-at-requires : tie.Need-record-at-requires Inv-loop μ-loop
 record-at-requires c κs = let R = c .before .before .before .before .pre .1 in omega (arith, R .long, R .some)
 
@@ -99,9 +93,6 @@ loop-holds c =
 
 -- ---- a pick that is refused
 
-shared-slice-read-who : tie.Need-shared-slice-read-who Inv-loop μ-loop
-shared-slice-read-who c = search needs
-
 cast-who : tie.Need-cast-who Inv-loop μ-loop
 cast-who c = omega (arith, c .shared-slice-known3 .given (c .before .before .loop .k))
 
@@ -111,9 +102,6 @@ begin-for-requires c κs = let l = c .before .before .before .before .before .be
 -- from the look at a pick back to its turn
 abbrev turn : tie.After-begin-for Inv-loop μ-loop → tie.In-loop Inv-loop μ-loop
 turn b = b .before .before .before .before .before .before
-
-ended-requires : tie.Need-ended-requires Inv-loop μ-loop
-ended-requires c κs = search needs
 
 same-length : tie.Need-same-length Inv-loop μ-loop
 same-length c = turn (c .before .before) .before .loop .inv .1
@@ -157,9 +145,6 @@ access-for-requires c κs =
 -- from an access back to the update at hand
 abbrev hand : tie.After-access-for Inv-loop μ-loop → tie.Else1 Inv-loop μ-loop
 hand a = a .before .before .before .before .before .before .before
-
-ended-requires-2 : tie.Need-ended-requires-2 Inv-loop μ-loop
-ended-requires-2 c κs = search needs
 
 same-length-3 : tie.Need-same-length-3 Inv-loop μ-loop
 same-length-3 c = let a = c .before .before .before .before in a .access-for .kept .1 .1 .0 ∙ turn (hand a .before) .before .loop .inv .1
@@ -222,15 +207,6 @@ loop-again c =
 
 -- ---- after the loop
 
-ended-requires-3 : tie.Need-ended-requires-3 Inv-loop μ-loop
-ended-requires-3 c κs = search needs
-
-same-length-5 : tie.Need-same-length-5 Inv-loop μ-loop
-same-length-5 c = search needs
-
-same-length-6 : tie.Need-same-length-6 Inv-loop μ-loop
-same-length-6 c = search needs
-
 returns-3 : tie.Need-returns-3 Inv-loop μ-loop
 returns-3 c q ok is laid t =
     let l = c .before .before in
@@ -239,31 +215,7 @@ returns-3 c q ok is laid t =
 pub walk-spec : {M : Type 1} → statement M
 walk-spec =
     tie.close
-    (tie.spec
-    Inv-loop
-    μ-loop
-    counts-requires
-    numbers-requires
-    record-at-requires
-    find-for-requires
-    loop-holds
-    shared-slice-read-who
-    cast-who
-    begin-for-requires
-    ended-requires
-    same-length
-    same-length-2
-    returns
-    access-for-requires
-    ended-requires-2
-    same-length-3
-    same-length-4
-    returns-2
-    renew-for-requires
-    add-k
-    loop-less
-    loop-again
-    ended-requires-3
-    same-length-5
-    same-length-6
-    returns-3)
+    (tie.spec Inv-loop μ-loop (λ c κs. search needs) (λ c κs. search needs) record-at-requires find-for-requires
+    loop-holds (λ c. search needs) cast-who begin-for-requires (λ c κs. search needs) same-length same-length-2
+    returns access-for-requires (λ c κs. search needs) same-length-3 same-length-4 returns-2 renew-for-requires add-k
+    loop-less loop-again (λ c κs. search needs) (λ c. search needs) (λ c. search needs) returns-3)

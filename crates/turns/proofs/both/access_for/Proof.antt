@@ -63,5 +63,6 @@ returns-2 c =
 pub access-for-spec : {M : Type 1} → statement M
 access-for-spec =
     tie.close
-    (tie.spec (search needs) (search needs) (search needs) (search needs) access-requires (search needs) returns
-    (search needs) (search needs) (search needs) (search needs) access-requires-2 (search needs) returns-2)
+    (tie.spec (λ c. search needs) (λ c. search needs) (λ c. search needs) (λ c. search needs) access-requires
+    (λ c. search needs) returns (λ c. search needs) (λ c. search needs) (λ c. search needs) (λ c. search needs)
+    access-requires-2 (λ c. search needs) returns-2)

@@ -77,36 +77,6 @@ returns-3 c =
       adds-kept = λ z d n. refl;
     }
 
-mul-begin-2 : tie.Need-mul-begin-2
-mul-begin-2 c = search needs
-
-index-1-begin-2 : tie.Need-index-1-begin-2
-index-1-begin-2 c = search needs
-
-mul-begin-3 : tie.Need-mul-begin-3
-mul-begin-3 c = search needs
-
-index-1-begin-3 : tie.Need-index-1-begin-3
-index-1-begin-3 c = search needs
-
-mul-begin-4 : tie.Need-mul-begin-4
-mul-begin-4 c = search needs
-
-index-1-begin-4 : tie.Need-index-1-begin-4
-index-1-begin-4 c = search needs
-
-mul-begin-5 : tie.Need-mul-begin-5
-mul-begin-5 c = search needs
-
-index-1-begin-5 : tie.Need-index-1-begin-5
-index-1-begin-5 c = search needs
-
-mul-begin-6 : tie.Need-mul-begin-6
-mul-begin-6 c = search needs
-
-index-1-begin-6 : tie.Need-index-1-begin-6
-index-1-begin-6 c = search needs
-
 begin-requires : tie.Need-begin-requires
 begin-requires c κs =
     let e = c .before .before .before .before .before .before .before .before .before in
@@ -153,7 +123,8 @@ returns-4 c =
 pub begin-for-spec : {M : Type 1} → statement M
 begin-for-spec =
     tie.close
-    (tie.spec (search needs) returns returns-2 (search needs) (search needs) (search needs) (search needs) (search needs)
-    (search needs) (search needs) (search needs) (search needs) returns-3 (search needs) (search needs) (search needs)
-    mul-begin-2 index-1-begin-2 mul-begin-3 index-1-begin-3 mul-begin-4 index-1-begin-4 mul-begin-5 index-1-begin-5
-    mul-begin-6 index-1-begin-6 begin-requires returns-4)
+    (tie.spec (λ c. search needs) returns returns-2 (λ c. search needs) (λ c. search needs) (λ c. search needs)
+    (λ c. search needs) (λ c. search needs) (λ c. search needs) (λ c. search needs) (λ c. search needs)
+    (λ c. search needs) returns-3 (λ c. search needs) (λ c. search needs) (λ c. search needs) (λ c. search needs)
+    (λ c. search needs) (λ c. search needs) (λ c. search needs) (λ c. search needs) (λ c. search needs)
+    (λ c. search needs) (λ c. search needs) (λ c. search needs) (λ c. search needs) begin-requires returns-4)

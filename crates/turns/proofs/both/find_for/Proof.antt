@@ -25,5 +25,5 @@ returns c crew1 =
 pub find-for-spec : {M : Type 1} → statement M
 find-for-spec =
     tie.close
-    (tie.spec (search needs) (search needs) (search needs) find-requires (search needs) (search needs) (search needs)
-    find-requires-2 returns)
+    (tie.spec (λ c. search needs) (λ c. search needs) (λ c. search needs) find-requires (λ c. search needs)
+    (λ c. search needs) (λ c. search needs) find-requires-2 returns)

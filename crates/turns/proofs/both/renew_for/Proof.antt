@@ -5,9 +5,6 @@ use Rattle.turns.proofs.BothLists.{own-at, put-own, put-other}
 use Rattle.turns.proofs.both.renew_for.Statement.{statement}
 use Rattle.turns.proofs.both.renew_for.Tie as tie
 
-renew-requires : tie.Need-renew-requires
-renew-requires c κs = search needs
-
 returns : tie.Need-returns
 returns c =
     let s = c .before .before .before .before .before in
@@ -25,5 +22,5 @@ returns c =
 pub renew-for-spec : {M : Type 1} → statement M
 renew-for-spec =
     tie.close
-    (tie.spec (search needs) (search needs) (search needs) (search needs) (search needs) (search needs) renew-requires
-    returns)
+    (tie.spec (λ c. search needs) (λ c. search needs) (λ c. search needs) (λ c. search needs) (λ c. search needs)
+    (λ c. search needs) (λ c κs. search needs) returns)

@@ -39,23 +39,11 @@ low c =
 begun : (c : tie.After-wide) → let a = entry (c .before .before) .args in getD (a .begins .now) (c .wide .result) 0 ≤ placeNext (a .first .now) (a .made .now) (a .w)
 begun c = let s = entry (c .before .before) in rw (read c) (s .pre .1 .2 .begun (s .args .w) _ (s .pre .0) (left (c .before .before)))
 
-mul-done : tie.Need-mul-done
-mul-done c = search needs
-
-element-copy-out-done : tie.Need-element-copy-out-done
-element-copy-out-done c = search needs
-
 accesses-requires : tie.Need-accesses-requires
 accesses-requires c κs = let s = c .before in (s .pre .0, s .pre .1 .2 .bounded .rising)
 
 returns : tie.Need-returns
 returns c = rw (← c .before .accesses .ensures, le-ltb _ _ (c .if1 .taken))
-
-mul-start : tie.Need-mul-start
-mul-start c = search needs
-
-element-copy-out-start : tie.Need-element-copy-out-start
-element-copy-out-start c = search needs
 
 add-wide : tie.Need-add-wide
 add-wide c = let h = place c in search needs
@@ -68,9 +56,6 @@ mul-wide c = let h = place c in search needs
 
 element-copy-out-wide : tie.Need-element-copy-out-wide
 element-copy-out-wide c = let h = place c in search needs
-
-wide-requires : tie.Need-wide-requires
-wide-requires c κs = search needs
 
 mul-result : tie.Need-mul-result
 mul-result c = let h = low c in search needs
@@ -95,21 +80,6 @@ returns-2 c =
 pub is-inside-spec : {M : Type 1} → statement M
 is-inside-spec =
     tie.close
-    (tie.spec
-    mul-done
-    element-copy-out-done
-    accesses-requires
-    returns
-    mul-start
-    element-copy-out-start
-    add-wide
-    cast-wide
-    mul-wide
-    element-copy-out-wide
-    wide-requires
-    mul-result
-    element-copy-out-result
-    mul-result-2
-    mul-result-3
-    add-result
-    returns-2)
+    (tie.spec (λ c. search needs) (λ c. search needs) accesses-requires returns (λ c. search needs)
+    (λ c. search needs) add-wide cast-wide mul-wide element-copy-out-wide (λ c κs. search needs) mul-result
+    element-copy-out-result mul-result-2 mul-result-3 add-result returns-2)

@@ -23,9 +23,6 @@ refusal-requires c κs = (omega arith, (_, c .pre .1 .1 .bounded))
 is-inside-requires : tie.Need-is-inside-requires
 is-inside-requires c κs = let p = start c .pre in (p .0, (_, _, record { bounded = p .1 .1 .bounded; begun = p .1 .1 .begun }))
 
-elsewhere-requires : tie.Need-elsewhere-requires
-elsewhere-requires c κs = search needs
-
 returns : tie.Need-returns
 returns c =
     let i = c .before .before in
@@ -75,11 +72,4 @@ returns-3 c =
 pub begin-spec : {M : Type 1} → statement M
 begin-spec =
     tie.close
-    (tie.spec
-    refusal-requires
-    is-inside-requires
-    elsewhere-requires
-    returns
-    returns-2
-    look-up-requires
-    returns-3)
+    (tie.spec refusal-requires is-inside-requires (λ c κs. search needs) returns returns-2 look-up-requires returns-3)

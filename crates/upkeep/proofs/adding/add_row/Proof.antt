@@ -32,12 +32,6 @@ now-turn c = turn _ _ _ _ (c .before .before .pre) (c .before .loop .forces) (c 
 loop-holds : tie.Need-loop-holds Inv-loop μ-loop
 loop-holds c = (omega arith, rw (step-is c) (none-passed _ _ _ _ (c .pre)))
 
-mul-c : tie.Need-mul-c Inv-loop μ-loop
-mul-c c = omega arith
-
-shared-slice-read-c : tie.Need-shared-slice-read-c Inv-loop μ-loop
-shared-slice-read-c c = omega arith
-
 cast-c : tie.Need-cast-c Inv-loop μ-loop
 cast-c c = omega (arith, c .shared-slice-known .given (c .before .before .loop .k))
 
@@ -74,12 +68,6 @@ mul-t17 c = let t = now-turn (c .before .before .before) in omega (arith, passed
 slice-set-from-forces : tie.Need-slice-set-from-forces Inv-loop μ-loop
 slice-set-from-forces c = now-turn (c .before .before .before) .column
 
-add-k : tie.Need-add-k Inv-loop μ-loop
-add-k c = omega arith
-
-loop-less : tie.Need-loop-less Inv-loop μ-loop
-loop-less c = omega arith
-
 loop-again : tie.Need-loop-again Inv-loop μ-loop
 loop-again c =
     let i = c .before .before .before in
@@ -101,24 +89,6 @@ returns c = let l = c .before in all-passed _ _ _ _ (l .before .pre) (l .loop .f
 pub add-row-spec : {M : Type 1} → statement M
 add-row-spec =
     tie.close
-    (tie.spec
-    Inv-loop
-    μ-loop
-    loop-holds
-    mul-c
-    shared-slice-read-c
-    cast-c
-    mul-more
-    shared-slice-copy-out-more
-    cast-more
-    mul-more-2
-    mul-forces
-    slice-copy-out-forces
-    add-forces
-    mul-t17
-    slice-set-from-forces
-    add-k
-    loop-less
-    loop-again
-    same-length
-    returns)
+    (tie.spec Inv-loop μ-loop loop-holds (λ c. omega arith) (λ c. omega arith) cast-c mul-more
+    shared-slice-copy-out-more cast-more mul-more-2 mul-forces slice-copy-out-forces add-forces mul-t17
+    slice-set-from-forces (λ c. omega arith) (λ c. omega arith) loop-again same-length returns)

@@ -11,23 +11,11 @@ use Rattle.upkeep.proofs.current.check_current.Tie as tie
 use Rattle.multiply.proofs.product.Reads as product-reads
 use Rattle.upkeep.proofs.current.same_numbers.Reads as same-numbers-reads
 
-slice-aggregate-product : tie.Need-slice-aggregate-product
-slice-aggregate-product c = search needs
-
-product-requires : tie.Need-product-requires
-product-requires c κs = search needs
-
-enum-known-made : tie.Need-enum-known-made
-enum-known-made c = search needs
-
 returns : tie.Need-returns
 returns c =
     let d = c .before .before .before .before in
     let eq = ap replyOf (sym (c .before .made .given .1)) ∙ d .product .ensures .0 in
     current-refused _ _ _ _ _ _ eq (search needs)
-
-enum-told : tie.Need-enum-told
-enum-told c = search needs
 
 -- the product is accepted
 is-loaded : (c : tie.After-enum-told) → let a = c .before .before .before .before .before .before .before .args in Loaded (matrixOf (a .n) (a .starts .now) (a .columns .now) (a .values .now)) (a .displacements .now)
@@ -36,9 +24,6 @@ is-loaded c = let d = c .before .before .before in loaded _ _ _ _ (ap replyOf (s
 returns-2 : tie.Need-returns-2
 returns-2 c =
     current-other _ _ (is-loaded (c .before)) _ (c .if1 .taken)
-
-slice-aggregate-same-numbers : tie.Need-slice-aggregate-same-numbers
-slice-aggregate-same-numbers c = search needs
 
 same-numbers-requires : tie.Need-same-numbers-requires
 same-numbers-requires c κs =
@@ -61,14 +46,5 @@ returns-4 c =
 pub check-current-spec : {M : Type 1} → statement M
 check-current-spec =
     tie.close
-    (tie.spec
-    slice-aggregate-product
-    product-requires
-    enum-known-made
-    returns
-    enum-told
-    returns-2
-    slice-aggregate-same-numbers
-    same-numbers-requires
-    returns-3
-    returns-4)
+    (tie.spec (λ c. search needs) (λ c κs. search needs) (λ c. search needs) returns (λ c. search needs) returns-2
+    (λ c. search needs) same-numbers-requires returns-3 returns-4)

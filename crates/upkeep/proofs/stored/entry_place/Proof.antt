@@ -27,4 +27,5 @@ returns c = rw (c .before .before .wide .ensures, placed c)
 pub entry-place-spec : {M : Type 1} → statement M
 entry-place-spec =
     tie.close
-    (tie.spec (search needs) (search needs) (search needs) (search needs) (search needs) add-result returns)
+    (tie.spec (λ c. search needs) (λ c. search needs) (λ c. search needs) (λ c. search needs) (λ c. search needs)
+    add-result returns)

@@ -30,4 +30,4 @@ returns-2 c =
     rw (c .position .ensures) (position-test (now (r .columns-of .result)) (a .j)) ∙ ap (λ (cs : List ℕ). isIn cs (a .j)) (row r)
 
 pub has-entry-spec : {M : Type 1} → statement M
-has-entry-spec = tie.close (tie.spec returns columns-of-requires (search needs) returns-2)
+has-entry-spec = tie.close (tie.spec returns columns-of-requires (λ c. search needs) returns-2)

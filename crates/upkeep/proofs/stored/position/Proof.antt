@@ -33,4 +33,7 @@ returns-2 c =
     end ∙ sym (position-nowhere (a .list .now) (a .v) (λ i m. l .loop .inv .1 i (omega (arith, end))))
 
 pub position-spec : {M : Type 1} → statement M
-position-spec = tie.close (tie.spec Inv-loop μ-loop (search needs) (search needs) (search needs) returns (search needs) (search needs) loop-again returns-2)
+position-spec =
+    tie.close
+    (tie.spec Inv-loop μ-loop (λ c. search needs) (λ c. search needs) (λ c. search needs) returns (λ c. search needs)
+    (λ c. search needs) loop-again returns-2)

@@ -21,30 +21,12 @@ abbrev μ-loop : tie.MeasureT-loop
 loop-holds : tie.Need-loop-holds Inv-loop μ-loop
 loop-holds c = (search needs, displaced-none _ _ _ (c .before .pre .3))
 
-wide-at-requires : tie.Need-wide-at-requires Inv-loop μ-loop
-wide-at-requires c κs = search needs
-
-mul-displaced : tie.Need-mul-displaced Inv-loop μ-loop
-mul-displaced c = search needs
-
 shared-slice-copy-out-displaced : tie.Need-shared-slice-copy-out-displaced Inv-loop μ-loop
 shared-slice-copy-out-displaced c =
     let l = c .before .before in
     let h = l .before .before .pre .2 (l .loop .p) (c .before .loop-test .taken) in
     let e = c .wide-at .ensures .0 in
     search needs
-
-mul-t10 : tie.Need-mul-t10 Inv-loop μ-loop
-mul-t10 c = search needs
-
-element-set-from-displaced : tie.Need-element-set-from-displaced Inv-loop μ-loop
-element-set-from-displaced c = search needs
-
-add-p : tie.Need-add-p Inv-loop μ-loop
-add-p c = search needs
-
-loop-less : tie.Need-loop-less Inv-loop μ-loop
-loop-less c = search needs
 
 loop-again : tie.Need-loop-again Inv-loop μ-loop
 unfolding displacement
@@ -68,16 +50,5 @@ returns c =
 pub displace-spec : {M : Type 1} → statement M
 displace-spec =
     tie.close
-    (tie.spec
-    Inv-loop
-    μ-loop
-    loop-holds
-    wide-at-requires
-    mul-displaced
-    shared-slice-copy-out-displaced
-    mul-t10
-    element-set-from-displaced
-    add-p
-    loop-less
-    loop-again
-    returns)
+    (tie.spec Inv-loop μ-loop loop-holds (λ c κs. search needs) (λ c. search needs) shared-slice-copy-out-displaced
+    (λ c. search needs) (λ c. search needs) (λ c. search needs) (λ c. search needs) loop-again returns)

@@ -27,15 +27,6 @@ row c =
 loop-holds : tie.Need-loop-holds Inv-loop μ-loop
 loop-holds c = (search needs, positions-none _ _ (c .before .pre .3))
 
-cast-position : tie.Need-cast-position Inv-loop μ-loop
-cast-position c = search needs
-
-wide-at-requires : tie.Need-wide-at-requires Inv-loop μ-loop
-wide-at-requires c κs = search needs
-
-mul-position : tie.Need-mul-position Inv-loop μ-loop
-mul-position c = search needs
-
 element-write-position : tie.Need-element-write-position Inv-loop μ-loop
 element-write-position c =
     let l = c .before .before in
@@ -44,12 +35,6 @@ element-write-position c =
     let h = row-below (a .n) (take (a .n) (a .order .now)) (once _ _ (s .pre .2)) (s .pre .1) (l .loop .p) (c .before .loop-test .taken) in
     let e = row c in
     search needs
-
-add-p : tie.Need-add-p Inv-loop μ-loop
-add-p c = search needs
-
-loop-less : tie.Need-loop-less Inv-loop μ-loop
-loop-less c = search needs
 
 loop-again : tie.Need-loop-again Inv-loop μ-loop
 loop-again c =
@@ -68,15 +53,5 @@ returns c =
 pub positions-spec : {M : Type 1} → statement M
 positions-spec =
     tie.close
-    (tie.spec
-    Inv-loop
-    μ-loop
-    loop-holds
-    cast-position
-    wide-at-requires
-    mul-position
-    element-write-position
-    add-p
-    loop-less
-    loop-again
-    returns)
+    (tie.spec Inv-loop μ-loop loop-holds (λ c. search needs) (λ c κs. search needs) (λ c. search needs)
+    element-write-position (λ c. search needs) (λ c. search needs) loop-again returns)

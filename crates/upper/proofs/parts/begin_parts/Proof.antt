@@ -75,12 +75,6 @@ mul-parts-2 c = let b = bounds (c .before) in search needs
 element-write-parts : tie.Need-element-write-parts Inv-loop μ-loop
 element-write-parts c = let b = bounds (c .before) in search needs
 
-add-p : tie.Need-add-p Inv-loop μ-loop
-add-p c = search needs
-
-loop-less : tie.Need-loop-less Inv-loop μ-loop
-loop-less c = search needs
-
 loop-again : tie.Need-loop-again Inv-loop μ-loop
 loop-again c =
     let w = c .before in
@@ -101,18 +95,5 @@ returns c =
 pub begin-parts-spec : {M : Type 1} → statement M
 begin-parts-spec =
     tie.close
-    (tie.spec
-    Inv-loop
-    μ-loop
-    loop-holds
-    wide-at-requires
-    mul-parts
-    shared-slice-read-parts
-    cast-parts
-    add-parts
-    mul-parts-2
-    element-write-parts
-    add-p
-    loop-less
-    loop-again
-    returns)
+    (tie.spec Inv-loop μ-loop loop-holds wide-at-requires mul-parts shared-slice-read-parts cast-parts add-parts
+    mul-parts-2 element-write-parts (λ c. search needs) (λ c. search needs) loop-again returns)

@@ -73,12 +73,6 @@ sub-ends c = let f = fits (c .before .before) in search needs
 element-write-ends : tie.Need-element-write-ends Inv-loop μ-loop
 element-write-ends c = let f = fits (c .before .before) in search needs
 
-add-p : tie.Need-add-p Inv-loop μ-loop
-add-p c = search needs
-
-loop-less : tie.Need-loop-less Inv-loop μ-loop
-loop-less c = search needs
-
 loop-again : tie.Need-loop-again Inv-loop μ-loop
 loop-again c =
     let i = c .before .before in
@@ -95,17 +89,5 @@ returns c =
 pub part-sizes-spec : {M : Type 1} → statement M
 part-sizes-spec =
     tie.close
-    (tie.spec
-    Inv-loop
-    μ-loop
-    loop-holds
-    mul-ends
-    element-copy-out-ends
-    mul-ends-2
-    element-copy-out-ends-2
-    sub-ends
-    element-write-ends
-    add-p
-    loop-less
-    loop-again
-    returns)
+    (tie.spec Inv-loop μ-loop loop-holds mul-ends element-copy-out-ends mul-ends-2 element-copy-out-ends-2 sub-ends
+    element-write-ends (λ c. search needs) (λ c. search needs) loop-again returns)

@@ -21,16 +21,10 @@ abbrev μ-loop : tie.MeasureT-loop
 μ-loop columns position p later₀ k₀ later k = length columns - k
 
 -- src/sizes.rt:21:5
-loop-holds : tie.Need-loop-holds Inv-loop μ-loop
-loop-holds c = search needs
 
 -- src/sizes.rt:22:32
-wide-at-requires : tie.Need-wide-at-requires Inv-loop μ-loop
-wide-at-requires c κs = search needs
 
 -- src/sizes.rt:22:23
-mul-later : tie.Need-mul-later Inv-loop μ-loop
-mul-later c = search needs
 
 -- src/sizes.rt:22:23
 element-copy-out-later : tie.Need-element-copy-out-later Inv-loop μ-loop
@@ -41,8 +35,6 @@ element-copy-out-later c =
     search needs
 
 -- src/sizes.rt:22:18
-cast-later : tie.Need-cast-later Inv-loop μ-loop
-cast-later c = search needs
 
 -- src/sizes.rt:22:9
 add-later : tie.Need-add-later Inv-loop μ-loop
@@ -53,12 +45,8 @@ add-later c =
     omega (arith, l .loop .inv .1, later-few (a .position .now) (a .p) (a .columns .now) (l .loop .k), byte-le (ltb (a .p) (getD (a .position .now) (w .wide-at .result) 0)), l .before .before .good)
 
 -- src/sizes.rt:23:9
-add-k : tie.Need-add-k Inv-loop μ-loop
-add-k c = search needs
 
 -- src/sizes.rt:21:5
-loop-less : tie.Need-loop-less Inv-loop μ-loop
-loop-less c = search needs
 
 -- src/sizes.rt:21:5
 loop-again : tie.Need-loop-again Inv-loop μ-loop
@@ -79,16 +67,5 @@ returns c =
 pub later-columns-spec : {M : Type 1} → statement M
 later-columns-spec =
     tie.close
-    (tie.spec
-    Inv-loop
-    μ-loop
-    loop-holds
-    wide-at-requires
-    mul-later
-    element-copy-out-later
-    cast-later
-    add-later
-    add-k
-    loop-less
-    loop-again
-    returns)
+    (tie.spec Inv-loop μ-loop (λ c. search needs) (λ c κs. search needs) (λ c. search needs) element-copy-out-later
+    (λ c. search needs) add-later (λ c. search needs) (λ c. search needs) loop-again returns)

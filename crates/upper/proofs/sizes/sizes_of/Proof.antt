@@ -113,17 +113,8 @@ add-sizes c = let h = size-few c in search needs
 cast-sizes : tie.Need-cast-sizes Inv-loop μ-loop
 cast-sizes c = let h = size-few c in search needs
 
-mul-sizes : tie.Need-mul-sizes Inv-loop μ-loop
-mul-sizes c = search needs
-
 element-write-sizes : tie.Need-element-write-sizes Inv-loop μ-loop
 element-write-sizes c = let h = few (c .before .before .before .before .before) in search needs
-
-add-p : tie.Need-add-p Inv-loop μ-loop
-add-p c = search needs
-
-loop-less : tie.Need-loop-less Inv-loop μ-loop
-loop-less c = search needs
 
 loop-again : tie.Need-loop-again Inv-loop μ-loop
 loop-again c =
@@ -143,20 +134,6 @@ returns c =
 pub sizes-of-spec : {M : Type 1} → statement M
 sizes-of-spec =
     tie.close
-    (tie.spec
-    Inv-loop
-    μ-loop
-    positions-requires
-    loop-holds
-    wide-at-requires
-    columns-of-requires
-    cast-later-columns
-    later-columns-requires
-    add-sizes
-    cast-sizes
-    mul-sizes
-    element-write-sizes
-    add-p
-    loop-less
-    loop-again
-    returns)
+    (tie.spec Inv-loop μ-loop positions-requires loop-holds wide-at-requires columns-of-requires cast-later-columns
+    later-columns-requires add-sizes cast-sizes (λ c. search needs) element-write-sizes (λ c. search needs)
+    (λ c. search needs) loop-again returns)

@@ -17,34 +17,13 @@ Inv-loop bytes out₀ count k₀ out k = Loading (signedNumber 4) 4 bytes out₀
 abbrev μ-loop : tie.MeasureT-loop
 μ-loop bytes out₀ count k₀ out k = count - k
 
-least-requires : tie.Need-least-requires Inv-loop μ-loop
-least-requires c κs = search needs
-
 loop-holds : tie.Need-loop-holds Inv-loop μ-loop
 loop-holds c =
     let a = c .before .before .args in
     load-none (signedNumber 4) 4 (a .bytes .now) (a .out .now) (c .least .result)
 
-mul-read-u32 : tie.Need-mul-read-u32 Inv-loop μ-loop
-mul-read-u32 c = search needs
-
-read-u32-requires : tie.Need-read-u32-requires Inv-loop μ-loop
-read-u32-requires c κs = search needs
-
-to-i32-requires : tie.Need-to-i32-requires Inv-loop μ-loop
-to-i32-requires c κs = search needs
-
-mul-t12 : tie.Need-mul-t12 Inv-loop μ-loop
-mul-t12 c = search needs
-
 slice-set-from-out : tie.Need-slice-set-from-out Inv-loop μ-loop
 slice-set-from-out c = simp (c .before .before .before .loop .inv .long) (omega arith)
-
-add-k : tie.Need-add-k Inv-loop μ-loop
-add-k c = search needs
-
-loop-less : tie.Need-loop-less Inv-loop μ-loop
-loop-less c = search needs
 
 loop-again : tie.Need-loop-again Inv-loop μ-loop
 loop-again c =
@@ -66,18 +45,6 @@ returns c =
 pub load-i32-spec : {M : Type 1} → statement M
 load-i32-spec =
     tie.close
-    (tie.spec
-    Inv-loop
-    μ-loop
-    least-requires
-    loop-holds
-    mul-read-u32
-    read-u32-requires
-    to-i32-requires
-    mul-t12
-    slice-set-from-out
-    add-k
-    loop-less
-    loop-again
-    same-length
-    returns)
+    (tie.spec Inv-loop μ-loop (λ c κs. search needs) loop-holds (λ c. search needs) (λ c κs. search needs)
+    (λ c κs. search needs) (λ c. search needs) slice-set-from-out (λ c. search needs) (λ c. search needs) loop-again
+    same-length returns)

@@ -6,17 +6,8 @@ use Rattle.words.proofs.Twos.{toSigned-is, flipped-fits, flipped-is}
 use Rattle.words.proofs.signs.to_i64.Statement.{statement}
 use Rattle.words.proofs.signs.to_i64.Tie as tie
 
-cast-result : tie.Need-cast-result
-cast-result c = search needs
-
 returns : tie.Need-returns
 returns c = rw (toSigned-is w64 8 refl (c .before .args .v)) (search needs)
-
-sub-result : tie.Need-sub-result
-sub-result c = search needs
-
-cast-result-2 : tie.Need-cast-result-2
-cast-result-2 c = search needs
 
 sub-result-2 : tie.Need-sub-result-2
 sub-result-2 c = flipped-fits w64 18446744073709551615 refl (c .before .args .v) (c .if1 .left) (c .before .fits .v .fits)
@@ -28,4 +19,4 @@ returns-2 c =
 
 pub to-i64-spec : {M : Type 1} → statement M
 to-i64-spec =
-    tie.close (tie.spec cast-result returns sub-result cast-result-2 sub-result-2 returns-2)
+    tie.close (tie.spec (λ c. search needs) returns (λ c. search needs) (λ c. search needs) sub-result-2 returns-2)

@@ -20,34 +20,10 @@ Inv-loop numbers bytes₀ count k₀ bytes k = Storing (signedBytesOf 4) 4 (leng
 abbrev μ-loop : tie.MeasureT-loop
 μ-loop numbers bytes₀ count k₀ bytes k = count - k
 
-least-requires : tie.Need-least-requires Inv-loop μ-loop
-least-requires c κs = search needs
-
 loop-holds : tie.Need-loop-holds Inv-loop μ-loop
 loop-holds c =
     let a = c .before .before .args in
     store-none (signedBytesOf 4) 4 (length-signedBytesOf 4) (a .numbers .now) (a .bytes .now) (c .least .result)
-
-mul-write-u32 : tie.Need-mul-write-u32 Inv-loop μ-loop
-mul-write-u32 c = search needs
-
-mul-of-i32 : tie.Need-mul-of-i32 Inv-loop μ-loop
-mul-of-i32 c = search needs
-
-shared-slice-copy-out-of-i32 : tie.Need-shared-slice-copy-out-of-i32 Inv-loop μ-loop
-shared-slice-copy-out-of-i32 c = search needs
-
-of-i32-requires : tie.Need-of-i32-requires Inv-loop μ-loop
-of-i32-requires c κs = search needs
-
-write-u32-requires : tie.Need-write-u32-requires Inv-loop μ-loop
-write-u32-requires c κs = search needs
-
-add-k : tie.Need-add-k Inv-loop μ-loop
-add-k c = search needs
-
-loop-less : tie.Need-loop-less Inv-loop μ-loop
-loop-less c = search needs
 
 loop-again : tie.Need-loop-again Inv-loop μ-loop
 loop-again c =
@@ -71,18 +47,6 @@ returns c =
 pub store-i32-spec : {M : Type 1} → statement M
 store-i32-spec =
     tie.close
-    (tie.spec
-    Inv-loop
-    μ-loop
-    least-requires
-    loop-holds
-    mul-write-u32
-    mul-of-i32
-    shared-slice-copy-out-of-i32
-    of-i32-requires
-    write-u32-requires
-    add-k
-    loop-less
-    loop-again
-    same-length
-    returns)
+    (tie.spec Inv-loop μ-loop (λ c κs. search needs) loop-holds (λ c. search needs) (λ c. search needs)
+    (λ c. search needs) (λ c κs. search needs) (λ c κs. search needs) (λ c. search needs) (λ c. search needs)
+    loop-again same-length returns)

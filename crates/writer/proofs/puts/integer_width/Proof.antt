@@ -21,15 +21,6 @@ whole c =
     let e : c .before .magnitude .result ≡ natAbs (s .args .v) = simp (toZ-ofZ (s .fits .v)) at (c .before .magnitude .ensures) in
     omega (arith, c .width .ensures, ap (λ (k : ℕ). length (natural k)) e, length-integer (s .args .v))
 
-magnitude-requires : tie.Need-magnitude-requires
-magnitude-requires c κs = search needs
-
-width-requires : tie.Need-width-requires
-width-requires c κs = search needs
-
-cast-result : tie.Need-cast-result
-cast-result c = search needs
-
 add-result : tie.Need-add-result
 add-result c = let s = c .before .before in simp (toZ-ofZ (s .fits .v)) (omega (arith, whole c, integer-few (s .args .v)))
 
@@ -38,4 +29,4 @@ returns c = simp (toZ-ofZ (c .before .before .fits .v)) (whole c)
 
 pub integer-width-spec : {M : Type 1} → statement M
 integer-width-spec =
-    tie.close (tie.spec magnitude-requires width-requires cast-result add-result returns)
+    tie.close (tie.spec (λ c κs. search needs) (λ c κs. search needs) (λ c. search needs) add-result returns)

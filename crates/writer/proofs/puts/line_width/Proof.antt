@@ -9,17 +9,8 @@ use Rattle.writer.proofs.puts.Digits.{natural-few, integer-few, length-
 use Rattle.writer.proofs.puts.line_width.Statement.{statement}
 use Rattle.writer.proofs.puts.line_width.Tie as tie
 
-width-requires : tie.Need-width-requires
-width-requires c κs = search needs
-
-width-requires-2 : tie.Need-width-requires-2
-width-requires-2 c κs = search needs
-
 add-result : tie.Need-add-result
 add-result c = let s = c .before .before .args in omega (arith, c .width2 .ensures, c .before .width .ensures, natural-few (s .r), natural-few (s .c))
-
-integer-width-requires : tie.Need-integer-width-requires
-integer-width-requires c κs = search needs
 
 add-result-2 : tie.Need-add-result-2
 add-result-2 c =
@@ -42,11 +33,5 @@ returns c =
 pub line-width-spec : {M : Type 1} → statement M
 line-width-spec =
     tie.close
-    (tie.spec
-    width-requires
-    width-requires-2
-    add-result
-    integer-width-requires
-    add-result-2
-    add-result-3
-    returns)
+    (tie.spec (λ c κs. search needs) (λ c κs. search needs) add-result (λ c κs. search needs) add-result-2
+    add-result-3 returns)

@@ -18,17 +18,8 @@ abbrev μ-loop : tie.MeasureT-loop
 loop-holds : tie.Need-loop-holds Inv-loop μ-loop
 loop-holds c = copying-start header (c .args .text .now) (omega (arith, c .pre, header-length))
 
-array-read-text : tie.Need-array-read-text Inv-loop μ-loop
-array-read-text c = search needs
-
 slice-write-text : tie.Need-slice-write-text Inv-loop μ-loop
 slice-write-text c = let g = c .before .loop .inv in omega (arith, header-length, g .room, g .long)
-
-add-i : tie.Need-add-i Inv-loop μ-loop
-add-i c = search needs
-
-loop-less : tie.Need-loop-less Inv-loop μ-loop
-loop-less c = search needs
 
 loop-again : tie.Need-loop-again Inv-loop μ-loop
 unfolding header
@@ -44,14 +35,5 @@ returns c = copying-end (c .before .loop .inv) (c .loop-test .left) refl
 pub put-header-spec : {M : Type 1} → statement M
 put-header-spec =
     tie.close
-    (tie.spec
-    Inv-loop
-    μ-loop
-    loop-holds
-    array-read-text
-    slice-write-text
-    add-i
-    loop-less
-    loop-again
-    same-length
-    returns)
+    (tie.spec Inv-loop μ-loop loop-holds (λ c. search needs) slice-write-text (λ c. search needs) (λ c. search needs)
+    loop-again same-length returns)

@@ -28,12 +28,6 @@ put-digit-requires-3 c κs =
     let s = a .before .before .before in
     omega (arith, s .pre .1, index-length (s .args .v) (low s), a .put-digit .ensures .next, a .put-digit .ensures .long, b .put-digit2 .ensures .next, b .put-digit2 .ensures .long)
 
-add-put-byte : tie.Need-add-put-byte
-add-put-byte c = search needs
-
-cast-put-byte : tie.Need-cast-put-byte
-cast-put-byte c = search needs
-
 put-byte-requires : tie.Need-put-byte-requires
 put-byte-requires c κs =
     let d = c .before .before .before in
@@ -41,9 +35,6 @@ put-byte-requires c κs =
     let a = b .before .before .before .before in
     let s = a .before .before .before in
     omega (arith, s .pre .1, index-length (s .args .v) (low s), a .put-digit .ensures .next, a .put-digit .ensures .long, b .put-digit2 .ensures .next, b .put-digit2 .ensures .long, d .put-digit3 .ensures .next, d .put-digit3 .ensures .long)
-
-same-length : tie.Need-same-length
-same-length c = search needs
 
 returns : tie.Need-returns
 returns c =
@@ -58,12 +49,5 @@ returns c =
 pub put-index-spec : {M : Type 1} → statement M
 put-index-spec =
     tie.close
-    (tie.spec
-    put-digit-requires
-    put-digit-requires-2
-    put-digit-requires-3
-    add-put-byte
-    cast-put-byte
-    put-byte-requires
-    same-length
-    returns)
+    (tie.spec put-digit-requires put-digit-requires-2 put-digit-requires-3 (λ c. search needs) (λ c. search needs)
+    put-byte-requires (λ c. search needs) returns)

@@ -27,14 +27,8 @@ whole c =
 slice-write-text : tie.Need-slice-write-text
 slice-write-text c = let s = c .before in omega (arith, s .pre, length-integer (s .args .v), decimal-some 9 (natAbs (s .args .v)))
 
-cast-first : tie.Need-cast-first
-cast-first c = search needs
-
 add-first : tie.Need-add-first
 add-first c = let s = c .before in simp (toZ-ofZ (s .fits .v)) (omega (arith, s .pre, length-integer (s .args .v)))
-
-magnitude-requires : tie.Need-magnitude-requires
-magnitude-requires c κs = search needs
 
 put-number-requires : tie.Need-put-number-requires
 put-number-requires c κs =
@@ -50,11 +44,5 @@ returns c = whole (c .before .before)
 pub put-integer-spec : {M : Type 1} → statement M
 put-integer-spec =
     tie.close
-    (tie.spec
-    slice-write-text
-    cast-first
-    add-first
-    magnitude-requires
-    put-number-requires
-    same-length
+    (tie.spec slice-write-text (λ c. search needs) add-first (λ c κs. search needs) put-number-requires same-length
     returns)

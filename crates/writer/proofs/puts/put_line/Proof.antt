@@ -54,9 +54,6 @@ put-byte-requires-3 c κs =
     let i = simp (toZ-ofZ (s .fits .v)) at (f .put-integer .ensures) in
     omega (arith, s .pre .2, length-line (s .args .r) (s .args .c) (s .args .v), a .put-index .ensures .next, a .put-index .ensures .long, b .put-byte .ensures .next, b .put-byte .ensures .long, d .put-index2 .ensures .next, d .put-index2 .ensures .long, e .put-byte2 .ensures .next, e .put-byte2 .ensures .long, i .next, i .long)
 
-same-length : tie.Need-same-length
-same-length c = search needs
-
 returns : tie.Need-returns
 returns c =
     let g = c .before .before in
@@ -73,12 +70,5 @@ returns c =
 pub put-line-spec : {M : Type 1} → statement M
 put-line-spec =
     tie.close
-    (tie.spec
-    put-index-requires
-    put-byte-requires
-    put-index-requires-2
-    put-byte-requires-2
-    put-integer-requires
-    put-byte-requires-3
-    same-length
-    returns)
+    (tie.spec put-index-requires put-byte-requires put-index-requires-2 put-byte-requires-2 put-integer-requires
+    put-byte-requires-3 (λ c. search needs) returns)

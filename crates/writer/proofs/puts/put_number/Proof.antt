@@ -16,9 +16,6 @@ Inv-loop text₀ at v end x₀ i₀ text x i = Spelling v at text₀ text x i ×
 abbrev μ-loop : tie.MeasureT-loop
 μ-loop text₀ at v end x₀ i₀ text x i = x
 
-width-requires : tie.Need-width-requires Inv-loop μ-loop
-width-requires c κs = search needs
-
 add-end : tie.Need-add-end Inv-loop μ-loop
 add-end c = omega (arith, c .before .before .pre, c .width .ensures)
 
@@ -31,29 +28,14 @@ loop-holds c =
 sub-i : tie.Need-sub-i Inv-loop μ-loop
 sub-i c = let g = c .before .loop .inv .0 in omega (arith, g .here, length-digits (c .before .loop .x) (c .loop-test .taken) (g .small))
 
-add-text : tie.Need-add-text Inv-loop μ-loop
-add-text c = search needs
-
-cast-text : tie.Need-cast-text Inv-loop μ-loop
-cast-text c = search needs
-
 slice-write-text : tie.Need-slice-write-text Inv-loop μ-loop
 slice-write-text c = let g = c .before .loop .inv .0 in omega (arith, g .here, g .inside, g .long, length-digits (c .before .loop .x) (c .loop-test .taken) (g .small))
-
-loop-less : tie.Need-loop-less Inv-loop μ-loop
-loop-less c = search needs
 
 loop-again : tie.Need-loop-again Inv-loop μ-loop
 loop-again c = let l = c .before in (spelling-more (l .loop .inv .0) (c .loop-test .taken), l .loop .inv .1)
 
 sub-i-2 : tie.Need-sub-i-2 Inv-loop μ-loop
 sub-i-2 c = let g = c .before .loop .inv .0 in omega (arith, g .here, length-digit (c .before .loop .x) (c .loop-test .left))
-
-add-text-2 : tie.Need-add-text-2 Inv-loop μ-loop
-add-text-2 c = search needs
-
-cast-text-2 : tie.Need-cast-text-2 Inv-loop μ-loop
-cast-text-2 c = search needs
 
 slice-write-text-2 : tie.Need-slice-write-text-2 Inv-loop μ-loop
 slice-write-text-2 c = let g = c .before .loop .inv .0 in omega (arith, g .here, g .inside, g .long, length-digit (c .before .loop .x) (c .loop-test .left))
@@ -67,21 +49,6 @@ returns c = let l = c .before in spelling-last (l .loop .inv .0) (c .loop-test .
 pub put-number-spec : {M : Type 1} → statement M
 put-number-spec =
     tie.close
-    (tie.spec
-    Inv-loop
-    μ-loop
-    width-requires
-    add-end
-    loop-holds
-    sub-i
-    add-text
-    cast-text
-    slice-write-text
-    loop-less
-    loop-again
-    sub-i-2
-    add-text-2
-    cast-text-2
-    slice-write-text-2
-    same-length
-    returns)
+    (tie.spec Inv-loop μ-loop (λ c κs. search needs) add-end loop-holds sub-i (λ c. search needs) (λ c. search needs)
+    slice-write-text (λ c. search needs) loop-again sub-i-2 (λ c. search needs) (λ c. search needs) slice-write-text-2
+    same-length returns)

@@ -17,20 +17,11 @@ abbrev μ-loop : tie.MeasureT-loop
 loop-holds : tie.Need-loop-holds Inv-loop μ-loop
 loop-holds c = (reached-start (c .args .v) (search needs), c .pre .0)
 
-cast-digits : tie.Need-cast-digits Inv-loop μ-loop
-cast-digits c = search needs
-
 add-digits : tie.Need-add-digits Inv-loop μ-loop
 add-digits c = let g = reached-more (c .before .loop .inv .0) in omega arith
 
 mul-power : tie.Need-mul-power Inv-loop μ-loop
 mul-power c = let g = c .before .loop .inv .0 in let l : c .before .loop .k ≤ 9 = omega arith in omega (arith, pow-le-pow-right {n = 10} (omega arith) l)
-
-add-k : tie.Need-add-k Inv-loop μ-loop
-add-k c = search needs
-
-loop-less : tie.Need-loop-less Inv-loop μ-loop
-loop-less c = search needs
 
 loop-again : tie.Need-loop-again Inv-loop μ-loop
 loop-again c = (reached-more (c .before .loop .inv .0), omega arith)
@@ -44,4 +35,5 @@ returns c =
 pub width-spec : {M : Type 1} → statement M
 width-spec =
     tie.close
-    (tie.spec Inv-loop μ-loop loop-holds cast-digits add-digits mul-power add-k loop-less loop-again returns)
+    (tie.spec Inv-loop μ-loop loop-holds (λ c. search needs) add-digits mul-power (λ c. search needs)
+    (λ c. search needs) loop-again returns)

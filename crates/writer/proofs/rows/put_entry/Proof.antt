@@ -15,19 +15,10 @@ use Rattle.writer.proofs.rows.put_entry.Tie as tie
 returns : tie.Need-returns
 returns c = let a = c .before .before .args in put-as (ap (λ (es : List Triplet). linesOf es) (sym (before-diagonal (a .j) (a .c) (a .v) (c .if1 .taken)))) (put-none (a .text .now) (a .at))
 
-add-put-line : tie.Need-add-put-line
-add-put-line c = search needs
-
-add-put-line-2 : tie.Need-add-put-line-2
-add-put-line-2 c = search needs
-
 put-line-requires : tie.Need-put-line-requires
 put-line-requires c κs =
     let s = c .before .before .before in
     simp (toZ-ofZ (s .fits .v)) (omega (arith, s .pre .2, ap length (line-from-diagonal (s .args .j) (s .args .c) (s .args .v) (c .before .if1 .left))))
-
-same-length : tie.Need-same-length
-same-length c = search needs
 
 returns-2 : tie.Need-returns-2
 returns-2 c =
@@ -38,4 +29,4 @@ returns-2 c =
 pub put-entry-spec : {M : Type 1} → statement M
 put-entry-spec =
     tie.close
-    (tie.spec returns add-put-line add-put-line-2 put-line-requires same-length returns-2)
+    (tie.spec returns (λ c. search needs) (λ c. search needs) put-line-requires (λ c. search needs) returns-2)

@@ -40,30 +40,12 @@ next c =
 loop-holds : tie.Need-loop-holds Inv-loop μ-loop
 loop-holds c = let s = c .before .before in (omega arith, putting-start (linesOf (fromDiagonal (s .args .j) (s .args .columns .now) (s .args .values .now))) (s .args .at) (s .args .text .now) (s .pre .1))
 
-mul-put-entry : tie.Need-mul-put-entry Inv-loop μ-loop
-mul-put-entry c = search needs
-
-shared-slice-read-put-entry : tie.Need-shared-slice-read-put-entry Inv-loop μ-loop
-shared-slice-read-put-entry c = search needs
-
-mul-put-entry-2 : tie.Need-mul-put-entry-2 Inv-loop μ-loop
-mul-put-entry-2 c = search needs
-
-shared-slice-copy-out-put-entry : tie.Need-shared-slice-copy-out-put-entry Inv-loop μ-loop
-shared-slice-copy-out-put-entry c = search needs
-
 put-entry-requires : tie.Need-put-entry-requires Inv-loop μ-loop
 put-entry-requires c κs =
     let i = c .before .before .before in
     let l = i .before in
     let s = l .before .before .before in
     (s .pre .0 .low, s .pre .0 .columns (l .loop .k) (i .loop-test .taken), simp (toZ-ofZ (in-range c)) (putting-room (l .loop .inv .1) (next i)))
-
-add-k : tie.Need-add-k Inv-loop μ-loop
-add-k c = search needs
-
-loop-less : tie.Need-loop-less Inv-loop μ-loop
-loop-less c = search needs
 
 loop-again : tie.Need-loop-again Inv-loop μ-loop
 loop-again c =
@@ -84,17 +66,5 @@ returns c =
 pub put-row-spec : {M : Type 1} → statement M
 put-row-spec =
     tie.close
-    (tie.spec
-    Inv-loop
-    μ-loop
-    loop-holds
-    mul-put-entry
-    shared-slice-read-put-entry
-    mul-put-entry-2
-    shared-slice-copy-out-put-entry
-    put-entry-requires
-    add-k
-    loop-less
-    loop-again
-    same-length
-    returns)
+    (tie.spec Inv-loop μ-loop loop-holds (λ c. search needs) (λ c. search needs) (λ c. search needs)
+    (λ c. search needs) put-entry-requires (λ c. search needs) (λ c. search needs) loop-again same-length returns)

@@ -52,29 +52,11 @@ loop-holds c =
     let s = c .before .before .before in
     (omega arith, subst (λ (left : List Triplet). Putting (linesOf (lower (held s))) (linesOf left) (s .args .at) (s .args .at) (s .args .text .now) (s .args .text .now)) (sym (left-first (held s))) (putting-start (linesOf (lower (held s))) (s .args .at) (s .args .text .now) (s .pre .1)))
 
-cast-i : tie.Need-cast-i Inv-loop μ-loop
-cast-i c = search needs
-
-mul-wide : tie.Need-mul-wide Inv-loop μ-loop
-mul-wide c = search needs
-
 shared-slice-read-wide : tie.Need-shared-slice-read-wide Inv-loop μ-loop
 shared-slice-read-wide c = let r = columns-inside (c .before) in omega arith
 
-wide-requires : tie.Need-wide-requires Inv-loop μ-loop
-wide-requires c κs = search needs
-
-add-wide : tie.Need-add-wide Inv-loop μ-loop
-add-wide c = search needs
-
-mul-wide-2 : tie.Need-mul-wide-2 Inv-loop μ-loop
-mul-wide-2 c = search needs
-
 shared-slice-read-wide-2 : tie.Need-shared-slice-read-wide-2 Inv-loop μ-loop
 shared-slice-read-wide-2 c = let r = columns-inside (c .before .before .before) in omega arith
-
-wide-requires-2 : tie.Need-wide-requires-2 Inv-loop μ-loop
-wide-requires-2 c κs = search needs
 
 mul-put-row : tie.Need-mul-put-row Inv-loop μ-loop
 mul-put-row c = let r = columns-inside (c .before .before .before .before .before) in omega (arith, c .before .wide2 .ensures, c .before .before .before .wide .ensures)
@@ -109,12 +91,6 @@ put-row-requires c κs =
     let s = l .before .before .before .before in
     (row-taken (held s) (s .pre .0) (l .loop .j) (i .loop-test .taken) (v .wide .ensures) (w .wide2 .ensures), putting-room (l .loop .inv .1) (next w))
 
-add-j : tie.Need-add-j Inv-loop μ-loop
-add-j c = search needs
-
-loop-less : tie.Need-loop-less Inv-loop μ-loop
-loop-less c = search needs
-
 loop-again : tie.Need-loop-again Inv-loop μ-loop
 loop-again c =
     let r = c .before .before in
@@ -134,29 +110,7 @@ returns c =
 pub put-rows-spec : {M : Type 1} → statement M
 put-rows-spec =
     tie.close
-    (tie.spec
-    Inv-loop
-    μ-loop
-    loop-holds
-    cast-i
-    mul-wide
-    shared-slice-read-wide
-    wide-requires
-    add-wide
-    mul-wide-2
-    shared-slice-read-wide-2
-    wide-requires-2
-    mul-put-row
-    sub-put-row
-    part-put-row-start
-    part-put-row-end
-    mul-put-row-2
-    sub-put-row-2
-    part-put-row-start-2
-    part-put-row-end-2
-    put-row-requires
-    add-j
-    loop-less
-    loop-again
-    same-length
-    returns)
+    (tie.spec Inv-loop μ-loop loop-holds (λ c. search needs) (λ c. search needs) shared-slice-read-wide
+    (λ c κs. search needs) (λ c. search needs) (λ c. search needs) shared-slice-read-wide-2 (λ c κs. search needs)
+    mul-put-row sub-put-row part-put-row-start part-put-row-end mul-put-row-2 sub-put-row-2 part-put-row-start-2
+    part-put-row-end-2 put-row-requires (λ c. search needs) (λ c. search needs) loop-again same-length returns)

@@ -43,18 +43,6 @@ small c =
 loop-holds : tie.Need-loop-holds Inv-loop μ-loop
 loop-holds c = let a = c .before .args in (omega arith, tallying-start (fromDiagonal (a .j) (a .columns .now) (a .values .now)))
 
-mul-tally-entry : tie.Need-mul-tally-entry Inv-loop μ-loop
-mul-tally-entry c = search needs
-
-shared-slice-read-tally-entry : tie.Need-shared-slice-read-tally-entry Inv-loop μ-loop
-shared-slice-read-tally-entry c = search needs
-
-mul-tally-entry-2 : tie.Need-mul-tally-entry-2 Inv-loop μ-loop
-mul-tally-entry-2 c = search needs
-
-shared-slice-copy-out-tally-entry : tie.Need-shared-slice-copy-out-tally-entry Inv-loop μ-loop
-shared-slice-copy-out-tally-entry c = search needs
-
 tally-entry-requires : tie.Need-tally-entry-requires Inv-loop μ-loop
 tally-entry-requires c κs = let s = c .before .before .before .before .before in (s .pre .low, s .pre .columns (c .before .before .before .loop .k) (c .before .before .loop-test .taken))
 
@@ -63,12 +51,6 @@ add-entries c = let t = small (c .before) in omega arith
 
 add-bytes : tie.Need-add-bytes Inv-loop μ-loop
 add-bytes c = let t = small (c .before .before) in omega arith
-
-add-k : tie.Need-add-k Inv-loop μ-loop
-add-k c = search needs
-
-loop-less : tie.Need-loop-less Inv-loop μ-loop
-loop-less c = search needs
 
 loop-again : tie.Need-loop-again Inv-loop μ-loop
 loop-again c = (omega arith, counted (c .before .before))
@@ -82,18 +64,6 @@ returns c =
 pub tally-row-spec : {M : Type 1} → statement M
 tally-row-spec =
     tie.close
-    (tie.spec
-    Inv-loop
-    μ-loop
-    loop-holds
-    mul-tally-entry
-    shared-slice-read-tally-entry
-    mul-tally-entry-2
-    shared-slice-copy-out-tally-entry
-    tally-entry-requires
-    add-entries
-    add-bytes
-    add-k
-    loop-less
-    loop-again
+    (tie.spec Inv-loop μ-loop loop-holds (λ c. search needs) (λ c. search needs) (λ c. search needs)
+    (λ c. search needs) tally-entry-requires add-entries add-bytes (λ c. search needs) (λ c. search needs) loop-again
     returns)

@@ -54,29 +54,11 @@ small c =
 loop-holds : tie.Need-loop-holds Inv-loop μ-loop
 loop-holds c = let s = c .before .before in (omega arith, subst (λ (left : List Triplet). Tallying (lower (held s)) left 0 0) (sym (left-first (held s))) (tallying-start (lower (held s))))
 
-cast-i : tie.Need-cast-i Inv-loop μ-loop
-cast-i c = search needs
-
-mul-wide : tie.Need-mul-wide Inv-loop μ-loop
-mul-wide c = search needs
-
 shared-slice-read-wide : tie.Need-shared-slice-read-wide Inv-loop μ-loop
 shared-slice-read-wide c = let r = columns-inside (c .before) in omega arith
 
-wide-requires : tie.Need-wide-requires Inv-loop μ-loop
-wide-requires c κs = search needs
-
-add-wide : tie.Need-add-wide Inv-loop μ-loop
-add-wide c = search needs
-
-mul-wide-2 : tie.Need-mul-wide-2 Inv-loop μ-loop
-mul-wide-2 c = search needs
-
 shared-slice-read-wide-2 : tie.Need-shared-slice-read-wide-2 Inv-loop μ-loop
 shared-slice-read-wide-2 c = let r = columns-inside (c .before .before .before) in omega arith
-
-wide-requires-2 : tie.Need-wide-requires-2 Inv-loop μ-loop
-wide-requires-2 c κs = search needs
 
 mul-tally-row : tie.Need-mul-tally-row Inv-loop μ-loop
 mul-tally-row c = let r = columns-inside (c .before .before .before .before) in omega (arith, c .wide2 .ensures, c .before .before .wide .ensures)
@@ -117,12 +99,6 @@ add-entries c = let t = small (c .before) in omega arith
 add-bytes : tie.Need-add-bytes Inv-loop μ-loop
 add-bytes c = let t = small (c .before .before) in omega arith
 
-add-j : tie.Need-add-j Inv-loop μ-loop
-add-j c = search needs
-
-loop-less : tie.Need-loop-less Inv-loop μ-loop
-loop-less c = search needs
-
 loop-again : tie.Need-loop-again Inv-loop μ-loop
 loop-again c = (omega arith, counted (c .before .before))
 
@@ -135,30 +111,8 @@ returns c =
 pub tally-rows-spec : {M : Type 1} → statement M
 tally-rows-spec =
     tie.close
-    (tie.spec
-    Inv-loop
-    μ-loop
-    loop-holds
-    cast-i
-    mul-wide
-    shared-slice-read-wide
-    wide-requires
-    add-wide
-    mul-wide-2
-    shared-slice-read-wide-2
-    wide-requires-2
-    mul-tally-row
-    sub-tally-row
-    part-tally-row-start
-    part-tally-row-end
-    mul-tally-row-2
-    sub-tally-row-2
-    part-tally-row-start-2
-    part-tally-row-end-2
-    tally-row-requires
-    add-entries
-    add-bytes
-    add-j
-    loop-less
-    loop-again
-    returns)
+    (tie.spec Inv-loop μ-loop loop-holds (λ c. search needs) (λ c. search needs) shared-slice-read-wide
+    (λ c κs. search needs) (λ c. search needs) (λ c. search needs) shared-slice-read-wide-2 (λ c κs. search needs)
+    mul-tally-row sub-tally-row part-tally-row-start part-tally-row-end mul-tally-row-2 sub-tally-row-2
+    part-tally-row-start-2 part-tally-row-end-2 tally-row-requires add-entries add-bytes (λ c. search needs)
+    (λ c. search needs) loop-again returns)

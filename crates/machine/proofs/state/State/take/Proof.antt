@@ -29,9 +29,6 @@ ready-workers-requires c κs =
     let s = start l .pre in
     (whole-few (s .1), planned-recorded (s .1), (_, l .lay .ensures _ (s .1) (s .2) (planned-blank (s .1)) .1))
 
-same-length : tie.Need-same-length
-same-length c = search needs
-
 returns : tie.Need-returns
 returns c j g k t =
     let w = c .before .before .before .before .before .before .before .before .before in
@@ -39,4 +36,4 @@ returns c j g k t =
     (w .walk .ensures j (g .sized .accepted) (g .groups-are) rows t, c .ready-workers .ensures j _ (g .sized .accepted) (g .groups-are) rows)
 
 pub take-spec : {M : Type 1} → statement M
-take-spec = tie.close (tie.spec lay-requires walk-requires ready-workers-requires same-length returns)
+take-spec = tie.close (tie.spec lay-requires walk-requires ready-workers-requires (λ c. search needs) returns)

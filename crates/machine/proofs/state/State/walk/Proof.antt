@@ -74,9 +74,6 @@ loop-holds c =
 
 -- ---- a pick
 
-shared-slice-read-w : tie.Need-shared-slice-read-w Inv-loop μ-loop
-shared-slice-read-w c = search needs
-
 cast-w : tie.Need-cast-w Inv-loop μ-loop
 cast-w c = omega (arith, c .shared-slice-known3 .given (c .before .before .loop .k))
 
@@ -146,12 +143,6 @@ renew-requires c κs =
 
 -- ---- a pick that is refused
 
-passes-requires : tie.Need-passes-requires Inv-loop μ-loop
-passes-requires c κs = search needs
-
-ended-requires : tie.Need-ended-requires Inv-loop μ-loop
-ended-requires c κs = search needs
-
 same-length : tie.Need-same-length Inv-loop μ-loop
 same-length c = sums-long (c .before .before .before .before)
 
@@ -192,38 +183,13 @@ loop-again c =
 
 -- ---- after the loop
 
-ended-requires-2 : tie.Need-ended-requires-2 Inv-loop μ-loop
-ended-requires-2 c κs = search needs
-
-same-length-2 : tie.Need-same-length-2 Inv-loop μ-loop
-same-length-2 c = search needs
-
 returns-2 : tie.Need-returns-2 Inv-loop μ-loop
 returns-2 c = let l = c .before .before in rw (c .ended2 .ensures) (running-none (l .loop .inv .3) (search needs))
 
 pub walk-spec : {M : Type 1} → statement M
 walk-spec =
     tie.close
-    (tie.spec
-    Inv-loop
-    μ-loop
-    record-at-requires
-    blocked-groups-requires
-    next-ends-requires
-    loop-holds
-    shared-slice-read-w
-    cast-w
-    enter-requires
-    access-requires
-    add-taken
-    renew-requires
-    passes-requires
-    ended-requires
-    same-length
-    returns
-    add-k
-    loop-less
-    loop-again
-    ended-requires-2
-    same-length-2
+    (tie.spec Inv-loop μ-loop record-at-requires blocked-groups-requires next-ends-requires loop-holds
+    (λ c. search needs) cast-w enter-requires access-requires add-taken renew-requires (λ c κs. search needs)
+    (λ c κs. search needs) same-length returns add-k loop-less loop-again (λ c κs. search needs) (λ c. search needs)
     returns-2)
