@@ -12,7 +12,6 @@ use lib.Seq.{take-all, take-append-le, length-take-le}
 use types.Run.{OneOf}
 use denote.Enum.Declared.{tagOf}
 use borrow.Author.Tests.{leb-true}
-use Rattle.base.specs.Refusals as why
 use Rattle.base.specs.Replies.{Check, inTurn, lent}
 use Rattle.base.proofs.Fill.{length-made}
 use Rattle.matrix.specs.Limits.{maxRows}

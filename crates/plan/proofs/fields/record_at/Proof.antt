@@ -3,8 +3,6 @@ use native.Mathlib.Omega.{arith}
 use borrow.Author.Needs.{needs}
 use Rattle.plan.proofs.fields.record_at.Statement.{statement}
 use Rattle.plan.proofs.fields.record_at.Tie as tie
-use Rattle.base.proofs.numbers.wide.Reads as wide-reads
-use Rattle.plan.proofs.fields.get.Reads as get-reads
 
 returns : tie.Need-returns
 returns c =

@@ -8,8 +8,6 @@ use Rattle.upkeep.proofs.CurrentReply.{Loaded, loaded, current-refused,
 use borrow.Author.Needs.{needs}
 use Rattle.upkeep.proofs.current.check_current.Statement.{statement}
 use Rattle.upkeep.proofs.current.check_current.Tie as tie
-use Rattle.multiply.proofs.product.Reads as product-reads
-use Rattle.upkeep.proofs.current.same_numbers.Reads as same-numbers-reads
 
 returns : tie.Need-returns
 returns c =

@@ -9,7 +9,6 @@ use Rattle.upper.proofs.PositionTable.{positions-none, positions-next, 
 use borrow.Author.Needs.{needs}
 use Rattle.upper.proofs.order.positions.Statement.{statement}
 use Rattle.upper.proofs.order.positions.Tie as tie
-use Rattle.base.proofs.slices.wide_at.Reads as wide-at-reads
 
 abbrev Inv-loop : tie.InvT-loop
 Inv-loop order n position₀ p₀ position p = (p ≤ n) × Positions p (take n order) position

@@ -10,9 +10,6 @@ use Rattle.upper.proofs.SizeRows.{later-next, later-few, byte-le}
 use borrow.Author.Needs.{needs}
 use Rattle.upper.proofs.sizes.later_columns.Statement.{statement}
 use Rattle.upper.proofs.sizes.later_columns.Tie as tie
-use Rattle.upper.proofs.sizes.later_columns.Reads as reads
-use Rattle.upper.proofs.sizes.later_columns.Lts as lts
-use Rattle.base.proofs.slices.wide_at.Reads as wide-at-reads
 
 abbrev Inv-loop : tie.InvT-loop
 Inv-loop columns position p later₀ k₀ later k = (k ≤ length columns) × (later ≡ length (laterIn position p (take k columns)))
@@ -20,13 +17,6 @@ Inv-loop columns position p later₀ k₀ later k = (k ≤ length columns) × (l
 abbrev μ-loop : tie.MeasureT-loop
 μ-loop columns position p later₀ k₀ later k = length columns - k
 
--- src/sizes.rt:21:5
-
--- src/sizes.rt:22:32
-
--- src/sizes.rt:22:23
-
--- src/sizes.rt:22:23
 element-copy-out-later : tie.Need-element-copy-out-later Inv-loop μ-loop
 element-copy-out-later c =
     let l = c .before .before in
@@ -34,9 +24,6 @@ element-copy-out-later c =
     let e = c .wide-at .ensures .0 in
     search needs
 
--- src/sizes.rt:22:18
-
--- src/sizes.rt:22:9
 add-later : tie.Need-add-later Inv-loop μ-loop
 add-later c =
     let w = c .before in
@@ -44,11 +31,6 @@ add-later c =
     let a = l .before .before .args in
     omega (arith, l .loop .inv .1, later-few (a .position .now) (a .p) (a .columns .now) (l .loop .k), byte-le (ltb (a .p) (getD (a .position .now) (w .wide-at .result) 0)), l .before .before .good)
 
--- src/sizes.rt:23:9
-
--- src/sizes.rt:21:5
-
--- src/sizes.rt:21:5
 loop-again : tie.Need-loop-again Inv-loop μ-loop
 loop-again c =
     let w = c .before in
@@ -56,7 +38,6 @@ loop-again c =
     let a = l .before .before .args in
     (search needs, rw (l .loop .inv .1, w .wide-at .ensures .0) (later-next (a .position .now) (a .p) (a .columns .now) (l .loop .k) (w .before .loop-test .taken)))
 
--- src/sizes.rt:15:1
 returns : tie.Need-returns Inv-loop μ-loop
 returns c =
     let l = c .before in
