@@ -3,11 +3,10 @@
 use crate::digits::read_digits;
 use scan::classes::LINE_END;
 use scan::classes::SIGN;
-use scan::classes::class_of;
+use scan::classes::class_at;
 ghost use mathlib.Core.Path.{_≡_};
 ghost use Prim.Native.Nat.{_+_, _<_};
-ghost use lib.ListN.{length, getD, drop};
-ghost use Rattle.market.specs.Bytes.{classOf};
+ghost use lib.ListN.{length, drop};
 ghost use Rattle.market.specs.Fields.{digits};
 ghost use Rattle.numbers.specs.Lines.{isSpelled, numberOn};
 ghost use Rattle.numbers.specs.code.Lines.{plainOf, negativeOf, lineAt};
@@ -24,16 +23,6 @@ pub(crate) enum Line {
     Number(u64, usize),
     Past,
     Broken,
-}
-
-// The class of the byte at a position: past the end as of a byte 0, which is no part of a number.
-fn class_at(text: &[u8], at: usize) -> u8
-    ensures { λ r. ⌜ r ≡ classOf (getD (now (text .entry)) at 0) ⌝ }
-{
-    if text.len() <= at {
-        return class_of(0);
-    }
-    class_of(text[at])
 }
 
 // Whether the digits from a position up to the next are a number: one at least, and no needless zero.

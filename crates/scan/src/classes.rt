@@ -1,6 +1,7 @@
 // The class of a byte, by the ranges of digit, sign, space and line end.
 
 ghost use mathlib.Core.Path.{_≡_};
+ghost use lib.ListN.{getD};
 ghost use Rattle.market.specs.Bytes.{classOf};
 
 const OTHER: u8 = 0;
@@ -26,4 +27,14 @@ pub fn class_of(b: u8) -> u8
             _ => OTHER,
         },
     }
+}
+
+// The class of the byte at a position: past the end as of a byte 0, which is no part of a number.
+pub fn class_at(s: &[u8], at: usize) -> u8
+    ensures { λ r. ⌜ r ≡ classOf (getD (now (s .entry)) at 0) ⌝ }
+{
+    if s.len() <= at {
+        return class_of(0);
+    }
+    class_of(s[at])
 }

@@ -2,6 +2,8 @@
 
 use crate::classes::LINE_END;
 use crate::classes::SIGN;
+use crate::classes::SPACE;
+use crate::classes::class_at;
 use crate::classes::class_of;
 use crate::numbers::Number;
 use crate::numbers::read_field;
@@ -48,11 +50,10 @@ fn read_value(s: &[u8], at: usize) -> Value
 fn read_value_field(s: &[u8], at: usize) -> Value
     ensures { λ r. ⌜ r ≡ valueAt at (valueField (drop at (now (s .entry)))) ⌝ }
 {
-    let p = skip_spaces(s, at);
-    if p <= at {
+    if class_at(s, at) != SPACE {
         return Value::No;
     }
-    read_value(s, p)
+    read_value(s, skip_spaces(s, at + 1))
 }
 
 // A line's three fields and the position of the next line; or a line that breaks the form.

@@ -2,14 +2,16 @@
 
 use crate::classes::DIGIT;
 use crate::classes::SPACE;
+use crate::classes::class_at;
 use crate::classes::class_of;
 use base::bytes::wide64;
 use base::numbers::least;
 ghost use mathlib.Core.Path.{_≡_};
 ghost use Prim.Native.Nat.{_+_, _<_};
-ghost use lib.ListN.{drop};
+ghost use lib.ListN.{length, getD, drop};
+ghost use Rattle.market.specs.Bytes.{classOf, digit0};
 ghost use Rattle.market.specs.Fields.{numeral, spaces, field};
-ghost use Rattle.scan.specs.code.Positions.{numberAt, isNumeral, pick};
+ghost use Rattle.scan.specs.code.Positions.{numberAt};
 
 // A number and the position after it, or none.
 pub enum Number {
@@ -17,27 +19,30 @@ pub enum Number {
     No,
 }
 
-// What k digits make, of which the first is given, and which end before next.
-fn numeral(first: u8, v: u64, k: usize, next: usize) -> Number
-    ensures { λ r. ⌜ r ≡ pick (isNumeral first k) (Number.At v next) Number.No ⌝ }
-{
-    if k < 1 {
-        return Number::No;
-    }
-    if 10 < k {
-        return Number::No;
-    }
-    if k <= 1 {
-        return Number::At(v, next);
-    }
-    if first == b'0' {
-        return Number::No;
-    }
-    Number::At(v, next)
-}
+// The most digits of a number.
+const MOST_DIGITS: usize = 10;
 
-// So many digits are no number.
-const TOO_MANY: usize = 11;
+// The number at a position where a digit stands that is not 0.
+fn read_digits(s: &[u8], at: usize) -> Number
+    requires { ⌜ (at < length (now s)) × (classOf (getD (now s) at 0) ≡ 1) × (getD (now s) at 0 ≡ digit0 → ⊥) ⌝ }
+    ensures { λ r. ⌜ r ≡ numberAt at (numeral (drop at (now (s .entry)))) ⌝ }
+{
+    let end = at + least(s.len() - at, MOST_DIGITS);
+    let mut v = wide64(s[at]) - 48;
+    let mut i = at + 1;
+    while i < end {
+        let b = s[i];
+        if class_of(b) != DIGIT {
+            return Number::At(v, i);
+        }
+        v = v * 10 + (wide64(b) - 48);
+        i += 1;
+    }
+    if class_at(s, i) == DIGIT {
+        return Number::No;
+    }
+    Number::At(v, i)
+}
 
 // The number at a position: 1 to 10 digits and no needless leading zero.
 pub fn read_number(s: &[u8], at: usize) -> Number
@@ -47,18 +52,16 @@ pub fn read_number(s: &[u8], at: usize) -> Number
         return Number::No;
     }
     let first = s[at];
-    let end = at + least(s.len() - at, TOO_MANY);
-    let mut v: u64 = 0;
-    let mut i = at;
-    while i < end {
-        let b = s[i];
-        if class_of(b) != DIGIT {
-            return numeral(first, v, i - at, i);
-        }
-        v = v * 10 + (wide64(b) - 48);
-        i += 1;
+    if class_of(first) != DIGIT {
+        return Number::No;
     }
-    numeral(first, v, i - at, i)
+    if first != b'0' {
+        return read_digits(s, at);
+    }
+    if class_at(s, at + 1) == DIGIT {
+        return Number::No;
+    }
+    Number::At(0, at + 1)
 }
 
 // The position after the spaces at a position.
@@ -80,9 +83,8 @@ pub(crate) fn skip_spaces(s: &[u8], at: usize) -> usize
 pub(crate) fn read_field(s: &[u8], at: usize) -> Number
     ensures { λ r. ⌜ r ≡ numberAt at (field (drop at (now (s .entry)))) ⌝ }
 {
-    let p = skip_spaces(s, at);
-    if p <= at {
+    if class_at(s, at) != SPACE {
         return Number::No;
     }
-    read_number(s, p)
+    read_number(s, skip_spaces(s, at + 1))
 }

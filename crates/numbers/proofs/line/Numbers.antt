@@ -6,14 +6,14 @@ use Prim.Native.Nat.{ℕ, zero, suc, _+_, _^_, _<_, min}
 use native.Mathlib.Omega.{arith}
 use lib.Dec.{ltb}
 use lib.IntN.{pos, negsuc}
-use lib.ListN.{length, getD, drop, List·getD-eq-default}
+use lib.ListN.{length, getD, drop}
 use lib.Seq.{getD-drop}
 use mir.Val.{boolByte}
-use borrow.Author.Tests.{ltb-true, ltb-false, le-ltb}
-use Rattle.base.proofs.Booleans.{clash}
+use borrow.Author.Tests.{ltb-true, ltb-false, le-ltb, eqb-true}
 use Rattle.market.specs.Bytes.{classOf, isSign, isEnd}
 use Rattle.market.specs.Fields.{got, none, Signed, is, no, digits, valueOf, positive, negative}
 use Rattle.scan.proofs.Left.{left-cons}
+use Rattle.scan.proofs.numbers.Scanning.{class-inside}
 use Rattle.numbers.specs.Lines.{isSpelled, wholeNumber, withEnd, numberOn}
 use Rattle.numbers.specs.declared.line.Line.the-variants as line
 use Rattle.numbers.specs.code.Lines.{many, plainOf, negativeOf, lineAt}
@@ -24,23 +24,13 @@ numberBy false v k end = cond end (is (pos v) k) no
 numberBy true zero k end = no
 numberBy true (suc v) k end = cond end (is (negsuc v) (suc k)) no
 
--- a byte that is not 0 stands in the text
-inside : (s : List ℕ) (at : ℕ) → (getD s at 0 ≡ 0 → ⊥) → at < length s
-inside s at h = go (ltb at (length s)) refl
-  where
-    go : (t : Bool) → ltb at (length s) ≡ t → at < length s
-    go true e = ltb-true at (length s) e
-    go false e = absurd (h (List·getD-eq-default s 0 (ltb-false at (length s) e)))
-
 module _ (s : List ℕ) (at : ℕ) where
-  -- as a sign and a line end do
+  -- a sign and a line end stand in the text
   pub sign-inside : isSign (getD s at 0) ≡ true → at < length s
-  unfolding classOf
-  sign-inside h = inside s at (λ e. clash (rw e at h) refl)
+  sign-inside h = class-inside s at (omega (arith, eqb-true (classOf (getD s at 0)) 2 h))
 
   pub end-inside : isEnd (getD s at 0) ≡ true → at < length s
-  unfolding classOf
-  end-inside h = inside s at (λ e. clash (rw e at h) refl)
+  end-inside h = class-inside s at (omega (arith, eqb-true (classOf (getD s at 0)) 4 h))
 
   number-at : (t : Bool) → isSign (getD s at 0) ≡ t → (ds : List ℕ) → ds ≡ digits (drop (at + boolByte t) s)
       → numberOn (drop at s) ≡ cond (isSpelled ds) (numberBy t (valueOf 0 ds) (length ds) (isEnd (getD s (at + boolByte t + length ds) 0))) no

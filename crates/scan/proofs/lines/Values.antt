@@ -7,7 +7,7 @@ use lib.IntN.{ℤ, pos, negsuc, _-ℤ_, +ℤ-idl}
 use lib.ListN.{length, getD, drop, drop-of-length-le}
 use mir.Syntax.{w64}
 use mir.Val.{SFits}
-use borrow.Author.Tests.{le-leb, lt-leb, ne-eqb}
+use borrow.Author.Tests.{le-leb, ne-eqb}
 use Rattle.scan.specs.declared.numbers.Number.the-variants as num
 use Rattle.scan.specs.declared.lines.Value.the-variants as val
 use Rattle.market.specs.Bytes.{classOf}
@@ -28,11 +28,11 @@ pub value-no : (at : ℕ) (x : Signed) → val.No ≡ valueAt at x → x ≡ no
 value-no at (is w k) e = let z : _≡_ {A = ℕ} 0 1 = cc in absurd (omega arith)
 value-no at no e = refl
 
-module _ (s : List ℕ) (at p : ℕ) (ep : p ≡ at + spaces (drop at s)) where
-  pub value-field-none : p ≤ at → val.No ≡ valueAt at (valueField (drop at s))
-  unfolding valueField
-  value-field-none h = rw (lt-leb 1 (spaces (drop at s)) (omega arith))
+pub value-field-none : (s : List ℕ) (at : ℕ) → spaces (drop at s) ≡ 0 → val.No ≡ valueAt at (valueField (drop at s))
+unfolding valueField
+value-field-none s at h = rw h
 
+module _ (s : List ℕ) (at p : ℕ) (ep : p ≡ at + spaces (drop at s)) where
   pub value-field-some : at < p → valueAt p (value (drop p s)) ≡ valueAt at (valueField (drop at s))
   unfolding valueField
   value-field-some h =

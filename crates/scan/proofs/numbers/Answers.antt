@@ -7,7 +7,7 @@ use native.Mathlib.Nat.{pow-suc, mul-le-mul-right, pow-le-pow-right}
 use native.Mathlib.Omega.{arith}
 use lib.Dec.{leb}
 use lib.ListN.{length, drop}
-use borrow.Author.Tests.{leb-true, le-leb, lt-leb, eqb-true}
+use borrow.Author.Tests.{leb-true, le-leb, eqb-true}
 use Rattle.scan.specs.declared.numbers.Number.the-variants as num
 use Rattle.market.specs.Bytes.{classOf, isDigit}
 use Rattle.market.specs.Fields.{Scan, got, none, digits, isNumber, valueOf, numeral, spaces, field, shifted}
@@ -28,11 +28,11 @@ pub scan-no : (at : ℕ) (sc : Scan) → num.No ≡ numberAt at sc → sc ≡ no
 scan-no at (got w k) e = let z : _≡_ {A = ℕ} 0 1 = cc in absurd (omega arith)
 scan-no at none e = refl
 
-module _ (s : List ℕ) (at p : ℕ) (ep : p ≡ at + spaces (drop at s)) where
-  pub field-none : p ≤ at → num.No ≡ numberAt at (field (drop at s))
-  unfolding field
-  field-none h = rw (lt-leb 1 (spaces (drop at s)) (omega arith))
+pub field-none : (s : List ℕ) (at : ℕ) → spaces (drop at s) ≡ 0 → num.No ≡ numberAt at (field (drop at s))
+unfolding field
+field-none s at h = rw h
 
+module _ (s : List ℕ) (at p : ℕ) (ep : p ≡ at + spaces (drop at s)) where
   pub field-some : at < p → numberAt p (numeral (drop p s)) ≡ numberAt at (field (drop at s))
   unfolding field
   field-some h =

@@ -1,44 +1,34 @@
 -- The loop over a number's digits: after i - at digits that make v, what is left decides.
-use mathlib.Core.Path.{_≡_, refl, sym, ap, _∙_}
-use mathlib.Core.Bool.{Bool, true, false, _&&_, _||_, not, cond}
-use mathlib.Core.List.{List, [], _∷_}
-use Prim.Native.Nat.{ℕ, zero, suc, _+_, _-_, _*_, _^_, _≤_, _<_, min}
+use mathlib.Core.Path.{_≡_, refl, ap, subst, _∙_}
+use mathlib.Core.Bool.{Bool, true, false, _&&_, _||_, not}
+use mathlib.Core.List.{List, []}
+use Prim.Native.Nat.{ℕ, suc, _+_, _-_, _*_, _^_, _≤_, _<_}
 use native.Mathlib.Nat.{pow-suc, pow-le-pow-right}
 use native.Mathlib.Omega.{arith}
-use lib.Dec.{leb, ltb, eqb}
-use lib.ListN.{length, getD, drop, drop-of-length-le}
-use borrow.Author.Tests.{lt-leb, ltb-true, ltb-false}
-use Rattle.scan.specs.declared.numbers.Number.{Number}
+use lib.Dec.{leb, eqb}
+use lib.ListN.{length, getD, drop}
+use borrow.Author.Tests.{le-leb, lt-leb, eqb-true}
+use Rattle.base.proofs.Booleans.{and-false, or-true}
 use Rattle.scan.specs.declared.numbers.Number.the-variants as num
-use Rattle.market.specs.Bytes.{classOf, isDigit}
-use Rattle.market.specs.Fields.{got, none, digits, isNumber, valueOf, numeral}
-use Rattle.scan.specs.code.Positions.{numberAt, isNumeral, pick}
-use Rattle.scan.proofs.Left.{left-cons}
-use Rattle.scan.proofs.numbers.Scanning.{digits-end, digits-more, digit-range}
-
-first-of : (xs : List ℕ) → 1 ≤ length (digits xs) → getD (digits xs) 0 0 ≡ getD xs 0 0
-unfolding digits
-first-of [] h = refl
-first-of (b ∷ bs) h = go (isDigit b) h
-  where
-    go : (t : Bool) → 1 ≤ length (cond t (b ∷ digits bs) []) → getD (cond t (b ∷ digits bs) []) 0 0 ≡ b
-    go true h = refl
-    go false h = absurd (omega arith)
+use Rattle.market.specs.Bytes.{classOf}
+use Rattle.market.specs.Fields.{digits, isNumber, valueOf, numeral}
+use Rattle.scan.specs.code.Positions.{numberAt}
+use Rattle.scan.proofs.numbers.Scanning.{class-inside, digits-more, digit-range, first-digit}
 
 pub record Digits (s : List ℕ) (at v i : ℕ) : Type 0 where
   pub after : at ≤ i
   pub inside : i ≤ length s
-  pub few : i - at ≤ 11
+  pub few : i - at ≤ 10
   pub small : v < 10 ^ (i - at)
   pub count : i - at + length (digits (drop i s)) ≡ length (digits (drop at s))
   pub made : valueOf v (digits (drop i s)) ≡ valueOf 0 (digits (drop at s))
 
-pub digits-start : (s : List ℕ) (at : ℕ) → at < length s → Digits s at 0 at
+digits-start : (s : List ℕ) (at : ℕ) → at < length s → Digits s at 0 at
 digits-start s at h =
     let e : at - at ≡ 0 = omega arith in
     record { after = omega arith; inside = omega arith; few = omega arith; small = rw e (omega arith); count = omega arith; made = refl }
 
-pub digits-step : (s : List ℕ) (at v i : ℕ) → Digits s at v i → i < length s → classOf (getD s i 0) ≡ 1 → i - at < 11 → Digits s at (v * 10 + (getD s i 0 - 48)) (i + 1)
+pub digits-step : (s : List ℕ) (at v i : ℕ) → Digits s at v i → i < length s → classOf (getD s i 0) ≡ 1 → i - at < 10 → Digits s at (v * 10 + (getD s i 0 - 48)) (i + 1)
 unfolding valueOf
 digits-step s at v i d h e l =
     let r = digit-range (getD s i 0) e in
@@ -53,58 +43,58 @@ digits-step s at v i d h e l =
       made = rw m at (d .made);
     }
 
-number-is : (xs : List ℕ) (at : ℕ) → numberAt at (numeral xs) ≡ pick (isNumeral (getD (digits xs) 0 0) (length (digits xs))) (num.At (valueOf 0 (digits xs)) (at + length (digits xs))) num.No
-unfolding numeral isNumber
-number-is xs at = go (isNumeral (getD (digits xs) 0 0) (length (digits xs)))
-  where
-    go : (b : Bool) → numberAt at (cond b (got (valueOf 0 (digits xs)) (length (digits xs))) none) ≡ pick b (num.At (valueOf 0 (digits xs)) (at + length (digits xs))) num.No
-    go true = refl
-    go false = refl
+-- the digits at a position are a number, or are none
+module _ (s : List ℕ) (at : ℕ) where
+  number-yes : isNumber (digits (drop at s)) ≡ true → num.At (valueOf 0 (digits (drop at s))) (at + length (digits (drop at s))) ≡ numberAt at (numeral (drop at s))
+  unfolding numeral
+  number-yes e = rw e
 
--- of no digits the first does not matter
-same-first : (f g k : ℕ) → (1 ≤ k → f ≡ g) → isNumeral f k ≡ isNumeral g k
-same-first f g zero h = refl
-same-first f g (suc k) h = rw (h (omega arith))
+  number-no : isNumber (digits (drop at s)) ≡ false → num.No ≡ numberAt at (numeral (drop at s))
+  unfolding numeral
+  number-no e = rw e
 
--- no digit is left
-pub digits-done : (s : List ℕ) (at v i : ℕ) → Digits s at v i → at < length s → digits (drop i s) ≡ []
-    → pick (isNumeral (getD s at 0) (i - at)) (num.At v i) num.No ≡ numberAt at (numeral (drop at s))
-unfolding valueOf
-digits-done s at v i d h e =
-    let n : i - at ≡ length (digits (drop at s)) = omega (arith, d .count, ap length e) in
-    let w : v ≡ valueOf 0 (digits (drop at s)) = rw e at (d .made) in
-    let p : i ≡ at + length (digits (drop at s)) = omega (arith, d .after) in
-    let q : getD (drop at s) 0 0 ≡ getD s at 0 = rw (left-cons s at h) in
-    let f = same-first (getD s at 0) (getD (digits (drop at s)) 0 0) (length (digits (drop at s))) (λ l. sym (first-of (drop at s) l ∙ q)) in
-    rw n (rw f (ap (λ (x : Number). pick (isNumeral (getD (digits (drop at s)) 0 0) (length (digits (drop at s)))) x num.No) (ap (λ (y : ℕ). num.At y i) w ∙ ap (λ (y : ℕ). num.At (valueOf 0 (digits (drop at s))) y) p)))
-    ∙ sym (number-is (drop at s) at)
+  pub number-none : digits (drop at s) ≡ [] → num.No ≡ numberAt at (numeral (drop at s))
+  unfolding isNumber
+  number-none e = number-no (rw e)
 
--- eleven digits
-pub digits-many : (s : List ℕ) (at v i : ℕ) → Digits s at v i → 11 ≤ i - at → pick (isNumeral (getD s at 0) (i - at)) (num.At v i) num.No ≡ numberAt at (numeral (drop at s))
-digits-many s at v i d l =
-    let k : 10 < length (digits (drop at s)) = omega (arith, d .count) in
-    too-many (getD s at 0) (i - at) (omega (arith, l)) (num.At v i) ∙ sym (number-is (drop at s) at ∙ too-many (getD (digits (drop at s)) 0 0) (length (digits (drop at s))) k (num.At (valueOf 0 (digits (drop at s))) (at + length (digits (drop at s)))))
-  where
-    too-many : (f k : ℕ) → 10 < k → (x : Number) → pick (isNumeral f k) x num.No ≡ num.No
-    too-many f k h x = rw (lt-leb k 10 h) (go (leb 1 k))
-      where
-        go : (b : Bool) → pick (b && false && (leb k 1 || not (eqb f 48))) x num.No ≡ num.No
-        go true = refl
-        go false = refl
+-- the first digit, and what it makes
+pub digits-first : (s : List ℕ) (at : ℕ) → at < length s → classOf (getD s at 0) ≡ 1 → Digits s at (getD s at 0 - 48) (at + 1)
+digits-first s at h e =
+    let z : 0 * 10 + (getD s at 0 - 48) ≡ getD s at 0 - 48 = omega arith in
+    subst (λ (v : ℕ). Digits s at v (at + 1)) z (digits-step s at 0 at (digits-start s at h) h e (omega arith))
 
--- no byte is left, or there are eleven digits
-pub digits-last : (s : List ℕ) (at v i : ℕ) → Digits s at v i → at < length s → at + min (length s - at) 11 ≤ i
-    → pick (isNumeral (getD s at 0) (i - at)) (num.At v i) num.No ≡ numberAt at (numeral (drop at s))
-digits-last s at v i d h l = go (ltb i (length s)) refl
-  where
-    go : (b : Bool) → ltb i (length s) ≡ b → pick (isNumeral (getD s at 0) (i - at)) (num.At v i) num.No ≡ numberAt at (numeral (drop at s))
-    go true e = digits-many s at v i d (omega (arith, l, ltb-true i (length s) e))
-    go false e = digits-done s at v i d h (digits-end s i (ltb-false i (length s) e))
+module _ (s : List ℕ) (at v i : ℕ) (d : Digits s at v i) (h : at < i) where
+  -- no digit is left, and a 0 stands alone
+  pub digits-done : digits (drop i s) ≡ [] → (getD s at 0 ≡ 48 → i ≡ at + 1) → num.At v i ≡ numberAt at (numeral (drop at s))
+  unfolding isNumber valueOf
+  digits-done e lone =
+      let n : length (digits (drop at s)) ≡ i - at = omega (arith, d .count, ap length e) in
+      let w : v ≡ valueOf 0 (digits (drop at s)) = rw e at (d .made) in
+      let p : i ≡ at + length (digits (drop at s)) = omega (arith, h) in
+      let f = first-digit s at (omega (arith, h)) .1 in
+      ap (λ (y : ℕ). num.At y i) w ∙ ap (λ (y : ℕ). num.At (valueOf 0 (digits (drop at s))) y) p
+      ∙ number-yes s at (rw (n, f, le-leb 1 (i - at) (omega arith), le-leb (i - at) 10 (d .few)) (go (eqb (getD s at 0) 48) refl))
+    where
+      go : (b : Bool) → eqb (getD s at 0) 48 ≡ b → leb (i - at) 1 || not b ≡ true
+      go true e = rw (le-leb (i - at) 1 (omega (arith, lone (eqb-true (getD s at 0) 48 e))))
+      go false e = or-true (leb (i - at) 1)
 
-pub number-end : (s : List ℕ) (at : ℕ) → length s ≤ at → num.No ≡ numberAt at (numeral (drop at s))
-unfolding numeral isNumber digits
-number-end s at h = rw (drop-of-length-le s h)
+  -- a digit is left after ten
+  pub digits-many : 10 ≤ i - at → classOf (getD s i 0) ≡ 1 → num.No ≡ numberAt at (numeral (drop at s))
+  unfolding isNumber
+  digits-many l e =
+      let m = digits-more s i (class-inside s i (omega (arith, e))) e in
+      number-no s at (rw (lt-leb (length (digits (drop at s))) 10 (omega (arith, d .count, ap length m)), and-false (leb 1 (length (digits (drop at s))))))
 
--- at most eleven digits make less than 10 ^ 11
-pub digits-small : (s : List ℕ) (at v i : ℕ) → Digits s at v i → v < 100000000000
+  -- a digit is left after a 0
+  pub digits-needless : getD s at 0 ≡ 48 → classOf (getD s i 0) ≡ 1 → num.No ≡ numberAt at (numeral (drop at s))
+  unfolding isNumber
+  digits-needless z e =
+      let m = digits-more s i (class-inside s i (omega (arith, e))) e in
+      let n : 1 < length (digits (drop at s)) = omega (arith, d .count, ap length m, h) in
+      let f = first-digit s at (omega arith) .1 in
+      number-no s at (rw (f, z, lt-leb (length (digits (drop at s))) 1 n) (and-false (leb 1 (length (digits (drop at s))) && leb (length (digits (drop at s))) 10)))
+
+-- at most ten digits make less than 10 ^ 10
+pub digits-small : (s : List ℕ) (at v i : ℕ) → Digits s at v i → v < 10000000000
 digits-small s at v i d = omega (arith, d .small, pow-le-pow-right {n = 10} (omega arith) (d .few))

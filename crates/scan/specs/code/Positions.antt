@@ -1,14 +1,11 @@
 -- What the scanning functions answer, at a position of the text.
-use mathlib.Core.Bool.{Bool, true, false, _&&_, _||_, not}
 use Prim.Native.Nat.{ℕ, _+_}
-use lib.Dec.{leb, eqb}
 use Rattle.scan.specs.declared.numbers.Number.{Number}
 use Rattle.scan.specs.declared.numbers.Number.the-variants as num
 use Rattle.scan.specs.declared.lines.Value.{Value}
 use Rattle.scan.specs.declared.lines.Value.the-variants as val
 use Rattle.scan.specs.declared.lines.Fields.{Fields}
 use Rattle.scan.specs.declared.lines.Fields.the-variants as fld
-use Rattle.market.specs.Bytes.{digit0}
 use Rattle.market.specs.Fields.{Scan, got, none, Signed, is, no, Line, line, broken}
 
 -- a number scanned at p, with the position after it
@@ -25,11 +22,3 @@ valueAt p no = val.No
 abbrev pub fieldsAt : ℕ → Line → Fields
 fieldsAt p (line r c v k) = fld.Line r c v (p + k)
 fieldsAt p broken = fld.Broken
-
--- k digits, the first of them as given, are a number
-abbrev pub isNumeral : ℕ → ℕ → Bool
-isNumeral first k = leb 1 k && leb k 10 && (leb k 1 || not (eqb first digit0))
-
-abbrev pub pick : Bool → Number → Number → Number
-pick true a b = a
-pick false a b = b

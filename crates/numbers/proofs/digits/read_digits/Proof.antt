@@ -27,7 +27,7 @@ returns : tie.Need-returns Inv-loop μ-loop
 returns c =
     let l = c .before .before .before .before in
     let a = l .before .before .args in
-    reading-done (a .text .now) (a .at) (l .loop .inv) (digits-stop (a .text .now) (l .loop .i) (c .before .before .before .loop-test .taken) (λ e. c .if1 .taken (c .before .class-of .ensures ∙ e)))
+    reading-done (a .text .now) (a .at) (l .loop .inv) (digits-stop (a .text .now) (l .loop .i) (λ e. c .if1 .taken (c .before .class-of .ensures ∙ e)))
 
 sub-more : tie.Need-sub-more Inv-loop μ-loop
 sub-more c = omega (arith, digit-range _ (digit (c .before)), c .wide64 .ensures)

@@ -3,7 +3,8 @@ use borrow.Author.Needs.{needs}
 use native.Mathlib.Omega.{arith}
 use lib.ListN.{drop}
 use Rattle.market.specs.Fields.{digits}
-use Rattle.numbers.proofs.line.Wholes.{whole-none, whole-one, whole-more, first-digit}
+use Rattle.scan.proofs.numbers.Scanning.{first-digit}
+use Rattle.numbers.proofs.line.Wholes.{whole-none, whole-one, whole-more}
 use Rattle.numbers.proofs.line.is_whole.Statement.{statement}
 use Rattle.numbers.proofs.line.is_whole.Tie as tie
 

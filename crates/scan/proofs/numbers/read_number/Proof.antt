@@ -1,83 +1,49 @@
--- `read_number` meets its contract.
+-- `read_number` meets its contract: no digit, a digit that is not 0, or 0.
 use borrow.Author.Needs.{needs}
-use mathlib.Core.Path.{_≡_, refl, sym, _∙_}
-use Prim.Native.Nat.{_+_, _-_, _≤_, _<_, min}
+use mathlib.Core.Path.{_≡_, refl, sym, subst, _∙_}
+use Prim.Native.Nat.{ℕ, _+_, _-_}
 use native.Mathlib.Omega.{arith}
-use lib.ListN.{length, getD}
-use Rattle.market.specs.Bytes.{classOf}
-use Rattle.scan.proofs.numbers.Scanning.{digits-stop, digit-range}
-use Rattle.scan.proofs.numbers.Digits.{Digits, digits-start, digits-step, digits-done, digits-last, digits-small, number-end}
+use lib.ListN.{getD}
+use Rattle.scan.proofs.numbers.Scanning.{digits-end, digits-stop}
+use Rattle.scan.proofs.numbers.Digits.{Digits, number-none, digits-first, digits-done, digits-needless}
 use Rattle.scan.proofs.numbers.read_number.Statement.{statement}
 use Rattle.scan.proofs.numbers.read_number.Tie as tie
 
-abbrev Inv-loop : tie.InvT-loop
-Inv-loop s at first end v₀ i₀ v i = (first ≡ getD s at 0) × (at < length s) × (end ≡ at + min (length s - at) 11) × Digits s at v i × (i ≤ end)
+abbrev start : tie.Else3 → tie.Start
+start c = c .before .before .before .before .before .before
 
-abbrev μ-loop : tie.MeasureT-loop
-μ-loop s at first end v₀ i₀ v i = end - i
+-- the first digit is 0
+zero : (c : tie.Else3) → Digits (start c .args .s .now) (start c .args .at) 0 (start c .args .at + 1)
+zero c =
+    let a = start c .args in
+    let z : getD (a .s .now) (a .at) 0 - 48 ≡ 0 = omega (arith, c .if3 .left) in
+    subst (λ (v : ℕ). Digits (a .s .now) (a .at) v (a .at + 1)) z
+    (digits-first (a .s .now) (a .at) (c .before .before .before .before .if1 .left) (sym (c .before .before .class-of .ensures) ∙ c .before .if2 .left))
 
--- a turn that goes on: back to the loop's head, and to the function's entry
-abbrev head : tie.Else2 Inv-loop μ-loop → tie.At-loop Inv-loop μ-loop
-head c = c .before .before .before .before
+returns : tie.Need-returns
+returns c =
+    let a = c .before .before .args in
+    number-none (a .s .now) (a .at) (digits-end (a .s .now) (a .at) (c .if1 .taken))
 
-abbrev start : tie.At-loop Inv-loop μ-loop → tie.Start Inv-loop μ-loop
-start l = l .before .before .before .before .before
-
--- the byte at i is a digit
-digit : (c : tie.Else2 Inv-loop μ-loop) → classOf (getD (start (head c) .args .s .now) (head c .loop .i) 0) ≡ 1
-digit c = sym (c .before .class-of .ensures) ∙ c .if2 .left
-
-returns : tie.Need-returns Inv-loop μ-loop
-returns c = number-end (c .before .before .args .s .now) (c .before .before .args .at) (c .if1 .taken)
-
-loop-holds : tie.Need-loop-holds Inv-loop μ-loop
-loop-holds c =
-    let inside = c .before .before .if1 .left in
-    let a = c .before .before .before .before .args in
-    (refl, inside, rw (c .least .ensures), digits-start (a .s .now) (a .at) inside, omega arith)
-
-returns-2 : tie.Need-returns-2 Inv-loop μ-loop
+returns-2 : tie.Need-returns-2
 returns-2 c =
-    let l = c .before .before .before .before .before in
-    let a = start l .args in
-    c .numeral .ensures
-    ∙ rw (l .loop .inv .0) (digits-done (a .s .now) (a .at) (l .loop .v) (l .loop .i) (l .loop .inv .3) (l .loop .inv .1)
-    (digits-stop (a .s .now) (l .loop .i) (omega arith) (λ e. c .before .if2 .taken (c .before .before .class-of .ensures ∙ e))))
+    let a = c .before .before .before .before .before .args in
+    number-none (a .s .now) (a .at) (digits-stop (a .s .now) (a .at) (λ e. c .if2 .taken (c .before .class-of .ensures ∙ e)))
 
-small : (c : tie.Else2 Inv-loop μ-loop) → head c .loop .v < 100000000000
-small c = let l = head c in digits-small (start l .args .s .now) (start l .args .at) (l .loop .v) (l .loop .i) (l .loop .inv .3)
+returns-4 : tie.Need-returns-4
+returns-4 c =
+    let k = c .before .before in
+    let a = start k .args in
+    digits-needless (a .s .now) (a .at) 0 (a .at + 1) (zero k) (omega arith) (k .if3 .left) (sym (c .before .class-at .ensures) ∙ c .if4 .taken)
 
-mul-v : tie.Need-mul-v Inv-loop μ-loop
-mul-v c = omega (arith, small c)
-
-sub-v : tie.Need-sub-v Inv-loop μ-loop
-sub-v c = omega (arith, digit-range _ (digit (c .before)))
-
-add-v : tie.Need-add-v Inv-loop μ-loop
-add-v c = omega (arith, small (c .before))
-
-loop-again : tie.Need-loop-again Inv-loop μ-loop
-loop-again c =
-    let l = head (c .before) in
-    let a = start l .args in (
-      l .loop .inv .0,
-      l .loop .inv .1,
-      l .loop .inv .2,
-      rw (c .wide64 .ensures .0) (digits-step (a .s .now) (a .at) (l .loop .v) (l .loop .i) (l .loop .inv .3) (omega arith) (digit (c .before)) (omega arith)),
-      omega arith,
-    )
-
-returns-3 : tie.Need-returns-3 Inv-loop μ-loop
-returns-3 c =
-    let l = c .before .before in
-    let a = start l .args in
-    c .numeral2 .ensures
-    ∙ rw (l .loop .inv .0) (digits-last (a .s .now) (a .at) (l .loop .v) (l .loop .i) (l .loop .inv .3) (l .loop .inv .1) (omega (arith, l .loop .inv .2, c .before .loop-test .left)))
+returns-5 : tie.Need-returns-5
+returns-5 c =
+    let k = c .before .before in
+    let a = start k .args in
+    digits-done (a .s .now) (a .at) 0 (a .at + 1) (zero k) (omega arith) (digits-stop (a .s .now) (a .at + 1) (λ e. c .if4 .left (c .before .class-at .ensures ∙ e))) (λ e. refl)
 
 pub read-number-spec : {M : Type 1} → statement M
 read-number-spec =
     tie.close
-    (tie.spec Inv-loop μ-loop returns (λ c. search needs) (λ c. search needs) (λ c. search needs) (λ c. search needs)
-    loop-holds (λ c. search needs) (λ c. search needs) (λ c. search needs) (λ c. search needs) returns-2 mul-v
-    (λ c. search needs) sub-v add-v (λ c. search needs) (λ c. search needs) loop-again (λ c. search needs)
-    (λ c. search needs) returns-3)
+    (tie.spec returns (λ c. search needs) (λ c κs. search needs) returns-2 (λ c κs. search needs) (λ c. search needs)
+    (λ c. search needs) (λ c κs. search needs) returns-4 (λ c. search needs) returns-5)

@@ -19,7 +19,7 @@ returns : tie.Need-returns Inv-loop μ-loop
 returns c =
     let l = c .before .before .before .before in
     let a = l .before .before .args in
-    omega (arith, spaces-stop (a .s .now) (l .loop .i) (c .before .before .before .loop-test .taken) (λ e. c .if1 .taken (c .before .class-of .ensures ∙ e)))
+    omega (arith, spaces-stop (a .s .now) (l .loop .i) (λ e. c .if1 .taken (c .before .class-of .ensures ∙ e)))
 
 loop-again : tie.Need-loop-again Inv-loop μ-loop
 loop-again c =
