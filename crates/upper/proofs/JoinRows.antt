@@ -16,7 +16,6 @@ use borrow.Author.Tests.{eq-eqb, ne-eqb, le-ltb, ltb-true, ltb-false}
 use Rattle.base.specs.Lists.{keep, isIn, bit}
 use Rattle.base.proofs.Booleans.{same-or, clash, is-false, and-false, or-true, or-false}
 use Rattle.base.proofs.Lists.{isIn-append}
-use Rattle.base.proofs.Positions.{position-at}
 use Rattle.matrix.specs.Matrix.{Matrix, columnsOf, valuesOf, entry, ascending, adjacent}
 use Rattle.matrix.proofs.Matrix.{matrix-facts, column-low, column-neighbour, neighbour-column, absent-column, adjacent-both, symmetric}
 use Rattle.matrix.proofs.Ascending.{ascending-first, ascending-tail, isIn-get, lookup-get}
@@ -24,11 +23,11 @@ use Rattle.matrix.specs.code.Checks.{shaped}
 use Rattle.matrix.proofs.Checks.{matrix-tidy}
 use Rattle.matrix.proofs.Rows.{entry-row, length-columns, length-values}
 use Rattle.plan.proofs.Once.{Once, once, injective}
-use Rattle.base.specs.Lists.{positionOf}
 use Rattle.tables.specs.code.Laid.{maxUpdates}
 use Rattle.matrix.specs.Limits.{maxRows}
 use Rattle.upper.specs.code.Upper.{Positions, Ordered, upperTo, upperOf, Parts, Placed, Upper}
-use Rattle.upper.proofs.UpperRows.{upper-before, upper-next, upper-part, upper-own}
+use Rattle.upper.proofs.UpperRows.{upper-before, upper-next, upper-part, upper-some}
+use Rattle.upper.proofs.PositionTable.{position-back}
 use Rattle.upper.proofs.PlacedRows.{grown, row-low, next-below, placed-written, placed-grown, placed-same}
 
 -- a column of an ascending row is not among those before it
@@ -51,13 +50,6 @@ module _ (m : Matrix) (order position begins : List ℕ) (o : Ordered m order) (
   rows : Once (m .n) order
   rows = once (m .n) order (o .once)
 
-  -- the row at the position of row i is i
-  position-back : (i : ℕ) → i < m .n → (getD position i 0 < m .n) × (getD order (getD position i 0) 0 ≡ i)
-  position-back i l =
-      let at = position-at order i (rows .member i l) in
-      let e : getD position i 0 ≡ positionOf order i = ap (λ (v : ℕ). getD position v 0) (sym (at .1)) ∙ t .is (positionOf order i) (omega (arith, at .0, rows .long)) in
-      (omega (arith, at .0, rows .long), ap (λ (p : ℕ). getD order p 0) e ∙ at .1)
-
   module _ (q : ℕ) (low : q < m .n) {cs : List ℕ} {vs : List ℤ} (is : cs ≡ columnsOf m (getD order q 0)) (beside : vs ≡ valuesOf m (getD order q 0)) where
     abbrev row : ℕ
     row = getD order q 0
@@ -76,12 +68,8 @@ module _ (m : Matrix) (order position begins : List ℕ) (o : Ordered m order) (
     first-is : (k : ℕ) → first + length (joined m order q cs k q) ≡ first
     first-is k = omega (arith, ap length (joined-none k q (omega arith)))
 
-    -- every part has a place
-    some : (p : ℕ) → p < m .n → 1 ≤ length (upperOf m order p)
-    some p l = omega (arith, upper-part m order p (suc p) l, ap length (upper-own m order p))
-
     room-own : (k : ℕ) → length (joined m order q cs k q) < length (upperOf m order q)
-    room-own k = omega (arith, first-is k, some q low)
+    room-own k = omega (arith, first-is k, upper-some m order q low)
 
     -- ---- one column
 
@@ -102,7 +90,7 @@ module _ (m : Matrix) (order position begins : List ℕ) (o : Ordered m order) (
       ascends = ap ascending is ∙ matrix-facts m (o .matrix) .row row (row-low m order o q low) .ascends
 
       back : (p < m .n) × (getD order p 0 ≡ i)
-      back = position-back i column-below
+      back = position-back (m .n) order position rows t i column-below
 
       taken : (r : ℕ) → isIn (take (k + 1) cs) r ≡ isIn (take k cs) r || eqb r i
       taken r = ap (λ (j : ℕ). isIn (take j cs) r) (add-one k) ∙ ap (λ (xs : List ℕ). isIn xs r) (take-suc cs k 0 l) ∙ isIn-append (take k cs) (i ∷ []) r ∙ ap (λ (b : Bool). isIn (take k cs) r || b) (or-false (eqb r i))
@@ -131,7 +119,7 @@ module _ (m : Matrix) (order position begins : List ℕ) (o : Ordered m order) (
         where
           go : (b : Bool) → ltb p q ≡ b → upperTo m order p (q + bit b) ≡ upperTo m order p q ++ keep b q [] → length (joined m order q cs k p) < length (upperOf m order p)
           go true e u = omega (arith, ap length before, ap length u, length-append (upperTo m order p q) (q ∷ []), upper-part m order p (q + 1) (omega arith))
-          go false e u = omega (arith, ap length (joined-none k p (ltb-false p q e)), some p (back .0))
+          go false e u = omega (arith, ap length (joined-none k p (ltb-false p q e)), upper-some m order p (back .0))
 
       -- the value beside the column is the entry of row i with the row at q
       value-is : getD vs k (pos 0) ≡ entry m (getD order p 0) row
@@ -158,7 +146,7 @@ module _ (m : Matrix) (order position begins : List ℕ) (o : Ordered m order) (
               let x : slot ≡ first = ap (λ (r : ℕ). getD begins r 0 + length (joined m order q cs k r)) e ∙ first-is k in
               ap (λ (y : ℕ). getD (set xs slot v) y d) (sym x) ∙ getD-set-same xs slot v d h ∙ same e
           go (inr e) =
-              getD-set-other xs slot first v d (λ y. parts .apart q p 0 (length (joined m order q cs k p)) low (back .0) (λ z. e (sym z)) (some q low) room (omega (arith, y))) ∙ other e
+              getD-set-other xs slot first v d (λ y. parts .apart q p 0 (length (joined m order q cs k p)) low (back .0) (λ z. e (sym z)) (upper-some m order q low) room (omega (arith, y))) ∙ other e
 
       diagonal-next : (values : List ℤ) → slot < length values → getD values first (pos 0) ≡ cond (isIn (take k cs) row) (entry m row row) (pos 0)
           → getD (set values slot (getD vs k (pos 0))) first (pos 0) ≡ cond (isIn (take (k + 1) cs) row) (entry m row row) (pos 0)
@@ -247,7 +235,7 @@ module _ (m : Matrix) (order position begins : List ℕ) (o : Ordered m order) (
 
     -- its next place is where its part begins
     pub own-next : {next at : List ℕ} {values : List ℤ} → Upper m order begins q next at values → (getD next q 0 ≡ first) × (first < maxUpdates)
-    own-next u = (omega (arith, u .ends q low, ap length (upper-before m order q q (omega arith))), omega (arith, parts .room q low, some q low))
+    own-next u = (omega (arith, u .ends q low, ap length (upper-before m order q q (omega arith))), omega (arith, parts .room q low, upper-some m order q low))
 
     -- that is written, no column has been treated
     pub join-begun : {next at : List ℕ} {values : List ℤ} → Upper m order begins q next at values → Joined m order begins q cs 0 next (set at first q) (set values first (pos 0))

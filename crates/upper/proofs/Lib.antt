@@ -4,3 +4,4 @@ pub mod PlacedRows
 pub mod JoinRows
 pub mod SizeRows
 pub mod PartRows
+pub mod RowParts

@@ -1,5 +1,5 @@
 -- The tables of positions, of displacements in plan order and of parts, filled position by position.
-use mathlib.Core.Path.{_≡_, refl, _∙_}
+use mathlib.Core.Path.{_≡_, refl, sym, ap, _∙_}
 use mathlib.Core.Logic.{_⊎_, inl, inr, _≢_}
 use mathlib.Core.List.{List}
 use Prim.Native.Nat.{ℕ, _+_, _≤_, _<_}
@@ -7,11 +7,22 @@ use native.Mathlib.Omega.{arith}
 use lib.IntN.{ℤ, pos}
 use lib.ListN.{length, getD, set, length-set}
 use lib.Seq.{getD-set-same, getD-set-other}
+use Rattle.base.specs.Lists.{positionOf}
 use Rattle.base.proofs.Booleans.{same-or}
+use Rattle.base.proofs.Positions.{position-at}
 use Rattle.matrix.specs.Limits.{maxRows}
 use Rattle.matrix.specs.Matrix.{displacement}
 use Rattle.plan.proofs.Once.{Once, low-at, injective}
 use Rattle.upper.specs.code.Upper.{Positions, Displaced, partAt, Begun}
+
+-- one number more, each in a place of its own
+pub held-next : {A : Type 0} (d : A) (place : ℕ → ℕ) (f : ℕ → A) (k : ℕ) (xs : List A) → place k < length xs → ((p : ℕ) → p < k → place p ≢ place k) → ((p : ℕ) → p < k → getD xs (place p) d ≡ f p)
+    → (v : A) → v ≡ f k → (p : ℕ) → p < k + 1 → getD (set xs (place k) v) (place p) d ≡ f p
+held-next d place f k xs l apart is v e p h = go (same-or p k)
+  where
+    go : (p ≡ k) ⊎ (p ≢ k) → getD (set xs (place k) v) (place p) d ≡ f p
+    go (inl q) = rw q (getD-set-same xs (place k) v d l ∙ e)
+    go (inr q) = let i : p < k = omega (arith, q) in getD-set-other xs (place k) (place p) v d (apart p i) ∙ is p i
 
 pub positions-none : (order position : List ℕ) → length position ≡ maxRows → Positions 0 order position
 positions-none order position e = record { long = e; is = λ p l. absurd (omega arith) }
@@ -25,23 +36,22 @@ module _ (n : ℕ) (order : List ℕ) (once : Once n order) (few : n ≤ maxRows
   pub positions-next : (position : List ℕ) → Positions k order position → Positions (k + 1) order (set position (getD order k 0) k)
   positions-next position t = record {
     long = length-set position (getD order k 0) k ∙ t .long;
-    is = λ p h. go p h (same-or p k);
+    is = held-next 0 (λ p. getD order p 0) (λ p. p) k position (omega (arith, row-below, t .long)) (λ p h. injective n order once p k (omega arith) l (λ e. omega arith)) (t .is) k refl;
   }
-    where
-      go : (p : ℕ) → p < k + 1 → (p ≡ k) ⊎ (p ≢ k) → getD (set position (getD order k 0) k) (getD order p 0) 0 ≡ p
-      go p h (inl e) = rw e (getD-set-same position (getD order k 0) k 0 (omega (arith, row-below, t .long)))
-      go p h (inr d) = getD-set-other position (getD order k 0) (getD order p 0) k 0 (injective n order once p k (omega arith) l d) ∙ t .is p (omega arith)
+
+-- the row at the position of row i is i
+pub position-back : (n : ℕ) (order position : List ℕ) → Once n order → Positions n order position → (i : ℕ) → i < n → (getD position i 0 < n) × (getD order (getD position i 0) 0 ≡ i)
+position-back n order position rows t i l =
+    let at = position-at order i (rows .member i l) in
+    let e : getD position i 0 ≡ positionOf order i = ap (λ (v : ℕ). getD position v 0) (sym (at .1)) ∙ t .is (positionOf order i) (omega (arith, at .0, rows .long)) in
+    (omega (arith, at .0, rows .long), ap (λ (p : ℕ). getD order p 0) e ∙ at .1)
 
 -- ---- a table of a number for each position
 
 -- one position more
 pub table-next : {A : Type 0} (d : A) (f : ℕ → A) (k : ℕ) → k < maxRows → (xs : List A) → length xs ≡ maxRows → ((p : ℕ) → p < k → getD xs p d ≡ f p) → (v : A) → v ≡ f k
     → (length (set xs k v) ≡ maxRows) × ((p : ℕ) → p < k + 1 → getD (set xs k v) p d ≡ f p)
-table-next d f k l xs long is v e = (length-set xs k v ∙ long, λ p h. go p h (same-or p k))
-  where
-    go : (p : ℕ) → p < k + 1 → (p ≡ k) ⊎ (p ≢ k) → getD (set xs k v) p d ≡ f p
-    go p h (inl q) = rw q (getD-set-same xs k v d (omega (arith, long)) ∙ e)
-    go p h (inr q) = getD-set-other xs k p v d q ∙ is p (omega (arith, q))
+table-next d f k l xs long is v e = (length-set xs k v ∙ long, held-next d (λ p. p) f k xs (omega (arith, long)) (λ p h e. omega arith) is v e)
 
 -- the displacements in plan order
 pub displaced-none : (x : List ℤ) (order : List ℕ) (displaced : List ℤ) → length displaced ≡ maxRows → Displaced 0 x order displaced

@@ -23,7 +23,7 @@ length-keep false q = refl
 
 module _ (m : Matrix) (order : List ℕ) (p : ℕ) where
   -- position r has an entry in the part of the row at p, if it does not stand before it
-  abbrev near : ℕ → Bool
+  abbrev pub near : ℕ → Bool
   near r = eqb r p || adjacent m (getD order p 0) (getD order r 0)
 
   -- there is none before p
@@ -71,6 +71,9 @@ module _ (m : Matrix) (order : List ℕ) (p : ℕ) where
   -- the row itself is one
   pub upper-own : upperTo m order p (suc p) ≡ p ∷ []
   upper-own = upper-next m order p p (omega arith) ∙ rw (upper-before m order p p (omega arith), eq-eqb p p refl) refl
+
+  pub upper-some : p < m .n → 1 ≤ length (upperOf m order p)
+  upper-some l = omega (arith, upper-part (suc p) l, ap length upper-own)
 
   -- position r stands after p, and its row is adjacent to the row at p
   abbrev pub beyond : ℕ → Bool

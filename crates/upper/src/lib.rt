@@ -1,6 +1,7 @@
 // Where rows stand in the order, what lists are in that order, and the upper triangle of the matrix in it.
 pub mod order;
 mod parts;
+pub mod row;
 pub mod sizes;
 
 use base::slices::wide_at;
