@@ -122,7 +122,8 @@ fn report(
     let n = sums.len();
     let count = groups.len() / WIDTH;
     let mut sizes = [0u32; MAX_ROWS];
-    sizes_of(n, starts, columns, order, &mut sizes);
+    let mut position = [0u32; MAX_ROWS];
+    sizes_of(n, starts, columns, order, &mut sizes, &mut position);
     let first = first_updates(groups, count, &sizes);
     if !state.is_fine(first) {
         return Response::Refused(STATE, 0);

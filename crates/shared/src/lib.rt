@@ -186,7 +186,8 @@ fn look(
 {
     let count = groups.len() / WIDTH;
     let mut sizes = [0u32; MAX_ROWS];
-    sizes_of(rows, starts, columns, order, &mut sizes);
+    let mut position = [0u32; MAX_ROWS];
+    sizes_of(rows, starts, columns, order, &mut sizes, &mut position);
     let first = first_updates(groups, count, &sizes);
     if !are_fine(crews, first) {
         return Sets::Refused(STATE, 0);

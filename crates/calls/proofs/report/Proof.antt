@@ -25,7 +25,7 @@ use Rattle.calls.proofs.report.Tie as tie
 
 -- from the counts back to the function's entry
 abbrev start : tie.After-first-updates → tie.Start
-start f = f .before .before .before .before .before .before .before .before
+start f = f .before .before .before .before .before .before .before .before .before
 
 -- the job with these values and displacements
 module _ (s : tie.Start) (values x : List ℤ) where
@@ -36,16 +36,16 @@ module _ (s : tie.Start) (values x : List ℤ) where
   Holds = let a = s .args in Given (length (a .sums .now)) (a .starts .now) (a .columns .now) values x (a .order .now) (a .groups .now) (length (a .groups .now) / width)
 
 sizes-of-requires : tie.Need-sizes-of-requires
-sizes-of-requires c κs = ((_, lent-of (c .before .before .before .before .before .pre .2)), refl)
+sizes-of-requires c κs = ((_, lent-of (c .before .before .before .before .before .before .pre .2)), refl, refl)
 
 first-updates-requires : tie.Need-first-updates-requires
 first-updates-requires c κs =
     let z = c .before in
-    let g = z .before .before .before .before .before .before .pre .2 in
-    (_, planned-of g (z .sizes-of .ensures _ (lent-of g)))
+    let g = z .before .before .before .before .before .before .before .pre .2 in
+    (_, planned-of g (z .sizes-of .ensures .0 _ (lent-of g)))
 
 counted : (f : tie.After-first-updates) (values x : List ℤ) → Holds (start f) values x → Counted (job (start f) values x) (f .first-updates .result)
-counted f values x g = f .first-updates .ensures _ (planned-of g (f .before .before .sizes-of .ensures _ (lent-of g)))
+counted f values x g = f .first-updates .ensures _ (planned-of g (f .before .before .sizes-of .ensures .0 _ (lent-of g)))
 
 is-fine-requires : tie.Need-is-fine-requires
 is-fine-requires c κs = let g = start c .pre .2 in rising-of _ (g .accepted) (counted c _ _ g)
@@ -65,7 +65,7 @@ ready-set-requires : tie.Need-ready-set-requires
 ready-set-requires c κs =
     let f = c .before .before .before .before in
     let g = start f .pre .2 in
-    (_, planned-of g (f .before .before .sizes-of .ensures _ (lent-of g)), counted f _ _ g)
+    (_, planned-of g (f .before .before .sizes-of .ensures .0 _ (lent-of g)), counted f _ _ g)
 
 returns-2 : tie.Need-returns-2
 returns-2 c values x schedule g d p =
@@ -73,7 +73,7 @@ returns-2 c values x schedule g d p =
     let e = m .before in
     let f = e .before .before in
     rw (asks-ready _ (m .match .keys2) d p)
-    (made-ready _ _ _ (fine e values x g) _ (c .ready-set .ensures _ _ (planned-of g (f .before .before .sizes-of .ensures _ (lent-of g))) (counted f values x g)))
+    (made-ready _ _ _ (fine e values x g) _ (c .ready-set .ensures _ _ (planned-of g (f .before .before .sizes-of .ensures .0 _ (lent-of g))) (counted f values x g)))
 
 -- ---- the force list
 
@@ -81,13 +81,13 @@ record-at-requires : tie.Need-record-at-requires
 record-at-requires c κs =
     let f = c .before .before .before .before in
     let g = start f .pre .2 in
-    planned-record (planned-of g (f .before .before .sizes-of .ensures _ (lent-of g)))
+    planned-record (planned-of g (f .before .before .sizes-of .ensures .0 _ (lent-of g)))
 
 is-finished-requires : tie.Need-is-finished-requires
 is-finished-requires c κs =
     let f = c .before .before .before .before .before in
     let g = start f .pre .2 in
-    (read-few (planned-of g (f .before .before .sizes-of .ensures _ (lent-of g))) (c .record-at .result) (c .record-at .ensures), rising-of _ (g .accepted) (counted f _ _ g))
+    (read-few (planned-of g (f .before .before .sizes-of .ensures .0 _ (lent-of g))) (c .record-at .result) (c .record-at .ensures), rising-of _ (g .accepted) (counted f _ _ g))
 
 cast-force-list : tie.Need-cast-force-list
 cast-force-list c = let h = few-rows (start (c .before .before .before .before .before .before) .pre .2) in search needs
@@ -104,7 +104,7 @@ returns-3 c values x schedule g d p =
     let f = e .before .before in
     rw (t .enum-told .given .1)
     (made-forces _ _ _ (fine e values x g) _
-    (o .is-finished .ensures ∙ counted-over g (counted f values x g) _ (read-crew (planned-of g (f .before .before .sizes-of .ensures _ (lent-of g))) (r .record-at .result) (r .record-at .ensures))) _ _
+    (o .is-finished .ensures ∙ counted-over g (counted f values x g) _ (read-crew (planned-of g (f .before .before .sizes-of .ensures .0 _ (lent-of g))) (r .record-at .result) (r .record-at .ensures))) _ _
     (c .before .force-list .ensures _ (job-rows _ _ _ _ _) (job-order _ _ _ _ _)))
 
 pub report-spec : {M : Type 1} → statement M

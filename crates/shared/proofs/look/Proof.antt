@@ -26,7 +26,7 @@ use Rattle.shared.proofs.look.Tie as tie
 
 -- from the counts back to the function's entry
 abbrev start : tie.After-first-updates → tie.Start
-start f = f .before .before .before .before .before .before .before .before
+start f = f .before .before .before .before .before .before .before .before .before
 
 -- the roof with these values and displacements
 module _ (s : tie.Start) (values : List ℤ) (x : Two (List ℤ)) where
@@ -42,17 +42,17 @@ module _ (s : tie.Start) (values : List ℤ) (x : Two (List ℤ)) where
   planned g h d = planned-of (g d) h
 
 sizes-of-requires : tie.Need-sizes-of-requires
-sizes-of-requires c κs = ((_, lent-of (c .before .before .before .before .before .pre .2 crew0)), refl)
+sizes-of-requires c κs = ((_, lent-of (c .before .before .before .before .before .before .pre .2 crew0)), refl, refl)
 
 first-updates-requires : tie.Need-first-updates-requires
 first-updates-requires c κs =
     let z = c .before in
-    let g = z .before .before .before .before .before .before .pre .2 crew0 in
-    (_, planned-of g (z .sizes-of .ensures _ (lent-of g)))
+    let g = z .before .before .before .before .before .before .before .pre .2 crew0 in
+    (_, planned-of g (z .sizes-of .ensures .0 _ (lent-of g)))
 
 module _ (f : tie.After-first-updates) (values : List ℤ) (x : Two (List ℤ)) (g : Holds (start f) values x) where
   counted : (d : Crew) → Counted (jobFor (roof (start f) values x) d) (f .first-updates .result)
-  counted d = f .first-updates .ensures _ (planned (start f) values x g (f .before .before .sizes-of .ensures _ (lent-of (g crew0))) d)
+  counted d = f .first-updates .ensures _ (planned (start f) values x g (f .before .before .sizes-of .ensures .0 _ (lent-of (g crew0))) d)
 
   states : (sums0 sums1 : List ℤ) → let a = start f .args in length sums0 ≡ a .rows → length sums1 ≡ a .rows
       → areStates (roof (start f) values x) (statesOf (a .crews) sums0 sums1) ≡ allBelow (fine (f .first-updates .result) (a .crews .made0)) maxWorkers && allBelow (fine (f .first-updates .result) (a .crews .made1)) maxWorkers
@@ -72,14 +72,14 @@ ready-sets-requires : tie.Need-ready-sets-requires
 ready-sets-requires c κs =
     let f = c .before .before .before in
     let g = start f .pre .2 in
-    (_, planned (start f) _ _ g (f .before .before .sizes-of .ensures _ (lent-of (g crew0))), counted f _ _ g)
+    (_, planned (start f) _ _ g (f .before .before .sizes-of .ensures .0 _ (lent-of (g crew0))), counted f _ _ g)
 
 returns-2 : tie.Need-returns-2
 returns-2 c values x sums0 sums1 g l0 l1 =
     let e = c .before .before in
     let f = e .before .before in
     sets-answered _ _ (states f values x g sums0 sums1 l0 l1 ∙ holds (e .before .are-fine .ensures) (e .if1 .left))
-    (c .ready-sets .ensures _ _ (planned (start f) values x g (f .before .before .sizes-of .ensures _ (lent-of (g crew0)))) (counted f values x g) refl refl)
+    (c .ready-sets .ensures _ _ (planned (start f) values x g (f .before .before .sizes-of .ensures .0 _ (lent-of (g crew0)))) (counted f values x g) refl refl)
 
 pub look-spec : {M : Type 1} → statement M
 look-spec = tie.close (tie.spec sizes-of-requires first-updates-requires are-fine-requires returns ready-sets-requires returns-2)

@@ -69,7 +69,7 @@ positions-requires : tie.Need-positions-requires Inv-loop μ-loop
 positions-requires c κs =
     let s = c .before .before .before .before in
     let g = s .pre .0 .1 in
-    (g .long, matrix-facts (matrix s (s .pre .0 .0)) (g .ordered .matrix) .few, g .ordered .once, refl)
+    (g .long, matrix-facts (matrix s (s .pre .0 .0)) (g .ordered .matrix) .few, g .ordered .once, s .pre .2)
 
 loop-holds : tie.Need-loop-holds Inv-loop μ-loop
 loop-holds c = (search needs, λ values g. sizes-none _ _ _ (c .before .before .before .before .before .pre .1))
@@ -129,7 +129,7 @@ returns c =
     let l = c .before in
     let s = start l in
     let e : l .loop .p ≡ s .args .n = search needs in
-    λ values g. subst (λ (k : ℕ). Sizes (matrix s values) (order s) k (l .loop .sizes)) e (l .loop .inv .1 values g)
+    (λ values g. subst (λ (k : ℕ). Sizes (matrix s values) (order s) k (l .loop .sizes)) e (l .loop .inv .1 values g), l .before .positions .ensures)
 
 pub sizes-of-spec : {M : Type 1} → statement M
 sizes-of-spec =
