@@ -17,6 +17,14 @@ fn random_runs() {
     });
 }
 
+/// Lists that reach the rows of few updates, and some that reach too many for the room that those have.
+#[test]
+fn large_runs_in_short_lists() {
+    run::each_large(154, |rng, matrix, plan| {
+        WholeRun::new(rng, matrix, plan).finish(rng, 1_000, |_, _, _| ());
+    });
+}
+
 #[test]
 fn large_runs() {
     run::each_large(153, |rng, matrix, plan| {

@@ -1,7 +1,9 @@
 // A call on a run, by the lists that a caller lends: the checks, then what is asked.
+mod all;
 mod force_list;
 pub mod picks;
 mod ready_set;
+mod short;
 
 use base::MATRIX;
 use base::STATE;

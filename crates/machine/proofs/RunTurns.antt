@@ -1,14 +1,16 @@
 -- One pick, and one turn of the loop over a schedule: the step is the machine's, and who is blocked is as before until
 -- a count reaches its stop.
 use mathlib.Core.Path.{_≡_, refl, sym, ap, _∙_, subst}
-use mathlib.Core.Logic.{_≢_}
+use mathlib.Core.Logic.{_⊎_, inl, inr, _≢_}
 use mathlib.Core.Bool.{true, false}
 use mathlib.Core.List.{List}
-use Prim.Native.Nat.{ℕ, zero, suc, _+_, _*_, _/_, _≤_, _<_}
+use Prim.Native.Nat.{ℕ, zero, suc, _+_, _*_, _≤_, _<_}
 use native.Mathlib.Numerals.{add-one}
 use native.Mathlib.Omega.{arith}
 use lib.IntN.{ℤ}
 use lib.ListN.{length, getD, replicate}
+use lib.Seq.{getD-set-same, getD-set-other}
+use Rattle.base.proofs.Booleans.{same-or}
 use Rattle.matrix.specs.Limits.{maxRows}
 use Rattle.plan.specs.Sound.{maxWorkers}
 use Rattle.plan.specs.Groups.{records}
@@ -19,42 +21,34 @@ use Rattle.run.specs.Machine.{refusal, halted, onward, stepIf, step}
 use Rattle.run.specs.State.{State}
 use Rattle.tables.specs.code.Laid.{maxUpdates, updatesIn, Laid, Waits}
 use Rattle.waits.specs.code.Waits.{Recorded, Current}
-use Rattle.steps.specs.code.Updates.{Triangle}
-use Rattle.steps.specs.code.Steps.{updateNext, reasonAt, outcomeOf, StepTables, PickMade}
+use Rattle.steps.specs.code.Steps.{updateNext, reasonAt, outcomeOf, StepTables, Ahead, PickMade}
 use Rattle.steps.specs.code.AtHand.{AtHand, Entered, AccessMade}
 use Rattle.machine.specs.code.Stepped.{passesOver, walk}
 use Rattle.machine.specs.declared.state.Rule.{Rule}
 use Rattle.run.proofs.Able.{able}
 use Rattle.machine.proofs.TableWaits.{table-reason}
-use Rattle.steps.proofs.TableUpdates.{table-update}
-use Rattle.steps.proofs.TableSteps.{reason-none, pick-refused}
+use Rattle.steps.proofs.TableSteps.{reason-none, pick-worker, pick-refused}
 use Rattle.steps.proofs.UpdatesAtHand.{none-at-hand, access-ready, access-picks, access-keeps, steps-steady}
 use Rattle.machine.proofs.BlockedLeaves.{whole-crew, waits-of}
 use Rattle.run.proofs.Passes.{Left, left-start, left-step, left-skip, left-halt, left-none}
 
 -- ---- a step is the machine's
 
-module _ (j : Job) {first row begins leaves ends : List ℕ} (laid : Laid j first row begins leaves ends)
-    {parts : List ℕ} {displaced : List ℤ} {at : List ℕ} {beside : List ℤ} (t : Triangle j parts displaced at beside) where
-  -- the update of worker w's next access
-  abbrev nextUpdate : (made : List ℕ) → ℕ → Update
-  nextUpdate = updateNext first row begins parts displaced at beside
-
-  table-step : (crew : ℕ) → crew ≡ workers j → crew ≤ maxWorkers → (s : State) (blocks : List ℕ) → Waits j (s .made) blocks → (w : ℕ)
-      → stepIf (reasonAt crew first row leaves blocks (s .made) w) s w (nextUpdate (s .made) w) ≡ step j s w
-  unfolding step stepIf next accesses
-  table-step crew e few s blocks waiting w = rw (table-reason j laid (s .made) blocks waiting crew e few w) (go (refusal j (s .made) w) refl)
+module _ (j : Job) {first row begins leaves ends : List ℕ} (laid : Laid j first row begins leaves ends) where
+  -- .. with an update that is its worker's next, if nothing refuses it
+  table-step : (crew : ℕ) → crew ≡ workers j → crew ≤ maxWorkers → (s : State) (blocks : List ℕ) → Waits j (s .made) blocks → (w : ℕ) (u : Update)
+      → (w < maxWorkers → count (s .made) w < accesses j w → u ≡ next j (s .made) w) → stepIf (reasonAt crew first row leaves blocks (s .made) w) s w u ≡ step j s w
+  unfolding step stepIf
+  table-step crew e few s blocks waiting w u is = rw (table-reason j laid (s .made) blocks waiting crew e few w) (go (refusal j (s .made) w) refl)
     where
-      go : (why : ℕ) → refusal j (s .made) w ≡ why → stepIf why s w (nextUpdate (s .made) w) ≡ stepIf why s w (next j (s .made) w)
+      go : (why : ℕ) → refusal j (s .made) w ≡ why → stepIf why s w u ≡ stepIf why s w (next j (s .made) w)
       go (suc k) y = refl
-      go zero y =
-          let a = able j (s .made) w y in
-          ap (λ (v : Update). stepIf 0 s w v) (table-update j laid w (omega (arith, a .inPlan)) (count (s .made) w / 2) (omega (arith, a .left)) t)
+      go zero y = let a = able j (s .made) w y in ap (λ (v : Update). stepIf 0 s w v) (is (omega (arith, a .inPlan)) (a .left))
 
   -- what the code answers and leaves is the machine's outcome
-  step-answer : {crew : ℕ} → crew ≡ workers j → crew ≤ maxWorkers → {s : State} {blocks : List ℕ} → Waits j (s .made) blocks → {w number : ℕ} {t : State}
-      → PickMade (reasonAt crew first row leaves blocks (s .made) w) s w (nextUpdate (s .made) w) number t → step j s w ≡ outcomeOf number t
-  step-answer {crew} e few {s} {blocks} waiting {w} h = sym (table-step crew e few s blocks waiting w) ∙ sym (h .is)
+  step-answer : {crew : ℕ} → crew ≡ workers j → crew ≤ maxWorkers → {s : State} {blocks : List ℕ} → Waits j (s .made) blocks → {w number : ℕ} {u : Update} {t : State}
+      → (w < maxWorkers → count (s .made) w < accesses j w → u ≡ next j (s .made) w) → PickMade (reasonAt crew first row leaves blocks (s .made) w) s w u number t → step j s w ≡ outcomeOf number t
+  step-answer {crew} e few {s} {blocks} waiting {w} {number} {u} is h = sym (table-step crew e few s blocks waiting w u is) ∙ sym (h .is)
 
 -- a pick that is refused
 outcome-halted : (number : ℕ) (t : State) → number ≢ 0 → outcomeOf number t ≡ halted number
@@ -80,12 +74,6 @@ pub record Tables : Type 0 where
   pub beside : List ℤ
 
 module _ (T : Tables) where
-  -- of every job that they stand for
-  abbrev EachJob : (Job → Type 0) → Type 0
-  EachJob P =
-      (j : Job) → Accepted j → j .plan .groups ≡ records (T .count) (T .groups)
-      → Laid j (T .first) (T .row) (T .begins) (T .leaves) (T .ends) → Triangle j (T .parts) (T .displaced) (T .at) (T .beside) → P j
-
   -- the update of worker w's next access
   abbrev updateOf : (made : List ℕ) → ℕ → Update
   updateOf = updateNext (T .first) (T .row) (T .begins) (T .parts) (T .displaced) (T .at) (T .beside)
@@ -99,23 +87,36 @@ module _ (T : Tables) where
     pub made : PickMade (causeOf blocks (s .made) w) s w (updateOf (s .made) w) number new
     pub hand : AtHand (causeOf blocks) updateOf (new .made) targets adds
 
+  -- of every job that they stand for, as far as the picks of a schedule reach
+  abbrev EachJob : (s₀ : State) (schedule : List ℕ) → (Job → Type 0) → Type 0
+  EachJob s₀ schedule P =
+      (j : Job) → Accepted j → j .plan .groups ≡ records (T .count) (T .groups) → Laid j (T .first) (T .row) (T .begins) (T .leaves) (T .ends)
+      → Ahead j (s₀ .made) (length schedule) (T .first) (T .row) (T .begins) (T .parts) (T .displaced) (T .at) (T .beside) → P j
+
   -- k picks of the schedule, n of them taken, led from s₀ to s; these groups are blocked now, and until a count reaches
   -- its stop; these updates are at hand
   pub record Running (rule : Rule) (s₀ : State) (schedule : List ℕ) (n k : ℕ) (s : State) (blocks stops targets : List ℕ) (adds : List ℤ) : Type 0 where
     pub crew : T .crew ≡ recordAt (T .groups) 0 .workers
     pub current : Current (T .count) (T .groups) (T .ends) (s .made) blocks stops
     pub hand : AtHand (causeOf blocks) updateOf (s .made) targets adds
-    pub left : EachJob (λ j. Left (passesOver rule) (step j) s₀ schedule k n s)
+    pub grown : (w : ℕ) → (count (s₀ .made) w ≤ count (s .made) w) × (count (s .made) w ≤ count (s₀ .made) w + k)
+    pub left : EachJob s₀ schedule (λ j. Left (passesOver rule) (step j) s₀ schedule k n s)
 
 module _ {T : Tables} {rule : Rule} {s₀ : State} {schedule : List ℕ} where
   -- at first
   pub running-start : {blocks stops : List ℕ} → T .crew ≡ recordAt (T .groups) 0 .workers → Current (T .count) (T .groups) (T .ends) (s₀ .made) blocks stops
       → {adds : List ℤ} → length adds ≡ maxWorkers → Running T rule s₀ schedule 0 0 s₀ blocks stops (replicate maxWorkers maxRows) adds
-  running-start c h f = record { crew = c; current = h; hand = none-at-hand (h .long) f; left = λ j ok is laid t. left-start (passesOver rule) (step j) s₀ schedule }
+  running-start c h f = record {
+    crew = c;
+    current = h;
+    hand = none-at-hand (h .long) f;
+    grown = λ w. (omega arith, omega arith);
+    left = λ j ok is laid t. left-start (passesOver rule) (step j) s₀ schedule;
+  }
 
   module _ {n k : ℕ} {s : State} {blocks stops targets : List ℕ} {adds : List ℤ} (r : Running T rule s₀ schedule n k s blocks stops targets adds) where
     -- all picks are gone through
-    pub running-none : k ≡ length schedule → EachJob T (λ j. record { state = s; taken = n; met = length schedule; number = 0 } ≡ walk rule j s₀ schedule)
+    pub running-none : k ≡ length schedule → EachJob T s₀ schedule (λ j. record { state = s; taken = n; met = length schedule; number = 0 } ≡ walk rule j s₀ schedule)
     running-none l j ok is laid t = ap (λ (y : ℕ). record { state = s; taken = n; met = y; number = 0 }) (sym l) ∙ left-none (passesOver rule) (step j) s₀ schedule k n s (r .left j ok is laid t) l
 
     -- worker w's step is looked at
@@ -133,7 +134,7 @@ module _ {T : Tables} {rule : Rule} {s₀ : State} {schedule : List ℕ} where
         entered-worker = omega (arith, few, reason-none w (T .crew) (count (s .made) w) (2 * updatesIn (T .first) w) _ free .0)
 
         -- what its access needs
-        pub entered-ready : {m : ℕ} → StepTables m (T .first) (T .row) (T .begins) (T .parts) (T .leaves) (T .at) → (count (s .made) w < 2 * maxUpdates) × (getD targets′ w 0 < m)
+        pub entered-ready : {m : ℕ} → StepTables m (T .first) (T .row) (T .begins) (T .parts) (T .leaves) (T .at) (T .beside) → (count (s .made) w < 2 * maxUpdates) × (getD targets′ w 0 < m)
         entered-ready t =
             access-ready (T .crew) (T .first) (T .row) (T .begins) (T .parts) (T .leaves) blocks (T .displaced) (T .at) (T .beside) t (s .made) w entered-worker free
             (e .hand .is w entered-worker (e .known z) .target-is)
@@ -149,16 +150,17 @@ module _ {T : Tables} {rule : Rule} {s₀ : State} {schedule : List ℕ} where
       abbrev w : ℕ
       w = getD schedule k 0
 
-      is-step : EachJob T (λ j. step j s w ≡ outcomeOf number new)
+      is-step : EachJob T s₀ schedule (λ j. step j s w ≡ outcomeOf number new)
       is-step j ok is laid t =
-          step-answer j laid t (r .crew ∙ whole-crew j (T .count) (T .groups) (R .some) is) few (waits-of j ok (T .count) (T .groups) is laid (s .made) blocks (r .current .blocked) R) (p .made)
+          step-answer j laid (r .crew ∙ whole-crew j (T .count) (T .groups) (R .some) is) few (waits-of j ok (T .count) (T .groups) is laid (s .made) blocks (r .current .blocked) R)
+          (λ low left. t .is (s .made) w low (r .grown w .0) (omega (arith, l, r .grown w .1)) left) (p .made)
 
       module _ (q : number ≢ 0) where
-        halts : EachJob T (λ j. step j s w ≡ halted number)
+        halts : EachJob T s₀ schedule (λ j. step j s w ≡ halted number)
         halts j ok is laid t = is-step j ok is laid t ∙ outcome-halted number new q
 
         -- it is refused, and ends the schedule
-        pub running-halt : passesOver rule number ≡ false → EachJob T (λ j. record { state = new; taken = n; met = k; number = number } ≡ walk rule j s₀ schedule)
+        pub running-halt : passesOver rule number ≡ false → EachJob T s₀ schedule (λ j. record { state = new; taken = n; met = k; number = number } ≡ walk rule j s₀ schedule)
         running-halt f j ok is laid t =
             ap (λ (y : State). record { state = y; taken = n; met = k; number = number }) (p .made .kept q)
             ∙ left-halt (passesOver rule) (step j) s₀ schedule k n s (r .left j ok is laid t) l number (halts j ok is laid t) f
@@ -169,6 +171,7 @@ module _ {T : Tables} {rule : Rule} {s₀ : State} {schedule : List ℕ} where
           crew = r .crew;
           current = r .current;
           hand = rw (p .made .kept q) at (p .hand);
+          grown = λ v. (r .grown v .0, omega (arith, r .grown v .1));
           left = λ j ok is laid t. subst (λ (y : ℕ). Left (passesOver rule) (step j) s₀ schedule y n s) (sym (add-one k)) (left-skip (passesOver rule) (step j) s₀ schedule k n s (r .left j ok is laid t) l number (halts j ok is laid t) f);
         })
 
@@ -178,15 +181,28 @@ module _ {T : Tables} {rule : Rule} {s₀ : State} {schedule : List ℕ} where
         next-current : Current (T .count) (T .groups) (T .ends) (new .made) blocks′ stops′
         next-current = renew (s .made) (p .made .counted q) (r .current)
 
-        next-left : EachJob T (λ j. Left (passesOver rule) (step j) s₀ schedule (k + 1) (n + 1) new)
+        -- one count has risen by one
+        next-grown : (v : ℕ) → (count (s₀ .made) v ≤ count (new .made) v) × (count (new .made) v ≤ count (s₀ .made) v + (k + 1))
+        unfolding onward
+        next-grown v = go (same-or v w)
+          where
+            go : (v ≡ w) ⊎ (v ≢ w) → (count (s₀ .made) v ≤ count (new .made) v) × (count (new .made) v ≤ count (s₀ .made) v + (k + 1))
+            go (inl e) =
+                let x : count (new .made) w ≡ suc (count (s .made) w) = ap (λ (xs : List ℕ). getD xs w 0) (p .made .counted q) ∙ getD-set-same (s .made) w (suc (getD (s .made) w 0)) 0 (omega (arith, r .hand .made-long, pick-worker (T .first) (T .row) (T .leaves) blocks few (p .made) q)) in
+                rw e (omega (arith, x, r .grown w .0), omega (arith, x, r .grown w .1))
+            go (inr d) =
+                let x : count (new .made) v ≡ count (s .made) v = ap (λ (xs : List ℕ). getD xs v 0) (p .made .counted q) ∙ getD-set-other (s .made) w v (suc (getD (s .made) w 0)) 0 d in
+                (omega (arith, x, r .grown v .0), omega (arith, x, r .grown v .1))
+
+        next-left : EachJob T s₀ schedule (λ j. Left (passesOver rule) (step j) s₀ schedule (k + 1) (n + 1) new)
         unfolding outcomeOf
         next-left j ok is laid t =
             rw (add-one k, add-one n) (left-step (passesOver rule) (step j) s₀ schedule k n s (r .left j ok is laid t) l new (is-step j ok is laid t ∙ ap (λ (y : ℕ). outcomeOf y new) q))
 
         -- the blocked groups are found anew
         pub running-renewed : Running T rule s₀ schedule (n + 1) (k + 1) new blocks′ stops′ (replicate maxWorkers maxRows) adds′
-        running-renewed = record { crew = r .crew; current = next-current; hand = none-at-hand (next-current .long) (p .hand .adds-long); left = next-left }
+        running-renewed = record { crew = r .crew; current = next-current; hand = none-at-hand (next-current .long) (p .hand .adds-long); grown = next-grown; left = next-left }
 
         -- .. or are as they were
         pub running-on : blocks′ ≡ blocks → Running T rule s₀ schedule (n + 1) (k + 1) new blocks′ stops′ targets′ adds′
-        running-on e = record { crew = r .crew; current = next-current; hand = rw e (p .hand); left = next-left }
+        running-on e = record { crew = r .crew; current = next-current; hand = rw e (p .hand); grown = next-grown; left = next-left }

@@ -2,7 +2,6 @@
 use crate::ready::ready_workers;
 use base::DONE;
 use base::WAITING;
-use layout::lay;
 use matrix::limits::MAX_ROWS;
 use plan::MAX_GROUPS;
 use plan::MAX_WORKERS;
@@ -31,11 +30,9 @@ ghost use Rattle.run.specs.Job as job;
 ghost use Rattle.run.specs.State as run;
 ghost use Rattle.machine.specs.Record.{stateOf};
 ghost use Rattle.machine.specs.code.Tests.{allBelow, fine, done};
-ghost use Rattle.tables.specs.code.Laid.{Rising, Counted, Laid};
-ghost use Rattle.layout.specs.code.UpdateTable.{Planned};
+ghost use Rattle.tables.specs.code.Laid.{Rising, Laid};
 ghost use Rattle.waits.specs.code.Waits.{Recorded};
-ghost use Rattle.steps.specs.code.Updates.{Triangle};
-ghost use Rattle.steps.specs.code.Steps.{StepTables};
+ghost use Rattle.steps.specs.code.Steps.{StepTables, Ahead};
 ghost use Rattle.machine.specs.code.Stepped.{passesOver, walk, endedWith, walkedOf};
 
 // Accesses made, and the number held, of each of 16 workers.
@@ -123,14 +120,14 @@ impl State {
         parts: &[u32; MAX_ROWS],
         leaves: &[u16; MAX_ROWS],
         displaced: &[i32; MAX_ROWS],
-        at: &[u16; MAX_UPDATES],
-        beside: &[i32; MAX_UPDATES],
+        at: &[u16],
+        beside: &[i32],
     ) -> Walked
         requires { ⌜ (recordAt (now groups) 0 .workers ≤ maxWorkers) × Recorded (length (now groups) / width) (now groups)
-            × StepTables (length (now sums)) (now first) (now row) (now begins) (now parts) (now leaves) (now at) ⌝ }
+            × StepTables (length (now sums)) (now first) (now row) (now begins) (now parts) (now leaves) (now at) (now beside) ⌝ }
         ensures { λ r. ⌜ ((j : Job) → Accepted j → j .plan .groups ≡ records (length (now (groups .entry)) / width) (now (groups .entry))
             → Laid j (now (first .entry)) (now (row .entry)) (now (begins .entry)) (now (leaves .entry)) (now (ends .entry))
-            → Triangle j (now (parts .entry)) (now (displaced .entry)) (now (at .entry)) (now (beside .entry))
+            → Ahead j (self .made) (length (now (schedule .entry))) (now (first .entry)) (now (row .entry)) (now (begins .entry)) (now (parts .entry)) (now (displaced .entry)) (now (at .entry)) (now (beside .entry))
             → walkedOf r (now (sums .exit)) ≡ walk rule j (stateOf self (now (sums .entry))) (now (schedule .entry))) ⌝ }
     {
         let mut made = self.made;
@@ -174,60 +171,49 @@ impl State {
         ended(made, held, taken, schedule.len(), 0)
     }
 
-    // .. by the upper triangle and its sizes: lays the rows of the updates, and tells who is ready after the picks.
-    // There is a sum for each row.
+    // .. and tells who is ready after the picks.
     pub fn take(
         self,
         sums: &mut [i64],
         schedule: &[u8],
         rule: Rule,
         groups: &[u32],
-        sizes: &[u32; MAX_ROWS],
-        first: [u32; FIRSTS],
+        ends: &[u32; MAX_GROUPS],
+        first: &[u32; FIRSTS],
+        row: &[u16; MAX_UPDATES],
+        begins: &[u32; MAX_ROWS],
         parts: &[u32; MAX_ROWS],
+        leaves: &[u16; MAX_ROWS],
         displaced: &[i32; MAX_ROWS],
-        at: &[u16; MAX_UPDATES],
-        beside: &[i32; MAX_UPDATES],
+        at: &[u16],
+        beside: &[i32],
     ) -> Reached
-        requires { ⌜ ((j : Job) × Planned j (now groups) (length (now groups) / width) (now sizes) × Counted j first
-            × Triangle j (now parts) (now displaced) (now at) (now beside) × (length (now sums) ≡ j .matrix .n)) ⌝ }
-        ensures { λ r. ⌜ ((j : Job) → Planned j (now (groups .entry)) (length (now (groups .entry)) / width) (now (sizes .entry)) → Counted j first
-            → Triangle j (now (parts .entry)) (now (displaced .entry)) (now (at .entry)) (now (beside .entry))
+        requires { ⌜ (recordAt (now groups) 0 .workers ≤ maxWorkers) × Recorded (length (now groups) / width) (now groups)
+            × StepTables (length (now sums)) (now first) (now row) (now begins) (now parts) (now leaves) (now at) (now beside) ⌝ }
+        ensures { λ r. ⌜ ((j : Job) → Accepted j → j .plan .groups ≡ records (length (now (groups .entry)) / width) (now (groups .entry))
+            → Laid j (now (first .entry)) (now (row .entry)) (now (begins .entry)) (now (leaves .entry)) (now (ends .entry))
+            → Ahead j (self .made) (length (now (schedule .entry))) (now (first .entry)) (now (row .entry)) (now (begins .entry)) (now (parts .entry)) (now (displaced .entry)) (now (at .entry)) (now (beside .entry))
             → (walkedOf (r .walked) (now (sums .exit)) ≡ walk rule j (stateOf self (now (sums .entry))) (now (schedule .entry)))
             × (r .ready ≡ machine.bits (machine.ready j (r .walked .state .made)))) ⌝ }
     {
-        let mut row = [0u16; MAX_UPDATES];
-        let mut begins = [0u32; MAX_ROWS];
-        let mut leaves = [0u16; MAX_ROWS];
-        let mut ends = [0u32; MAX_GROUPS];
-        lay(
-            groups,
-            groups.len() / WIDTH,
-            sizes,
-            first,
-            &mut row,
-            &mut begins,
-            &mut leaves,
-            &mut ends,
-        );
         let walked = self.walk(
             sums,
             schedule,
             rule,
             groups,
-            &ends,
-            &first,
-            &row,
-            &begins,
+            ends,
+            first,
+            row,
+            begins,
             parts,
-            &leaves,
+            leaves,
             displaced,
             at,
             beside,
         );
         let after = walked.state;
         let made = after.made;
-        let ready = ready_workers(&made, groups, &ends, &first, &row, &leaves);
+        let ready = ready_workers(&made, groups, ends, first, row, leaves);
         Reached {
             walked: walked,
             ready: ready,

@@ -19,7 +19,9 @@ use Rattle.run.specs.Updates.{Update, updates, accesses, noUpdate}
 use Rattle.tables.specs.code.Laid.{firstOf, Counted, Laid, Bounded}
 use Rattle.waits.specs.code.Waits.{Recorded}
 use Rattle.steps.specs.code.Updates.{Triangle}
-use Rattle.steps.proofs.TableUpdates.{updates-are, begun-before, table-update, entry-inside}
+use Rattle.steps.specs.code.Steps.{StepTables}
+use Rattle.steps.proofs.GivenTables.{step-tables}
+use Rattle.steps.proofs.TableUpdates.{updates-are, row-below, begun-before, triangle-row, table-update}
 use Rattle.prepared.specs.Gates.{gate}
 use Rattle.prepared.specs.Format.{headOf, listsOf}
 use Rattle.prepared.proofs.TablesOf.{piece-at, length-even}
@@ -52,13 +54,18 @@ module _ (j : Job) (ok : Accepted j) {first row begins leaves ends : List ℕ} (
   first-is : (w : ℕ) → w < maxWorkers → (k : ℕ) → firstOf j w + k ≡ getD first w 0 + k
   first-is w l k = ap (λ (x : ℕ). x + k) (sym (laid .counted .is w (omega arith)))
 
-  pub legible : Legible (j .matrix .n) (firstOf j maxWorkers) row begins parts at
+  steps : StepTables (j .matrix .n) first row begins parts leaves at beside
+  steps = step-tables j laid bounded t
+
+  pub legible : Legible (j .matrix .n) (firstOf j maxWorkers) row begins parts at beside
   legible = record {
     few = bounded .rows-few;
     at-low = t .placed .at-low;
+    long = steps .long;
+    room = steps .room;
     row-low = bounded .row-low;
     begun = λ k l. (let s = whose j maxWorkers k (omega arith) l in rw (sym (s .is), first-is (s .worker) (s .low) (s .number)) (begun-before j laid (s .worker) (s .low) (s .number) (s .inside)));
-    inside = λ k l. (let s = whose j maxWorkers k (omega arith) l in rw (sym (s .is), first-is (s .worker) (s .low) (s .number)) (entry-inside j laid (s .worker) (s .low) (s .number) (s .inside) t));
+    inside = λ k l. (let s = whose j maxWorkers k (omega arith) l in rw (sym (s .is), first-is (s .worker) (s .low) (s .number)) (steps .inside (s .worker) (s .number) (s .low) (omega (arith, s .inside, updates-are j (laid .counted) (s .worker) (s .low)))));
   }
 
   pub all-updates : updateNumbers (firstOf j maxWorkers) row begins parts displaced at beside ≡ concat (map (updates j) (range 0 maxWorkers))
@@ -80,7 +87,7 @@ module _ (j : Job) (ok : Accepted j) {first row begins leaves ends : List ℕ} (
           let s = whose j maxWorkers k (omega arith) l in
           let here : firstOf j (s .worker) + s .number ≡ k = s .is in
           map-range-zero f count k noUpdate l
-          ∙ ap f (sym (s .is) ∙ first-is (s .worker) (s .low) (s .number)) ∙ table-update j laid (s .worker) (s .low) (s .number) (s .inside) t
+          ∙ ap f (sym (s .is) ∙ first-is (s .worker) (s .low) (s .number)) ∙ table-update j laid (s .worker) (s .low) (s .number) (s .inside) (triangle-row j t _ (row-below j laid (s .worker) (s .low) (s .number) (s .inside)))
           ∙ sym (piece-at (updates j) noUpdate maxWorkers (s .worker) (s .number) (s .low) (s .inside))
           ∙ ap (λ (x : ℕ). getD (concat (map (updates j) (range 0 maxWorkers))) x noUpdate) (ap (λ (x : ℕ). x + s .number) (length-pieces (updates j) (s .worker)) ∙ s .is)
 

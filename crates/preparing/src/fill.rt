@@ -73,10 +73,10 @@ pub fn store_updates(
     begins: &[u32; MAX_ROWS],
     parts: &[u32; MAX_ROWS],
     displaced: &[i32; MAX_ROWS],
-    at: &[u16; MAX_UPDATES],
-    beside: &[i32; MAX_UPDATES],
+    at: &[u16],
+    beside: &[i32],
 )
-    requires { ⌜ (from + count * 16 ≤ length (now out)) × (count ≤ maxUpdates) × ((n : ℕ) × Legible n count (now row) (now begins) (now parts) (now at)) ⌝ }
+    requires { ⌜ (from + count * 16 ≤ length (now out)) × (count ≤ maxUpdates) × ((n : ℕ) × Legible n count (now row) (now begins) (now parts) (now at) (now beside)) ⌝ }
     ensures { λ _. ⌜ now (out .exit) ≡ sets (now (out .entry)) from (concat (map bytesOfUpdate
         (updateNumbers count (now (row .entry)) (now (begins .entry)) (now (parts .entry)) (now (displaced .entry)) (now (at .entry)) (now (beside .entry))))) ⌝ }
 {

@@ -76,8 +76,8 @@ fn store_tables(
     first: [u32; FIRSTS],
     parts: &[u32; MAX_ROWS],
     displaced: &[i32; MAX_ROWS],
-    at: &[u16; MAX_UPDATES],
-    beside: &[i32; MAX_UPDATES],
+    at: &[u16],
+    beside: &[i32],
 )
     requires { ⌜ ((j : Job) × Planned j (now groups) (length (now groups) / width) (now sizes) × Counted j first × Triangle j (now parts) (now displaced) (now at) (now beside)
         × (n ≡ j .matrix .n) × (gatesFrom (firstOf j maxWorkers) + n * gateBytes ≤ length (now out))) ⌝ }

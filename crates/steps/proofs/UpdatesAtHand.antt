@@ -135,11 +135,11 @@ module _ {cause : (made : List ℕ) → ℕ → ℕ} {update : (made : List ℕ)
 -- by the tables
 module _ (workers : ℕ) (first row begins parts leaves blocks : List ℕ) (displaced : List ℤ) (at : List ℕ) (beside : List ℤ) where
   -- the position of a next update's sum is one of n
-  pub target-low : {n : ℕ} → StepTables n first row begins parts leaves at → (made : List ℕ) (w : ℕ) → updateNext first row begins parts displaced at beside made w .target < n
+  pub target-low : {n : ℕ} → StepTables n first row begins parts leaves at beside → (made : List ℕ) (w : ℕ) → updateNext first row begins parts displaced at beside made w .target < n
   target-low t made w = by-low (numberNext first row begins made w) _ (rowNext first row made w) (t .at-low _) (t .bounded .row-low _)
 
   -- what the access of a step that is not refused needs
-  pub access-ready : {n : ℕ} → StepTables n first row begins parts leaves at → (made : List ℕ) (w : ℕ) → w < maxWorkers → reasonAt workers first row leaves blocks made w ≡ 0
+  pub access-ready : {n : ℕ} → StepTables n first row begins parts leaves at beside → (made : List ℕ) (w : ℕ) → w < maxWorkers → reasonAt workers first row leaves blocks made w ≡ 0
       → {target : ℕ} → target ≡ updateNext first row begins parts displaced at beside made w .target → (count made w < 2 * maxUpdates) × (target < n)
   access-ready t made w l free e =
       let left = reason-none w workers (count made w) (2 * updatesIn first w) _ free .1 in

@@ -78,13 +78,13 @@ pub fn look_up(
     begins: &[u32; MAX_ROWS],
     parts: &[u32; MAX_ROWS],
     displaced: &[i32; MAX_ROWS],
-    at: &[u16; MAX_UPDATES],
-    beside: &[i32; MAX_UPDATES],
+    at: &[u16],
+    beside: &[i32],
     targets: &mut [usize; MAX_WORKERS],
     adds: &mut [i64; MAX_WORKERS],
 )
     requires { ⌜ (w < maxWorkers) × (count (now made) w < 2 * updatesIn (now first) w)
-        × ((n : ℕ) × (leaves : List ℕ) × StepTables n (now first) (now row) (now begins) (now parts) leaves (now at)) ⌝ }
+        × ((n : ℕ) × (leaves : List ℕ) × StepTables n (now first) (now row) (now begins) (now parts) leaves (now at) (now beside)) ⌝ }
     ensures targets { λ _. ⌜ now (targets .exit) ≡ set (now (targets .entry)) w
         (updateNext (now (first .entry)) (now (row .entry)) (now (begins .entry)) (now (parts .entry)) (now (displaced .entry)) (now (at .entry)) (now (beside .entry)) (now (made .entry)) w .target) ⌝ }
     ensures adds { λ _. ⌜ now (adds .exit) ≡ set (now (adds .entry)) w
@@ -139,12 +139,12 @@ pub fn enter(
     leaves: &[u16; MAX_ROWS],
     blocks: &[u8; MAX_GROUPS],
     displaced: &[i32; MAX_ROWS],
-    at: &[u16; MAX_UPDATES],
-    beside: &[i32; MAX_UPDATES],
+    at: &[u16],
+    beside: &[i32],
     targets: &mut [usize; MAX_WORKERS],
     adds: &mut [i64; MAX_WORKERS],
 ) -> u32
-    requires { ⌜ (workers ≤ maxWorkers) × ((n : ℕ) × StepTables n (now first) (now row) (now begins) (now parts) (now leaves) (now at))
+    requires { ⌜ (workers ≤ maxWorkers) × ((n : ℕ) × StepTables n (now first) (now row) (now begins) (now parts) (now leaves) (now at) (now beside))
         × AtHand (reasonAt workers (now first) (now row) (now leaves) (now blocks))
         (updateNext (now first) (now row) (now begins) (now parts) (now displaced) (now at) (now beside)) (now made) (now targets) (now adds) ⌝ }
     ensures { λ r. ⌜ Entered (reasonAt workers (now (first .entry)) (now (row .entry)) (now (leaves .entry)) (now (blocks .entry)))

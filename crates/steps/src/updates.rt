@@ -1,10 +1,10 @@
 // The updates of a row, found in the upper triangle of the matrix in plan order.
 use base::shorts::wide;
 use matrix::limits::MAX_ROWS;
-use tables::MAX_UPDATES;
 ghost use mathlib.Core.Path.{_≡_};
-ghost use Prim.Native.Nat.{ℕ, _<_};
+ghost use Prim.Native.Nat.{ℕ, _≤_, _<_};
 ghost use lib.IntN.{_*ℤ_};
+ghost use lib.ListN.{length};
 ghost use Rattle.matrix.specs.Limits.{maxRows};
 ghost use Rattle.tables.specs.code.Laid.{maxUpdates};
 ghost use Rattle.steps.specs.code.Updates.{byTurns, entryPlace, targetIn, amountIn, Readable};
@@ -32,8 +32,8 @@ fn entry_place(parts: &[u32; MAX_ROWS], p: usize, k: usize) -> usize
 }
 
 // The position of its sum: the other row's, then the row's own.
-pub fn target_of(parts: &[u32; MAX_ROWS], at: &[u16; MAX_UPDATES], p: usize, k: usize) -> usize
-    requires { ⌜ (p < maxRows) × (entryPlace (now parts) p k < maxUpdates) ⌝ }
+pub fn target_of(parts: &[u32; MAX_ROWS], at: &[u16], p: usize, k: usize) -> usize
+    requires { ⌜ (p < maxRows) × (entryPlace (now parts) p k < length (now at)) × (length (now at) ≤ maxUpdates) ⌝ }
     ensures { λ r. ⌜ r ≡ targetIn (now (parts .entry)) (now (at .entry)) p k ⌝ }
 {
     by_turns(k, wide(at[entry_place(parts, p, k)]), p)
@@ -43,12 +43,12 @@ pub fn target_of(parts: &[u32; MAX_ROWS], at: &[u16; MAX_UPDATES], p: usize, k: 
 pub fn amount_of(
     parts: &[u32; MAX_ROWS],
     displaced: &[i32; MAX_ROWS],
-    at: &[u16; MAX_UPDATES],
-    beside: &[i32; MAX_UPDATES],
+    at: &[u16],
+    beside: &[i32],
     p: usize,
     k: usize,
 ) -> i64
-    requires { ⌜ ((n : ℕ) × Readable n (now parts) (now at) p k) ⌝ }
+    requires { ⌜ ((n : ℕ) × Readable n (now parts) (now at) (now beside) p k) ⌝ }
     ensures { λ r. ⌜ r ≡ amountIn (now (parts .entry)) (now (displaced .entry)) (now (at .entry)) (now (beside .entry)) p k ⌝ }
 {
     let place = entry_place(parts, p, k);

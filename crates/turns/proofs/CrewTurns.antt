@@ -20,7 +20,8 @@ use Rattle.run.proofs.Able.{able, in-order}
 use Rattle.tables.specs.code.Laid.{updatesIn, Bounded, Laid, Waits}
 use Rattle.steps.specs.code.Updates.{updateIn, Triangle}
 use Rattle.steps.specs.code.Steps.{rowNext, numberNext, reasonAt, outcomeOf, PickMade}
-use Rattle.steps.proofs.TableUpdates.{updates-are, begun-before, begins-is, row-is, row-is-update, table-update}
+use Rattle.steps.proofs.TableUpdates.{updates-are, begun-before, begins-is, row-is, row-is-update}
+use Rattle.steps.proofs.GivenTables.{triangle-ahead}
 use Rattle.machine.proofs.TableWaits.{table-reason}
 use Rattle.crews.specs.Crews.{Crew, other, crewNumber, Two, ownOf, putFor, Roof, jobFor, inRow, isAway, unlessAway, crewRefusal, crewStep, forBoth, turn}
 use Rattle.crews.proofs.Turns.{not-away, crew-end, who, turn-for, turn-none}
@@ -104,7 +105,7 @@ module _ (q : Roof) (S : Two State) (c : Crew) {first row begins leaves ends : L
       go (suc k) e = unfold stepIf in refl
       go zero e =
           let a = able j made w (not-away (refusal j made w) (isAway q S c w) (unfold crewRefusal in e) .0) in
-          let f : update ≡ next j made w = unfold next accesses in (table-update j (laid c) w (omega arith) (count made w / 2) (omega (arith, a .left)) t) in
+          let f : update ≡ next j made w = triangle-ahead j (laid c) t made 1 .is made w (omega arith) (omega arith) (omega arith) (a .left) in
           ap (λ (u : Update). stepIf 0 (ownOf S c) w u) f
 
   -- what the code answers and leaves is its outcome

@@ -198,7 +198,7 @@ module _ {T : Tables} {S₀ : Two State} {schedule : List ℕ} where
               by crew1 n = omega (arith, own names crew1 n .hand .targets-long)
 
           -- what an access needs
-          pub sharing-ready : {n : ℕ} → StepTables n (T .first) (T .row) (T .begins) (T .parts) (T .leaves) (T .at) → ((c : Crew) → length (ownOf S c .sums) ≡ n)
+          pub sharing-ready : {n : ℕ} → StepTables n (T .first) (T .row) (T .begins) (T .parts) (T .leaves) (T .at) (T .beside) → ((c : Crew) → length (ownOf S c .sums) ≡ n)
               → (c : Crew) → byte / maxWorkers ≡ crewNumber c → (count (ownOf S c .made) w < 2 * maxUpdates) × (getD (ownOf targets′ c) w 0 < length (ownOf S c .sums))
           sharing-ready t sums c n =
               let made : List ℕ = ownOf S c .made in

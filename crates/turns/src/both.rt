@@ -12,16 +12,13 @@ use tables::MAX_UPDATES;
 use waits::find;
 use waits::renew;
 ghost use mathlib.Core.Path.{_≡_};
-ghost use mathlib.Core.Bool.{false};
-ghost use mathlib.Core.List.{List};
-ghost use Prim.Native.Nat.{ℕ, _*_, _/_, _%_, _≤_, _<_};
+ghost use Prim.Native.Nat.{ℕ, _*_, _/_, _%_, _<_};
 ghost use lib.ListN.{length, getD};
 ghost use Rattle.plan.specs.Sound.{maxWorkers};
 ghost use Rattle.plan.specs.Groups.{width};
 ghost use Rattle.run.specs.Updates.{count};
-ghost use Rattle.run.specs.Machine.{onward};
 ghost use Rattle.tables.specs.code.Laid.{maxUpdates};
-ghost use Rattle.waits.specs.code.Waits.{Recorded, Blocks, Ahead, Current};
+ghost use Rattle.waits.specs.code.Waits.{Recorded, Blocks, Ahead};
 ghost use Rattle.steps.specs.code.Steps.{updateNext, StepTables};
 ghost use Rattle.steps.specs.code.AtHand.{AtHand};
 ghost use Rattle.crews.specs.Crews.{Crew, other, crewNumber, ownOf};
@@ -60,12 +57,12 @@ pub(crate) fn begin_for(
     leaves: &[u16; MAX_ROWS],
     blocks: &[[u8; MAX_GROUPS]; CREWS],
     displaced: &[[i32; MAX_ROWS]; CREWS],
-    at: &[u16; MAX_UPDATES],
-    beside: &[i32; MAX_UPDATES],
+    at: &[u16],
+    beside: &[i32],
     targets: &mut [[usize; MAX_WORKERS]; CREWS],
     adds: &mut [[i64; MAX_WORKERS]; CREWS],
 ) -> u32
-    requires { ⌜ ((n : ℕ) × StepTables n (now first) (now row) (now begins) (now parts) (now leaves) (now at))
+    requires { ⌜ ((n : ℕ) × StepTables n (now first) (now row) (now begins) (now parts) (now leaves) (now at) (now beside))
         × ((c : Crew) → AtHand (causeAt (now first) (now row) (now begins) (now leaves) (ownOf (both (now blocks)) c) (ownOf (both (now made)) (other c)))
         (updateNext (now first) (now row) (now begins) (now parts) (ownOf (both (now displaced)) c) (now at) (now beside))
         (ownOf (both (now made)) c) (ownOf (both (now targets)) c) (ownOf (both (now adds)) c)) ⌝ }

@@ -109,11 +109,11 @@ impl Crews {
         parts: &[u32; MAX_ROWS],
         leaves: &[u16; MAX_ROWS],
         displaced: &[[i32; MAX_ROWS]; CREWS],
-        at: &[u16; MAX_UPDATES],
-        beside: &[i32; MAX_UPDATES],
+        at: &[u16],
+        beside: &[i32],
     ) -> Turned
         requires { ⌜ (recordAt (now groups) 0 .workers ≤ maxWorkers) × Recorded (length (now groups) / width) (now groups)
-            × StepTables (length (now sums0)) (now first) (now row) (now begins) (now parts) (now leaves) (now at) × (length (now sums1) ≡ length (now sums0)) ⌝ }
+            × StepTables (length (now sums0)) (now first) (now row) (now begins) (now parts) (now leaves) (now at) (now beside) × (length (now sums1) ≡ length (now sums0)) ⌝ }
         ensures { λ r. ⌜ ((q : Roof) → AcceptedRoof q → q .plan .groups ≡ records (length (now (groups .entry)) / width) (now (groups .entry))
             → ((c : Crew) → Laid (jobFor q c) (now (first .entry)) (now (row .entry)) (now (begins .entry)) (now (leaves .entry)) (now (ends .entry)))
             → ((c : Crew) → Triangle (jobFor q c) (now (parts .entry)) (ownOf (both (now (displaced .entry))) c) (now (at .entry)) (now (beside .entry)))
@@ -171,8 +171,8 @@ impl Crews {
         parts: &[u32; MAX_ROWS],
         displaced0: &[i32; MAX_ROWS],
         displaced1: &[i32; MAX_ROWS],
-        at: &[u16; MAX_UPDATES],
-        beside: &[i32; MAX_UPDATES],
+        at: &[u16],
+        beside: &[i32],
     ) -> Turned
         requires { ⌜ ((q : Roof) × ((c : Crew) → Planned (jobFor q c) (now groups) (length (now groups) / width) (now sizes)) × ((c : Crew) → Counted (jobFor q c) first)
             × Triangle (jobFor q crew0) (now parts) (now displaced0) (now at) (now beside) × (length (now sums0) ≡ q .matrix .n) × (length (now sums1) ≡ q .matrix .n)) ⌝ }

@@ -37,12 +37,12 @@ pub(crate) fn begin(
     leaves: &[u16; MAX_ROWS],
     blocks: &[u8; MAX_GROUPS],
     displaced: &[i32; MAX_ROWS],
-    at: &[u16; MAX_UPDATES],
-    beside: &[i32; MAX_UPDATES],
+    at: &[u16],
+    beside: &[i32],
     targets: &mut [usize; MAX_WORKERS],
     adds: &mut [i64; MAX_WORKERS],
 ) -> u32
-    requires { ⌜ (w < maxWorkers) × ((n : ℕ) × StepTables n (now first) (now row) (now begins) (now parts) (now leaves) (now at))
+    requires { ⌜ (w < maxWorkers) × ((n : ℕ) × StepTables n (now first) (now row) (now begins) (now parts) (now leaves) (now at) (now beside))
         × AtHand (causeAt (now first) (now row) (now begins) (now leaves) (now blocks) (now other))
         (updateNext (now first) (now row) (now begins) (now parts) (now displaced) (now at) (now beside)) (now made) (now targets) (now adds) ⌝ }
     ensures { λ r. ⌜ Entered (causeAt (now (first .entry)) (now (row .entry)) (now (begins .entry)) (now (leaves .entry)) (now (blocks .entry)) (now (other .entry)))

@@ -88,7 +88,11 @@ fn make(call: &str, stack: usize, given: &Given) -> Option<u64> {
         "barrier_read" => on_stack(stack, || library::barrier_read(&state, 2)),
         "barrier_line" => on_stack(stack, || library::barrier_line(&state)),
         "barrier_releases" => on_stack(stack, || library::barrier_releases(&state)),
-        "picks" => on_stack(stack, || library::picks(given.run(), &mut state, &mut sums, &given.schedule)),
+        "picks" => on_stack(stack, || {
+            let (one, others) = given.schedule.split_at(1);
+            let word = library::picks(given.run(), &mut state, &mut sums, one);
+            word + library::picks(given.run(), &mut state, &mut sums, others)
+        }),
         "rounds" => on_stack(stack, || library::rounds(given.run(), &mut state, &mut sums, &given.schedule)),
         "preview" => on_stack(stack, || library::preview(given.run(), &state, &sums, &given.schedule)),
         "ready" => on_stack(stack, || library::ready(given.run(), &state, &sums)),

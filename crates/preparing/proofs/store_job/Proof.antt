@@ -1,5 +1,5 @@
 -- `store_job`: the upper triangle and its sizes, the counts, the size, then the parts one after the other.
-use mathlib.Core.Path.{_≡_, refl}
+use mathlib.Core.Path.{_≡_, refl, sym}
 use Prim.Native.Nat.{_/_}
 use native.Mathlib.Omega.{arith}
 use lib.ListN.{length, getD}
@@ -110,6 +110,12 @@ triangle h =
     let g = start u .pre in
     triangle-of _ _ (rw (given-many g) at (turned h .displace .ensures)) (u .upper .ensures .1)
 
+slice-aggregate-store-tables : tie.Need-slice-aggregate-store-tables
+slice-aggregate-store-tables c = sym (laid (counts (c .before .before .before .before .before .before .before)) .upper .ensures .1 .placed .at-long)
+
+slice-aggregate-store-tables-2 : tie.Need-slice-aggregate-store-tables-2
+slice-aggregate-store-tables-2 c = sym (laid (counts (c .before .before .before .before .before .before .before .before)) .upper .ensures .1 .placed .beside-long)
+
 store-tables-requires : tie.Need-store-tables-requires
 unfolding jobOf
 store-tables-requires c κs =
@@ -148,5 +154,5 @@ pub store-job-spec : {M : Type 1} → statement M
 store-job-spec =
     tie.close
     (tie.spec upper-requires first-updates-requires (λ c. search needs) size-of-requires (λ c. search needs) returns
-    displace-requires record-at-requires cast-store-head store-head-requires store-tables-requires (λ c. search needs)
+    displace-requires record-at-requires cast-store-head store-head-requires slice-aggregate-store-tables slice-aggregate-store-tables-2 store-tables-requires (λ c. search needs)
     (λ c. search needs) store-places-requires cast-t28 (λ c. search needs) returns-2)

@@ -16,11 +16,11 @@ use Rattle.preparing.proofs.store_tables.Statement.{statement}
 use Rattle.preparing.proofs.store_tables.Tie as tie
 
 lay-requires : tie.Need-lay-requires
-lay-requires c κs = let s = c .before .before .before .before .before .before .pre in (s .0, s .1, s .2, planned-blank (s .1))
+lay-requires c κs = let s = c .before .before .before .before .before .before .before .pre in (s .0, s .1, s .2, planned-blank (s .1))
 
 -- from the tables of rows back to the function's entry
 abbrev start : tie.After-lay → tie.Start
-start l = l .before .before .before .before .before .before .before
+start l = l .before .before .before .before .before .before .before .before
 
 all-gates-requires : tie.Need-all-gates-requires
 all-gates-requires c κs = planned-recorded (start (c .before) .pre .1)

@@ -1,8 +1,9 @@
 -- What is written into a list from a place on.
+use mathlib.Core.Path.{_≡_}
 use mathlib.Core.List.{List, map}
 use Prim.Native.Nat.{ℕ, _+_, _*_, _-_, _/_, _%_, _≤_, _<_}
 use lib.IntN.{ℤ}
-use lib.ListN.{getD}
+use lib.ListN.{length, getD}
 use Rattle.base.specs.Lists.{range}
 use Rattle.matrix.specs.Limits.{maxRows}
 use Rattle.plan.specs.Sound.{maxWorkers}
@@ -25,9 +26,11 @@ abbrev pub updateNumbers : (count : ℕ) (row begins parts : List ℕ) (displace
 updateNumbers count row begins parts displaced at beside = map (updateNumber row begins parts displaced at beside) (range 0 count)
 
 -- what the code needs to read so many, whatever the job: each is of two of n rows, and stands inside
-pub record Legible (n count : ℕ) (row begins parts at : List ℕ) : Type 0 where
+pub record Legible (n count : ℕ) (row begins parts at : List ℕ) (beside : List ℤ) : Type 0 where
   pub few : n ≤ maxRows
   pub at-low : (k : ℕ) → getD at k 0 < n
+  pub long : length beside ≡ length at
+  pub room : length at ≤ maxUpdates
   pub row-low : (k : ℕ) → getD row k 0 < n
   pub begun : (k : ℕ) → k < count → getD begins (getD row k 0) 0 ≤ k
-  pub inside : (k : ℕ) → k < count → entryPlace parts (getD row k 0) (k - getD begins (getD row k 0) 0) < maxUpdates
+  pub inside : (k : ℕ) → k < count → entryPlace parts (getD row k 0) (k - getD begins (getD row k 0) 0) < length at

@@ -1,5 +1,5 @@
 -- `take_picks`: the upper triangle and its sizes, the counts, the displacements in plan order, then the picks.
-use mathlib.Core.Path.{_≡_, refl, ap₂, _∙_}
+use mathlib.Core.Path.{_≡_, refl, sym, ap₂, _∙_}
 use mathlib.Core.Bool.{_&&_}
 use mathlib.Core.List.{List}
 use Prim.Native.Nat.{ℕ, _/_}
@@ -82,11 +82,21 @@ displace-requires-2 c κs = let d = given-displaced (start (laid (c .before .bef
 
 -- ---- the picks
 
+-- from the first crew's displacements back to the counts
+abbrev counts : tie.After-displace → tie.After-first-updates
+counts d = d .before .before .before .before
+
+slice-aggregate-take : tie.Need-slice-aggregate-take
+slice-aggregate-take c = sym (laid (counts (c .before .before .before .before .before .before .before .before .before)) .upper .ensures .1 .placed .at-long)
+
+slice-aggregate-take-2 : tie.Need-slice-aggregate-take-2
+slice-aggregate-take-2 c = sym (laid (counts (c .before .before .before .before .before .before .before .before .before .before)) .upper .ensures .1 .placed .beside-long)
+
 take-requires : tie.Need-take-requires
 unfolding roofOf jobOf
 take-requires c κs =
     let d = c .before .before .before .before .before .before .before .before .before .before in
-    let f = d .before .before .before .before in
+    let f = counts d in
     let u = laid f in
     let g = start u .pre in (
       roof (start u),
@@ -118,5 +128,5 @@ pub take-picks-spec : {M : Type 1} → statement M
 take-picks-spec =
     tie.close
     (tie.spec upper-requires first-updates-requires are-fine-requires (λ c. search needs) returns displace-requires
-    displace-requires-2 take-requires (λ c. search needs) (λ c. search needs) (λ c. search needs) (λ c. search needs)
+    displace-requires-2 slice-aggregate-take slice-aggregate-take-2 take-requires (λ c. search needs) (λ c. search needs) (λ c. search needs) (λ c. search needs)
     returns-2)

@@ -2,7 +2,7 @@
 use mathlib.Core.Path.{_≡_, refl, ap, _∙_}
 use Prim.Native.Nat.{ℕ, _+_, _-_, _/_, _≤_, _<_}
 use native.Mathlib.Omega.{arith}
-use lib.ListN.{getD}
+use lib.ListN.{length, getD}
 use mir.Syntax.{w64}
 use mir.Val.{SFits}
 use mir.Facts.{toZ-ofZ}
@@ -21,23 +21,23 @@ left c =
     omega (arith, c .pre .1, r .rises (a .w) (c .pre .0), r .few (a .w + 1) (omega (arith, c .pre .0)))
 
 place : (c : tie.After-next-place) → c .next-place .result < 69632
-place c = rw (c .next-place .ensures) (left (c .before))
+place c = rw (c .next-place .ensures) (left (c .before .before))
 
 -- its row, whose first update is not after it, and its entry
-record RowNext (n p next begin place entry : ℕ) : Type 0 where
+record RowNext (n p next begin place entry room : ℕ) : Type 0 where
   is : p ≡ next
   low : p < n
   few : n ≤ 4096
   begun : begin ≤ place
   before : place < 69632
-  inside : entry < 69632
+  inside : entry < room
 
-row : (c : tie.After-wide) → let p = c .before .before in let s = p .before in let a = s .args in
+row : (c : tie.After-wide) → let p = c .before .before in let s = p .before .before in let a = s .args in
     RowNext (s .pre .2 .0) (c .wide .result) (rowNext (a .first .now) (a .row .now) (a .made .now) (a .w)) (getD (a .begins .now) (c .wide .result) 0) (p .next-place .result)
-    (entryPlace (a .parts .now) (c .wide .result) (p .next-place .result - getD (a .begins .now) (c .wide .result) 0))
+    (entryPlace (a .parts .now) (c .wide .result) (p .next-place .result - getD (a .begins .now) (c .wide .result) 0)) (length (a .at .now))
 row c =
     let p = c .before .before in
-    let s = p .before in
+    let s = p .before .before in
     let a = s .args in
     let t = s .pre .2 .2 in
     let next : getD (a .made .now) (a .w) 0 / 2 < updatesIn (a .first .now) (a .w) = omega (arith, s .pre .1) in
@@ -52,7 +52,7 @@ row c =
     }
 
 next-place-requires : tie.Need-next-place-requires
-next-place-requires c κs = (c .pre .0, left c)
+next-place-requires c κs = (c .before .pre .0, left (c .before))
 
 mul-wide : tie.Need-mul-wide
 mul-wide c = let h = place c in search needs
@@ -73,13 +73,14 @@ sub-k : tie.Need-sub-k
 sub-k c = let h = row (c .before) in search needs
 
 target-of-requires : tie.Need-target-of-requires
-target-of-requires c κs = let r = row (c .before) in (omega (arith, r .low, r .few), r .inside)
+target-of-requires c κs = let r = row (c .before) in (omega (arith, r .low, r .few), r .inside, c .before .before .before .before .before .pre .2 .2 .room)
 
 amount-of-requires : tie.Need-amount-of-requires
 amount-of-requires c κs =
     let w = c .before .before in
     let r = row w in
-    (_, record { few = r .few; at-low = w .before .before .before .pre .2 .2 .at-low; row-low = r .low; inside = r .inside })
+    let t = w .before .before .before .before .pre .2 .2 in
+    (_, record { few = r .few; at-low = t .at-low; row-low = r .low; inside = r .inside; long = t .long; room = t .room })
 
 in-range : (c : tie.After-amount-of) → SFits w64 (c .amount-of .result)
 in-range c = search needs

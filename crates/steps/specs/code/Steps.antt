@@ -5,8 +5,9 @@ use mathlib.Core.List.{List}
 use Prim.Native.Nat.{ℕ, zero, suc, _+_, _*_, _-_, _/_, _≤_, _<_}
 use lib.Dec.{eqb, leb, ltb}
 use lib.IntN.{ℤ}
-use lib.ListN.{getD}
-use Rattle.run.specs.Updates.{Update, count}
+use lib.ListN.{length, getD}
+use Rattle.run.specs.Job.{Job}
+use Rattle.run.specs.Updates.{Update, count, accesses, next}
 use Rattle.run.specs.Machine.{reason, Outcome, moved, halted, onward, stepIf}
 use Rattle.run.specs.State.{State}
 use Rattle.plan.specs.Sound.{maxWorkers}
@@ -43,12 +44,19 @@ reasonAt workers first row leaves blocks made w =
 
 -- every worker's updates stand inside the table, those of a row from where they begin on, their entries inside the
 -- tables of these, and are of two of n rows
-pub record StepTables (n : ℕ) (first row begins parts leaves at : List ℕ) : Type 0 where
+pub record StepTables (n : ℕ) (first row begins parts leaves at : List ℕ) (beside : List ℤ) : Type 0 where
   pub bounded : Bounded n first row leaves
   pub at-low : (k : ℕ) → getD at k 0 < n
+  pub long : length beside ≡ length at
+  pub room : length at ≤ maxUpdates
   pub begun : (w k : ℕ) → w < maxWorkers → k < updatesIn first w → getD begins (getD row (getD first w 0 + k) 0) 0 ≤ getD first w 0 + k
   pub inside : (w k : ℕ) → w < maxWorkers → k < updatesIn first w
-      → entryPlace parts (getD row (getD first w 0 + k) 0) (getD first w 0 + k - getD begins (getD row (getD first w 0 + k) 0) 0) < maxUpdates
+      → entryPlace parts (getD row (getD first w 0 + k) 0) (getD first w 0 + k - getD begins (getD row (getD first w 0 + k) 0) 0) < length at
+
+-- .. and for the updates to be job j's: they are, at all counts that fewer than so many picks can lead to from these
+pub record Ahead (j : Job) (made : List ℕ) (picks : ℕ) (first row begins parts : List ℕ) (displaced : List ℤ) (at : List ℕ) (beside : List ℤ) : Type 0 where
+  pub is : (new : List ℕ) (w : ℕ) → w < maxWorkers → count made w ≤ count new w → count new w < count made w + picks → count new w < accesses j w
+      → updateNext first row begins parts displaced at beside new w ≡ next j new w
 
 -- ---- what it makes of one
 

@@ -34,11 +34,13 @@ abbrev pub updateIn : (parts : List ℕ) (displaced : List ℤ) (at : List ℕ) 
 updateIn parts displaced at beside p k = record { row = p; target = targetIn parts at p k; amount = amountIn parts displaced at beside p k }
 
 -- what the code needs to read it, whatever the job, if there are n rows: rows of those, and a place inside
-pub record Readable (n : ℕ) (parts at : List ℕ) (p k : ℕ) : Type 0 where
+pub record Readable (n : ℕ) (parts at : List ℕ) (beside : List ℤ) (p k : ℕ) : Type 0 where
   pub few : n ≤ maxRows
   pub at-low : (c : ℕ) → getD at c 0 < n
   pub row-low : p < n
-  pub inside : entryPlace parts p k < maxUpdates
+  pub inside : entryPlace parts p k < length at
+  pub long : length beside ≡ length at
+  pub room : length at ≤ maxUpdates
 
 -- job j's displacements in plan order, and its upper triangle
 pub record Triangle (j : Job) (parts : List ℕ) (displaced : List ℤ) (at : List ℕ) (beside : List ℤ) : Type 0 where

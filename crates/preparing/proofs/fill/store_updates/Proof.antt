@@ -3,7 +3,7 @@ use mathlib.Core.Path.{_≡_, ap, _∙_}
 use mathlib.Core.List.{map}
 use Prim.Native.Nat.{ℕ, _+_, _*_, _-_, _≤_, _<_}
 use native.Mathlib.Omega.{arith}
-use lib.ListN.{getD}
+use lib.ListN.{length, getD}
 use lib.Seq.{sets}
 use mir.Syntax.{w64}
 use mir.Val.{SFits, toZ, ofZ}
@@ -28,13 +28,13 @@ abbrev μ-loop : tie.MeasureT-loop
 
 loop-holds : tie.Need-loop-holds Inv-loop μ-loop
 loop-holds c =
-    let a = c .before .args in
+    let a = c .before .before .args in
     let f : ℕ → Update = updateNumber (a .row .now) (a .begins .now) (a .parts .now) (a .displaced .now) (a .at .now) (a .beside .now) in
     fill-none (updateOf f) 16 (update-long f) (a .out .now) (a .from) (a .count)
 
 -- from a turn back to the function's entry
 abbrev entry : tie.In-loop Inv-loop μ-loop → tie.Start Inv-loop μ-loop
-entry t = t .before .before .before
+entry t = t .before .before .before .before
 
 -- the row of update number k
 row-is : (w : tie.After-wide Inv-loop μ-loop) → let t = w .before .before in w .wide .result ≡ getD (entry t .args .row .now) (t .before .loop .k) 0
@@ -53,15 +53,15 @@ element-copy-out-wide-2 : tie.Need-element-copy-out-wide-2 Inv-loop μ-loop
 element-copy-out-wide-2 c = let low = row-low c in search needs
 
 -- where its row's begin, and its entry
-record Reads (n p b begin k entry : ℕ) : Type 0 where
+record Reads (n p b begin k entry room : ℕ) : Type 0 where
   low : p < n
   few : n ≤ 4096
   is : b ≡ begin
   begun : b ≤ k
-  inside : entry < 69632
+  inside : entry < room
 
 reads : (x : tie.After-wide2 Inv-loop μ-loop) → let w = x .before .before in let t = w .before .before in let s = entry t in let a = s .args in let p = w .wide .result in let k = t .before .loop .k in
-    Reads (s .pre .2 .0) p (x .wide2 .result) (getD (a .begins .now) p 0) k (entryPlace (a .parts .now) p (k - x .wide2 .result))
+    Reads (s .pre .2 .0) p (x .wide2 .result) (getD (a .begins .now) p 0) k (entryPlace (a .parts .now) p (k - x .wide2 .result)) (length (a .at .now))
 reads x =
     let w = x .before .before in
     let t = w .before .before in
@@ -81,14 +81,15 @@ sub-c : tie.Need-sub-c Inv-loop μ-loop
 sub-c c = let r = reads c in search needs
 
 target-of-requires : tie.Need-target-of-requires Inv-loop μ-loop
-target-of-requires c κs = let r = reads c in (omega (arith, r .low, r .few), r .inside)
+target-of-requires c κs = let r = reads c in (omega (arith, r .low, r .few), r .inside, entry (c .before .before .before .before) .pre .2 .1 .room)
 
 amount-of-requires : tie.Need-amount-of-requires Inv-loop μ-loop
 amount-of-requires c κs =
     let x = c .before in
     let r = reads x in
     let s = entry (x .before .before .before .before) in
-    (_, record { few = r .few; at-low = s .pre .2 .1 .at-low; row-low = r .low; inside = r .inside })
+    let t = s .pre .2 .1 in
+    (_, record { few = r .few; at-low = t .at-low; row-low = r .low; inside = r .inside; long = t .long; room = t .room })
 
 target-low : (y : tie.After-target-of Inv-loop μ-loop) → y .target-of .result < 4096
 target-low y =
@@ -135,7 +136,7 @@ loop-again c =
 returns : tie.Need-returns Inv-loop μ-loop
 returns c =
     let l = c .before in
-    let a = l .before .before .args in
+    let a = l .before .before .before .args in
     let f : ℕ → Update = updateNumber (a .row .now) (a .begins .now) (a .parts .now) (a .displaced .now) (a .at .now) (a .beside .now) in
     let e : l .loop .k ≡ a .count = omega (arith, c .loop-test .left, l .loop .inv .far) in
     l .loop .inv .is ∙ ap (λ (k : ℕ). sets (a .out .now) (a .from) (concat (map (updateOf f) (range 0 k)))) e ∙ ap (sets (a .out .now) (a .from)) (update-pieces f (a .count))

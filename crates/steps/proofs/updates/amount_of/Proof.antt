@@ -14,7 +14,7 @@ use Rattle.steps.proofs.updates.amount_of.Tie as tie
 -- the row has a displacement
 other : (c : tie.After-by-turns) → c .by-turns .result < 4096
 other c =
-    let s = c .before .before .before .before in
+    let s = c .before .before .before .before .before in
     let r = s .pre .1 in
     let h : c .by-turns .result < s .pre .0 = rw (c .by-turns .ensures, c .before .wide .ensures) (by-low (s .args .k) (s .args .p) _ (r .row-low) (r .at-low _)) in
     omega (arith, r .few)
@@ -23,19 +23,19 @@ in-range : (c : tie.After-product) → SFits w64 (c .product .result)
 in-range c = search needs
 
 entry-place-requires : tie.Need-entry-place-requires
-entry-place-requires c κs = let r = c .pre .1 in (omega (arith, r .row-low, r .few), r .inside)
+entry-place-requires c κs = let r = c .before .pre .1 in (omega (arith, r .row-low, r .few), omega (arith, r .inside, r .room))
 
 mul-product-2 : tie.Need-mul-product-2
 mul-product-2 c = let h = other (c .before) in search needs
 
-element-copy-out-product-2 : tie.Need-element-copy-out-product-2
-element-copy-out-product-2 c = let h = other (c .before) in search needs
+element-copy-out-product : tie.Need-element-copy-out-product
+element-copy-out-product c = let h = other (c .before) in search needs
 
 returns : tie.Need-returns
 returns c =
     let b = c .before .before .before in
     let e = b .before .before .before in
-    let a = e .before .args in
+    let a = e .before .before .args in
     rw (
       toZ-ofZ (in-range c),
       c .product .ensures,
@@ -50,5 +50,5 @@ pub amount-of-spec : {M : Type 1} → statement M
 amount-of-spec =
     tie.close
     (tie.spec entry-place-requires (λ c. search needs) (λ c. search needs) (λ c κs. search needs)
-    (λ c κs. search needs) (λ c. search needs) (λ c. search needs) mul-product-2 element-copy-out-product-2
+    (λ c κs. search needs) (λ c. search needs) (λ c. search needs) mul-product-2 element-copy-out-product
     (λ c κs. search needs) returns)

@@ -18,10 +18,10 @@ for-each q t u crew1 = u
 
 -- from the tables of rows back to the function's entry
 abbrev start : tie.After-lay → tie.Start
-start l = l .before .before .before .before .before .before .before .before .before
+start l = l .before .before .before .before .before .before .before .before .before .before
 
 lay-requires : tie.Need-lay-requires
-lay-requires c κs = let s = c .before .before .before .before .before .before .before .before .pre in (_, s .1 crew0, s .2 crew0, planned-blank (s .1 crew0))
+lay-requires c κs = let s = c .before .before .before .before .before .before .before .before .before .pre in (_, s .1 crew0, s .2 crew0, planned-blank (s .1 crew0))
 
 walk-requires : tie.Need-walk-requires
 walk-requires c κs =

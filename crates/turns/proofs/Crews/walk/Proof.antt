@@ -47,7 +47,7 @@ abbrev whole : tie.At-loop Inv-loop μ-loop → tie.After-record-at Inv-loop μ-
 whole l = l .before .before .before .before .before
 
 abbrev start : tie.After-record-at Inv-loop μ-loop → tie.Start Inv-loop μ-loop
-start r = r .before .before .before .before .before
+start r = r .before .before .before .before .before .before
 
 abbrev entry : tie.At-loop Inv-loop μ-loop → tie.Start Inv-loop μ-loop
 entry l = start (whole l)
@@ -73,7 +73,7 @@ made1-long : (s : tie.Start Inv-loop μ-loop) → length (s .args .self .made1) 
 made1-long s = let g = s .good .0 in search needs
 
 record-at-requires : tie.Need-record-at-requires Inv-loop μ-loop
-record-at-requires c κs = let R = c .before .before .before .before .pre .1 in omega (arith, R .long, R .some)
+record-at-requires c κs = let R = c .before .before .before .before .before .pre .1 in omega (arith, R .long, R .some)
 
 find-for-requires : tie.Need-find-for-requires Inv-loop μ-loop
 find-for-requires c κs = (start (c .before .before .before) .pre .1, search needs, search needs)
@@ -94,7 +94,7 @@ loop-holds c =
 -- ---- a pick that is refused
 
 cast-who : tie.Need-cast-who Inv-loop μ-loop
-cast-who c = omega (arith, c .shared-slice-known3 .given (c .before .before .loop .k))
+cast-who c = omega (arith, c .shared-slice-known4 .given (c .before .before .loop .k))
 
 begin-for-requires : tie.Need-begin-for-requires Inv-loop μ-loop
 begin-for-requires c κs = let l = c .before .before .before .before .before .before in ((_, entry l .pre .2), sharing-hand (l .loop .inv .4))

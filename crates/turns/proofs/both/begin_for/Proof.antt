@@ -15,7 +15,7 @@ use Rattle.turns.proofs.both.begin_for.Tie as tie
 
 -- ---- a byte that names no crew, or no worker of the plan
 
-crewless : (c : tie.Then1) → misnamed (c .before .args .who) (c .before .args .workers) ≡ 18
+crewless : (c : tie.Then1) → let a = c .before .before .args in misnamed (a .who) (a .workers) ≡ 18
 crewless c = rw (le-leb _ _ (c .if1 .taken)) refl
 
 returns : tie.Need-returns
@@ -26,7 +26,7 @@ returns c = record {
   adds-kept = λ z. absurd (omega (arith, crewless c));
 }
 
-stranger : (c : tie.Then2) → misnamed (c .before .before .args .who) (c .before .before .args .workers) ≡ 10
+stranger : (c : tie.Then2) → let a = c .before .before .before .args in misnamed (a .who) (a .workers) ≡ 10
 stranger c = rw (lt-leb _ _ (c .before .if1 .left), le-leb _ _ (c .if2 .taken)) refl
 
 returns-2 : tie.Need-returns-2
@@ -39,7 +39,7 @@ returns-2 c = record {
 
 -- ---- one that names both
 
-none : (c : tie.Else2) → misnamed (c .before .before .args .who) (c .before .before .args .workers) ≡ 0
+none : (c : tie.Else2) → let a = c .before .before .before .args in misnamed (a .who) (a .workers) ≡ 0
 none c = rw (lt-leb _ _ (c .before .if1 .left), lt-leb _ _ (c .if2 .left)) refl
 
 -- there is a list for each crew
@@ -65,7 +65,7 @@ gone-other s d n =
 -- its update is at hand
 returns-3 : tie.Need-returns-3
 returns-3 c =
-    let s = c .before .before .before .before in
+    let s = c .before .before .before .before .before in
     let a = s .args in
     record {
       halted = λ f. absurd (f (none (c .before .before)));
@@ -80,7 +80,7 @@ returns-3 c =
 begin-requires : tie.Need-begin-requires
 begin-requires c κs =
     let e = c .before .before .before .before .before .before .before .before .before in
-    let s = e .before in
+    let s = e .before .before in
     let a = s .args in
     let x = crew-of (a .who) (e .if1 .left) in
     let d = x .0 in
@@ -102,7 +102,7 @@ begin-requires c κs =
 returns-4 : tie.Need-returns-4
 returns-4 c =
     let e = c .before .before .before .before .before .before .before .before .before in
-    let s = e .before .before in
+    let s = e .before .before .before in
     let a = s .args in
     record {
       halted = λ f. absurd (f (none e));

@@ -15,10 +15,10 @@ use Rattle.turns.proofs.turn.begin.Statement.{statement}
 use Rattle.turns.proofs.turn.begin.Tie as tie
 
 abbrev start : tie.After-refusal → tie.Start
-start c = c .before
+start c = c .before .before
 
 refusal-requires : tie.Need-refusal-requires
-refusal-requires c κs = (omega arith, (_, c .pre .1 .1 .bounded))
+refusal-requires c κs = (omega arith, (_, c .before .pre .1 .1 .bounded))
 
 is-inside-requires : tie.Need-is-inside-requires
 is-inside-requires c κs = let p = start c .pre in (p .0, (_, _, record { bounded = p .1 .1 .bounded; begun = p .1 .1 .begun }))

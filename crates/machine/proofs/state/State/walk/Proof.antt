@@ -43,7 +43,7 @@ abbrev whole : tie.At-loop Inv-loop μ-loop → tie.After-record-at Inv-loop μ-
 whole l = l .before .before .before .before .before
 
 abbrev start : tie.After-record-at Inv-loop μ-loop → tie.Start Inv-loop μ-loop
-start r = r .before .before .before .before .before
+start r = r .before .before .before .before .before .before
 
 abbrev entry : tie.At-loop Inv-loop μ-loop → tie.Start Inv-loop μ-loop
 entry l = start (whole l)
@@ -56,7 +56,7 @@ few : (r : tie.After-record-at Inv-loop μ-loop) → r .record-at .result .worke
 few r = omega (arith, crew r, start r .pre .0)
 
 record-at-requires : tie.Need-record-at-requires Inv-loop μ-loop
-record-at-requires c κs = let R = c .before .before .before .before .pre .1 in omega (arith, R .long, R .some)
+record-at-requires c κs = let R = c .before .before .before .before .before .pre .1 in omega (arith, R .long, R .some)
 
 blocked-groups-requires : tie.Need-blocked-groups-requires Inv-loop μ-loop
 blocked-groups-requires c κs = start (c .before) .pre .1
@@ -75,7 +75,7 @@ loop-holds c =
 -- ---- a pick
 
 cast-w : tie.Need-cast-w Inv-loop μ-loop
-cast-w c = omega (arith, c .shared-slice-known3 .given (c .before .before .loop .k))
+cast-w c = omega (arith, c .shared-slice-known4 .given (c .before .before .loop .k))
 
 enter-requires : tie.Need-enter-requires Inv-loop μ-loop
 enter-requires c κs = let l = c .before .before .before .before .before .before in (few (whole l), (_, entry l .pre .2), l .loop .inv .3 .hand)

@@ -1,0 +1,2 @@
+pub mod AheadRows
+pub mod ReachedSteps
