@@ -29,7 +29,7 @@ use Rattle.run.specs.Calls.{placeOf, pickedOf, passedOf, readyOf, forcesOf, ans
 use Rattle.run.specs.Answers.{Call, picks, readySet, forceList, preview, rounds, Answer, picked, denied, previewed, shown, bitsTold, countTold}
 use Rattle.machine.specs.Record.{stateOf}
 use Rattle.machine.specs.declared.state.State as code
-use Rattle.calls.specs.Performed.{asAnswer, Performed}
+use Rattle.calls.specs.Performed.{asAnswer}
 use Rattle.calls.proofs.Response.{the-type}
 use Rattle.calls.specs.declared.Response.{Response}
 use Rattle.calls.specs.declared.Response.the-variants.{Picked, Ready, Forces, Refused, Previewed}
@@ -37,8 +37,8 @@ use Rattle.calls.proofs.JobChecked.{job-given}
 use Rattle.words.specs.LittleEndian.{number, signedNumber, signed, signedBytes, stored}
 use Rattle.words.proofs.Blocks.{length-decoded}
 use Rattle.lent.specs.Word.{word}
-use Rattle.answers.specs.Runs.{stateBytes, countBytes, stateIn, answerIn, replyTo, forceBytes, bytesIn, leftBy, Moved, setIn, previewWord, roundWord}
-use Rattle.answers.specs.code.Ran.{StateIs, Taken, Parts, Ran, RanLent, Looks, LowPlace, LowMoves, Plain, PicksFit}
+use Rattle.answers.specs.Runs.{stateBytes, countBytes, stateIn, answerIn, replyTo, forceBytes, bytesIn, leftBy, Moved, setIn, roundWord}
+use Rattle.answers.specs.code.Ran.{StateIs, Called, Taken, Parts, Ran, RanLent, Took, Gave, Looks, LowPlace, LowMoves, Plain, PicksFit}
 use Rattle.answers.proofs.RunCalls.{decoded, always-refused}
 use Rattle.answers.proofs.TakenFew.{number-low, round-number-low, few-ready, ready-low, taken-few, moves-few}
 
@@ -251,39 +251,21 @@ module _ (m : Matrix) (x : List ℤ) (order groups : List ℕ) (count : ℕ) (c 
       let d = previewed-told t q p b k in
       preview-parts m x order groups count (stateOf r zs) c (told m x order groups count c state sums r is lent d e) (sixteen m x order groups count c state sums r is lent d e)
 
--- a call in bytes, whose forces are stored
+-- a call in bytes, of which the first sums of an array are those that it was lent
 pub ran : (m : Matrix) (x : List ℤ) (order groups : List ℕ) (count : ℕ) (c : Call) (state sums : List ℕ) (r : code.State) {zs : List ℤ}
     → (length state ≡ stateBytes → StateIs r state) → zs ≡ cond (eqb (length state) stateBytes) (take maxStarts (signed 8 sums)) []
-    → {old : List ℤ} {answer : Response} (made : List ℤ) {after : code.State} {part : List ℤ} (rest : List ℤ) {forces : List ℤ} → length part ≡ length zs
-    → Performed m x order groups count (stateOf r zs) c old (asAnswer answer made) (stateOf after part) forces
-    → {bytes left : List ℕ} → left ≡ replies.lent (replyTo (asAnswer answer made)) (forceBytes (asAnswer answer made)) bytes
-    → RanLent m x order groups count state sums bytes c answer after (part ++ rest) left
-ran m x order groups count c state sums r is lent made rest long h {bytes} f =
+    → {bytes : List ℕ} {answer : Response} {after : code.State} {part : List ℤ} (rest : List ℤ) {left : List ℕ} → length part ≡ length zs
+    → Called m x order groups count (stateOf r zs) c bytes answer (stateOf after part) left → RanLent m x order groups count state sums bytes c answer after (part ++ rest) left
+ran m x order groups count c state sums r is lent {bytes} rest long h =
     let told = h .answers ∙ decoded m x order groups count c state sums r is lent in
     record {
-      made = made;
+      made = h .made;
       answers = told;
-      lists = f ∙ ap (λ (a : Answer). replies.lent (replyTo a) (forceBytes a) bytes) told;
+      lists = h .lists ∙ ap (λ (a : Answer). replies.lent (replyTo a) (forceBytes a) bytes) told;
       taken = λ k q p e. picks-taken m x order groups count c state sums r is lent e rest long (h .leaves);
       low = λ plain k q p e. place-fits m x order groups count c state sums r is lent plain e;
       looked = λ t q p b k e. looked m x order groups count c state sums r is lent e;
     }
-
--- the sums that are lent on: all that were loaded, or none
-module _ (b : Bool) (size : ℕ) {kept : ℕ} (e : kept ≡ cond b size 0) (array : List ℤ) where
-  pub kept-few : size ≤ length array → kept ≤ length array
-  kept-few l = go b e
-    where
-      go : (t : Bool) → kept ≡ cond t size 0 → kept ≤ length array
-      go true f = omega arith
-      go false f = omega arith
-
-  pub kept-is : {list : List ℤ} → take size array ≡ list → take kept array ≡ cond b list []
-  kept-is {list} l = go b e
-    where
-      go : (t : Bool) → kept ≡ cond t size 0 → take kept array ≡ cond t list []
-      go true f = rw f l
-      go false f = rw f
 
 -- ---- what is stored
 
@@ -361,21 +343,14 @@ module _ {n : ℕ} {c : Call} {a : Answer} {s : State} {state sums old : List �
   ran-looks : Looks answer
   ran-looks t q p b k e = h .looked t q p b k (as-answer e)
 
-  pub ran-low : Plain c → LowPlace answer
+  ran-low : Plain c → LowPlace answer
   ran-low plain = (λ k q p e. h .low plain k q p (as-answer e), ran-looks)
 
-  pub ran-moves : LowMoves answer
+  ran-moves : LowMoves answer
   ran-moves = (λ k q p e. let t = picked-is k q p e in (t .moves-low, t .number-low), ran-looks)
 
   pub ran-fits : PicksFit n answer new state sums
   ran-fits k q p e = let t = picked-is k q p e in (t .whole, t .inside, t .room)
-
-  -- what any call returns
-  pub ran-word : {w : ℕ} → ((zs : List ℤ) → w ≡ word (replyTo (asAnswer answer zs))) → w ≡ word (replyTo a)
-  ran-word f = f (h .made) ∙ ap (λ (b : Answer). word (replyTo b)) (h .answers)
-
-  pub ran-preview : {w : ℕ} → ((zs : List ℤ) → w ≡ previewWord (asAnswer answer zs)) → w ≡ previewWord a
-  ran-preview f = f (h .made) ∙ ap (λ (b : Answer). previewWord b) (h .answers)
 
   -- whatever stands for forces that picks do not have
   left-is : (zs : List ℤ) (f : State → List ℕ) (bytes : List ℕ) → leftBy (asAnswer answer zs) (f (stateOf after (take n new))) bytes ≡ leftBy a (f s) bytes
@@ -389,8 +364,27 @@ module _ {n : ℕ} {c : Call} {a : Answer} {s : State} {state sums old : List �
       go (Refused q p) e = refl
       go (Previewed t q p b k) e = refl
 
-  -- a call that takes picks
-  pub moved-answered : (f : Answer → ℕ) {w : ℕ} → ((zs : List ℤ) → w ≡ f (asAnswer answer zs)) → (zs : List ℤ) {newState newSums : List ℕ}
-      → newState ≡ leftBy (asAnswer answer zs) (bytesIn (stateOf after (take n new))) state → newSums ≡ leftBy (asAnswer answer zs) (signedBytes 8 (take n new)) sums
-      → Moved (f a) a s state sums w newState newSums
-  moved-answered f e zs g i = record { returns = e (h .made) ∙ ap f (h .answers); state-left = g ∙ left-is zs bytesIn state; sums-left = i ∙ left-is zs (λ (u : State). signedBytes 8 (u .sums)) sums }
+  -- a call that takes picks, which are stored
+  pub ran-took : (zs : List ℤ) {newState newSums : List ℕ} → newState ≡ leftBy (asAnswer answer zs) (bytesIn (stateOf after (take n new))) state → newSums ≡ leftBy (asAnswer answer zs) (signedBytes 8 (take n new)) sums
+      → Took c a a s state sums answer newState newSums
+  ran-took zs g i = record {
+    made = h .made;
+    answers = h .answers;
+    state-left = g ∙ left-is zs bytesIn state;
+    sums-left = i ∙ left-is zs (λ (u : State). signedBytes 8 (u .sums)) sums;
+    place-low = ran-low;
+    moves-low = ran-moves;
+  }
+
+  -- one that leaves state and sums
+  pub ran-gave : Gave c a old answer left
+  ran-gave = record { made = h .made; answers = h .answers; lists = h .lists; place-low = ran-low }
+
+-- ---- what a call returns, where f gives the word of an answer
+
+pub took-moved : {c : Call} {told a : Answer} {s : State} {state sums : List ℕ} {answer : Response} {newState newSums : List ℕ} → Took c told a s state sums answer newState newSums
+    → (f : Answer → ℕ) {w : ℕ} → ((zs : List ℤ) → w ≡ f (asAnswer answer zs)) → Moved (f told) a s state sums w newState newSums
+took-moved h f e = record { returns = e (h .made) ∙ ap f (h .answers); state-left = h .state-left; sums-left = h .sums-left }
+
+pub gave-word : {c : Call} {told : Answer} {old : List ℕ} {answer : Response} {new : List ℕ} → Gave c told old answer new → (f : Answer → ℕ) {w : ℕ} → ((zs : List ℤ) → w ≡ f (asAnswer answer zs)) → w ≡ f told
+gave-word h f e = e (h .made) ∙ ap f (h .answers)

@@ -10,7 +10,7 @@ ghost use mathlib.Core.List.{_++_};
 ghost use lib.ListN.{length};
 ghost use Rattle.words.specs.LittleEndian.{unsignedBytes, signedBytes, stored};
 ghost use Rattle.answers.specs.Runs.{stateBytes};
-ghost use Rattle.answers.specs.code.Ran.{StateIs};
+ghost use Rattle.answers.specs.code.Ran.{StateIs, SumsAre};
 
 // "a state is 192 bytes": each worker's count, then what it holds.
 const COUNT_BYTES: usize = 4 * MAX_WORKERS;
@@ -32,6 +32,16 @@ pub fn load_state(bytes: &[u8]) -> State
         made: made,
         held: held,
     }
+}
+
+// How many sums are lent on: none where the bytes are no state, so that it is refused as one without n sums.
+pub fn load_sums(state: &[u8], sums: &[u8], new: &mut [i64]) -> usize
+    ensures { λ r. ⌜ SumsAre (now (state .entry)) (now (sums .entry)) (length (now (new .entry))) r (now (new .exit)) ⌝ }
+{
+    if state.len() != STATE_BYTES {
+        return 0;
+    }
+    load_i64(sums, new)
 }
 
 pub fn store_state(state: State, bytes: &mut [u8])

@@ -1,19 +1,17 @@
 // The states and sums of both crews in bytes.
-use answers::state::STATE_BYTES;
 use answers::state::load_state;
 use answers::stored::store_picks;
 use answers::word::word_of;
 use machine::state::State;
 use shared::BothDone;
 use turns::Crews;
-use words::load::load_i64;
 ghost use mathlib.Core.List.{[]};
-ghost use lib.ListN.{length, take};
+ghost use lib.ListN.{take};
 ghost use Rattle.calls.specs.Performed.{asAnswer};
 ghost use Rattle.crews.specs.Calls.{one};
 ghost use Rattle.turns.specs.Records.{statesOf};
 ghost use Rattle.quarters.specs.Both.{PicksBothAnswered};
-ghost use Rattle.quarters.specs.code.Loaded.{CrewsAre, SumsAre, BothFit};
+ghost use Rattle.quarters.specs.code.Loaded.{CrewsAre, BothFit};
 
 // Where bytes are no state, a fresh one stands in.
 pub(crate) fn load_crews(state0: &[u8], state1: &[u8]) -> Crews
@@ -31,16 +29,6 @@ pub(crate) fn load_crews(state0: &[u8], state1: &[u8]) -> Crews
         made1: made1,
         held1: held1,
     }
-}
-
-// How many sums are lent on: none where the bytes are no state, so that it is refused as one without n sums.
-pub(crate) fn load_sums(state: &[u8], sums: &[u8], new: &mut [i64]) -> usize
-    ensures { λ r. ⌜ SumsAre (now (state .entry)) (now (sums .entry)) (length (now (new .entry))) r (now (new .exit)) ⌝ }
-{
-    if state.len() != STATE_BYTES {
-        return 0;
-    }
-    load_i64(sums, new)
 }
 
 // States and sums as the picks that were taken left them, each crew's over its own; and the word of the answer.

@@ -3,8 +3,8 @@
 mod bytes;
 mod word;
 
+use answers::state::load_sums;
 use bytes::load_crews;
-use bytes::load_sums;
 use bytes::store_both;
 use lent::lists::load_signed;
 use lent::lists::load_unsigned;

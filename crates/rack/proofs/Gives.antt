@@ -24,7 +24,7 @@ use Rattle.picking.specs.code.Picks.{tablesIn}
 use Rattle.picking.specs.code.Reads.{Head}
 use Rattle.picking.proofs.Ready.{ready-bits}
 use Rattle.rack.specs.Kept.{answerKept}
-use Rattle.rack.specs.code.Taken.{refusalIn, Gave}
+use Rattle.rack.specs.code.Taken.{refusalIn, GaveKept}
 use Rattle.rack.proofs.Refused.{Fine, refused-all}
 
 -- ---- answers that name no pick
@@ -43,16 +43,16 @@ module _ (list state sums old : List ℕ) where
   c = forceList (length old / 8)
 
   -- a refusal leaves the list
-  gave-refused : (number place : ℕ) → denied number place ≡ answerKept list state sums c → Gave list state sums old (Refused number place) old
+  gave-refused : (number place : ℕ) → denied number place ≡ answerKept list state sums c → GaveKept list state sums old (Refused number place) old
   unfolding lent replyTo
   gave-refused number place told = record {
     made = [];
     answers = told;
     lists = ap (λ (a : Answer). lent (replyTo a) (forceBytes a) old) told;
-    place-low = refused-low number place;
+    place-low = λ plain. refused-low number place;
   }
 
-  pub gave-none : {why : ℕ} → why ≡ refusalIn list state sums → why ≢ 0 → Gave list state sums old (Refused why 0) old
+  pub gave-none : {why : ℕ} → why ≡ refusalIn list state sums → why ≢ 0 → GaveKept list state sums old (Refused why 0) old
   gave-none {why} e d = gave-refused why 0 (ap (λ (k : ℕ). denied k 0) e ∙ refused-all list state sums (λ q. d (e ∙ q)) c)
 
 module _ {list state sums : List ℕ} (f : Fine list state sums) {rows crew n : ℕ} (h : Head list rows crew n) {before : code.State} (is : StateIs before state) where
@@ -80,18 +80,18 @@ module _ {list state sums : List ℕ} (f : Fine list state sums) {rows crew n : 
 
   module _ (old : List ℕ) where
     -- not yet
-    pub gave-early : false ≡ allMadeBy T (before .made) crew → Gave list state sums old (Refused 15 0) old
+    pub gave-early : false ≡ allMadeBy T (before .made) crew → GaveKept list state sums old (Refused 15 0) old
     unfolding forcesOf
     gave-early o = gave-refused list state sums old 15 0 (told-by old false o (leb rows (length old / 8)) refl)
 
     module _ (o : true ≡ allMadeBy T (before .made) crew) where
       -- no room
-      pub gave-short : length old / 8 < rows → Gave list state sums old (Refused 9 rows) old
+      pub gave-short : length old / 8 < rows → GaveKept list state sums old (Refused 9 rows) old
       unfolding forcesOf
       gave-short l = gave-refused list state sums old 9 rows (told-by old true o false (lt-leb rows (length old / 8) l))
 
       -- they are stored
-      pub gave-forces : rows ≤ length old / 8 → {new : List ℕ} → new ≡ stored (signedBytes 8 (originalBy T (signed 8 sums))) old → Gave list state sums old Forces new
+      pub gave-forces : rows ≤ length old / 8 → {new : List ℕ} → new ≡ stored (signedBytes 8 (originalBy T (signed 8 sums))) old → GaveKept list state sums old Forces new
       unfolding forcesOf lent replyTo forceBytes
       gave-forces l {new} e =
           let told : forces (originalBy T (signed 8 sums)) ≡ answerKept list state sums (forceList (length old / 8)) = told-by old true o true (le-leb rows (length old / 8) l) in
@@ -99,5 +99,5 @@ module _ {list state sums : List ℕ} (f : Fine list state sums) {rows crew n : 
             made = originalBy T (signed 8 sums);
             answers = told;
             lists = e ∙ ap (λ (a : Answer). lent (replyTo a) (forceBytes a) old) told;
-            place-low = forces-low;
+            place-low = λ plain. forces-low;
           }

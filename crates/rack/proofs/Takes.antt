@@ -28,7 +28,7 @@ use Rattle.prepared.specs.PreparedRuns.{afterPrepared}
 use Rattle.prepared.specs.Tables.{Tables, passBy, stepBy, answerOfBy, afterOfBy}
 use Rattle.picking.specs.code.Picks.{tablesIn, SumsKept}
 use Rattle.rack.specs.Kept.{answerKept, fitting}
-use Rattle.rack.specs.code.Taken.{refusalIn, takes, Took}
+use Rattle.rack.specs.code.Taken.{refusalIn, takes, TookKept}
 use Rattle.rack.proofs.Refused.{Fine, refused-all}
 
 -- ---- a refused call
@@ -41,15 +41,16 @@ module _ (why : ℕ) where
   refused-looks t q p b k e = absurd (let z : _≡_ {A = ℕ} 0 1 = cc in omega arith)
 
 module _ (list state sums : List ℕ) (c : Call) where
-  pub took-refused : {why : ℕ} → why ≡ refusalIn list state sums → why ≢ 0 → Took list state sums c (Refused why 0) state sums
+  pub took-refused : {why : ℕ} → why ≡ refusalIn list state sums → why ≢ 0 → TookKept list state sums c (Refused why 0) state sums
   unfolding fitting leftBy
   took-refused {why} e d =
       let told : denied why 0 ≡ answerKept list state sums c = ap (λ (k : ℕ). denied k 0) e ∙ refused-all list state sums (λ q. d (e ∙ q)) c in
       record {
+        made = [];
         answers = ap fitting told;
         state-left = ap (λ (a : Answer). leftBy a (bytesIn (afterPrepared list (stateIn state sums) c)) state) told;
         sums-left = ap (λ (a : Answer). leftBy a (signedBytes 8 (afterPrepared list (stateIn state sums) c .sums)) sums) told;
-        place-low = (λ k q p e. refused-picks why e, refused-looks why);
+        place-low = λ plain. (λ k q p e. refused-picks why e, refused-looks why);
         moves-low = (λ k q p e. refused-picks why e, refused-looks why);
       }
 
@@ -89,7 +90,7 @@ module _ {list state sums : List ℕ} (f : Fine list state sums) (rule : Rule) (
   pub took : {before : code.State} → StateIs before state → (w : walked.Walked) {newState newSums : List ℕ} (rows : ℕ) → rows ≡ length sums / 8
       → walkedOf w (signed 8 newSums) ≡ passBy T (passesOver rule) (stateOf before (signed 8 sums)) ws → SumsKept rows sums newSums → w .number < 2 ^ 8 → ((i : ℕ) → getD newSums i 0 < 256)
       → newState ≡ stored (bytesIn (stateOf (w .state) [])) state
-      → Took list state sums c (Picked (w .taken % 2 ^ 24) (w .number) (placeOf (w .number) (w .past) % 2 ^ 32)) newState newSums
+      → TookKept list state sums c (Picked (w .taken % 2 ^ 24) (w .number) (placeOf (w .number) (w .past) % 2 ^ 32)) newState newSums
   unfolding fitting leftBy passedOf
   took {before} is w {newState} {newSums} rows all e kept low bytes new =
       let s : stateOf before (signed 8 sums) ≡ stateIn state sums = λ i. record { made = is .made i; held = is .held i; sums = signed 8 sums } in
@@ -97,9 +98,10 @@ module _ {list state sums : List ℕ} (f : Fine list state sums) (rule : Rule) (
       let answer : answerKept list state sums c ≡ passedOf (walkedOf w (signed 8 newSums)) = f .answers c ∙ rule-answer T (stateIn state sums) ws rule ∙ ap passedOf run in
       let after : afterPrepared list (stateIn state sums) c ≡ stateOf (w .state) (signed 8 newSums) = f .leaves c ∙ rule-after T (stateIn state sums) ws rule ∙ ap (λ (r : Passed State). r .state) run in
       record {
+        made = [];
         answers = sym (ap fitting answer);
         state-left = rw (answer, after) new;
         sums-left = rw (answer, after) (in-place rows sums newSums all kept (each-of-get IsByte newSums 0 bytes));
-        place-low = (λ k q p e. (let z : p ≡ placeOf (w .number) (w .past) % 2 ^ 32 = cc in omega arith), λ t q p b k e. absurd (let z : _≡_ {A = ℕ} 0 1 = cc in omega arith));
+        place-low = λ plain. (λ k q p e. (let z : p ≡ placeOf (w .number) (w .past) % 2 ^ 32 = cc in omega arith), λ t q p b k e. absurd (let z : _≡_ {A = ℕ} 0 1 = cc in omega arith));
         moves-low = (λ k q p e. (let x : k ≡ w .taken % 2 ^ 24 = cc in let y : q ≡ w .number = cc in (omega arith, omega (arith, low))), λ t q p b k e. absurd (let z : _≡_ {A = ℕ} 0 1 = cc in omega arith));
       }

@@ -30,7 +30,7 @@ ghost use Rattle.calls.specs.Performed.{asAnswer};
 ghost use Rattle.calls.specs.declared.Response.the-variants.{Picked};
 ghost use Rattle.answers.specs.code.Ran.{LowPlace};
 ghost use Rattle.rack.specs.Kept.{answerKept};
-ghost use Rattle.rack.specs.code.Taken.{refusalIn, takes, Took, Gave};
+ghost use Rattle.rack.specs.code.Taken.{refusalIn, takes, TookKept, GaveKept};
 
 // Why every call is refused: 26, 11, or 0 if none is.
 fn refusal_of(list: &[u8], state: &[u8], sums: &[u8]) -> u32
@@ -70,7 +70,7 @@ fn told(walked: Walked) -> Response
 
 // Takes the picks of a schedule.
 pub fn take(list: &[u8], state: &mut [u8], sums: &mut [u8], schedule: &[u8], rule: Rule) -> Response
-    ensures { λ r. ⌜ Took (now (list .entry)) (now (state .entry)) (now (sums .entry)) (takes rule (now (schedule .entry))) r (now (state .exit)) (now (sums .exit)) ⌝ }
+    ensures { λ r. ⌜ TookKept (now (list .entry)) (now (state .entry)) (now (sums .entry)) (takes rule (now (schedule .entry))) r (now (state .exit)) (now (sums .exit)) ⌝ }
 {
     let why = refusal_of(list, state, sums);
     if why != 0 {
@@ -110,7 +110,7 @@ pub fn ready(list: &[u8], state: &[u8], sums: &[u8]) -> Response
 
 // The forces of a finished run.
 pub fn forces(list: &[u8], state: &[u8], sums: &[u8], forces: &mut [u8]) -> Response
-    ensures { λ r. ⌜ Gave (now (list .entry)) (now (state .entry)) (now (sums .entry)) (now (forces .entry)) r (now (forces .exit)) ⌝ }
+    ensures { λ r. ⌜ GaveKept (now (list .entry)) (now (state .entry)) (now (sums .entry)) (now (forces .entry)) r (now (forces .exit)) ⌝ }
 {
     let why = refusal_of(list, state, sums);
     if why != 0 {

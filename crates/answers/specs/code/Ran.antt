@@ -1,26 +1,42 @@
 -- A call on a run in bytes before its answer is stored, and what the code needs to store it.
 use mathlib.Core.Path.{_≡_}
-use mathlib.Core.List.{List}
+use mathlib.Core.Bool.{cond}
+use mathlib.Core.List.{List, []}
 use Prim.Native.Nat.{ℕ, _/_, _^_, _≤_, _<_}
+use lib.Dec.{eqb}
 use lib.IntN.{ℤ}
 use lib.ListN.{length, take, drop}
 use Rattle.base.specs.Replies.{lent}
 use Rattle.matrix.specs.Matrix.{Matrix}
 use Rattle.run.specs.State.{State}
-use Rattle.run.specs.Calls.{afterLent}
+use Rattle.run.specs.Calls.{answerLent, afterLent}
 use Rattle.run.specs.Answers.{Call, picks, readySet, forceList, preview, rounds, Answer, picked, previewed}
 use Rattle.machine.specs.Record.{stateOf}
 use Rattle.machine.specs.declared.state.State as code
 use Rattle.calls.specs.Performed.{asAnswer}
 use Rattle.calls.specs.declared.Response.{Response}
 use Rattle.calls.specs.declared.Response.the-variants.{Picked, Forces, Previewed}
-use Rattle.words.specs.LittleEndian.{unsigned, signed}
-use Rattle.answers.specs.Runs.{stateBytes, countBytes, stateIn, answerIn, replyTo, forceBytes}
+use Rattle.words.specs.LittleEndian.{unsigned, signed, signedBytes}
+use Rattle.answers.specs.Runs.{stateBytes, countBytes, stateIn, answerIn, replyTo, forceBytes, bytesIn, leftBy}
 
 -- the record that 192 bytes stand for
 pub record StateIs (r : code.State) (bytes : List ℕ) : Type 0 where
   pub made : r .made ≡ unsigned 4 (take countBytes bytes)
   pub held : r .held ≡ signed 8 (drop countBytes bytes)
+
+-- the first `kept` numbers of an array are the sums beside a state, as far as it reaches; none, where the bytes are no
+-- state
+pub record SumsAre (state sums : List ℕ) (room kept : ℕ) (array : List ℤ) : Type 0 where
+  pub fit : kept ≤ length array
+  pub are : take kept array ≡ cond (eqb (length state) stateBytes) (take room (signed 8 sums)) []
+
+-- call c on a run whose state and sums are decoded: the code's answer, with the forces that it may have, the state
+-- after it, and the lent list after it
+pub record Called (m : Matrix) (x : List ℤ) (order groups : List ℕ) (count : ℕ) (s : State) (c : Call) (old : List ℕ) (answer : Response) (after : State) (left : List ℕ) : Type 0 where
+  pub made : List ℤ
+  pub answers : asAnswer answer made ≡ answerLent m x order groups count s c
+  pub leaves : after ≡ afterLent m x order groups count s c
+  pub lists : left ≡ lent (replyTo (asAnswer answer made)) (forceBytes (asAnswer answer made)) old
 
 -- picks that were taken leave state s: it is in the record and the first n numbers of
 -- `new`, there is room for it, and the moves made and the number fit a word of rounds
@@ -82,3 +98,29 @@ PicksFit n answer new state sums = (k q p : ℕ) → answer ≡ Picked k q p →
 -- forces have n places
 abbrev pub ForcesFit : (n : ℕ) → Response → (made : List ℤ) (forces : List ℕ) → Type 0
 ForcesFit n answer made forces = answer ≡ Forces → (n ≤ length made) × (n ≤ length forces / 8)
+
+-- ---- a call before its word is made, where told is the answer that its word says
+
+-- one that takes picks: the code's answer, whose parts fit a word, and the lent lists after it
+pub record Took (c : Call) (told a : Answer) (s : State) (state sums : List ℕ) (answer : Response) (newState newSums : List ℕ) : Type 0 where
+  pub made : List ℤ
+  pub answers : asAnswer answer made ≡ told
+  pub state-left : newState ≡ leftBy a (bytesIn s) state
+  pub sums-left : newSums ≡ leftBy a (signedBytes 8 (s .sums)) sums
+  pub place-low : Plain c → LowPlace answer
+  pub moves-low : LowMoves answer
+
+-- one that leaves state and sums: the code's answer, with the forces that it may have, and their lent list after it
+pub record Gave (c : Call) (told : Answer) (old : List ℕ) (answer : Response) (new : List ℕ) : Type 0 where
+  pub made : List ℤ
+  pub answers : asAnswer answer made ≡ told
+  pub lists : new ≡ lent (replyTo told) (forceBytes told) old
+  pub place-low : Plain c → LowPlace answer
+
+-- .. on a run whose lists are lent
+abbrev pub TookLent : Matrix → List ℤ → (order groups : List ℕ) (count : ℕ) (state sums : List ℕ) → Call → Response → (newState newSums : List ℕ) → Type 0
+TookLent m x order groups count state sums c =
+    Took c (answerIn m x order groups count state sums c) (answerIn m x order groups count state sums c) (afterLent m x order groups count (stateIn state sums) c) state sums
+
+abbrev pub GaveLent : Matrix → List ℤ → (order groups : List ℕ) (count : ℕ) (state sums : List ℕ) → Call → (old : List ℕ) → Response → (new : List ℕ) → Type 0
+GaveLent m x order groups count state sums c = Gave c (answerIn m x order groups count state sums c)

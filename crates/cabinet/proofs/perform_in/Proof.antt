@@ -1,13 +1,36 @@
--- `perform_in` meets its contract: the lists are decoded whole, or as far as a job can reach.
+-- `perform_in` meets its contract: columns and values are decoded whole, or as far as a job can reach.
 use borrow.Author.Needs.{needs}
-use Rattle.words.specs.LittleEndian.{number, signedNumber}
+use mathlib.Core.Path.{_≡_, sym}
+use mathlib.Core.Bool.{cond}
+use mathlib.Core.List.{List, []}
+use lib.Dec.{eqb}
+use lib.IntN.{ℤ}
+use lib.ListN.{length, take}
+use lib.Seq.{length-take-le}
+use Rattle.matrix.specs.code.Room.{maxStarts}
+use Rattle.words.specs.LittleEndian.{number, signedNumber, signed}
 use Rattle.lent.proofs.Whole.{few-whole}
+use Rattle.answers.specs.Runs.{stateBytes}
+use Rattle.answers.proofs.RunPicks.{ran}
 use Rattle.cabinet.proofs.perform_in.Statement.{statement}
 use Rattle.cabinet.proofs.perform_in.Tie as tie
 
--- from the question back to the function's entry
-abbrev start : tie.After-are-few → tie.Start
-start f = f .before .before .before .before .before .before .before .before .before .before .before
+-- from the decoded state back: the sums, the function's entry
+abbrev sums : tie.After-load-state → tie.After-load-sums
+sums l = l .before .before
+
+abbrev start : tie.After-load-state → tie.Start
+start l = sums l .before .before .before .before .before .before .before .before .before .before .before .before
+
+slice-aggregate-perform-on : tie.Need-slice-aggregate-perform-on
+slice-aggregate-perform-on c = sym (length-take-le _ _ (sums (c .before .before .before .before .before .before .before) .load-sums .ensures .fit))
+
+slice-aggregate-perform-on-2 : tie.Need-slice-aggregate-perform-on-2
+slice-aggregate-perform-on-2 c = sym (length-take-le _ _ (sums (c .before .before .before .before .before .before .before) .load-sums .ensures .fit))
+
+-- the sums that are lent on
+lent : (l : tie.After-load-state) → let a = start l .args in take (sums l .load-sums .result) (sums l .load-sums .last .1 .1 .0) ≡ cond (eqb (length (a .state .now)) stateBytes) (take maxStarts (signed 8 (a .sums .now))) []
+lent l = rw (start l .pre) at (sums l .load-sums .ensures .are)
 
 returns : tie.Need-returns
 returns c =
@@ -15,21 +38,27 @@ returns c =
     let values = p .before .before .before in
     let columns = values .before .before in
     let few = columns .before .before .before in
-    let a = start few .args in
+    let l = few .before in
+    let a = start l .args in
     let h = few .are-few .ensures (columns .before .before .if1 .taken) in
-    p .perform-on .ensures (a .columns .now) (a .values .now) (few-whole number (a .columns .now) (h .0) (columns .load-unsigned .ensures)) (few-whole (signedNumber 4) (a .values .now) (h .1) (values .load-signed .ensures))
+    ran _ _ _ _ _ _ (a .state .now) (a .sums .now) (l .load-state .result) (l .load-state .ensures) (lent l) _ (p .perform-on .kept .1 .1 .1 .1 .1 .1 .0)
+    (p .perform-on .ensures (a .columns .now) (a .values .now) (few-whole number (a .columns .now) (h .0) (columns .load-unsigned .ensures)) (few-whole (signedNumber 4) (a .values .now) (h .1) (values .load-signed .ensures)))
 
 returns-2 : tie.Need-returns-2
 returns-2 c =
     let p = c .before .before .before .before .before in
     let values = p .before .before .before in
     let columns = values .before .before in
-    let a = start (columns .before .before .before) .args in
-    p .perform-on2 .ensures (a .columns .now) (a .values .now) (columns .load-unsigned2 .ensures) (values .load-signed2 .ensures)
+    let l = columns .before .before .before .before in
+    let a = start l .args in
+    ran _ _ _ _ _ _ (a .state .now) (a .sums .now) (l .load-state .result) (l .load-state .ensures) (lent l) _ (p .perform-on2 .kept .1 .1 .1 .1 .1 .1 .0)
+    (p .perform-on2 .ensures (a .columns .now) (a .values .now) (columns .load-unsigned2 .ensures) (values .load-signed2 .ensures))
 
 pub perform-in-spec : {M : Type 1} → statement M
 perform-in-spec =
     tie.close
     (tie.spec (λ c. search needs) (λ c. search needs) (λ c. search needs) (λ c. search needs) (λ c. search needs)
-    (λ c. search needs) (λ c. search needs) (λ c. search needs) returns (λ c. search needs) (λ c. search needs)
-    (λ c. search needs) (λ c. search needs) (λ c. search needs) (λ c. search needs) (λ c. search needs) returns-2)
+    (λ c. search needs) (λ c. search needs) (λ c. search needs) slice-aggregate-perform-on (λ c. search needs)
+    (λ c. search needs) (λ c. search needs) returns (λ c. search needs) (λ c. search needs) (λ c. search needs)
+    (λ c. search needs) (λ c. search needs) slice-aggregate-perform-on-2 (λ c. search needs) (λ c. search needs)
+    (λ c. search needs) returns-2)

@@ -28,12 +28,6 @@ pub record CrewsAre (r : Crews) (bytes0 bytes1 : List ℕ) : Type 0 where
   pub is0 : length bytes0 ≡ stateBytes → StateIs (state0 r) bytes0
   pub is1 : length bytes1 ≡ stateBytes → StateIs (state1 r) bytes1
 
--- the first `kept` numbers of an array are the sums beside a state, as far as it reaches; none, where the bytes are no
--- state
-pub record SumsAre (state sums : List ℕ) (room kept : ℕ) (array : List ℤ) : Type 0 where
-  pub fit : kept ≤ length array
-  pub are : take kept array ≡ cond (eqb (length state) stateBytes) (take room (signed 8 sums)) []
-
 -- picks have states and sums to be stored over, and the place of their ending fits a word's low half
 pub record BothFit (n : ℕ) (answer : Response) (new0 new1 : List ℤ) (old : Two Bytes) : Type 0 where
   pub fit0 : PicksFit n answer new0 (old .of0 .state) (old .of0 .sums)

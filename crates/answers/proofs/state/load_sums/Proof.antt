@@ -5,9 +5,9 @@ use native.Mathlib.Omega.{arith}
 use lib.ListN.{length}
 use Rattle.words.specs.LittleEndian.{signedNumber}
 use Rattle.lent.proofs.Loads.{loaded-fits, loaded-is}
 use Rattle.answers.specs.Runs.{stateBytes}
-use Rattle.quarters.proofs.bytes.load_sums.Statement.{statement}
-use Rattle.quarters.proofs.bytes.load_sums.Tie as tie
+use Rattle.answers.proofs.state.load_sums.Statement.{statement}
+use Rattle.answers.proofs.state.load_sums.Tie as tie
 
 returns : tie.Need-returns
 returns c = let a = c .before .before .before .args in record { fit = omega arith; are = rw (ne-eqb (length (a .state .now)) stateBytes (λ e. omega (arith, e, c .if1 .taken))) }
