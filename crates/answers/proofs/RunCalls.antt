@@ -3,13 +3,13 @@ use mathlib.Core.Path.{_≡_, refl, ap, _∙_}
 use mathlib.Core.Logic.{_≢_}
 use mathlib.Core.Bool.{Bool, true, false, cond}
 use mathlib.Core.List.{List, [], _∷_}
-use Prim.Native.Nat.{ℕ, _*_, _≤_, min}
+use Prim.Native.Nat.{ℕ, _*_, _/_, _≤_, min}
 use native.Mathlib.Nat.{min-comm}
 use native.Mathlib.Omega.{arith}
 use lib.Dec.{eqb, leb}
 use lib.IntN.{ℤ}
 use lib.ListN.{length, take, drop}
-use lib.Seq.{take-all, length-take-le}
+use lib.Seq.{take-nil, take-all, length-take-le}
 use borrow.Author.Tests.{eqb-true, ne-eqb, leb-true, leb-false}
 use Rattle.base.specs.Refusals as why
 use Rattle.base.specs.Replies.{Check, inTurn}
@@ -24,7 +24,7 @@ use Rattle.plan.specs.Groups.{Plan, width, planOf}
 use Rattle.plan.specs.Sound.{maxGroups, isSound, isPlan, planCheck}
 use Rattle.plan.specs.code.Room.{maxFields}
 use Rattle.plan.proofs.Cut.{cut-lent, plan-kept}
-use Rattle.words.specs.LittleEndian.{unsigned, signed}
+use Rattle.words.specs.LittleEndian.{signedNumber, blocks, unsigned, signed, stored}
 use Rattle.run.specs.Job.{Job, jobOf}
 use Rattle.run.specs.Machine.{isState}
 use Rattle.run.specs.State.{State}
@@ -37,7 +37,7 @@ use Rattle.machine.specs.Record.{stateOf}
 use Rattle.machine.specs.declared.state.State as code
 use Rattle.answers.specs.Runs.{stateBytes, countBytes, stateIn, answerIn}
 use Rattle.answers.specs.code.Ran.{StateIs}
-use Rattle.lent.proofs.Loads.{plan-of-cut}
+use Rattle.lent.proofs.Loads.{loaded-fits, loaded-is, plan-of-cut}
 use Rattle.answers.proofs.CutJobs.{answer-same, after-same}
 
 -- ---- the lists of the job
@@ -162,6 +162,20 @@ module _ (m : Matrix) (x : List ℤ) (order groups : List ℕ) (count : ℕ) (c 
             → with (r .made) (r .held) zs ≡ cond b (answerLent m x order groups count (stateIn state sums) c) (inTurn denied (jobChecks m x order groups count) (denied why.notState 0))
         go true e ez = let d = is (eqb-true (length state) stateBytes e) in rw (d .made, d .held, ez) (sums-cut (unsigned 4 (take countBytes state)) (signed 8 (drop countBytes state)) (signed 8 sums))
         go false e ez = rw ez (none-lent (r .made) (r .held))
+
+-- the sums that are decoded into an array: those beside a state, as far as it reaches
+module _ (b : Bool) (sums bytes : List ℕ) (old : List ℤ) {count : ℕ} {array : List ℤ} (are : bytes ≡ cond b sums []) (long : length old ≡ maxStarts)
+    (e : count ≡ min (length bytes / 8) (length old)) (f : array ≡ stored (take count (signed 8 bytes)) old) where
+  pub sums-fit : count ≤ length array
+  sums-fit = loaded-fits (signedNumber 8) 8 bytes old e f
+
+  pub sums-decoded : take count array ≡ cond b (take maxStarts (signed 8 sums)) []
+  unfolding blocks
+  sums-decoded = loaded-is (signedNumber 8) 8 bytes old e f ∙ ap (λ (k : ℕ). take k (signed 8 bytes)) long ∙ ap (λ (l : List ℕ). take maxStarts (signed 8 l)) are ∙ go b
+    where
+      go : (t : Bool) → take maxStarts (signed 8 (cond t sums [])) ≡ cond t (take maxStarts (signed 8 sums)) []
+      go true = refl
+      go false = take-nil maxStarts
 
 -- a call that ends in a refusal is refused in any case
 pub always-refused : (cs : List Check) (q p : ℕ) → (number : ℕ) × (place : ℕ) × (inTurn denied cs (denied q p) ≡ denied number place)

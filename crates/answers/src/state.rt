@@ -6,11 +6,13 @@ use words::load::load_u32;
 use words::store::store_i64;
 use words::store::store_u32;
 ghost use mathlib.Core.Path.{_≡_};
-ghost use mathlib.Core.List.{_++_};
+ghost use mathlib.Core.Bool.{cond};
+ghost use mathlib.Core.List.{[], _++_};
+ghost use lib.Dec.{eqb};
 ghost use lib.ListN.{length};
 ghost use Rattle.words.specs.LittleEndian.{unsignedBytes, signedBytes, stored};
 ghost use Rattle.answers.specs.Runs.{stateBytes};
-ghost use Rattle.answers.specs.code.Ran.{StateIs, SumsAre};
+ghost use Rattle.answers.specs.code.Ran.{StateIs};
 
 // "a state is 192 bytes": each worker's count, then what it holds.
 const COUNT_BYTES: usize = 4 * MAX_WORKERS;
@@ -34,14 +36,14 @@ pub fn load_state(bytes: &[u8]) -> State
     }
 }
 
-// How many sums are lent on: none where the bytes are no state, so that it is refused as one without n sums.
-pub fn load_sums(state: &[u8], sums: &[u8], new: &mut [i64]) -> usize
-    ensures { λ r. ⌜ SumsAre (now (state .entry)) (now (sums .entry)) (length (now (new .entry))) r (now (new .exit)) ⌝ }
+// The sums beside a state: none where the bytes are no state, so that it is refused as one without n sums.
+pub fn sums_of<'a>(state: &[u8], sums: &'a [u8]) -> &'a [u8]
+    ensures { λ r. ⌜ now r ≡ cond (eqb (length (now (state .entry))) stateBytes) (now (sums .entry)) [] ⌝ }
 {
     if state.len() != STATE_BYTES {
-        return 0;
+        return &sums[..0];
     }
-    load_i64(sums, new)
+    sums
 }
 
 pub fn store_state(state: State, bytes: &mut [u8])

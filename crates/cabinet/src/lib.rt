@@ -1,6 +1,6 @@
 // A call on a run whose lists stand in bytes: numbers are decoded into arrays, the proved call is made.
 use answers::state::load_state;
-use answers::state::load_sums;
+use answers::state::sums_of;
 use answers::stored::store_forces;
 use answers::stored::store_picks;
 use base::numbers::least;
@@ -17,8 +17,9 @@ use matrix::limits::MAX_CELLS;
 use matrix::limits::MAX_ROWS;
 use matrix::limits::MAX_STARTS;
 use plan::fields::MAX_FIELDS;
+use words::load::load_i64;
 ghost use mathlib.Core.Path.{_≡_};
-ghost use mathlib.Core.List.{List, []};
+ghost use mathlib.Core.List.{List};
 ghost use Prim.Native.Nat.{ℕ, _/_};
 ghost use lib.ListN.{length, take};
 ghost use Rattle.matrix.specs.code.Room.{maxStarts, maxCells};
@@ -104,7 +105,7 @@ fn perform_in(
     ensures { λ r. ⌜ RanLent (matrixIn n (now («row_starts» .entry)) (now (columns .entry)) (now (values .entry))) (signed 4 (now (movements .entry))) (unsigned 4 (now (order .entry))) (unsigned 4 (now (groups .entry))) «group_count»
         (now (state .entry)) (now (sums .entry)) (now (forces .entry)) (asCall call (now (schedule .entry)) (length (now (forces .entry)) / 8)) (r .answer) (r .state) (now (new .exit)) (now (forces .exit)) ⌝ }
 {
-    let kept = load_sums(state, sums, new);
+    let kept = load_i64(sums_of(state, sums), new);
     let asked = Asked {
         n: n,
         group_count: group_count,

@@ -1,4 +1,6 @@
 // The calls for two crews on one set of cores.
+use answers::state::sums_of;
+use quarters::bytes::load_crews;
 use quarters::picks_both_in;
 use quarters::ready_both_in;
 ghost use mathlib.Core.Path.{_≡_};
@@ -82,9 +84,8 @@ pub extern "C" fn mzk_ready_both(
         order,
         groups,
         group_count,
-        state0,
-        sums0,
-        state1,
-        sums1,
+        load_crews(state0, state1),
+        sums_of(state0, sums0),
+        sums_of(state1, sums1),
     )
 }

@@ -6,8 +6,8 @@ use mathlib.Core.List.{List, [], _++_}
 use Prim.Native.Nat.{ℕ, _/_, _^_, _≤_, _<_}
 use native.Mathlib.Omega.{arith}
 use lib.Dec.{eqb, leb}
-use lib.IntN.{ℤ}
-use lib.ListN.{length, take, drop, length-append, length-drop}
+use lib.IntN.{ℤ, pos}
+use lib.ListN.{length, take, drop, replicate, length-append, length-drop}
 use lib.Seq.{take-at, take-all, length-take-le}
 use borrow.Author.Tests.{eqb-true, eq-eqb, leb-true, leb-false}
 use Rattle.base.specs.Refusals as why
@@ -310,6 +310,10 @@ stored-left r zs s old e f = rw (e, f) (go r)
     go Forces = refl
     go (Refused q p) = refl
     go (Previewed t q p v k) = refl
+
+-- the array that they are decoded into
+abbrev pub zeros : List ℤ
+zeros = replicate maxStarts (pos 0)
 
 -- an array of which the first numbers were lent on keeps its length
 pub array-length : (part array : List ℤ) (k : ℕ) → k ≤ length array → length part ≡ length (take k array) → length (part ++ drop k array) ≡ length array

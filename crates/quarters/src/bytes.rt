@@ -14,7 +14,7 @@ ghost use Rattle.quarters.specs.Both.{PicksBothAnswered};
 ghost use Rattle.quarters.specs.code.Loaded.{CrewsAre, BothFit};
 
 // Where bytes are no state, a fresh one stands in.
-pub(crate) fn load_crews(state0: &[u8], state1: &[u8]) -> Crews
+pub fn load_crews(state0: &[u8], state1: &[u8]) -> Crews
     ensures { λ r. ⌜ CrewsAre r (now (state0 .entry)) (now (state1 .entry)) ⌝ }
 {
     let first = load_state(state0);

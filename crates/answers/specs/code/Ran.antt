@@ -1,9 +1,7 @@
 -- A call on a run in bytes before its answer is stored, and what the code needs to store it.
 use mathlib.Core.Path.{_≡_}
-use mathlib.Core.Bool.{cond}
-use mathlib.Core.List.{List, []}
+use mathlib.Core.List.{List}
 use Prim.Native.Nat.{ℕ, _/_, _^_, _≤_, _<_}
-use lib.Dec.{eqb}
 use lib.IntN.{ℤ}
 use lib.ListN.{length, take, drop}
 use Rattle.base.specs.Replies.{lent}
@@ -23,12 +21,6 @@ use Rattle.answers.specs.Runs.{stateBytes, countBytes, stateIn, answerIn
 pub record StateIs (r : code.State) (bytes : List ℕ) : Type 0 where
   pub made : r .made ≡ unsigned 4 (take countBytes bytes)
   pub held : r .held ≡ signed 8 (drop countBytes bytes)
-
--- the first `kept` numbers of an array are the sums beside a state, as far as it reaches; none, where the bytes are no
--- state
-pub record SumsAre (state sums : List ℕ) (room kept : ℕ) (array : List ℤ) : Type 0 where
-  pub fit : kept ≤ length array
-  pub are : take kept array ≡ cond (eqb (length state) stateBytes) (take room (signed 8 sums)) []
 
 -- call c on a run whose state and sums are decoded: the code's answer, with the forces that it may have, the state
 -- after it, and the lent list after it

@@ -3,6 +3,7 @@ use borrow.Author.Needs.{needs}
 use mathlib.Core.Path.{_≡_, sym}
 use mathlib.Core.Bool.{cond}
 use mathlib.Core.List.{List, []}
+use Prim.Native.Nat.{_≤_}
 use lib.Dec.{eqb}
 use lib.IntN.{ℤ}
 use lib.ListN.{length, take}
@@ -11,26 +12,37 @@ use Rattle.matrix.specs.code.Room.{maxStarts}
 use Rattle.words.specs.LittleEndian.{number, signedNumber, signed}
 use Rattle.lent.proofs.Whole.{few-whole}
 use Rattle.answers.specs.Runs.{stateBytes}
+use Rattle.answers.proofs.RunCalls.{sums-fit, sums-decoded}
 use Rattle.answers.proofs.RunPicks.{ran}
 use Rattle.cabinet.proofs.perform_in.Statement.{statement}
 use Rattle.cabinet.proofs.perform_in.Tie as tie
 
--- from the decoded state back: the sums, the function's entry
-abbrev sums : tie.After-load-state → tie.After-load-sums
+-- from the decoded state back: the decoded sums, their bytes, the function's entry
+abbrev sums : tie.After-load-state → tie.After-load-i64
 sums l = l .before .before
 
+abbrev bytes : tie.After-load-state → tie.After-sums-of
+bytes l = sums l .before .before
+
 abbrev start : tie.After-load-state → tie.Start
-start l = sums l .before .before .before .before .before .before .before .before .before .before .before .before
+start l = bytes l .before .before .before .before .before .before .before .before .before .before .before
+
+-- the array of sums
+abbrev array : tie.After-load-state → List ℤ
+array l = sums l .load-i64 .last .1 .0
+
+fits : (l : tie.After-load-state) → sums l .load-i64 .result ≤ length (array l)
+fits l = let a = start l .args in let e = sums l .load-i64 .ensures in sums-fit (eqb (length (a .state .now)) stateBytes) (a .sums .now) _ (a .new .now) (bytes l .sums-of .ensures) (start l .pre) (e .0) (e .1)
 
 slice-aggregate-perform-on : tie.Need-slice-aggregate-perform-on
-slice-aggregate-perform-on c = sym (length-take-le _ _ (sums (c .before .before .before .before .before .before .before) .load-sums .ensures .fit))
+slice-aggregate-perform-on c = sym (length-take-le _ _ (fits (c .before .before .before .before .before .before .before)))
 
 slice-aggregate-perform-on-2 : tie.Need-slice-aggregate-perform-on-2
-slice-aggregate-perform-on-2 c = sym (length-take-le _ _ (sums (c .before .before .before .before .before .before .before) .load-sums .ensures .fit))
+slice-aggregate-perform-on-2 c = sym (length-take-le _ _ (fits (c .before .before .before .before .before .before .before)))
 
 -- the sums that are lent on
-lent : (l : tie.After-load-state) → let a = start l .args in take (sums l .load-sums .result) (sums l .load-sums .last .1 .1 .0) ≡ cond (eqb (length (a .state .now)) stateBytes) (take maxStarts (signed 8 (a .sums .now))) []
-lent l = rw (start l .pre) at (sums l .load-sums .ensures .are)
+lent : (l : tie.After-load-state) → let a = start l .args in take (sums l .load-i64 .result) (array l) ≡ cond (eqb (length (a .state .now)) stateBytes) (take maxStarts (signed 8 (a .sums .now))) []
+lent l = let a = start l .args in let e = sums l .load-i64 .ensures in sums-decoded (eqb (length (a .state .now)) stateBytes) (a .sums .now) _ (a .new .now) (bytes l .sums-of .ensures) (start l .pre) (e .0) (e .1)
 
 returns : tie.Need-returns
 returns c =
@@ -58,7 +70,7 @@ pub perform-in-spec : {M : Type 1} → statement M
 perform-in-spec =
     tie.close
     (tie.spec (λ c. search needs) (λ c. search needs) (λ c. search needs) (λ c. search needs) (λ c. search needs)
-    (λ c. search needs) (λ c. search needs) (λ c. search needs) slice-aggregate-perform-on (λ c. search needs)
+    (λ c. search needs) (λ c. search needs) (λ c. search needs) (λ c. fits (c .before .before .before .before .before .before)) slice-aggregate-perform-on (λ c. search needs)
     (λ c. search needs) (λ c. search needs) returns (λ c. search needs) (λ c. search needs) (λ c. search needs)
-    (λ c. search needs) (λ c. search needs) slice-aggregate-perform-on-2 (λ c. search needs) (λ c. search needs)
+    (λ c. search needs) (λ c. fits (c .before .before .before .before .before .before)) slice-aggregate-perform-on-2 (λ c. search needs) (λ c. search needs)
     (λ c. search needs) returns-2)
