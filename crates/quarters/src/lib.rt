@@ -52,6 +52,8 @@ pub fn picks_both_in(
         (record { of0 = record { state = now (state0 .entry); sums = now (sums0 .entry) }; of1 = record { state = now (state1 .entry); sums = now (sums1 .entry) } }) r
         (record { of0 = record { state = now (state0 .exit); sums = now (sums0 .exit) }; of1 = record { state = now (state1 .exit); sums = now (sums1 .exit) } }) ⌝ }
 {
+    let mut new0 = [0i64; MAX_STARTS];
+    let mut new1 = [0i64; MAX_STARTS];
     let mut starts = [0u32; MAX_STARTS];
     let mut column_list = [0u32; MAX_CELLS];
     let mut value_list = [0i32; MAX_CELLS];
@@ -59,8 +61,6 @@ pub fn picks_both_in(
     let mut displacements1 = [0i32; MAX_STARTS];
     let mut order_list = [0u32; MAX_ROWS];
     let mut group_list = [0u32; MAX_FIELDS];
-    let mut new0 = [0i64; MAX_STARTS];
-    let mut new1 = [0i64; MAX_STARTS];
     let kept0 = load_i64(sums_of(state0, sums0), &mut new0);
     let kept1 = load_i64(sums_of(state1, sums1), &mut new1);
     let crews = load_crews(state0, state1);
