@@ -25,18 +25,31 @@ fn touch(marks: &mut [u32; MAX_ROWS], z: usize, low: u32, mine: u32) -> bool
     true
 }
 
-// So do the rows of a list.
+// So does the row at j of a list.
+fn touch_at(marks: &mut [u32; MAX_ROWS], rows: &[u32], j: usize, low: u32, mine: u32) -> bool
+    requires { ⌜ (length (now marks) ≡ maxRows) × (j < length (now rows)) × (getD (now rows) j 0 < maxRows) ⌝ }
+    ensures { λ r. ⌜ Touched low mine (getD (now (rows .entry)) j 0 ∷ []) (now (marks .entry)) (now (marks .exit)) r ⌝ }
+{
+    touch(marks, wide_at(rows, j), low, mine)
+}
+
+// So do the rows of a list, two a turn: a turn for each is slower where the linker puts it across a line of the cache.
 pub fn touch_all(marks: &mut [u32; MAX_ROWS], rows: &[u32], low: u32, mine: u32) -> bool
     requires { ⌜ (length (now marks) ≡ maxRows) × ((j : ℕ) → j < length (now rows) → getD (now rows) j 0 < maxRows) ⌝ }
     ensures { λ r. ⌜ Touched low mine (now (rows .entry)) (now (marks .entry)) (now (marks .exit)) r ⌝ }
 {
     let mut j = 0;
-    while j < rows.len() {
-        let z = wide_at(rows, j);
-        if !touch(marks, z, low, mine) {
+    while j + 1 < rows.len() {
+        if !touch_at(marks, rows, j, low, mine) {
             return false;
         }
-        j += 1;
+        if !touch_at(marks, rows, j + 1, low, mine) {
+            return false;
+        }
+        j += 2;
+    }
+    if j < rows.len() {
+        return touch_at(marks, rows, j, low, mine);
     }
     true
 }
