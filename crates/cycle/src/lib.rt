@@ -1,5 +1,5 @@
 // The group planner and the pair planner, which call each other. The rows' degrees stand in keys, as the sort takes
-// them.
+// them; list, tried and queue are what it works in, the same for every group.
 use extents::Policy;
 use extents::cut;
 use extents::next_extent;
@@ -15,12 +15,13 @@ ghost use mathlib.Core.Path.{_≡_};
 ghost use Prim.Native.Nat.{ℕ, _+_, _-_, _*_, _<_, _≤_};
 ghost use lib.ListN.{length, take, getD};
 ghost use Rattle.base.specs.Lists.{sum};
+ghost use Rattle.matrix.specs.Limits.{maxRows};
 ghost use Rattle.levels.specs.code.Rows.{adjOf};
 ghost use Rattle.extents.specs.Extents.{extent, cut};
 ghost use Rattle.race.specs.Planner.{planGroup};
 ghost use Rattle.extents.specs.code.Scans.{policyOf, Scale};
 ghost use Rattle.loads.specs.code.Stretches.{levelsIn};
-ghost use Rattle.sort.specs.code.Sort.{Keyed};
+ghost use Rattle.sort.specs.code.Sort.{Keyed, Room};
 ghost use Rattle.plan.specs.Groups.{groupOf};
 ghost use Rattle.cycle.specs.code.Records.{Holds};
 ghost use Rattle.cycle.specs.code.Cycle.{redGroup, blueGroup, leftAfter, Fits, GroupTask, PairsTask, pairsPlan};
@@ -41,6 +42,12 @@ pub struct Left {
     pub first: u32,
     pub free: u32,
     pub index: u32,
+}
+
+// A group that is split, and what is left of it.
+pub struct Rest {
+    pub up: Parent,
+    pub left: Left,
 }
 
 // A pair: how many levels and workers it takes, how many of its rows are red, and how many it has.
@@ -125,15 +132,18 @@ pub fn plan_group(
     keys: &[u32; MAX_ROWS],
     order: &mut [u32],
     records: &mut [u32],
+    list: &mut [u32],
+    tried: &mut [u32],
+    queue: &mut [u32; MAX_ROWS],
     n: usize,
     policy: Policy,
     stages: u32,
     index: u32,
     g: Group,
 ) -> u32
-    requires { ⌜ GroupTask n (policyOf policy) stages index (now starts) (now columns) (now order) (now records) g × Keyed (adjOf n (now starts) (now columns)) n (now keys) ⌝ }
+    requires { ⌜ GroupTask n (policyOf policy) stages index (now starts) (now columns) (now order) (now records) g × Keyed (adjOf n (now starts) (now columns)) n (now keys) × Room n (now list) (now tried) (now queue) ⌝ }
     ensures { λ r. ⌜ Holds (planGroup (adjOf n (now (starts .entry)) (now (columns .entry))) n (policyOf policy) stages index (groupOf g) (now (order .entry)))
-        index (now (records .entry)) (now (order .exit)) (now (records .exit)) r ⌝ }
+        index (now (records .entry)) (now (order .exit)) (now (records .exit)) r × (length (now (queue .exit)) ≡ maxRows) ⌝ }
 {
     put(records, index as usize, g);
     if stages == 0 {
@@ -144,7 +154,19 @@ pub fn plan_group(
     }
     let mut ends = [0u32; MAX_LEVELS];
     let reach = policy.reach;
-    let m = level_sort(starts, columns, keys, order, &mut ends, n, reach, 2 * reach);
+    let m = level_sort(
+        starts,
+        columns,
+        keys,
+        order,
+        &mut ends,
+        list,
+        tried,
+        queue,
+        n,
+        reach,
+        2 * reach,
+    );
     if m < 2 * reach {
         return index + 1;
     }
@@ -171,11 +193,13 @@ pub fn plan_group(
         &ends[..m],
         &loads[..m],
         records,
+        list,
+        tried,
+        queue,
         n,
         policy,
         stages - 1,
-        up,
-        left,
+        Rest { up: up, left: left },
     )
 }
 
@@ -188,16 +212,20 @@ fn plan_pairs(
     ends: &[u32],
     loads: &[u32],
     records: &mut [u32],
+    list: &mut [u32],
+    tried: &mut [u32],
+    queue: &mut [u32; MAX_ROWS],
     n: usize,
     policy: Policy,
     stages: u32,
-    up: Parent,
-    left: Left,
+    rest: Rest,
 ) -> u32
-    requires { ⌜ PairsTask n (policyOf policy) stages (now starts) (now columns) (now order) (now ends) (now loads) (now records) up left (levelsIn (left .done) (now ends) (now order)) × Keyed (adjOf n (now starts) (now columns)) n (now keys) ⌝ }
-    ensures { λ r. ⌜ Holds (pairsPlan (adjOf n (now (starts .entry)) (now (columns .entry))) n (policyOf policy) stages up left (levelsIn (left .done) (now (ends .entry)) (now (order .entry))))
-        (left .index) (now (records .entry)) (now (order .exit)) (now (records .exit)) r ⌝ }
+    requires { ⌜ PairsTask n (policyOf policy) stages (now starts) (now columns) (now order) (now ends) (now loads) (now records) (rest .up) (rest .left) (levelsIn (rest .left .done) (now ends) (now order)) × Keyed (adjOf n (now starts) (now columns)) n (now keys) × Room n (now list) (now tried) (now queue) ⌝ }
+    ensures { λ r. ⌜ Holds (pairsPlan (adjOf n (now (starts .entry)) (now (columns .entry))) n (policyOf policy) stages (rest .up) (rest .left) (levelsIn (rest .left .done) (now (ends .entry)) (now (order .entry))))
+        (rest .left .index) (now (records .entry)) (now (order .exit)) (now (records .exit)) r × (length (now (queue .exit)) ≡ maxRows) ⌝ }
 {
+    let up = rest.up;
+    let left = rest.left;
     let pair = next_pair(ends, loads, policy, up, left);
     let red = red_of(up, left, pair);
     let blue = blue_of(up, left, pair);
@@ -210,6 +238,9 @@ fn plan_pairs(
         keys,
         &mut order[..a],
         records,
+        list,
+        tried,
+        queue,
         n,
         policy,
         stages,
@@ -222,6 +253,9 @@ fn plan_pairs(
         keys,
         &mut order[a..b],
         records,
+        list,
+        tried,
+        queue,
         n,
         policy,
         stages,
@@ -231,7 +265,7 @@ fn plan_pairs(
     if levels == ends.len() {
         return j;
     }
-    let rest = after(up, left, pair, j);
+    let next = after(up, left, pair, j);
     plan_pairs(
         starts,
         columns,
@@ -240,10 +274,12 @@ fn plan_pairs(
         &ends[levels..],
         &loads[levels..],
         records,
+        list,
+        tried,
+        queue,
         n,
         policy,
         stages,
-        up,
-        rest,
+        Rest { up: up, left: next },
     )
 }

@@ -19,7 +19,7 @@ ghost use Rattle.plan.specs.Sound.{maxWorkers, maxGroups, maxDistance};
 ghost use Rattle.extents.specs.code.Scans.{policyOf};
 ghost use Rattle.race.specs.Planner.{planRows};
 ghost use Rattle.cycle.specs.code.Records.{Holds};
-ghost use Rattle.sort.specs.code.Sort.{Keyed};
+ghost use Rattle.sort.specs.code.Sort.{Keyed, Room};
 ghost use Rattle.matrix.specs.Limits.{maxRows};
 
 // A group at depth 0 may be split so often.
@@ -43,14 +43,29 @@ fn sort_rows(
     columns: &[u32],
     keys: &[u32; MAX_ROWS],
     order: &mut [u32],
+    list: &mut [u32],
+    tried: &mut [u32],
+    queue: &mut [u32; MAX_ROWS],
     n: usize,
     reach: usize,
 )
-    requires { ⌜ Rows n (now starts) (now columns) × Keyed (adjOf n (now starts) (now columns)) n (now keys) × (now order ≡ range 0 n) × (1 ≤ reach) ⌝ }
+    requires { ⌜ Rows n (now starts) (now columns) × Keyed (adjOf n (now starts) (now columns)) n (now keys) × (now order ≡ range 0 n) × Room n (now list) (now tried) (now queue) × (1 ≤ reach) ⌝ }
     ensures { λ _. ⌜ now (order .exit) ≡ concat (ownLevels (adjOf n (now (starts .entry)) (now (columns .entry))) reach n (range 0 n)) ⌝ }
 {
     let mut ends = [0u32; MAX_LEVELS];
-    level_sort(starts, columns, keys, order, &mut ends, n, reach, 0);
+    level_sort(
+        starts,
+        columns,
+        keys,
+        order,
+        &mut ends,
+        list,
+        tried,
+        queue,
+        n,
+        reach,
+        0,
+    );
 }
 
 // The plan of all rows; the answer is how many groups it has. If it is one, the whole is a leaf, and its rows are still
@@ -79,12 +94,18 @@ pub fn plan_rows(
         parent: 0,
         depth: 0,
     };
+    let mut list = [0u32; MAX_ROWS];
+    let mut tried = [0u32; MAX_ROWS];
+    let mut queue = [0u32; MAX_ROWS];
     let count = plan_group(
         starts,
         columns,
         &keys,
         order,
         records,
+        &mut list,
+        &mut tried,
+        &mut queue,
         n,
         policy,
         STAGES,
@@ -92,7 +113,17 @@ pub fn plan_rows(
         whole,
     );
     if count == 1 {
-        sort_rows(starts, columns, &keys, order, n, policy.reach);
+        sort_rows(
+            starts,
+            columns,
+            &keys,
+            order,
+            &mut list,
+            &mut tried,
+            &mut queue,
+            n,
+            policy.reach,
+        );
     }
     count
 }

@@ -43,7 +43,7 @@ returns : tie.Need-returns Inv-loop μ-loop
 returns c =
     let a = c .before .before .before .before .before in
     let l = c .before .loop in
-    levelled (a .args .marks .now) (a .pre .1) (omega arith) (l .inv .0) (l .inv .1) (a .pre .4) (roots-below (a .pre .1))
+    (levelled (a .args .marks .now) (a .pre .1) (omega arith) (l .inv .0) (l .inv .1) (a .pre .4) (roots-below (a .pre .1)), l .inv .0 .frontier .ready .queue-long)
 
 pub components-spec : {M : Type 1} → statement M
 components-spec =

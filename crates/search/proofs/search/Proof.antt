@@ -8,7 +8,7 @@ use Rattle.search.proofs.search.Statement.{statement}
 use Rattle.search.proofs.search.Tie as tie
 
 mark-region-requires : tie.Need-mark-region-requires
-mark-region-requires c κs = let a = c .before .before .before .before .before in (a .pre .0, a .pre .2, refl, a .pre .1 .below, a .pre .3, a .pre .4, a .pre .5)
+mark-region-requires c κs = let a = c .before .before .before .before .before in (a .pre .0, a .pre .2, a .pre .3, a .pre .1 .below, a .pre .4, a .pre .5, a .pre .6)
 
 components-requires : tie.Need-components-requires
 components-requires c κs =
