@@ -1,4 +1,5 @@
 // Numbers loaded from bytes: as many as both lists hold. The rest of the list of numbers is unchanged.
+// Those of 32 bits are loaded two a turn: a loop of one becomes a call of memcpy, which is slow for some addresses.
 use crate::number::read_u32;
 use crate::number::read_u64;
 use crate::signs::to_i32;
@@ -14,9 +15,13 @@ pub fn load_u32(bytes: &[u8], out: &mut [u32]) -> usize
 {
     let count = least(bytes.len() / 4, out.len());
     let mut k = 0;
-    while k < count {
+    while k + 1 < count {
         out[k] = read_u32(bytes, k * 4);
-        k += 1;
+        out[k + 1] = read_u32(bytes, (k + 1) * 4);
+        k += 2;
+    }
+    if k < count {
+        out[k] = read_u32(bytes, k * 4);
     }
     count
 }
@@ -26,9 +31,13 @@ pub fn load_i32(bytes: &[u8], out: &mut [i32]) -> usize
 {
     let count = least(bytes.len() / 4, out.len());
     let mut k = 0;
-    while k < count {
+    while k + 1 < count {
         out[k] = to_i32(read_u32(bytes, k * 4));
-        k += 1;
+        out[k + 1] = to_i32(read_u32(bytes, (k + 1) * 4));
+        k += 2;
+    }
+    if k < count {
+        out[k] = to_i32(read_u32(bytes, k * 4));
     }
     count
 }
