@@ -20,7 +20,7 @@ use Rattle.upper.specs.code.Upper.{upperOf}
 use Rattle.upper.specs.code.Row.{Part, Kept}
 use Rattle.upper.proofs.UpperRows.{upper-few}
 use Rattle.steps.specs.code.Steps.{placeNext}
-use Rattle.ahead.specs.code.Ahead.{Indexed, PartBefore, PartsOf, With, Reached}
+use Rattle.ahead.specs.code.Ahead.{Indexed, PartBefore, PartsOf, With, PartsAhead}
 
 -- ---- one row
 
@@ -161,7 +161,7 @@ module _ {m : Matrix} {order first row made : List ℕ} {picks : ℕ} where
   pub serving-start : {parts at : List ℕ} {beside : List ℤ} → PartsOf m order (λ q. false) 0 parts at beside → Serving m order first row made picks 0 0 parts at beside
   serving-start h = record { rows = λ q. false; reached = workers-none; laid = h }
 
-  pub serving-done : {next : ℕ} {parts at : List ℕ} {beside : List ℤ} → Serving m order first row made picks maxWorkers next parts at beside → Reached m order first row made picks parts at beside
+  pub serving-done : {next : ℕ} {parts at : List ℕ} {beside : List ℤ} → Serving m order first row made picks maxWorkers next parts at beside → PartsAhead m order first row made picks parts at beside
   serving-done s = record {
     at-low = s .laid .at-low;
     room = s .laid .room;

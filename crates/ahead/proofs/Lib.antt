@@ -1,2 +1,2 @@
 pub mod AheadRows
-pub mod ReachedSteps
+pub mod StepsAhead

@@ -15,7 +15,7 @@ ghost use lib.Dec.{eqb};
 ghost use lib.ListN.{length, getD, take};
 ghost use Rattle.matrix.specs.Matrix.{matrixOf};
 ghost use Rattle.tables.specs.code.Laid.{maxUpdates, Bounded};
-ghost use Rattle.ahead.specs.code.Ahead.{Indexed, PartsOf, With, Reached};
+ghost use Rattle.ahead.specs.code.Ahead.{Indexed, PartsOf, With, PartsAhead};
 
 // Lays the part of the row at p from a place on: the place after it, or one past all places if there is no room.
 fn lay_part(
@@ -134,7 +134,7 @@ pub fn lay_ahead(
     ensures { λ r. ⌜ (r ≡ true → (n : ℕ) → Indexed n (now (starts .entry)) (now (columns .entry)) (now (values .entry)) (now (order .entry)) (now (position .entry)) (now (sizes .entry))
         → ((k : ℕ) → getD (now (row .entry)) k 0 < n)
         → PartsOf (matrixOf n (now (starts .entry)) (now (columns .entry)) (now (values .entry))) (take n (now (order .entry))) (λ q. false) 0 (now (parts .entry)) (now (at .entry)) (now (beside .entry))
-        → Reached (matrixOf n (now (starts .entry)) (now (columns .entry)) (now (values .entry))) (take n (now (order .entry))) (now (first .entry)) (now (row .entry)) (now (made .entry)) picks
+        → PartsAhead (matrixOf n (now (starts .entry)) (now (columns .entry)) (now (values .entry))) (take n (now (order .entry))) (now (first .entry)) (now (row .entry)) (now (made .entry)) picks
         (now (parts .exit)) (now (at .exit)) (now (beside .exit))) ⌝ }
 {
     let mut next = 0;

@@ -30,7 +30,7 @@ ghost use Rattle.run.specs.Job.{Job, jobOf, Accepted};
 ghost use Rattle.run.specs.Machine.{isState};
 ghost use Rattle.tables.specs.code.Laid.{Laid};
 ghost use Rattle.waits.specs.code.Waits.{Recorded};
-ghost use Rattle.steps.specs.code.Steps.{StepTables, Ahead};
+ghost use Rattle.steps.specs.code.Steps.{StepTables, UpdatesAhead};
 ghost use Rattle.layout.specs.code.UpdateTable.{Given};
 ghost use Rattle.machine.specs.Record.{stateOf};
 ghost use Rattle.calls.specs.Performed.{asAnswer};
@@ -98,7 +98,7 @@ pub(crate) fn take(
         × StepTables (length (now sums)) (now first) (now row) (now begins) (now parts) (now leaves) (now at) (now beside) ⌝ }
     ensures { λ r. ⌜ ((j : Job) (zs : List ℤ) → Accepted j → j .plan .groups ≡ records (length (now (groups .entry)) / width) (now (groups .entry))
         → Laid j (now (first .entry)) (now (row .entry)) (now (begins .entry)) (now (leaves .entry)) (now (ends .entry))
-        → Ahead j (state .made) (length (now (schedule .entry))) (now (first .entry)) (now (row .entry)) (now (begins .entry)) (now (parts .entry)) (now (displaced .entry)) (now (at .entry)) (now (beside .entry))
+        → UpdatesAhead j (state .made) (length (now (schedule .entry))) (now (first .entry)) (now (row .entry)) (now (begins .entry)) (now (parts .entry)) (now (displaced .entry)) (now (at .entry)) (now (beside .entry))
         → isState j (stateOf state (now (sums .entry))) ≡ true
         → Taken j (stateOf state (now (sums .entry))) call (now (schedule .entry)) (asAnswer (r .answer) zs) (stateOf (r .state) (now (sums .exit)))) ⌝ }
 {

@@ -60,7 +60,7 @@ pub(crate) fn is_short(n: usize, starts: &[u32], picks: usize) -> bool
     are_narrow(n, starts)
 }
 
-// What the picks come to, if there is room for the rows.
+// Whether there is room for the rows, and what the picks come to if there is.
 pub struct Tried {
     pub fits: bool,
     pub done: Done,

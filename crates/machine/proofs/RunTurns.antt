@@ -21,7 +21,7 @@ use Rattle.run.specs.Machine.{refusal, halted, onward, stepIf, step}
 use Rattle.run.specs.State.{State}
 use Rattle.tables.specs.code.Laid.{maxUpdates, updatesIn, Laid, Waits}
 use Rattle.waits.specs.code.Waits.{Recorded, Current}
-use Rattle.steps.specs.code.Steps.{updateNext, reasonAt, outcomeOf, StepTables, Ahead, PickMade}
+use Rattle.steps.specs.code.Steps.{updateNext, reasonAt, outcomeOf, StepTables, UpdatesAhead, PickMade}
 use Rattle.steps.specs.code.AtHand.{AtHand, Entered, AccessMade}
 use Rattle.machine.specs.code.Stepped.{passesOver, walk}
 use Rattle.machine.specs.declared.state.Rule.{Rule}
@@ -91,7 +91,7 @@ module _ (T : Tables) where
   abbrev EachJob : (s₀ : State) (schedule : List ℕ) → (Job → Type 0) → Type 0
   EachJob s₀ schedule P =
       (j : Job) → Accepted j → j .plan .groups ≡ records (T .count) (T .groups) → Laid j (T .first) (T .row) (T .begins) (T .leaves) (T .ends)
-      → Ahead j (s₀ .made) (length schedule) (T .first) (T .row) (T .begins) (T .parts) (T .displaced) (T .at) (T .beside) → P j
+      → UpdatesAhead j (s₀ .made) (length schedule) (T .first) (T .row) (T .begins) (T .parts) (T .displaced) (T .at) (T .beside) → P j
 
   -- k picks of the schedule, n of them taken, led from s₀ to s; these groups are blocked now, and until a count reaches
   -- its stop; these updates are at hand

@@ -32,7 +32,7 @@ ghost use Rattle.machine.specs.Record.{stateOf};
 ghost use Rattle.machine.specs.code.Tests.{allBelow, fine, done};
 ghost use Rattle.tables.specs.code.Laid.{Rising, Laid};
 ghost use Rattle.waits.specs.code.Waits.{Recorded};
-ghost use Rattle.steps.specs.code.Steps.{StepTables, Ahead};
+ghost use Rattle.steps.specs.code.Steps.{StepTables, UpdatesAhead};
 ghost use Rattle.machine.specs.code.Stepped.{passesOver, walk, endedWith, walkedOf};
 
 // Accesses made, and the number held, of each of 16 workers.
@@ -127,7 +127,7 @@ impl State {
             × StepTables (length (now sums)) (now first) (now row) (now begins) (now parts) (now leaves) (now at) (now beside) ⌝ }
         ensures { λ r. ⌜ ((j : Job) → Accepted j → j .plan .groups ≡ records (length (now (groups .entry)) / width) (now (groups .entry))
             → Laid j (now (first .entry)) (now (row .entry)) (now (begins .entry)) (now (leaves .entry)) (now (ends .entry))
-            → Ahead j (self .made) (length (now (schedule .entry))) (now (first .entry)) (now (row .entry)) (now (begins .entry)) (now (parts .entry)) (now (displaced .entry)) (now (at .entry)) (now (beside .entry))
+            → UpdatesAhead j (self .made) (length (now (schedule .entry))) (now (first .entry)) (now (row .entry)) (now (begins .entry)) (now (parts .entry)) (now (displaced .entry)) (now (at .entry)) (now (beside .entry))
             → walkedOf r (now (sums .exit)) ≡ walk rule j (stateOf self (now (sums .entry))) (now (schedule .entry))) ⌝ }
     {
         let mut made = self.made;
@@ -192,7 +192,7 @@ impl State {
             × StepTables (length (now sums)) (now first) (now row) (now begins) (now parts) (now leaves) (now at) (now beside) ⌝ }
         ensures { λ r. ⌜ ((j : Job) → Accepted j → j .plan .groups ≡ records (length (now (groups .entry)) / width) (now (groups .entry))
             → Laid j (now (first .entry)) (now (row .entry)) (now (begins .entry)) (now (leaves .entry)) (now (ends .entry))
-            → Ahead j (self .made) (length (now (schedule .entry))) (now (first .entry)) (now (row .entry)) (now (begins .entry)) (now (parts .entry)) (now (displaced .entry)) (now (at .entry)) (now (beside .entry))
+            → UpdatesAhead j (self .made) (length (now (schedule .entry))) (now (first .entry)) (now (row .entry)) (now (begins .entry)) (now (parts .entry)) (now (displaced .entry)) (now (at .entry)) (now (beside .entry))
             → (walkedOf (r .walked) (now (sums .exit)) ≡ walk rule j (stateOf self (now (sums .entry))) (now (schedule .entry)))
             × (r .ready ≡ machine.bits (machine.ready j (r .walked .state .made)))) ⌝ }
     {

@@ -7,6 +7,7 @@ use crate::classes::class_of;
 use base::bytes::wide64;
 use base::numbers::least;
 ghost use mathlib.Core.Path.{_≡_};
+ghost use mathlib.Core.Logic.{_≢_};
 ghost use Prim.Native.Nat.{_+_, _<_};
 ghost use lib.ListN.{length, getD, drop};
 ghost use Rattle.market.specs.Bytes.{classOf, digit0};
@@ -24,7 +25,7 @@ const MOST_DIGITS: usize = 10;
 
 // The number at a position where a digit stands that is not 0.
 fn read_digits(s: &[u8], at: usize) -> Number
-    requires { ⌜ (at < length (now s)) × (classOf (getD (now s) at 0) ≡ 1) × (getD (now s) at 0 ≡ digit0 → ⊥) ⌝ }
+    requires { ⌜ (at < length (now s)) × (classOf (getD (now s) at 0) ≡ 1) × (getD (now s) at 0 ≢ digit0) ⌝ }
     ensures { λ r. ⌜ r ≡ numberAt at (numeral (drop at (now (s .entry)))) ⌝ }
 {
     let end = at + least(s.len() - at, MOST_DIGITS);

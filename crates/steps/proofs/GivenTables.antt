@@ -15,7 +15,7 @@ use Rattle.upper.specs.code.Upper.{upperTo, Displaced, UpperLaid}
 use Rattle.upper.proofs.UpperRows.{upper-whole}
 use Rattle.upper.proofs.PlacedRows.{placed-same}
 use Rattle.steps.specs.code.Updates.{Triangle}
-use Rattle.steps.specs.code.Steps.{StepTables, Ahead}
+use Rattle.steps.specs.code.Steps.{StepTables, UpdatesAhead}
 use Rattle.steps.proofs.TableUpdates.{updates-are, row-below, begun-before, triangle-row, table-update, entry-inside}
 
 -- the displacements in plan order are the job's
@@ -52,7 +52,7 @@ step-tables j {first} {row} {begins} {parts} laid b t = record {
 
 -- all updates are the job's, whatever the picks
 pub triangle-ahead : (j : Job) {first row begins parts leaves ends at : List ℕ} {displaced beside : List ℤ} → Laid j first row begins leaves ends → Triangle j parts displaced at beside
-    → (made : List ℕ) (picks : ℕ) → Ahead j made picks first row begins parts displaced at beside
+    → (made : List ℕ) (picks : ℕ) → UpdatesAhead j made picks first row begins parts displaced at beside
 unfolding next accesses
 triangle-ahead j {first} {row} laid t made picks = record {
   is = λ new w l from to left. table-update j laid w l (count new w / 2) (omega (arith, left)) (triangle-row j t _ (row-below j laid w l (count new w / 2) (omega (arith, left))));

@@ -36,7 +36,7 @@ pub record With (rows : ℕ → Bool) (row : List ℕ) (from to : ℕ) (more : �
   pub has : (k : ℕ) → from ≤ k → k < to → more (getD row k 0) ≡ true
 
 -- The rows of all updates that so many picks can reach from these counts have their parts
-pub record Reached (m : Matrix) (order first row made : List ℕ) (picks : ℕ) (parts at : List ℕ) (beside : List ℤ) : Type 0 where
+pub record PartsAhead (m : Matrix) (order first row made : List ℕ) (picks : ℕ) (parts at : List ℕ) (beside : List ℤ) : Type 0 where
   pub at-low : (k : ℕ) → getD at k 0 < m .n
   pub room : (p : ℕ) → p < m .n → getD parts p 0 + length (upperOf m order p) ≤ length at
   pub is : (w k : ℕ) → w < maxWorkers → placeNext first made w ≤ k → k ≤ placeNext first made w + picks / 2 → k < getD first (w + 1) 0

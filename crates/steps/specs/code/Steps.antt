@@ -54,7 +54,7 @@ pub record StepTables (n : ℕ) (first row begins parts leaves at : List ℕ) (b
       → entryPlace parts (getD row (getD first w 0 + k) 0) (getD first w 0 + k - getD begins (getD row (getD first w 0 + k) 0) 0) < length at
 
 -- .. and for the updates to be job j's: they are, at all counts that fewer than so many picks can lead to from these
-pub record Ahead (j : Job) (made : List ℕ) (picks : ℕ) (first row begins parts : List ℕ) (displaced : List ℤ) (at : List ℕ) (beside : List ℤ) : Type 0 where
+pub record UpdatesAhead (j : Job) (made : List ℕ) (picks : ℕ) (first row begins parts : List ℕ) (displaced : List ℤ) (at : List ℕ) (beside : List ℤ) : Type 0 where
   pub is : (new : List ℕ) (w : ℕ) → w < maxWorkers → count made w ≤ count new w → count new w < count made w + picks → count new w < accesses j w
       → updateNext first row begins parts displaced at beside new w ≡ next j new w
 

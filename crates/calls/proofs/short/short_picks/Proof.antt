@@ -14,7 +14,7 @@ use Rattle.layout.proofs.GivenRows.{lent-of, planned-of}
 use Rattle.layout.proofs.UpdateRoom.{rising-of}
 use Rattle.steps.proofs.GivenTables.{job-displaced}
 use Rattle.ahead.proofs.AheadRows.{parts-none}
-use Rattle.ahead.proofs.ReachedSteps.{reached-tables, reached-ahead}
+use Rattle.ahead.proofs.StepsAhead.{ahead-tables, ahead-updates}
 use Rattle.machine.proofs.PlannedTables.{planned-blank, planned-recorded, whole-few}
 use Rattle.calls.proofs.Prepared.{given-many, given-displaced, counted-state}
 use Rattle.calls.proofs.Performing.{taken-refused}
@@ -115,7 +115,7 @@ take-requires c κs =
     let t = l .lay .ensures _ (planned u) (counted f) (planned-blank (planned u)) in
     let r = h .lay-ahead .ensures (holds refl (e .if2 .left)) _ (record { lent = lent-of g; positions = u .sizes-of .ensures .1; sizes-are = u .sizes-of .ensures .0 _ (lent-of g) })
     (t .1 .row-low) (parts-none _ _ (g .accepted .matrix) (getD-zeros maxRows) (search needs)) in
-    (whole-few (planned u), planned-recorded (planned u), reached-tables _ (t .0) r (t .1) (search needs) (search needs))
+    (whole-few (planned u), planned-recorded (planned u), ahead-tables _ (t .0) r (t .1) (search needs) (search needs))
 
 returns-3 : tie.Need-returns-3
 unfolding jobOf planOf
@@ -133,7 +133,7 @@ returns-3 c =
     (t .1 .row-low) (parts-none _ _ (g .accepted .matrix) (getD-zeros maxRows) (search needs)) in
     let fine = counted-state g (counted f) _ refl ∙ holds (tested l .before .is-fine .ensures) (tested l .if1 .left) in (
       λ y zs. rw (c .came-to3 .ensures .1)
-          (k .take .ensures _ zs (g .accepted) refl (t .0) (reached-ahead _ (t .0) r (job-displaced _ _ _ _ _ _ _ (rw (given-many g) at (d .displace .ensures)))) fine),
+          (k .take .ensures _ zs (g .accepted) refl (t .0) (ahead-updates _ (t .0) r (job-displaced _ _ _ _ _ _ _ (rw (given-many g) at (d .displace .ensures)))) fine),
       λ y. absurd (clash (c .came-to3 .ensures .0) y),
     )
 

@@ -9,15 +9,15 @@ use Rattle.run.specs.Job.{Job}
 use Rattle.run.specs.Updates.{count, displacementAt, updates, accesses, next}
 use Rattle.tables.specs.code.Laid.{maxUpdates, Laid, Bounded}
 use Rattle.upper.proofs.UpperRows.{upper-whole}
-use Rattle.steps.specs.code.Steps.{StepTables, Ahead}
+use Rattle.steps.specs.code.Steps.{StepTables, UpdatesAhead}
 use Rattle.steps.proofs.TableUpdates.{RowFound, updates-are, row-below, begun-before, table-update, entry-inside}
-use Rattle.ahead.specs.code.Ahead.{Reached}
+use Rattle.ahead.specs.code.Ahead.{PartsAhead}
 
 module _ (j : Job) {first row begins leaves ends : List ℕ} (laid : Laid j first row begins leaves ends) {made : List ℕ} {picks : ℕ} {parts at : List ℕ} {beside : List ℤ}
-    (r : Reached (j .matrix) (j .plan .order) first row made picks parts at beside) where
+    (r : PartsAhead (j .matrix) (j .plan .order) first row made picks parts at beside) where
   -- the tables as the picks need them
-  pub reached-tables : Bounded (j .matrix .n) first row leaves → length beside ≡ length at → length at ≤ maxUpdates → StepTables (j .matrix .n) first row begins parts leaves at beside
-  reached-tables b long room = record {
+  pub ahead-tables : Bounded (j .matrix .n) first row leaves → length beside ≡ length at → length at ≤ maxUpdates → StepTables (j .matrix .n) first row begins parts leaves at beside
+  ahead-tables b long room = record {
     bounded = b;
     at-low = r .at-low;
     long = long;
@@ -27,9 +27,9 @@ module _ (j : Job) {first row begins leaves ends : List ℕ} (laid : Laid j firs
   }
 
   -- the updates are the job's
-  pub reached-ahead : {displaced : List ℤ} → ((p : ℕ) → p < j .matrix .n → getD displaced p (pos 0) ≡ displacementAt j p) → Ahead j made picks first row begins parts displaced at beside
+  pub ahead-updates : {displaced : List ℤ} → ((p : ℕ) → p < j .matrix .n → getD displaced p (pos 0) ≡ displacementAt j p) → UpdatesAhead j made picks first row begins parts displaced at beside
   unfolding next accesses
-  reached-ahead {displaced} d = record {
+  ahead-updates {displaced} d = record {
     is = λ new w l from to left.
         let k : ℕ = count new w / 2 in
         let low : k < length (updates j w) = omega (arith, left) in
