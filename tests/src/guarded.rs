@@ -3,8 +3,8 @@
 //!
 //! A list ends where memory ends: reading or writing past its end stops the test at once. Before it stand guard bytes.
 
-use std::cell::RefCell;
 use std::ffi::{c_int, c_void};
+use std::sync::{Mutex, MutexGuard, PoisonError};
 
 /// The bytes of a region's memory; no list is longer.
 const ROOM: usize = 2 << 20;
@@ -34,9 +34,16 @@ extern "C" {
 #[derive(Clone, Copy)]
 struct Region(*mut u8);
 
-thread_local! {
-    /// Regions that no list stands in; they are never given back, as making one takes longer than most calls.
-    static FREE: RefCell<Vec<Region>> = const { RefCell::new(Vec::new()) };
+/// A region belongs to the one list that stands in it, or to none.
+unsafe impl Send for Region {}
+
+/// Regions that no list stands in; they are never given back, as making one takes longer than most calls. All threads
+/// share them: a system lets a process have only so many, and each round of cases has threads of its own.
+static FREE: Mutex<Vec<Region>> = Mutex::new(Vec::new());
+
+/// The free regions, also after a thread that had them has panicked.
+fn free_regions() -> MutexGuard<'static, Vec<Region>> {
+    FREE.lock().unwrap_or_else(PoisonError::into_inner)
 }
 
 impl Region {
@@ -60,7 +67,8 @@ impl Region {
 
     /// A region that no list stands in.
     fn free() -> Region {
-        FREE.with_borrow_mut(Vec::pop).unwrap_or_else(Region::new)
+        let kept = free_regions().pop();
+        kept.unwrap_or_else(Region::new)
     }
 
     /// The last bytes before the fence.
@@ -125,7 +133,7 @@ impl Twin {
 impl Drop for Twin {
     /// Leaves the region to a later list.
     fn drop(&mut self) {
-        FREE.with_borrow_mut(|free| free.push(self.region));
+        free_regions().push(self.region);
     }
 }
 
