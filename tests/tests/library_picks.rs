@@ -2,6 +2,7 @@
 
 use mazhoketh_tests::cases;
 use mazhoketh_tests::cases::run::{self, WholeRun};
+use mazhoketh_tests::oracle::{nets, planner};
 
 #[test]
 fn random_states() {
@@ -17,11 +18,21 @@ fn random_runs() {
     });
 }
 
-/// Lists that reach the rows of few updates, and some that reach too many for the room that those have.
+/// Lists that reach the rows of few updates.
 #[test]
 fn large_runs_in_short_lists() {
     run::each_large(154, |rng, matrix, plan| {
         WholeRun::new(rng, matrix, plan).finish(rng, 1_000, |_, _, _| ());
+    });
+}
+
+/// Rows with many entries, in lists about the length from which the library lays the tables of all rows.
+#[test]
+fn cliques_in_short_lists() {
+    let matrix = nets::cliques(62, 32);
+    let plan = planner::plan(matrix.rows(), 16, 60);
+    cases::each(155, 0..2, |rng, _| {
+        WholeRun::new(rng, &matrix, &plan).finish(rng, 992, |_, _, _| ());
     });
 }
 

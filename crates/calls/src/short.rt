@@ -30,9 +30,9 @@ ghost use Rattle.machine.specs.Record.{stateOf};
 ghost use Rattle.calls.specs.Performed.{asAnswer};
 ghost use Rattle.calls.specs.code.Made.{Taken};
 
-// Rows are found one by one, each at the cost of its columns for each of its entries: that is less than the whole upper
-// triangle costs while the matrix has so many cells for each pick, and no row more than so many.
-const CELLS: usize = 64;
+// Rows are found one by one, each at the cost of its columns for each of its entries. A list is short while the matrix
+// has so many cells for each pick, and no row more than so many.
+const CELLS: usize = 256;
 
 const WIDE: usize = 64;
 

@@ -138,6 +138,12 @@ pub fn unjoined(n: u32) -> Matrix {
     of_triples(n, (0..n).map(|row| (row, row, 1)))
 }
 
+/// Cliques of so many freedoms each, all values 1.
+pub fn cliques(count: u32, size: u32) -> Matrix {
+    let row = |row: u32| (row - row % size..=row).map(move |column| (row, column, 1));
+    of_triples(count * size, (0..count * size).flat_map(row))
+}
+
 /// The first so many entries of a band nine wide: the largest matrices have them.
 pub fn filled_band(n: u32, entries: usize) -> Matrix {
     let row = |row: u32| (row.saturating_sub(8)..=row).map(move |column| (row, column, 1));
