@@ -7,16 +7,15 @@ use Prim.Native.Nat.{ℕ, _+_, _/_, _≤_, _<_}
 use native.Mathlib.Omega.{arith}
 use lib.Dec.{eqb}
 use lib.IntN.{ℤ}
-use lib.ListN.{length, getD, set, take, replicate, length-set, length-replicate}
+use lib.ListN.{length, getD, set, take, length-set}
 use lib.Seq.{getD-set-same, getD-set-other}
 use borrow.Author.Tests.{eq-eqb, ne-eqb}
 use Rattle.base.proofs.Booleans.{same-or, clash, or-true, or-false}
-use Rattle.base.proofs.Lists.{getD-zeros}
 use Rattle.matrix.specs.Limits.{maxRows}
 use Rattle.matrix.specs.Matrix.{Matrix, matrixOf, isMatrix}
 use Rattle.matrix.proofs.Matrix.{matrix-facts}
 use Rattle.plan.specs.Sound.{maxWorkers}
-use Rattle.upper.specs.code.Upper.{upperOf}
+use Rattle.upper.specs.code.Upper.{upperOf, UpperLaid}
 use Rattle.upper.specs.code.Row.{Part, Kept}
 use Rattle.upper.proofs.UpperRows.{upper-few}
 use Rattle.steps.specs.code.Steps.{placeNext}
@@ -71,14 +70,14 @@ module _ (m : Matrix) (order : List ℕ) {rows : ℕ → Bool} {p b e : ℕ} {pa
       of q y (inr d) = before q d (h .is q (sym (or-false (rows q)) ∙ ap (λ (x : Bool). rows q || x) (sym (ne-eqb q p d)) ∙ y))
 
 -- at first no row has one
-pub parts-none : (m : Matrix) (order : List ℕ) → isMatrix m ≡ true → {at : List ℕ} {beside : List ℤ} → ((k : ℕ) → getD at k 0 ≡ 0) → maxRows ≤ length at
-    → PartsOf m order (λ q. false) 0 (replicate maxRows 0) at beside
-parts-none m order ok zero long =
+pub parts-none : (m : Matrix) (order : List ℕ) → isMatrix m ≡ true → {parts at : List ℕ} {beside : List ℤ} → length parts ≡ maxRows → ((p : ℕ) → getD parts p 0 ≡ 0) → ((k : ℕ) → getD at k 0 ≡ 0)
+    → maxRows ≤ length at → PartsOf m order (λ q. false) 0 parts at beside
+parts-none m order ok e first zero long =
     let f = matrix-facts m ok in
     record {
-      parts-long = length-replicate {A = ℕ} maxRows 0;
+      parts-long = e;
       at-low = λ k. omega (arith, zero k, f .some);
-      room = λ p l. omega (arith, getD-zeros maxRows p, upper-few m order p (m .n), f .few);
+      room = λ p l. omega (arith, first p, upper-few m order p (m .n), f .few);
       is = λ p h. absurd (clash h refl);
     }
 
@@ -167,3 +166,14 @@ module _ {m : Matrix} {order first row made : List ℕ} {picks : ℕ} where
     room = s .laid .room;
     is = λ w k l a b c. s .laid .is (getD row k 0) (s .reached .has w k l a b c) .part;
   }
+
+-- ---- all rows
+
+-- the whole upper triangle has the parts of all rows, whatever the picks
+pub upper-ahead : {m : Matrix} {order first row made : List ℕ} {picks : ℕ} {parts at : List ℕ} {beside : List ℤ} → ((k : ℕ) → getD row k 0 < m .n)
+    → UpperLaid m order parts at beside → PartsAhead m order first row made picks parts at beside
+upper-ahead {row = row} low u = record {
+  at-low = u .placed .at-low;
+  room = λ p l. omega (arith, u .parts .room p l, u .placed .at-long);
+  is = λ w k l from to left. record { positions = λ c. u .placed .positions (getD row k 0) c (low k); entries = λ c. u .placed .entries (getD row k 0) c (low k) };
+}

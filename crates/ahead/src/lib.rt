@@ -7,15 +7,44 @@ use plan::MAX_WORKERS;
 use tables::FIRSTS;
 use tables::MAX_UPDATES;
 use upper::row::lay_row;
+use upper::sizes::sizes_of;
+use upper::upper;
 ghost use mathlib.Core.Path.{_≡_};
 ghost use mathlib.Core.Bool.{Bool, true, false, _||_};
 ghost use mathlib.Core.List.{List};
 ghost use Prim.Native.Nat.{ℕ, _^_, _≤_, _<_};
 ghost use lib.Dec.{eqb};
 ghost use lib.ListN.{length, getD, take};
+ghost use Rattle.matrix.specs.Limits.{maxRows};
 ghost use Rattle.matrix.specs.Matrix.{matrixOf};
 ghost use Rattle.tables.specs.code.Laid.{maxUpdates, Bounded};
-ghost use Rattle.ahead.specs.code.Ahead.{Indexed, PartsOf, With, PartsAhead};
+ghost use Rattle.upper.specs.code.Upper.{Lent};
+ghost use Rattle.ahead.specs.code.Ahead.{Indexed, PartsOf, Sized, With, PartsAhead};
+
+// How many entries each row has. Tables with room for every matrix get the whole upper triangle; for smaller ones the
+// positions of the rows are found.
+pub fn lay_sizes(
+    n: usize,
+    starts: &[u32],
+    columns: &[u32],
+    values: &[i32],
+    order: &[u32],
+    position: &mut [u32; MAX_ROWS],
+    parts: &mut [u32; MAX_ROWS],
+    at: &mut [u16],
+    beside: &mut [i32],
+) -> [u32; MAX_ROWS]
+    requires { ⌜ Lent n (now starts) (now columns) (now values) (now order) × (length (now position) ≡ maxRows) × (length (now parts) ≡ maxRows)
+        × ((p : ℕ) → getD (now parts) p 0 ≡ 0) × ((k : ℕ) → getD (now at) k 0 ≡ 0) × (maxRows ≤ length (now at)) × (length (now at) ≤ maxUpdates) × (length (now beside) ≡ length (now at)) ⌝ }
+    ensures { λ sizes. ⌜ Sized n (now (starts .entry)) (now (columns .entry)) (now (values .entry)) (now (order .entry)) (now (position .exit)) sizes (now (parts .exit)) (now (at .exit)) (now (beside .exit)) ⌝ }
+{
+    if at.len() == MAX_UPDATES {
+        return upper(n, starts, columns, values, order, parts, at, beside);
+    }
+    let mut sizes = [0u32; MAX_ROWS];
+    sizes_of(n, starts, columns, order, &mut sizes, position);
+    sizes
+}
 
 // Lays the part of the row at p from a place on: the place after it, or one past all places if there is no room.
 fn lay_part(
@@ -113,7 +142,8 @@ fn lay_parts(
     next
 }
 
-// Lays the parts of the rows that so many picks can reach from these counts, if there is room for them.
+// Lays the parts of the rows that so many picks can reach from these counts, if there is room for them. In tables with
+// room for every matrix all rows have theirs.
 pub fn lay_ahead(
     starts: &[u32],
     columns: &[u32],
@@ -129,14 +159,19 @@ pub fn lay_ahead(
     at: &mut [u16],
     beside: &mut [i32],
 ) -> bool
-    requires { ⌜ ((n : ℕ) × Indexed n (now starts) (now columns) (now values) (now order) (now position) (now sizes) × ((leaves : List ℕ) × Bounded n (now first) (now row) leaves))
-        × (picks < 2 ^ 32) × (length (now at) ≤ maxUpdates) × (length (now beside) ≡ length (now at)) ⌝ }
-    ensures { λ r. ⌜ (r ≡ true → (n : ℕ) → Indexed n (now (starts .entry)) (now (columns .entry)) (now (values .entry)) (now (order .entry)) (now (position .entry)) (now (sizes .entry))
+    requires { ⌜ ((n : ℕ) × Lent n (now starts) (now columns) (now values) (now order) × Sized n (now starts) (now columns) (now values) (now order) (now position) (now sizes) (now parts) (now at) (now beside)
+        × ((leaves : List ℕ) × Bounded n (now first) (now row) leaves))
+        × (length (now at) < maxUpdates → picks < 2 ^ 32) × (length (now at) ≤ maxUpdates) × (length (now beside) ≡ length (now at)) ⌝ }
+    ensures { λ r. ⌜ (r ≡ true → (n : ℕ) → Lent n (now (starts .entry)) (now (columns .entry)) (now (values .entry)) (now (order .entry))
+        → Sized n (now (starts .entry)) (now (columns .entry)) (now (values .entry)) (now (order .entry)) (now (position .entry)) (now (sizes .entry)) (now (parts .entry)) (now (at .entry)) (now (beside .entry))
         → ((k : ℕ) → getD (now (row .entry)) k 0 < n)
-        → PartsOf (matrixOf n (now (starts .entry)) (now (columns .entry)) (now (values .entry))) (take n (now (order .entry))) (λ q. false) 0 (now (parts .entry)) (now (at .entry)) (now (beside .entry))
         → PartsAhead (matrixOf n (now (starts .entry)) (now (columns .entry)) (now (values .entry))) (take n (now (order .entry))) (now (first .entry)) (now (row .entry)) (now (made .entry)) picks
-        (now (parts .exit)) (now (at .exit)) (now (beside .exit))) ⌝ }
+        (now (parts .exit)) (now (at .exit)) (now (beside .exit)))
+        × (length (now (at .entry)) ≡ maxUpdates → r ≡ true) ⌝ }
 {
+    if at.len() == MAX_UPDATES {
+        return true;
+    }
     let mut next = 0;
     let mut w = 0;
     while w < MAX_WORKERS {

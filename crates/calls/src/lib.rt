@@ -1,6 +1,6 @@
 // A call on a run, by the lists that a caller lends: the checks, then what is asked.
-mod all;
 mod force_list;
+mod laid;
 pub mod picks;
 mod ready_set;
 mod short;

@@ -2,15 +2,12 @@
 use crate::Call;
 use crate::Done;
 use crate::Response;
-use crate::all::all_picks;
-use crate::answered;
+use crate::laid::Wanted;
+use crate::laid::laid_picks;
 use crate::short::is_short;
-use crate::short::short_picks;
 use machine::state::Rule;
 use machine::state::State;
 use matrix::limits::MAX_ROWS;
-use plan::MAX_GROUPS;
-use tables::FIRSTS;
 use tables::MAX_UPDATES;
 ghost use mathlib.Core.Path.{_≡_};
 ghost use mathlib.Core.Bool.{true};
@@ -21,16 +18,10 @@ ghost use lib.IntN.{ℤ};
 ghost use lib.ListN.{length, drop};
 ghost use Rattle.matrix.specs.Limits.{maxRows};
 ghost use Rattle.matrix.specs.Matrix.{matrixOf};
-ghost use Rattle.plan.specs.Groups.{width, records};
-ghost use Rattle.plan.specs.Sound.{maxWorkers};
-ghost use Rattle.plan.specs.code.Checks.{recordAt};
+ghost use Rattle.plan.specs.Groups.{width};
 ghost use Rattle.run.specs.Answers as calls;
 ghost use Rattle.run.specs.Calls.{placeOf};
-ghost use Rattle.run.specs.Job.{Job, jobOf, Accepted};
-ghost use Rattle.run.specs.Machine.{isState};
-ghost use Rattle.tables.specs.code.Laid.{Laid};
-ghost use Rattle.waits.specs.code.Waits.{Recorded};
-ghost use Rattle.steps.specs.code.Steps.{StepTables, UpdatesAhead};
+ghost use Rattle.run.specs.Job.{jobOf};
 ghost use Rattle.layout.specs.code.UpdateTable.{Given};
 ghost use Rattle.machine.specs.Record.{stateOf};
 ghost use Rattle.calls.specs.Performed.{asAnswer};
@@ -50,7 +41,7 @@ pub(crate) fn is_taken(call: Call) -> bool
 }
 
 // Whether they are passed over where their workers cannot move.
-fn rule_of(call: Call) -> Rule
+pub(crate) fn rule_of(call: Call) -> Rule
     ensures { λ r. ⌜ r ≡ ruleOf call ⌝ }
 {
     if let Call::Rounds = call {
@@ -67,7 +58,7 @@ pub fn place_of(number: u32, past: usize) -> usize
 }
 
 // The answer of picks, and of a preview with who is ready after them.
-fn told(call: Call, taken: usize, number: u32, past: usize, ready: u16) -> Response
+pub(crate) fn told(call: Call, taken: usize, number: u32, past: usize, ready: u16) -> Response
     ensures { λ r. ⌜ ((zs : List ℤ) → asAnswer r zs ≡ toldBy call (calls.picked taken number (placeOf number past)) (calls.isReady ready (ones ready))) ⌝ }
 {
     let place = place_of(number, past);
@@ -77,60 +68,8 @@ fn told(call: Call, taken: usize, number: u32, past: usize, ready: u16) -> Respo
     Response::Picked(taken, number, place)
 }
 
-// The picks of a state, by the tables, and what is told of them.
-pub(crate) fn take(
-    state: State,
-    sums: &mut [i64],
-    schedule: &[u8],
-    call: Call,
-    groups: &[u32],
-    ends: &[u32; MAX_GROUPS],
-    first: &[u32; FIRSTS],
-    row: &[u16; MAX_UPDATES],
-    begins: &[u32; MAX_ROWS],
-    parts: &[u32; MAX_ROWS],
-    leaves: &[u16; MAX_ROWS],
-    displaced: &[i32; MAX_ROWS],
-    at: &[u16],
-    beside: &[i32],
-) -> Done
-    requires { ⌜ (recordAt (now groups) 0 .workers ≤ maxWorkers) × Recorded (length (now groups) / width) (now groups)
-        × StepTables (length (now sums)) (now first) (now row) (now begins) (now parts) (now leaves) (now at) (now beside) ⌝ }
-    ensures { λ r. ⌜ ((j : Job) (zs : List ℤ) → Accepted j → j .plan .groups ≡ records (length (now (groups .entry)) / width) (now (groups .entry))
-        → Laid j (now (first .entry)) (now (row .entry)) (now (begins .entry)) (now (leaves .entry)) (now (ends .entry))
-        → UpdatesAhead j (state .made) (length (now (schedule .entry))) (now (first .entry)) (now (row .entry)) (now (begins .entry)) (now (parts .entry)) (now (displaced .entry)) (now (at .entry)) (now (beside .entry))
-        → isState j (stateOf state (now (sums .entry))) ≡ true
-        → Taken j (stateOf state (now (sums .entry))) call (now (schedule .entry)) (asAnswer (r .answer) zs) (stateOf (r .state) (now (sums .exit)))) ⌝ }
-{
-    let reached = state.take(
-        sums,
-        schedule,
-        rule_of(call),
-        groups,
-        ends,
-        first,
-        row,
-        begins,
-        parts,
-        leaves,
-        displaced,
-        at,
-        beside,
-    );
-    let walked = reached.walked;
-    let after = walked.state;
-    let answer = told(
-        call,
-        walked.taken,
-        walked.number,
-        walked.past,
-        reached.ready,
-    );
-    answered(after, answer)
-}
-
-// The picks that a call takes: a short schedule by the rows that it reaches alone, if there is room for them, else by
-// all. There is a sum for each row.
+// The picks that a call takes: in small tables if the schedule is short and they have room, else in those of every
+// matrix. There is a sum for each row.
 pub(crate) fn picks(
     starts: &[u32],
     columns: &[u32],
@@ -147,35 +86,45 @@ pub(crate) fn picks(
     ensures { λ r. ⌜ ((zs : List ℤ) → Taken (jobOf (matrixOf (length (now (sums .entry))) (now (starts .entry)) (now (columns .entry)) (now (values .entry))) (now (displacements .entry)) (now (order .entry)) (now (groups .entry)) (length (now (groups .entry)) / width))
         (stateOf state (now (sums .entry))) call (now (schedule .entry)) (asAnswer (r .answer) zs) (stateOf (r .state) (now (sums .exit)))) ⌝ }
 {
+    let wanted = Wanted {
+        state: state,
+        call: call,
+    };
     if is_short(sums.len(), starts, schedule.len()) {
-        let tried = short_picks(
+        let mut at = [0u16; MAX_ROWS];
+        let mut beside = [0i32; MAX_ROWS];
+        let tried = laid_picks(
             starts,
             columns,
             values,
             displacements,
             order,
             groups,
-            state,
             sums,
             schedule,
-            call,
+            &mut at,
+            &mut beside,
+            wanted,
         );
         if tried.fits {
             return tried.done;
         }
     }
-    all_picks(
+    let mut at = [0u16; MAX_UPDATES];
+    let mut beside = [0i32; MAX_UPDATES];
+    laid_picks(
         starts,
         columns,
         values,
         displacements,
         order,
         groups,
-        state,
         sums,
         schedule,
-        call,
-    )
+        &mut at,
+        &mut beside,
+        wanted,
+    ).done
 }
 
 // The numbers of a list, at the front of an array.

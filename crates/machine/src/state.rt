@@ -1,5 +1,4 @@
 // A run's state: one record, handed in and handed back.
-use crate::ready::ready_workers;
 use base::DONE;
 use base::WAITING;
 use matrix::limits::MAX_ROWS;
@@ -25,8 +24,6 @@ ghost use Rattle.plan.specs.Groups.{width, records};
 ghost use Rattle.plan.specs.code.Checks.{recordAt};
 ghost use Rattle.run.specs.Job.{Job, Accepted};
 ghost use Rattle.run.specs.Updates.{count};
-ghost use Rattle.run.specs.Machine as machine;
-ghost use Rattle.run.specs.Job as job;
 ghost use Rattle.run.specs.State as run;
 ghost use Rattle.machine.specs.Record.{stateOf};
 ghost use Rattle.machine.specs.code.Tests.{allBelow, fine, done};
@@ -67,12 +64,6 @@ pub struct Walked {
     pub number: u32,
 }
 
-// .. and the workers that are ready then, bit w for worker w.
-pub struct Reached {
-    pub walked: Walked,
-    pub ready: u16,
-}
-
 // A schedule that led to these counts and held numbers.
 pub fn ended(
     made: [u32; MAX_WORKERS],
@@ -107,7 +98,7 @@ impl State {
 
     // Takes the picks of a schedule one by one by the tables, up to the first that is refused and that the rule does
     // not pass over.
-    fn walk(
+    pub fn walk(
         self,
         sums: &mut [i64],
         schedule: &[u8],
@@ -169,55 +160,6 @@ impl State {
             }
         }
         ended(made, held, taken, schedule.len(), 0)
-    }
-
-    // .. and tells who is ready after the picks.
-    pub fn take(
-        self,
-        sums: &mut [i64],
-        schedule: &[u8],
-        rule: Rule,
-        groups: &[u32],
-        ends: &[u32; MAX_GROUPS],
-        first: &[u32; FIRSTS],
-        row: &[u16; MAX_UPDATES],
-        begins: &[u32; MAX_ROWS],
-        parts: &[u32; MAX_ROWS],
-        leaves: &[u16; MAX_ROWS],
-        displaced: &[i32; MAX_ROWS],
-        at: &[u16],
-        beside: &[i32],
-    ) -> Reached
-        requires { ⌜ (recordAt (now groups) 0 .workers ≤ maxWorkers) × Recorded (length (now groups) / width) (now groups)
-            × StepTables (length (now sums)) (now first) (now row) (now begins) (now parts) (now leaves) (now at) (now beside) ⌝ }
-        ensures { λ r. ⌜ ((j : Job) → Accepted j → j .plan .groups ≡ records (length (now (groups .entry)) / width) (now (groups .entry))
-            → Laid j (now (first .entry)) (now (row .entry)) (now (begins .entry)) (now (leaves .entry)) (now (ends .entry))
-            → UpdatesAhead j (self .made) (length (now (schedule .entry))) (now (first .entry)) (now (row .entry)) (now (begins .entry)) (now (parts .entry)) (now (displaced .entry)) (now (at .entry)) (now (beside .entry))
-            → (walkedOf (r .walked) (now (sums .exit)) ≡ walk rule j (stateOf self (now (sums .entry))) (now (schedule .entry)))
-            × (r .ready ≡ machine.bits (machine.ready j (r .walked .state .made)))) ⌝ }
-    {
-        let walked = self.walk(
-            sums,
-            schedule,
-            rule,
-            groups,
-            ends,
-            first,
-            row,
-            begins,
-            parts,
-            leaves,
-            displaced,
-            at,
-            beside,
-        );
-        let after = walked.state;
-        let made = after.made;
-        let ready = ready_workers(&made, groups, ends, first, row, leaves);
-        Reached {
-            walked: walked,
-            ready: ready,
-        }
     }
 
     // How many accesses worker w has made.

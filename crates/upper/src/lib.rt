@@ -11,7 +11,6 @@ use matrix::row::values_of;
 use order::positions;
 use parts::begin_parts;
 use parts::part_sizes;
-use tables::MAX_UPDATES;
 ghost use mathlib.Core.Path.{_≡_};
 ghost use mathlib.Core.List.{List};
 ghost use Prim.Native.Nat.{ℕ, _+_, _<_};
@@ -32,8 +31,8 @@ fn join(
     position: &[u32; MAX_ROWS],
     q: usize,
     next: &mut [u32; MAX_ROWS],
-    at: &mut [u16; MAX_UPDATES],
-    beside: &mut [i32; MAX_UPDATES],
+    at: &mut [u16],
+    beside: &mut [i32],
 )
     requires { ⌜ Lent n (now starts) (now columns) (now values) (now order) × Positions n (take n (now order)) (now position) × (q < n)
         × ((begins : List ℕ) × Parts (matrixOf n (now starts) (now columns) (now values)) (take n (now order)) begins
@@ -74,8 +73,8 @@ fn join_all(
     values: &[i32],
     order: &[u32],
     next: &mut [u32; MAX_ROWS],
-    at: &mut [u16; MAX_UPDATES],
-    beside: &mut [i32; MAX_UPDATES],
+    at: &mut [u16],
+    beside: &mut [i32],
 )
     requires { ⌜ Lent n (now starts) (now columns) (now values) (now order) × Begun n (now starts) (take n (now order)) (now next)
         × Upper (matrixOf n (now starts) (now columns) (now values)) (take n (now order)) (now next) 0 (now next) (now at) (now beside) ⌝ }
@@ -112,8 +111,8 @@ pub fn upper(
     values: &[i32],
     order: &[u32],
     parts: &mut [u32; MAX_ROWS],
-    at: &mut [u16; MAX_UPDATES],
-    beside: &mut [i32; MAX_UPDATES],
+    at: &mut [u16],
+    beside: &mut [i32],
 ) -> [u32; MAX_ROWS]
     requires { ⌜ Lent n (now starts) (now columns) (now values) (now order) × (length (now parts) ≡ maxRows)
         × (length (now at) ≡ maxUpdates) × ((k : ℕ) → getD (now at) k 0 ≡ 0) × (length (now beside) ≡ maxUpdates) ⌝ }

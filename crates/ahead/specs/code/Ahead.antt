@@ -1,6 +1,6 @@
 -- The upper triangle of some rows: those whose updates a list of picks can reach.
 use mathlib.Core.Path.{_≡_}
-use mathlib.Core.Bool.{Bool, true}
+use mathlib.Core.Bool.{Bool, true, false}
 use mathlib.Core.List.{List}
 use Prim.Native.Nat.{ℕ, _+_, _/_, _≤_, _<_}
 use lib.IntN.{ℤ}
@@ -8,7 +8,8 @@ use lib.ListN.{length, getD, take}
 use Rattle.matrix.specs.Limits.{maxRows}
 use Rattle.matrix.specs.Matrix.{Matrix, matrixOf}
 use Rattle.plan.specs.Sound.{maxWorkers}
-use Rattle.upper.specs.code.Upper.{Positions, Lent, Sizes, upperOf}
+use Rattle.tables.specs.code.Laid.{maxUpdates}
+use Rattle.upper.specs.code.Upper.{Positions, Lent, Sizes, upperOf, UpperLaid}
 use Rattle.upper.specs.code.Row.{Part}
 use Rattle.steps.specs.code.Steps.{placeNext}
 
@@ -29,6 +30,14 @@ pub record PartsOf (m : Matrix) (order : List ℕ) (rows : ℕ → Bool) (b : �
   pub at-low : (k : ℕ) → getD at k 0 < m .n
   pub room : (p : ℕ) → p < m .n → getD parts p 0 + length (upperOf m order p) ≤ length at
   pub is : (p : ℕ) → rows p ≡ true → PartBefore m order b p parts at beside
+
+-- What is laid with the sizes: the whole upper triangle in tables that have room for every matrix's, in smaller ones
+-- nothing; then the rows' positions are
+pub record Sized (n : ℕ) (starts columns : List ℕ) (values : List ℤ) (order position sizes parts at : List ℕ) (beside : List ℤ) : Type 0 where
+  pub sizes-are : Sizes (matrixOf n starts columns values) (take n order) n sizes
+  pub whole : length at ≡ maxUpdates → UpperLaid (matrixOf n starts columns values) (take n order) parts at beside
+  pub none : length at < maxUpdates → PartsOf (matrixOf n starts columns values) (take n order) (λ q. false) 0 parts at beside
+  pub positions : length at < maxUpdates → Positions n (take n order) position
 
 -- a set with the rows of the places from one on and before another
 pub record With (rows : ℕ → Bool) (row : List ℕ) (from to : ℕ) (more : ℕ → Bool) : Type 0 where

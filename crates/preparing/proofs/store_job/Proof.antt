@@ -27,7 +27,7 @@ abbrev start : tie.After-upper → tie.Start
 start u = u .before .before .before .before .before .before .before .before .before
 
 abbrev laid : tie.After-first-updates → tie.After-upper
-laid f = f .before .before
+laid f = f .before .before .before .before
 
 abbrev job : tie.Start → Job
 job s =
@@ -38,7 +38,7 @@ upper-requires : tie.Need-upper-requires
 upper-requires c κs = (lent-of (c .before .before .before .before .before .before .before .before .pre), refl, refl, getD-zeros maxUpdates, refl)
 
 first-updates-requires : tie.Need-first-updates-requires
-first-updates-requires c κs = let u = c .before in (_, planned-of (start u .pre) (u .upper .ensures .0))
+first-updates-requires c κs = let u = c .before .before .before in (_, planned-of (start u .pre) (u .upper .ensures .0))
 
 -- the updates are counted
 counted : (f : tie.After-first-updates) → Counted (job (start (laid f))) (f .first-updates .result)
@@ -131,8 +131,8 @@ store-places-requires c κs =
     let o = given-order g in
     (omega (arith, room h .if1 .left, room h .before .size-of .ensures .0, t .store-tables .kept .0, h .store-head .kept .0), o .0, few-rows g, o .1)
 
-cast-t28 : tie.Need-cast-t28
-cast-t28 c = omega (arith, room (headed (c .before .before .before .before .before .before)) .before .size-of .ensures .1)
+cast-t30 : tie.Need-cast-t30
+cast-t30 c = omega (arith, room (headed (c .before .before .before .before .before .before)) .before .size-of .ensures .1)
 
 returns-2 : tie.Need-returns-2
 unfolding jobOf planOf
@@ -153,6 +153,6 @@ returns-2 c =
 pub store-job-spec : {M : Type 1} → statement M
 store-job-spec =
     tie.close
-    (tie.spec upper-requires first-updates-requires (λ c. search needs) size-of-requires (λ c. search needs) returns
+    (tie.spec (λ c. search needs) (λ c. search needs) upper-requires first-updates-requires (λ c. search needs) size-of-requires (λ c. search needs) returns
     displace-requires record-at-requires cast-store-head store-head-requires slice-aggregate-store-tables slice-aggregate-store-tables-2 store-tables-requires (λ c. search needs)
-    (λ c. search needs) store-places-requires cast-t28 (λ c. search needs) returns-2)
+    (λ c. search needs) store-places-requires cast-t30 (λ c. search needs) returns-2)

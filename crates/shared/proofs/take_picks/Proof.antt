@@ -31,7 +31,7 @@ abbrev start : tie.After-upper → tie.Start
 start u = u .before .before .before .before .before .before .before .before .before
 
 abbrev laid : tie.After-first-updates → tie.After-upper
-laid f = f .before .before
+laid f = f .before .before .before .before
 
 abbrev roof : tie.Start → Roof
 roof s =
@@ -42,7 +42,7 @@ upper-requires : tie.Need-upper-requires
 upper-requires c κs = (lent-of (c .before .before .before .before .before .before .before .before .pre .0 crew0), refl, refl, getD-zeros maxUpdates, refl)
 
 first-updates-requires : tie.Need-first-updates-requires
-first-updates-requires c κs = let u = c .before in (_, planned-of (start u .pre .0 crew0) (u .upper .ensures .0))
+first-updates-requires c κs = let u = c .before .before .before in (_, planned-of (start u .pre .0 crew0) (u .upper .ensures .0))
 
 -- ---- the accesses are counted
 
@@ -127,6 +127,6 @@ returns-2 c =
 pub take-picks-spec : {M : Type 1} → statement M
 take-picks-spec =
     tie.close
-    (tie.spec upper-requires first-updates-requires are-fine-requires (λ c. search needs) returns displace-requires
+    (tie.spec (λ c. search needs) (λ c. search needs) upper-requires first-updates-requires are-fine-requires (λ c. search needs) returns displace-requires
     displace-requires-2 slice-aggregate-take slice-aggregate-take-2 take-requires (λ c. search needs) (λ c. search needs) (λ c. search needs) (λ c. search needs)
     returns-2)

@@ -6,7 +6,7 @@ use native.Mathlib.Omega.{arith}
 use lib.ListN.{length, getD, set, take}
 use lib.Seq.{getD-take}
 use lib.Dec.{ltb}
-use lib.IntN.{pos}
+use lib.IntN.{ℤ, pos}
 use mir.Syntax.{w32}
 use mir.Facts.{toZ-ofZ}
 use Rattle.matrix.specs.Matrix.{matrixOf, Matrix, columnsOf, valuesOf}
@@ -33,7 +33,7 @@ abbrev μ-loop : tie.MeasureT-loop
 
 -- what the function is given
 abbrev given : tie.After-own Inv-loop μ-loop → tie.Start Inv-loop μ-loop
-given c = c .before .before .before .before .before
+given c = c .before .before .before .before .before .before
 
 abbrev matrix : tie.Start Inv-loop μ-loop → Matrix
 matrix s = matrixOf (s .args .n) (s .args .starts .now) (s .args .columns .now) (s .args .values .now)
@@ -50,12 +50,14 @@ row c =
 below : (c : tie.After-own Inv-loop μ-loop) → c .before .wide-at .result < given c .args .n
 below c = let s = given c in omega (arith, row c, row-low (matrix s) (order s) (s .pre .0 .ordered) (s .args .q) (s .pre .2))
 
--- the numbers of a part: of q's own, or of one before it
-record Bounds (n q p place : ℕ) : Type 0 where
+-- the numbers of a part: of q's own, or of one before it; its next place is one of the tables
+record Bounds (n q p place : ℕ) (at : List ℕ) (beside : List ℤ) : Type 0 where
   few : n ≤ 4096
   here : q < n
   low : p < n
   inside : place < 69632
+  at-inside : place < length at
+  beside-inside : place < length beside
 
 few-rows : (s : tie.Start Inv-loop μ-loop) → s .args .n ≤ 4096
 few-rows s = matrix-facts (matrix s) (s .pre .0 .ordered .matrix) .few
@@ -78,11 +80,11 @@ own : (s : tie.Start Inv-loop μ-loop) (begins : List ℕ) → Parts (matrix s) 
     → (getD (s .args .next .now) (s .args .q) 0 ≡ getD begins (s .args .q) 0) × (getD begins (s .args .q) 0 < 69632)
 own s begins parts u = own-next (matrix s) (order s) (s .args .position .now) begins (s .pre .0 .ordered) (s .pre .1) parts (s .args .q) (s .pre .2) refl refl u
 
-own-bounds : (s : tie.Start Inv-loop μ-loop) → let q = s .args .q in Bounds (s .args .n) q q (getD (s .args .next .now) q 0)
+own-bounds : (s : tie.Start Inv-loop μ-loop) → let q = s .args .q in Bounds (s .args .n) q q (getD (s .args .next .now) q 0) (s .args .at .now) (s .args .beside .now)
 own-bounds s =
     let b = s .pre .3 in
     let o = own s (b .0) (b .1) (b .2) in
-    record { few = few-rows s; here = s .pre .2; low = s .pre .2; inside = omega (arith, o) }
+    record { few = few-rows s; here = s .pre .2; low = s .pre .2; inside = omega (arith, o); at-inside = omega (arith, o, b .2 .at-long); beside-inside = omega (arith, o, b .2 .beside-long) }
 
 -- no column has been treated
 begun : (c : tie.After-values-of Inv-loop μ-loop) → let s = given (c .before .before) in let a = s .args in let y = getD (a .next .now) (a .q) 0 in
@@ -107,21 +109,28 @@ turn c begins parts joined =
     (columns v) (values v) (l .loop .k) (c .before .loop-test .taken) (ap (λ (i : ℕ). getD (s .args .position .now) i 0) (c .wide-at2 .ensures .0)) joined
 
 -- .. with the parts that are given
+joined-given : (l : tie.At-loop Inv-loop μ-loop) → let v = l .before in let s = given (v .before .before) in
+    Joined (matrix s) (order s) (s .pre .3 .0) (s .args .q) (v .before .columns-of .result .now) (l .loop .k) (l .loop .next) (l .loop .at) (l .loop .beside)
+joined-given l =
+    let b = given (l .before .before .before) .pre .3 in
+    l .loop .inv .1 (b .0) (b .1) (begun (l .before) (b .0) (b .1) (b .2))
+
 turn-given : (c : tie.After-wide-at2 Inv-loop μ-loop) → let l = c .before .before in let v = l .before in let s = given (v .before .before) in
     Turn (matrix s) (order s) (s .args .position .now) (s .pre .3 .0) (s .pre .0 .ordered) (s .pre .1) (s .pre .3 .1) (s .args .q) (s .pre .2)
     (columns v) (values v) (l .loop .k) (c .before .loop-test .taken) (getD (s .args .position .now) (c .wide-at2 .result) 0) (l .loop .next) (l .loop .at) (l .loop .beside)
 turn-given c =
     let l = c .before .before in
-    let v = l .before in
-    let b = given (v .before .before) .pre .3 in
-    turn c (b .0) (b .1) (l .loop .inv .1 (b .0) (b .1) (begun v (b .0) (b .1) (b .2)))
+    let b = given (l .before .before .before) .pre .3 in
+    turn c (b .0) (b .1) (joined-given l)
 
 bounds : (c : tie.After-wide-at2 Inv-loop μ-loop) → let l = c .before .before in let a = given (l .before .before .before) .args in let p = getD (a .position .now) (c .wide-at2 .result) 0 in
-    Bounds (a .n) (a .q) p (getD (l .loop .next) p 0)
+    Bounds (a .n) (a .q) p (getD (l .loop .next) p 0) (l .loop .at) (l .loop .beside)
 bounds c =
-    let s = given (c .before .before .before .before .before) in
+    let l = c .before .before in
+    let s = given (l .before .before .before) in
     let t = turn-given c in
-    record { few = few-rows s; here = s .pre .2; low = t .inside; inside = t .place }
+    let j = joined-given l .placed in
+    record { few = few-rows s; here = s .pre .2; low = t .inside; inside = t .place; at-inside = omega (arith, t .place, j .at-long); beside-inside = omega (arith, t .place, j .beside-long) }
 
 -- the column's row
 column : (c : tie.After-wide-at2 Inv-loop μ-loop) → c .wide-at2 .result < 4096
@@ -138,10 +147,10 @@ column c =
     )
 
 mul-own : tie.Need-mul-own Inv-loop μ-loop
-mul-own c = let b = own-bounds (c .before .before .before .before) in search needs
+mul-own c = let b = own-bounds (c .before .before .before .before .before) in search needs
 
 element-copy-out-own : tie.Need-element-copy-out-own Inv-loop μ-loop
-element-copy-out-own c = let b = own-bounds (c .before .before .before .before) in search needs
+element-copy-out-own c = let b = own-bounds (c .before .before .before .before .before) in search needs
 
 cast-own : tie.Need-cast-own Inv-loop μ-loop
 cast-own c = let b = own-bounds (given c) in search needs
@@ -152,14 +161,14 @@ cast-at c = let b = own-bounds (given c) in search needs
 mul-at : tie.Need-mul-at Inv-loop μ-loop
 mul-at c = let b = own-bounds (given c) in search needs
 
-element-write-at : tie.Need-element-write-at Inv-loop μ-loop
-element-write-at c = let b = own-bounds (given c) in search needs
+slice-write-at : tie.Need-slice-write-at Inv-loop μ-loop
+slice-write-at c = own-bounds (given c) .at-inside
 
 mul-beside : tie.Need-mul-beside Inv-loop μ-loop
 mul-beside c = let b = own-bounds (given c) in search needs
 
-element-set-of-beside : tie.Need-element-set-of-beside Inv-loop μ-loop
-element-set-of-beside c = let b = own-bounds (given c) in search needs
+slice-set-of-beside : tie.Need-slice-set-of-beside Inv-loop μ-loop
+slice-set-of-beside c = own-bounds (given c) .beside-inside
 
 columns-of-requires : tie.Need-columns-of-requires Inv-loop μ-loop
 columns-of-requires c κs =
@@ -210,17 +219,17 @@ cast-at-2 c = let b = bounds (c .before .before .before) in search needs
 mul-at-2 : tie.Need-mul-at-2 Inv-loop μ-loop
 mul-at-2 c = let b = bounds (c .before .before .before) in search needs
 
-element-write-at-2 : tie.Need-element-write-at-2 Inv-loop μ-loop
-element-write-at-2 c = let b = bounds (c .before .before .before) in search needs
+slice-write-at-2 : tie.Need-slice-write-at-2 Inv-loop μ-loop
+slice-write-at-2 c = bounds (c .before .before .before) .at-inside
 
 shared-slice-copy-out-beside : tie.Need-shared-slice-copy-out-beside Inv-loop μ-loop
 shared-slice-copy-out-beside c = turn-given (c .before .before .before) .beside-long
 
-mul-t29 : tie.Need-mul-t29 Inv-loop μ-loop
-mul-t29 c = let b = bounds (c .before .before .before .before) in search needs
+mul-t27 : tie.Need-mul-t27 Inv-loop μ-loop
+mul-t27 c = let b = bounds (c .before .before .before .before) in search needs
 
-element-set-from-beside : tie.Need-element-set-from-beside Inv-loop μ-loop
-element-set-from-beside c = let b = bounds (c .before .before .before .before) in search needs
+slice-set-from-beside : tie.Need-slice-set-from-beside Inv-loop μ-loop
+slice-set-from-beside c = bounds (c .before .before .before .before) .beside-inside
 
 cast-next : tie.Need-cast-next Inv-loop μ-loop
 cast-next c = let b = bounds (c .before .before .before .before) in search needs
@@ -258,6 +267,13 @@ mul-next-2 c = let b = own-bounds (given (c .before .before .before .before)) in
 element-write-next-2 : tie.Need-element-write-next-2 Inv-loop μ-loop
 element-write-next-2 c = let b = own-bounds (given (c .before .before .before .before)) in search needs
 
+-- the tables are as long as they were
+same-length : tie.Need-same-length Inv-loop μ-loop
+same-length c = let l = c .before in joined-given l .placed .at-long ∙ sym (given (l .before .before .before) .pre .3 .2 .at-long)
+
+same-length-2 : tie.Need-same-length-2 Inv-loop μ-loop
+same-length-2 c = let l = c .before in joined-given l .placed .beside-long ∙ sym (given (l .before .before .before) .pre .3 .2 .beside-long)
+
 returns : tie.Need-returns Inv-loop μ-loop
 returns c =
     let l = c .before in
@@ -273,9 +289,9 @@ pub join-spec : {M : Type 1} → statement M
 join-spec =
     tie.close
     (tie.spec Inv-loop μ-loop (λ c κs. search needs) mul-own element-copy-out-own cast-own cast-at mul-at
-    element-write-at mul-beside element-set-of-beside columns-of-requires values-of-requires loop-holds
+    slice-write-at mul-beside slice-set-of-beside columns-of-requires values-of-requires loop-holds
     (λ c κs. search needs) mul-p element-copy-out-p cast-p (λ c. search needs) (λ c. search needs) loop-again
-    mul-place element-copy-out-place cast-place cast-at-2 mul-at-2 element-write-at-2 (λ c. search needs)
-    shared-slice-copy-out-beside mul-t29 element-set-from-beside cast-next (λ c. search needs) add-next mul-next
+    mul-place element-copy-out-place cast-place cast-at-2 mul-at-2 slice-write-at-2 (λ c. search needs)
+    shared-slice-copy-out-beside mul-t27 slice-set-from-beside cast-next (λ c. search needs) add-next mul-next
     element-write-next (λ c. search needs) (λ c. search needs) loop-again-2 cast-next-3 add-next-2 mul-next-2
-    element-write-next-2 returns)
+    element-write-next-2 same-length same-length-2 returns)

@@ -1,5 +1,5 @@
 -- `join_all` meets its contract: the positions before q have joined.
-use mathlib.Core.Path.{_≡_, refl, subst}
+use mathlib.Core.Path.{_≡_, refl, sym, _∙_, subst}
 use Prim.Native.Nat.{ℕ, _-_, _≤_}
 use lib.ListN.{take}
 use Rattle.matrix.specs.Matrix.{matrixOf}
@@ -19,14 +19,14 @@ abbrev μ-loop : tie.MeasureT-loop
 
 -- from the positions back to the function's entry
 abbrev start : tie.After-positions Inv-loop μ-loop → tie.Start Inv-loop μ-loop
-start c = c .before .before .before .before .before
+start c = c .before .before .before .before .before .before
 
 -- where the parts begin they have room
 parts : (c : tie.After-positions Inv-loop μ-loop) → let a = start c .args in Parts (matrixOf (a .n) (a .starts .now) (a .columns .now) (a .values .now)) (take (a .n) (a .order .now)) (a .next .now)
 parts c = let s = start c in parts-begun _ _ _ (s .pre .0 .ordered) (c .positions .ensures) (s .pre .1)
 
 positions-requires : tie.Need-positions-requires Inv-loop μ-loop
-positions-requires c κs = let g = c .before .before .before .before .pre .0 in (g .long, matrix-facts _ (g .ordered .matrix) .few, g .ordered .once, refl)
+positions-requires c κs = let g = c .before .before .before .before .before .pre .0 in (g .long, matrix-facts _ (g .ordered .matrix) .few, g .ordered .once, refl)
 
 loop-holds : tie.Need-loop-holds Inv-loop μ-loop
 loop-holds c = (search needs, start c .pre .2)
@@ -39,8 +39,15 @@ join-requires c κs =
 
 loop-again : tie.Need-loop-again Inv-loop μ-loop
 loop-again c =
-    let l = c .before .before .before .before .before .before in
-    (search needs, c .join .ensures _ (parts (l .before)) (l .loop .inv .1))
+    let k = c .before .before .before in
+    let l = k .before .before .before .before .before .before in
+    (search needs, k .join .ensures _ (parts (l .before)) (l .loop .inv .1))
+
+same-length : tie.Need-same-length Inv-loop μ-loop
+same-length c = let l = c .before in l .loop .inv .1 .at-long ∙ sym (start (l .before) .pre .2 .at-long)
+
+same-length-2 : tie.Need-same-length-2 Inv-loop μ-loop
+same-length-2 c = let l = c .before in l .loop .inv .1 .beside-long ∙ sym (start (l .before) .pre .2 .beside-long)
 
 returns : tie.Need-returns Inv-loop μ-loop
 returns c =
@@ -53,4 +60,4 @@ pub join-all-spec : {M : Type 1} → statement M
 join-all-spec =
     tie.close
     (tie.spec Inv-loop μ-loop positions-requires loop-holds join-requires (λ c. search needs) (λ c. search needs)
-    loop-again returns)
+    loop-again same-length same-length-2 returns)
