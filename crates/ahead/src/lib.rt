@@ -31,19 +31,19 @@ pub fn lay_sizes(
     order: &[u32],
     position: &mut [u32; MAX_ROWS],
     parts: &mut [u32; MAX_ROWS],
+    sizes: &mut [u32; MAX_ROWS],
     at: &mut [u16],
     beside: &mut [i32],
-) -> [u32; MAX_ROWS]
-    requires { ⌜ Lent n (now starts) (now columns) (now values) (now order) × (length (now position) ≡ maxRows) × (length (now parts) ≡ maxRows)
+)
+    requires { ⌜ Lent n (now starts) (now columns) (now values) (now order) × (length (now position) ≡ maxRows) × (length (now parts) ≡ maxRows) × (length (now sizes) ≡ maxRows)
         × ((p : ℕ) → getD (now parts) p 0 ≡ 0) × ((k : ℕ) → getD (now at) k 0 ≡ 0) × (maxRows ≤ length (now at)) × (length (now at) ≤ maxUpdates) × (length (now beside) ≡ length (now at)) ⌝ }
-    ensures { λ sizes. ⌜ Sized n (now (starts .entry)) (now (columns .entry)) (now (values .entry)) (now (order .entry)) (now (position .exit)) sizes (now (parts .exit)) (now (at .exit)) (now (beside .exit)) ⌝ }
+    ensures { λ _. ⌜ Sized n (now (starts .entry)) (now (columns .entry)) (now (values .entry)) (now (order .entry)) (now (position .exit)) (now (sizes .exit)) (now (parts .exit)) (now (at .exit)) (now (beside .exit)) ⌝ }
 {
     if at.len() == MAX_UPDATES {
-        return upper(n, starts, columns, values, order, parts, at, beside);
+        upper(n, starts, columns, values, order, parts, sizes, at, beside);
+        return;
     }
-    let mut sizes = [0u32; MAX_ROWS];
-    sizes_of(n, starts, columns, order, &mut sizes, position);
-    sizes
+    sizes_of(n, starts, columns, order, sizes, position);
 }
 
 // Lays the part of the row at p from a place on: the place after it, or one past all places if there is no room.

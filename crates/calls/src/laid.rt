@@ -78,7 +78,8 @@ pub(crate) fn laid_picks(
 {
     let mut position = [0u32; MAX_ROWS];
     let mut parts = [0u32; MAX_ROWS];
-    let sizes = lay_sizes(
+    let mut sizes = [0u32; MAX_ROWS];
+    lay_sizes(
         sums.len(),
         starts,
         columns,
@@ -86,6 +87,7 @@ pub(crate) fn laid_picks(
         order,
         &mut position,
         &mut parts,
+        &mut sizes,
         at,
         beside,
     );

@@ -7,7 +7,7 @@ use plan::fields::record_at;
 use steps::refusal;
 use tables::FIRSTS;
 use tables::MAX_UPDATES;
-use waits::blocked_groups;
+use waits::find_blocked;
 ghost use mathlib.Core.Path.{_≡_};
 ghost use mathlib.Core.List.{List};
 ghost use Prim.Native.Nat.{ℕ, _/_, _≤_};
@@ -58,6 +58,7 @@ pub fn ready_workers(
         → Laid j (now (first .entry)) (now (row .entry)) begins (now (leaves .entry)) (now (ends .entry)) → r ≡ bits (ready j (now (made .entry)))) ⌝ }
 {
     let whole = record_at(groups, 0);
-    let blocks = blocked_groups(groups, groups.len() / WIDTH, ends, made);
+    let mut blocks = [0u8; MAX_GROUPS];
+    find_blocked(groups, groups.len() / WIDTH, ends, made, &mut blocks);
     ready_bits(made, whole.workers, first, row, leaves, &blocks)
 }

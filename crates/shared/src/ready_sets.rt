@@ -9,7 +9,7 @@ use tables::FIRSTS;
 use tables::MAX_UPDATES;
 use turns::Crews;
 use turns::inside::is_free;
-use waits::blocked_groups;
+use waits::find_blocked;
 ghost use mathlib.Core.Path.{_≡_};
 ghost use mathlib.Core.List.{List};
 ghost use Prim.Native.Nat.{ℕ, _≤_};
@@ -78,8 +78,10 @@ pub(crate) fn ready_sets(
     let whole = record_at(groups, 0);
     let made0 = crews.made0;
     let made1 = crews.made1;
-    let blocks0 = blocked_groups(groups, count, &ends, &made0);
-    let blocks1 = blocked_groups(groups, count, &ends, &made1);
+    let mut blocks0 = [0u8; MAX_GROUPS];
+    find_blocked(groups, count, &ends, &made0, &mut blocks0);
+    let mut blocks1 = [0u8; MAX_GROUPS];
+    find_blocked(groups, count, &ends, &made1, &mut blocks1);
     let bits0 = crew_bits(
         &made0,
         &made1,

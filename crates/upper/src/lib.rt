@@ -111,17 +111,17 @@ pub fn upper(
     values: &[i32],
     order: &[u32],
     parts: &mut [u32; MAX_ROWS],
+    sizes: &mut [u32; MAX_ROWS],
     at: &mut [u16],
     beside: &mut [i32],
-) -> [u32; MAX_ROWS]
+)
     requires { ⌜ Lent n (now starts) (now columns) (now values) (now order) × (length (now parts) ≡ maxRows)
         × (length (now at) ≡ maxUpdates) × ((k : ℕ) → getD (now at) k 0 ≡ 0) × (length (now beside) ≡ maxUpdates) ⌝ }
-    ensures { λ sizes. ⌜ Sizes (matrixOf n (now (starts .entry)) (now (columns .entry)) (now (values .entry))) (take n (now (order .entry))) n sizes
+    ensures { λ _. ⌜ Sizes (matrixOf n (now (starts .entry)) (now (columns .entry)) (now (values .entry))) (take n (now (order .entry))) n (now (sizes .exit))
         × UpperLaid (matrixOf n (now (starts .entry)) (now (columns .entry)) (now (values .entry))) (take n (now (order .entry))) (now (parts .exit)) (now (at .exit)) (now (beside .exit)) ⌝ }
 {
     begin_parts(n, starts, order, parts);
-    let mut next = *parts;
-    join_all(n, starts, columns, values, order, &mut next, at, beside);
-    part_sizes(n, parts, &mut next);
-    next
+    *sizes = *parts;
+    join_all(n, starts, columns, values, order, sizes, at, beside);
+    part_sizes(n, parts, sizes);
 }

@@ -9,8 +9,8 @@ ghost use mathlib.Core.Path.{_≡_};
 ghost use mathlib.Core.Bool.{false};
 ghost use mathlib.Core.List.{List};
 ghost use Prim.Native.Nat.{ℕ, _/_, _<_};
-ghost use lib.ListN.{length};
-ghost use Rattle.plan.specs.Sound.{maxWorkers};
+ghost use lib.ListN.{length, replicate};
+ghost use Rattle.plan.specs.Sound.{maxWorkers, maxGroups};
 ghost use Rattle.plan.specs.Groups.{width};
 ghost use Rattle.run.specs.Machine.{onward};
 ghost use Rattle.waits.specs.code.Waits.{Recorded, openIf, openRed, blockedIf, nextEnd, OpenReds, Passed, Blocks, Ahead, Current};
@@ -56,19 +56,19 @@ fn next_end(made: u32, end: u32, stop: u32) -> u32
     if end < stop { end } else { stop }
 }
 
-// The groups that have an open red child, from the last record to the first.
+// Marks the groups that have an open red child, from the last record to the first. None is marked yet.
 fn open_reds(
     groups: &[u32],
     count: usize,
     ends: &[u32; MAX_GROUPS],
     made: &[u32; MAX_WORKERS],
-) -> [u8; MAX_GROUPS]
-    requires { ⌜ Recorded count (now groups) ⌝ }
-    ensures { λ r. ⌜ OpenReds count (now (groups .entry)) (now (ends .entry)) (now (made .entry)) r ⌝ }
+    reds: &mut [u8; MAX_GROUPS],
+)
+    requires { ⌜ Recorded count (now groups) × (now reds ≡ replicate maxGroups 0) ⌝ }
+    ensures { λ _. ⌜ OpenReds count (now (groups .entry)) (now (ends .entry)) (now (made .entry)) (now (reds .exit)) ⌝ }
 {
     let mut parents = [0u8; MAX_GROUPS];
     let mut opens = [0u8; MAX_GROUPS];
-    let mut reds = [0u8; MAX_GROUPS];
     let mut i = count;
     while 1 < i {
         i -= 1;
@@ -80,15 +80,13 @@ fn open_reds(
         opens[parent] = opens[parent] | opened;
         reds[parent] = reds[parent] | open_red(g.colour, opened);
     }
-    reds
 }
 
-// The groups that are blocked, from the first record to the last.
-fn pass_down(groups: &[u32], count: usize, reds: &[u8; MAX_GROUPS]) -> [u8; MAX_GROUPS]
-    requires { ⌜ Recorded count (now groups) ⌝ }
-    ensures { λ r. ⌜ Passed count (now (groups .entry)) (now (reds .entry)) r ⌝ }
+// Marks the groups that are blocked, from the first record to the last. None is marked yet.
+fn pass_down(groups: &[u32], count: usize, reds: &[u8; MAX_GROUPS], blocks: &mut [u8; MAX_GROUPS])
+    requires { ⌜ Recorded count (now groups) × (now blocks ≡ replicate maxGroups 0) ⌝ }
+    ensures { λ _. ⌜ Passed count (now (groups .entry)) (now (reds .entry)) (now (blocks .exit)) ⌝ }
 {
-    let mut blocks = [0u8; MAX_GROUPS];
     let mut i = 1;
     while i < count {
         let g = record_at(groups, i);
@@ -96,25 +94,26 @@ fn pass_down(groups: &[u32], count: usize, reds: &[u8; MAX_GROUPS]) -> [u8; MAX_
         blocks[i] = blocked_if(blocks[parent], g.colour, reds[parent]);
         i += 1;
     }
-    blocks
 }
 
-// The groups that are blocked by these counts.
-pub fn blocked_groups(
+// Marks the groups that are blocked by these counts. None is marked yet.
+pub fn find_blocked(
     groups: &[u32],
     count: usize,
     ends: &[u32; MAX_GROUPS],
     made: &[u32; MAX_WORKERS],
-) -> [u8; MAX_GROUPS]
-    requires { ⌜ Recorded count (now groups) ⌝ }
-    ensures { λ r. ⌜ Blocks count (now (groups .entry)) (now (ends .entry)) (now (made .entry)) r ⌝ }
+    blocks: &mut [u8; MAX_GROUPS],
+)
+    requires { ⌜ Recorded count (now groups) × (now blocks ≡ replicate maxGroups 0) ⌝ }
+    ensures { λ _. ⌜ Blocks count (now (groups .entry)) (now (ends .entry)) (now (made .entry)) (now (blocks .exit)) ⌝ }
 {
-    let reds = open_reds(groups, count, ends, made);
-    pass_down(groups, count, &reds)
+    let mut reds = [0u8; MAX_GROUPS];
+    open_reds(groups, count, ends, made, &mut reds);
+    pass_down(groups, count, &reds, blocks);
 }
 
 // For each worker the next end of a group of its own: up to there it finishes no leaf.
-pub fn next_ends(
+fn next_ends(
     groups: &[u32],
     count: usize,
     ends: &[u32; MAX_GROUPS],
@@ -147,7 +146,8 @@ pub fn find(
         × Ahead (length (now (groups .entry)) / width) (now (groups .entry)) (now (ends .entry)) (now (made .entry)) (now (stops .exit)) ⌝ }
 {
     let count = groups.len() / WIDTH;
-    *blocks = blocked_groups(groups, count, ends, made);
+    *blocks = [0u8; MAX_GROUPS];
+    find_blocked(groups, count, ends, made, blocks);
     *stops = next_ends(groups, count, ends, made);
 }
 

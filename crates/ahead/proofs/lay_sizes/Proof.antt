@@ -1,5 +1,5 @@
 -- `lay_sizes`: by the whole upper triangle, or by counting.
-use mathlib.Core.Path.{refl, _∙_}
+use mathlib.Core.Path.{_∙_}
 use native.Mathlib.Omega.{arith}
 use Rattle.ahead.proofs.AheadRows.{parts-none}
 use Rattle.ahead.proofs.lay_sizes.Statement.{statement}
@@ -11,15 +11,15 @@ start c = c .before .before .before .before
 
 upper-requires : tie.Need-upper-requires
 upper-requires c κs =
-    let t = c .before .before .before in
+    let t = c .before .before .before .before in
     let g = start (t .before) .pre in
-    (g .0, g .2, t .if1 .taken, g .4, g .7 ∙ t .if1 .taken)
+    (g .0, g .2, t .if1 .taken, g .5, g .8 ∙ t .if1 .taken)
 
 same-length : tie.Need-same-length
-same-length c = c .before .before .before .upper .kept .1 .1 .1 .1 .1 .1 .0
+same-length c = c .before .before .before .upper .kept .1 .1 .1 .1 .1 .1 .1 .0
 
 same-length-2 : tie.Need-same-length-2
-same-length-2 c = c .before .before .before .upper .kept .1 .1 .1 .1 .1 .1 .1 .0
+same-length-2 c = c .before .before .before .upper .kept .1 .1 .1 .1 .1 .1 .1 .1 .0
 
 returns : tie.Need-returns
 returns c =
@@ -27,7 +27,7 @@ returns c =
     record { sizes-are = e .0; whole = λ l. e .1; none = λ l. absurd (omega (arith, e .1 .placed .at-long)); positions = λ l. absurd (omega (arith, e .1 .placed .at-long)) }
 
 sizes-of-requires : tie.Need-sizes-of-requires
-sizes-of-requires c κs = let g = start (c .before .before .before) .pre in ((_, g .0), refl, g .1)
+sizes-of-requires c κs = let g = start (c .before .before .before) .pre in ((_, g .0), g .3, g .1)
 
 returns-2 : tie.Need-returns-2
 returns-2 c =
@@ -36,7 +36,7 @@ returns-2 c =
     record {
       sizes-are = c .sizes-of .ensures .0 _ (g .0);
       whole = λ l. absurd (e .if1 .left l);
-      none = λ l. parts-none _ _ (g .0 .ordered .matrix) (g .2) (g .3) (g .4) (g .5);
+      none = λ l. parts-none _ _ (g .0 .ordered .matrix) (g .2) (g .4) (g .5) (g .6);
       positions = λ l. c .sizes-of .ensures .1;
     }
 

@@ -24,7 +24,7 @@ use Rattle.preparing.proofs.store_job.Tie as tie
 
 -- from the upper triangle back to the function's entry, from the counts to the triangle
 abbrev start : tie.After-upper → tie.Start
-start u = u .before .before .before .before .before .before .before .before .before
+start u = u .before .before .before .before .before .before .before .before .before .before
 
 abbrev laid : tie.After-first-updates → tie.After-upper
 laid f = f .before .before .before .before
@@ -35,7 +35,7 @@ job s =
     jobOf (matrixOf (a .n) (a .starts .now) (a .columns .now) (a .values .now)) (a .displacements .now) (a .order .now) (a .groups .now) (length (a .groups .now) / width)
 
 upper-requires : tie.Need-upper-requires
-upper-requires c κs = (lent-of (c .before .before .before .before .before .before .before .before .pre), refl, refl, getD-zeros maxUpdates, refl)
+upper-requires c κs = (lent-of (c .before .before .before .before .before .before .before .before .before .pre), refl, refl, getD-zeros maxUpdates, refl)
 
 first-updates-requires : tie.Need-first-updates-requires
 first-updates-requires c κs = let u = c .before .before .before in (_, planned-of (start u .pre) (u .upper .ensures .0))
@@ -70,7 +70,7 @@ displace-requires : tie.Need-displace-requires
 displace-requires c κs = let d = given-displaced (start (laid (c .before .before .before)) .pre) in (d .0, d .1, d .2, refl)
 
 -- the job's plan, by the sizes of its parts
-planned : (f : tie.After-first-updates) → let s = start (laid f) in Planned (job s) (s .args .groups .now) (length (s .args .groups .now) / width) (laid f .upper .result)
+planned : (f : tie.After-first-updates) → let s = start (laid f) in Planned (job s) (s .args .groups .now) (length (s .args .groups .now) / width) (laid f .upper .last .1 .1 .1 .1 .1 .1 .0)
 planned f =
     let u = laid f in
     planned-of (start u .pre) (u .upper .ensures .0)
@@ -104,7 +104,7 @@ abbrev headed : tie.After-store-tables → tie.After-store-head
 headed t = t .before .before .before .before .before .before .before .before .before
 
 -- the upper triangle
-triangle : (h : tie.After-store-head) → let u = laid (counts h) in let s = start u in Triangle (job s) (u .upper .last .1 .1 .1 .1 .1 .0) (turned h .displace .last .1 .1 .0) (u .upper .last .1 .1 .1 .1 .1 .1 .0) (u .upper .last .1 .1 .1 .1 .1 .1 .1 .0)
+triangle : (h : tie.After-store-head) → let u = laid (counts h) in let s = start u in Triangle (job s) (u .upper .last .1 .1 .1 .1 .1 .0) (turned h .displace .last .1 .1 .0) (u .upper .last .1 .1 .1 .1 .1 .1 .1 .0) (u .upper .last .1 .1 .1 .1 .1 .1 .1 .1 .0)
 triangle h =
     let u = laid (counts h) in
     let g = start u .pre in
@@ -131,8 +131,8 @@ store-places-requires c κs =
     let o = given-order g in
     (omega (arith, room h .if1 .left, room h .before .size-of .ensures .0, t .store-tables .kept .0, h .store-head .kept .0), o .0, few-rows g, o .1)
 
-cast-t30 : tie.Need-cast-t30
-cast-t30 c = omega (arith, room (headed (c .before .before .before .before .before .before)) .before .size-of .ensures .1)
+cast-t31 : tie.Need-cast-t31
+cast-t31 c = omega (arith, room (headed (c .before .before .before .before .before .before)) .before .size-of .ensures .1)
 
 returns-2 : tie.Need-returns-2
 unfolding jobOf planOf
@@ -155,4 +155,4 @@ store-job-spec =
     tie.close
     (tie.spec (λ c. search needs) (λ c. search needs) upper-requires first-updates-requires (λ c. search needs) size-of-requires (λ c. search needs) returns
     displace-requires record-at-requires cast-store-head store-head-requires slice-aggregate-store-tables slice-aggregate-store-tables-2 store-tables-requires (λ c. search needs)
-    (λ c. search needs) store-places-requires cast-t30 (λ c. search needs) returns-2)
+    (λ c. search needs) store-places-requires cast-t31 (λ c. search needs) returns-2)

@@ -28,7 +28,7 @@ use Rattle.shared.proofs.take_picks.Tie as tie
 
 -- from the upper triangle back to the function's entry, from the counts to the triangle
 abbrev start : tie.After-upper → tie.Start
-start u = u .before .before .before .before .before .before .before .before .before
+start u = u .before .before .before .before .before .before .before .before .before .before
 
 abbrev laid : tie.After-first-updates → tie.After-upper
 laid f = f .before .before .before .before
@@ -39,7 +39,7 @@ roof s =
     roofOf (matrixOf (length (a .sums0 .now)) (a .starts .now) (a .columns .now) (a .values .now)) (record { of0 = a .displacements0 .now; of1 = a .displacements1 .now }) (a .order .now) (a .groups .now) (length (a .groups .now) / width)
 
 upper-requires : tie.Need-upper-requires
-upper-requires c κs = (lent-of (c .before .before .before .before .before .before .before .before .pre .0 crew0), refl, refl, getD-zeros maxUpdates, refl)
+upper-requires c κs = (lent-of (c .before .before .before .before .before .before .before .before .before .pre .0 crew0), refl, refl, getD-zeros maxUpdates, refl)
 
 first-updates-requires : tie.Need-first-updates-requires
 first-updates-requires c κs = let u = c .before .before .before in (_, planned-of (start u .pre .0 crew0) (u .upper .ensures .0))

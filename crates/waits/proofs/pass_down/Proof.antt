@@ -17,31 +17,31 @@ abbrev μ-loop : tie.MeasureT-loop
 μ-loop groups count reds blocks₀ i₀ blocks i = count - i
 
 loop-holds : tie.Need-loop-holds Inv-loop μ-loop
-loop-holds c = (search needs, c .before .pre .some, passed-none (c .before .args .groups .now) (c .before .args .reds .now))
+loop-holds c = let s = c .before in (search needs, s .pre .0 .some, rw (s .pre .1) (passed-none (s .args .groups .now) (s .args .reds .now)))
 
 -- the parent's number is an index
 parent-low : (c : tie.After-record-at Inv-loop μ-loop) → c .record-at .result .parent < 512
 parent-low c =
     let l = c .before .before in
     let s = l .before .before in
-    omega (arith, ap (λ (g : Group). g .parent) (c .record-at .ensures .is), s .pre .parents (l .loop .i) (l .loop .inv .0) (c .before .loop-test .taken), s .pre .few, c .before .loop-test .taken)
-
-array-read-blocked-if : tie.Need-array-read-blocked-if Inv-loop μ-loop
-array-read-blocked-if c = let low = parent-low c in search needs
+    omega (arith, ap (λ (g : Group). g .parent) (c .record-at .ensures .is), s .pre .0 .parents (l .loop .i) (l .loop .inv .0) (c .before .loop-test .taken), s .pre .0 .few, c .before .loop-test .taken)
 
 element-copy-out-blocked-if : tie.Need-element-copy-out-blocked-if Inv-loop μ-loop
 element-copy-out-blocked-if c = let low = parent-low c in search needs
 
+element-copy-out-blocked-if-2 : tie.Need-element-copy-out-blocked-if-2 Inv-loop μ-loop
+element-copy-out-blocked-if-2 c = let low = parent-low (c .before) in search needs
+
 loop-again : tie.Need-loop-again Inv-loop μ-loop
 loop-again c =
-    let r = c .before .before in
+    let r = c .before .before .before in
     let t = r .before in
     let l = t .before in
     let s = l .before .before in
     let a = s .args in (
       search needs,
       search needs,
-      passed-next (a .count) (a .groups .now) (s .pre) (l .loop .i) (ofRecord (r .record-at .result)) (r .record-at .ensures .is) (l .loop .inv .0) (t .loop-test .taken) (a .reds .now) (l .loop .blocks) (c .blocked-if .result) (c .blocked-if .ensures) (l .loop .inv .2),
+      passed-next (a .count) (a .groups .now) (s .pre .0) (l .loop .i) (ofRecord (r .record-at .result)) (r .record-at .ensures .is) (l .loop .inv .0) (t .loop-test .taken) (a .reds .now) (l .loop .blocks) (c .blocked-if .result) (c .blocked-if .ensures) (l .loop .inv .2),
     )
 
 returns : tie.Need-returns Inv-loop μ-loop
@@ -54,5 +54,5 @@ returns c =
 pub pass-down-spec : {M : Type 1} → statement M
 pass-down-spec =
     tie.close
-    (tie.spec Inv-loop μ-loop loop-holds (λ c κs. search needs) array-read-blocked-if element-copy-out-blocked-if
+    (tie.spec Inv-loop μ-loop loop-holds (λ c κs. search needs) element-copy-out-blocked-if element-copy-out-blocked-if-2
     (λ c κs. search needs) (λ c. search needs) (λ c. search needs) (λ c. search needs) loop-again returns)

@@ -24,7 +24,7 @@ use Rattle.calls.proofs.laid.laid_picks.Tie as tie
 
 -- from the sizes back to the function's entry, from the counts to the sizes
 abbrev start : tie.After-lay-sizes → tie.Start
-start u = u .before .before .before .before .before .before .before .before .before .before .before
+start u = u .before .before .before .before .before .before .before .before .before .before .before .before
 
 abbrev sized : tie.After-first-updates → tie.After-lay-sizes
 sized f = f .before .before .before .before .before
@@ -36,11 +36,11 @@ job s =
 
 lay-sizes-requires : tie.Need-lay-sizes-requires
 lay-sizes-requires c κs =
-    let p = c .before .before .before .before .before .before .before .before .before .before .pre in
+    let p = c .before .before .before .before .before .before .before .before .before .before .before .pre in
     let r = p .1 in
-    (lent-of (p .0), refl, refl, getD-zeros maxRows, r .blank, r .some, r .most, r .even)
+    (lent-of (p .0), refl, refl, refl, getD-zeros maxRows, r .blank, r .some, r .most, r .even)
 
-planned : (u : tie.After-lay-sizes) → let a = start u .args in Planned (job (start u)) (a .groups .now) (length (a .groups .now) / width) (u .lay-sizes .result)
+planned : (u : tie.After-lay-sizes) → let a = start u .args in Planned (job (start u)) (a .groups .now) (length (a .groups .now) / width) (u .lay-sizes .last .1 .1 .1 .1 .1 .1 .1 .0)
 planned u = planned-of (start u .pre .0) (u .lay-sizes .ensures .sizes-are)
 
 first-updates-requires : tie.Need-first-updates-requires
@@ -89,17 +89,17 @@ lay-ahead-requires c κs =
     let u = sized f in
     let g = start u .pre .0 in
     let r = start u .pre .1 in
-    let at = u .lay-sizes .kept .1 .1 .1 .1 .1 .1 .1 .0 in
-    let beside = u .lay-sizes .kept .1 .1 .1 .1 .1 .1 .1 .1 .0 in
+    let at = u .lay-sizes .kept .1 .1 .1 .1 .1 .1 .1 .1 .0 in
+    let beside = u .lay-sizes .kept .1 .1 .1 .1 .1 .1 .1 .1 .1 .0 in
     let t = l .lay .ensures _ (planned u) (counted f) (planned-blank (planned u)) in
     ((_, lent-of g, u .lay-sizes .ensures, (_, t .1)), λ s. r .few (omega (arith, at)), omega (arith, at, r .most), omega (arith, at, beside, r .even))
 
 -- the tables are as long as they were
 same-length-3 : tie.Need-same-length-3
-same-length-3 c = let h = c .before .before .before .before .before in h .lay-ahead .kept .1 .1 .1 .1 .1 .1 .1 .1 .1 .1 .1 .0 ∙ sized (counts (rows h)) .lay-sizes .kept .1 .1 .1 .1 .1 .1 .1 .0
+same-length-3 c = let h = c .before .before .before .before .before in h .lay-ahead .kept .1 .1 .1 .1 .1 .1 .1 .1 .1 .1 .1 .0 ∙ sized (counts (rows h)) .lay-sizes .kept .1 .1 .1 .1 .1 .1 .1 .1 .0
 
 same-length-4 : tie.Need-same-length-4
-same-length-4 c = let h = c .before .before .before .before .before in h .lay-ahead .kept .1 .1 .1 .1 .1 .1 .1 .1 .1 .1 .1 .1 .0 ∙ sized (counts (rows h)) .lay-sizes .kept .1 .1 .1 .1 .1 .1 .1 .1 .0
+same-length-4 c = let h = c .before .before .before .before .before in h .lay-ahead .kept .1 .1 .1 .1 .1 .1 .1 .1 .1 .1 .1 .1 .0 ∙ sized (counts (rows h)) .lay-sizes .kept .1 .1 .1 .1 .1 .1 .1 .1 .1 .0
 
 -- there is no room
 returns-2 : tie.Need-returns-2
@@ -109,7 +109,7 @@ returns-2 c =
     let u = sized (counts (rows h)) in (
       λ y zs. absurd (clash y (c .came-to2 .ensures .0)),
       λ y. refl,
-      λ e. absurd (clash (h .lay-ahead .ensures .1 (u .lay-sizes .kept .1 .1 .1 .1 .1 .1 .1 .0 ∙ e)) (fails refl (t .if2 .taken))),
+      λ e. absurd (clash (h .lay-ahead .ensures .1 (u .lay-sizes .kept .1 .1 .1 .1 .1 .1 .1 .1 .0 ∙ e)) (fails refl (t .if2 .taken))),
     )
 
 -- ---- the picks
@@ -127,8 +127,8 @@ walk-requires c κs =
     let u = sized f in
     let g = start u .pre .0 in
     let room = start u .pre .1 in
-    let at = h .lay-ahead .kept .1 .1 .1 .1 .1 .1 .1 .1 .1 .1 .1 .0 ∙ u .lay-sizes .kept .1 .1 .1 .1 .1 .1 .1 .0 in
-    let beside = h .lay-ahead .kept .1 .1 .1 .1 .1 .1 .1 .1 .1 .1 .1 .1 .0 ∙ u .lay-sizes .kept .1 .1 .1 .1 .1 .1 .1 .1 .0 in
+    let at = h .lay-ahead .kept .1 .1 .1 .1 .1 .1 .1 .1 .1 .1 .1 .0 ∙ u .lay-sizes .kept .1 .1 .1 .1 .1 .1 .1 .1 .0 in
+    let beside = h .lay-ahead .kept .1 .1 .1 .1 .1 .1 .1 .1 .1 .1 .1 .1 .0 ∙ u .lay-sizes .kept .1 .1 .1 .1 .1 .1 .1 .1 .1 .0 in
     let t = l .lay .ensures _ (planned u) (counted f) (planned-blank (planned u)) in
     let r = h .lay-ahead .ensures .0 (holds refl (e .if2 .left)) _ (lent-of g) (u .lay-sizes .ensures) (t .1 .row-low) in
     (whole-few (planned u), planned-recorded (planned u), ahead-tables _ (t .0) r (t .1) (omega (arith, at, beside, room .even)) (omega (arith, at, room .most)))
@@ -146,10 +146,10 @@ abbrev walking : tie.After-came-to3 → tie.Else2
 walking c = c .before .before .before .before .before .before .before .before .before .before .before .before .before .before .before .before .before .before .before .before .before .before .before .before .before .before
 
 same-length-6 : tie.Need-same-length-6
-same-length-6 c = let h = reached (walking c) in h .lay-ahead .kept .1 .1 .1 .1 .1 .1 .1 .1 .1 .1 .1 .0 ∙ sized (counts (rows h)) .lay-sizes .kept .1 .1 .1 .1 .1 .1 .1 .0
+same-length-6 c = let h = reached (walking c) in h .lay-ahead .kept .1 .1 .1 .1 .1 .1 .1 .1 .1 .1 .1 .0 ∙ sized (counts (rows h)) .lay-sizes .kept .1 .1 .1 .1 .1 .1 .1 .1 .0
 
 same-length-7 : tie.Need-same-length-7
-same-length-7 c = let h = reached (walking c) in h .lay-ahead .kept .1 .1 .1 .1 .1 .1 .1 .1 .1 .1 .1 .1 .0 ∙ sized (counts (rows h)) .lay-sizes .kept .1 .1 .1 .1 .1 .1 .1 .1 .0
+same-length-7 c = let h = reached (walking c) in h .lay-ahead .kept .1 .1 .1 .1 .1 .1 .1 .1 .1 .1 .1 .1 .0 ∙ sized (counts (rows h)) .lay-sizes .kept .1 .1 .1 .1 .1 .1 .1 .1 .1 .0
 
 returns-3 : tie.Need-returns-3
 unfolding jobOf planOf

@@ -17,14 +17,14 @@ crew : (r : tie.After-record-at) → r .record-at .result .workers ≡ recordAt 
 crew r = ap (λ (g : Group). g .workers) (r .record-at .ensures .is)
 
 ready-bits-requires : tie.Need-ready-bits-requires
-ready-bits-requires c κs = let r = c .before .before in let p = start r .pre in (omega (arith, crew r, p .0), p .2)
+ready-bits-requires c κs = let r = c .before .before .before in let p = start r .pre in (omega (arith, crew r, p .0), p .2)
 
 returns : tie.Need-returns
 returns c j begins ok is laid =
     let b = c .before .before in
-    let r = b .before in
+    let r = b .before .before in
     let p = start r .pre in
-    c .ready-bits .ensures j begins _ (crew r ∙ whole-crew j _ _ (p .1 .some) is) laid (waits-of j ok _ _ is laid _ _ (b .blocked-groups .ensures) (p .1))
+    c .ready-bits .ensures j begins _ (crew r ∙ whole-crew j _ _ (p .1 .some) is) laid (waits-of j ok _ _ is laid _ _ (b .find-blocked .ensures) (p .1))
 
 pub ready-workers-spec : {M : Type 1} → statement M
 ready-workers-spec =

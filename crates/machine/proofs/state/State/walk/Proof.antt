@@ -58,11 +58,8 @@ few r = omega (arith, crew r, start r .pre .0)
 record-at-requires : tie.Need-record-at-requires Inv-loop μ-loop
 record-at-requires c κs = let R = c .before .before .before .before .before .pre .1 in omega (arith, R .long, R .some)
 
-blocked-groups-requires : tie.Need-blocked-groups-requires Inv-loop μ-loop
-blocked-groups-requires c κs = start (c .before) .pre .1
-
-next-ends-requires : tie.Need-next-ends-requires Inv-loop μ-loop
-next-ends-requires c κs = start (c .before .before .before) .pre .1
+find-requires : tie.Need-find-requires Inv-loop μ-loop
+find-requires c κs = start (c .before .before .before) .pre .1
 
 made-long : (s : tie.Start Inv-loop μ-loop) → length (s .args .self .made) ≡ 16
 made-long s = let g = s .good in search needs
@@ -70,7 +67,7 @@ made-long s = let g = s .good in search needs
 loop-holds : tie.Need-loop-holds Inv-loop μ-loop
 loop-holds c =
     let r = c .before .before .before .before in
-    (search needs, search needs, refl, running-start (crew r) (record { long = made-long (start r); blocked = c .before .before .blocked-groups .ensures; ahead = c .next-ends .ensures }) (search needs))
+    (search needs, search needs, refl, running-start (crew r) (record { long = made-long (start r); blocked = c .find .ensures .0; ahead = c .find .ensures .1 }) (search needs))
 
 -- ---- a pick
 
@@ -189,7 +186,6 @@ returns-2 c = let l = c .before .before in rw (c .ended2 .ensures) (running-none
 pub walk-spec : {M : Type 1} → statement M
 walk-spec =
     tie.close
-    (tie.spec Inv-loop μ-loop record-at-requires blocked-groups-requires next-ends-requires loop-holds
-    (λ c. search needs) cast-w enter-requires access-requires add-taken renew-requires (λ c κs. search needs)
+    (tie.spec Inv-loop μ-loop record-at-requires find-requires loop-holds (λ c. search needs) cast-w enter-requires access-requires add-taken renew-requires (λ c κs. search needs)
     (λ c κs. search needs) same-length returns add-k loop-less loop-again (λ c κs. search needs) (λ c. search needs)
     returns-2)
