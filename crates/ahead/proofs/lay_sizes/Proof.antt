@@ -1,6 +1,7 @@
 -- `lay_sizes`: by the whole upper triangle, or by counting.
 use mathlib.Core.Path.{_∙_}
 use native.Mathlib.Omega.{arith}
+use borrow.Author.Needs.{needs}
 use Rattle.ahead.proofs.AheadRows.{parts-none}
 use Rattle.ahead.proofs.lay_sizes.Statement.{statement}
 use Rattle.ahead.proofs.lay_sizes.Tie as tie
@@ -27,7 +28,7 @@ returns c =
     record { sizes-are = e .0; whole = λ l. e .1; none = λ l. absurd (omega (arith, e .1 .placed .at-long)); positions = λ l. absurd (omega (arith, e .1 .placed .at-long)) }
 
 sizes-of-requires : tie.Need-sizes-of-requires
-sizes-of-requires c κs = let g = start (c .before .before .before) .pre in ((_, g .0), g .3, g .1)
+sizes-of-requires c κs = let g = start (c .before .before .before) .pre in ((_, g .0), search needs, search needs)
 
 returns-2 : tie.Need-returns-2
 returns-2 c =
