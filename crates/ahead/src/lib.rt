@@ -1,4 +1,5 @@
-// The upper triangle of those rows alone whose updates a list of picks can reach: few picks reach few rows.
+// The upper triangle for a list of picks: whole, or of those rows alone whose updates the picks can reach, as few picks
+// reach few rows.
 use base::numbers::least;
 use base::shorts::wide;
 use base::slices::wide_at;

@@ -1,4 +1,4 @@
--- The upper triangle of some rows: those whose updates a list of picks can reach.
+-- The upper triangle for a list of picks: whole, or of those rows alone whose updates the picks can reach.
 use mathlib.Core.Path.{_≡_}
 use mathlib.Core.Bool.{Bool, true, false}
 use mathlib.Core.List.{List}

@@ -2,6 +2,7 @@
 use mathlib.Core.Path.{_≡_, sym, _∙_}
 use mathlib.Core.Bool.{true, false}
 use Prim.Native.Nat.{_/_}
+use native.Mathlib.Omega.{arith}
 use lib.ListN.{length}
 use Rattle.base.proofs.Booleans.{fails, holds}
 use Rattle.prepared.specs.Format.{isPrepared, listsIn}
@@ -27,14 +28,14 @@ sizes-of-requires c κs = prepared (c .before)
 returns-3 : tie.Need-returns-3
 returns-3 c =
     let e = c .before .before .before in
-    other-rows _ _ _ (prepared (e .before)) (e .if2 .left) (λ q. c .if3 .taken (q ∙ sym (c .before .before .sizes-of .ensures .rows-are)))
+    other-rows _ _ _ (prepared (e .before)) (e .if2 .left) (λ q. omega (arith, c .if3 .taken, q, c .before .before .sizes-of .ensures .rows-are))
 
 is-fine-requires : tie.Need-is-fine-requires
 is-fine-requires c κs = prepared (c .before .before .before .before .before .before .before)
 
 -- there is a sum for each row
 rows : (c : tie.Else3) → let s = c .before .before .before .before .before .before .before .before .before in length (s .args .sums .now) / 8 ≡ listsIn (s .args .list .now) .rows
-rows c = c .if3 .left ∙ c .before .before .sizes-of .ensures .rows-are
+rows c = omega (arith, c .if3 .left, c .before .before .sizes-of .ensures .rows-are)
 
 returns-4 : tie.Need-returns-4
 returns-4 c =
