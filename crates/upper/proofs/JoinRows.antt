@@ -46,11 +46,18 @@ pub record Joined (m : Matrix) (order begins : List ℕ) (q : ℕ) (cs : List �
   pub own : getD at (getD begins q 0) 0 ≡ q
   pub diagonal : getD beside (getD begins q 0) (pos 0) ≡ cond (isIn (take k cs) (getD order q 0)) (entry m (getD order q 0) (getD order q 0)) (pos 0)
 
-module _ (m : Matrix) (order position begins : List ℕ) (o : Ordered m order) (t : Positions (m .n) order position) (parts : Parts m order begins) where
+-- one column more, whose row stands at r: its next place is one of the tables, and what is then there
+pub record Turn (m : Matrix) (order begins : List ℕ) (q : ℕ) (cs : List ℕ) (vs : List ℤ) (k r : ℕ) (next at : List ℕ) (values : List ℤ) : Type 0 where
+  pub inside : r < m .n
+  pub beside-long : k < length vs
+  pub place : getD next r 0 < maxUpdates
+  pub after : Joined m order begins q cs (k + 1) (set next r (getD next r 0 + boolByte (ltb r q))) (set at (getD next r 0) q) (set values (getD next r 0) (getD vs k (pos 0)))
+
+module _ {m : Matrix} {order position begins : List ℕ} (o : Ordered m order) (t : Positions (m .n) order position) (parts : Parts m order begins) where
   rows : Once (m .n) order
   rows = once (m .n) order (o .once)
 
-  module _ (q : ℕ) (low : q < m .n) {cs : List ℕ} {vs : List ℤ} (is : cs ≡ columnsOf m (getD order q 0)) (beside : vs ≡ valuesOf m (getD order q 0)) where
+  module _ {q : ℕ} (low : q < m .n) {cs : List ℕ} {vs : List ℤ} (is : cs ≡ columnsOf m (getD order q 0)) (beside : vs ≡ valuesOf m (getD order q 0)) where
     abbrev row : ℕ
     row = getD order q 0
 
@@ -73,7 +80,7 @@ module _ (m : Matrix) (order position begins : List ℕ) (o : Ordered m order) (
 
     -- ---- one column
 
-    module _ (k : ℕ) (l : k < length cs) where
+    module _ {k : ℕ} (l : k < length cs) where
       abbrev i : ℕ
       i = getD cs k 0
 
@@ -198,14 +205,8 @@ module _ (m : Matrix) (order position begins : List ℕ) (o : Ordered m order) (
               go (inr y) = rw (ne-eqb r p y) refl
 
       -- .. whose row stands at r
-      pub record Turn (r : ℕ) (next at : List ℕ) (values : List ℤ) : Type 0 where
-        pub inside : r < m .n
-        pub beside-long : k < length vs
-        pub place : getD next r 0 < maxUpdates
-        pub after : Joined m order begins q cs (k + 1) (set next r (getD next r 0 + boolByte (ltb r q))) (set at (getD next r 0) q) (set values (getD next r 0) (getD vs k (pos 0)))
-
-      pub join-turn : {r : ℕ} {next at : List ℕ} {values : List ℤ} → r ≡ p → Joined m order begins q cs k next at values → Turn r next at values
-      join-turn {r} {next} {at} {values} e d = subst (λ (y : ℕ). Turn y next at values) (sym e) (record {
+      pub join-turn : {r : ℕ} {next at : List ℕ} {values : List ℤ} → r ≡ p → Joined m order begins q cs k next at values → Turn m order begins q cs vs k r next at values
+      join-turn {r} {next} {at} {values} e d = subst (λ (y : ℕ). Turn m order begins q cs vs k y next at values) (sym e) (record {
         inside = back .0;
         beside-long = omega (arith, ap length is, ap length beside, length-columns m shape row low-row, length-values m shape row low-row);
         place = omega (arith, here, next-below m order begins parts (joined m order q cs k) p (back .0) room);

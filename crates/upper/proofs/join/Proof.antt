@@ -78,7 +78,7 @@ values c =
 -- q's own next place
 own : (s : tie.Start Inv-loop μ-loop) (begins : List ℕ) → Parts (matrix s) (order s) begins → Upper (matrix s) (order s) begins (s .args .q) (s .args .next .now) (s .args .at .now) (s .args .beside .now)
     → (getD (s .args .next .now) (s .args .q) 0 ≡ getD begins (s .args .q) 0) × (getD begins (s .args .q) 0 < 69632)
-own s begins parts u = own-next (matrix s) (order s) (s .args .position .now) begins (s .pre .0 .ordered) (s .pre .1) parts (s .args .q) (s .pre .2) refl refl u
+own s begins parts u = own-next (s .pre .0 .ordered) (s .pre .1) parts (s .pre .2) refl refl u
 
 own-bounds : (s : tie.Start Inv-loop μ-loop) → let q = s .args .q in Bounds (s .args .n) q q (getD (s .args .next .now) q 0) (s .args .at .now) (s .args .beside .now)
 own-bounds s =
@@ -94,19 +94,17 @@ begun c begins parts u =
     let s = given (c .before .before) in
     let a = s .args in
     subst (λ (y : ℕ). Joined (matrix s) (order s) begins (a .q) (c .before .columns-of .result .now) 0 (a .next .now) (set (a .at .now) y (a .q)) (set (a .beside .now) y (pos 0)))
-    (sym (own s begins parts u .0)) (join-begun (matrix s) (order s) (a .position .now) begins (s .pre .0 .ordered) (s .pre .1) parts (a .q) (s .pre .2) (columns c) (values c) u)
+    (sym (own s begins parts u .0)) (join-begun (s .pre .0 .ordered) (s .pre .1) parts (s .pre .2) (columns c) (values c) u)
 
 -- one turn
 turn : (c : tie.After-wide-at2 Inv-loop μ-loop) → let l = c .before .before in let v = l .before in let s = given (v .before .before) in
     (begins : List ℕ) (parts : Parts (matrix s) (order s) begins) → Joined (matrix s) (order s) begins (s .args .q) (v .before .columns-of .result .now) (l .loop .k) (l .loop .next) (l .loop .at) (l .loop .beside)
-    → Turn (matrix s) (order s) (s .args .position .now) begins (s .pre .0 .ordered) (s .pre .1) parts (s .args .q) (s .pre .2)
-    (columns v) (values v) (l .loop .k) (c .before .loop-test .taken) (getD (s .args .position .now) (c .wide-at2 .result) 0) (l .loop .next) (l .loop .at) (l .loop .beside)
+    → Turn (matrix s) (order s) begins (s .args .q) (v .before .columns-of .result .now) (v .values-of .result .now) (l .loop .k) (getD (s .args .position .now) (c .wide-at2 .result) 0) (l .loop .next) (l .loop .at) (l .loop .beside)
 turn c begins parts joined =
     let l = c .before .before in
     let v = l .before in
     let s = given (v .before .before) in
-    join-turn (matrix s) (order s) (s .args .position .now) begins (s .pre .0 .ordered) (s .pre .1) parts (s .args .q) (s .pre .2)
-    (columns v) (values v) (l .loop .k) (c .before .loop-test .taken) (ap (λ (i : ℕ). getD (s .args .position .now) i 0) (c .wide-at2 .ensures .0)) joined
+    join-turn (s .pre .0 .ordered) (s .pre .1) parts (s .pre .2) (columns v) (values v) (c .before .loop-test .taken) (ap (λ (i : ℕ). getD (s .args .position .now) i 0) (c .wide-at2 .ensures .0)) joined
 
 -- .. with the parts that are given
 joined-given : (l : tie.At-loop Inv-loop μ-loop) → let v = l .before in let s = given (v .before .before) in
@@ -116,8 +114,7 @@ joined-given l =
     l .loop .inv .1 (b .0) (b .1) (begun (l .before) (b .0) (b .1) (b .2))
 
 turn-given : (c : tie.After-wide-at2 Inv-loop μ-loop) → let l = c .before .before in let v = l .before in let s = given (v .before .before) in
-    Turn (matrix s) (order s) (s .args .position .now) (s .pre .3 .0) (s .pre .0 .ordered) (s .pre .1) (s .pre .3 .1) (s .args .q) (s .pre .2)
-    (columns v) (values v) (l .loop .k) (c .before .loop-test .taken) (getD (s .args .position .now) (c .wide-at2 .result) 0) (l .loop .next) (l .loop .at) (l .loop .beside)
+    Turn (matrix s) (order s) (s .pre .3 .0) (s .args .q) (v .before .columns-of .result .now) (v .values-of .result .now) (l .loop .k) (getD (s .args .position .now) (c .wide-at2 .result) 0) (l .loop .next) (l .loop .at) (l .loop .beside)
 turn-given c =
     let l = c .before .before in
     let b = given (l .before .before .before) .pre .3 in
@@ -143,7 +140,7 @@ column c =
       arith,
       few-rows s,
       c .wide-at2 .ensures .0,
-      column-inside (matrix s) (order s) (s .args .position .now) (b .0) (s .pre .0 .ordered) (s .pre .1) (b .1) (s .args .q) (s .pre .2) (columns v) (values v) (l .loop .k) (c .before .loop-test .taken),
+      column-inside (s .pre .0 .ordered) (s .pre .1) (b .1) (s .pre .2) (columns v) (values v) (c .before .loop-test .taken),
     )
 
 mul-own : tie.Need-mul-own Inv-loop μ-loop
@@ -200,8 +197,8 @@ loop-again c =
     let v = l .before in
     let s = given (v .before .before) in (
       search needs,
-      λ begins parts u. join-past (matrix s) (order s) (s .args .position .now) begins (s .pre .0 .ordered) (s .pre .1) parts (s .args .q) (s .pre .2)
-          (columns v) (values v) (l .loop .k) (w .before .loop-test .taken) (ap (λ (i : ℕ). getD (s .args .position .now) i 0) (w .wide-at2 .ensures .0)) (c .if1 .taken) (l .loop .inv .1 begins parts u),
+      λ begins parts u. join-past (s .pre .0 .ordered) (s .pre .1) parts (s .pre .2) (columns v) (values v)
+          (w .before .loop-test .taken) (ap (λ (i : ℕ). getD (s .args .position .now) i 0) (w .wide-at2 .ensures .0)) (c .if1 .taken) (l .loop .inv .1 begins parts u),
     )
 
 mul-place : tie.Need-mul-place Inv-loop μ-loop
@@ -283,7 +280,7 @@ returns c =
     λ begins parts u.
     (let joined = subst (λ (k : ℕ). Joined (matrix s) (order s) begins (s .args .q) (v .before .columns-of .result .now) k (l .loop .next) (l .loop .at) (l .loop .beside)) e (l .loop .inv .1 begins parts (begun v begins parts u)) in
     subst (λ (y : ℕ). Upper (matrix s) (order s) begins (s .args .q + 1) (set (l .loop .next) (s .args .q) (y + 1)) (l .loop .at) (l .loop .beside)) (sym (own s begins parts u .0))
-    (join-ended (matrix s) (order s) (s .args .position .now) begins (s .pre .0 .ordered) (s .pre .1) parts (s .args .q) (s .pre .2) (columns v) (values v) joined))
+    (join-ended (s .pre .0 .ordered) (s .pre .1) parts (s .pre .2) (columns v) (values v) joined))
 
 pub join-spec : {M : Type 1} → statement M
 join-spec =
