@@ -136,36 +136,33 @@ module _ (a b : Matrix) (places : List ℕ) (n : ℕ) (w : Sewing a b places n) 
 
 -- ---- the refusals
 
-module _ (a b : Matrix) (places starts₀ columns₀ : List ℕ) (values₀ : List ℤ) where
-  abbrev replied : Reply
-  replied = joinReply a b places (length starts₀) (length columns₀) (length values₀)
+-- with this number, the lists as they were
+abbrev Refused : (a b : Matrix) (places starts₀ columns₀ : List ℕ) (values₀ : List ℤ) → ℕ → Type 0
+Refused a b places starts₀ columns₀ values₀ q = Answers a b places starts₀ columns₀ values₀ (refused q 0) starts₀ columns₀ values₀
 
-  pub refused-joins : (q p : ℕ) → replied ≡ refused q p → Answers a b places starts₀ columns₀ values₀ (refused q p) starts₀ columns₀ values₀
-  refused-joins q p f = (
+module _ (a b : Matrix) (places starts₀ columns₀ : List ℕ) (values₀ : List ℤ) where
+  refused-joins : (q : ℕ) → joinReply a b places (length starts₀) (length columns₀) (length values₀) ≡ refused q 0 → Refused a b places starts₀ columns₀ values₀ q
+  refused-joins q f = (
     sym f,
     (
-      sym (lent-refused (joined a b places .starts) starts₀ replied q p f),
-      (sym (lent-refused (joined a b places .columns) columns₀ replied q p f), sym (lent-refused (joined a b places .values) values₀ replied q p f)),
+      sym (lent-refused (joined a b places .starts) starts₀ _ q 0 f),
+      (sym (lent-refused (joined a b places .columns) columns₀ _ q 0 f), sym (lent-refused (joined a b places .values) values₀ _ q 0 f)),
     ),
   )
 
-  pub first-unmade : isMatrix a ≡ false → replied ≡ refused why.notMatrix 0
-  unfolding joinReply matrixCheck inTurn
-  first-unmade h = rw h
+  pub first-unmade : isMatrix a ≡ false → Refused a b places starts₀ columns₀ values₀ why.notMatrix
+  first-unmade h = refused-joins why.notMatrix (unfold joinReply matrixCheck inTurn in rw h)
 
   module _ (oka : isMatrix a ≡ true) where
-    pub second-unmade : isMatrix b ≡ false → replied ≡ refused why.notMatrix 0
-    unfolding joinReply matrixCheck inTurn
-    second-unmade h = rw (oka, h)
+    pub second-unmade : isMatrix b ≡ false → Refused a b places starts₀ columns₀ values₀ why.notMatrix
+    second-unmade h = refused-joins why.notMatrix (unfold joinReply matrixCheck inTurn in rw (oka, h))
 
     module _ (okb : isMatrix b ≡ true) where
-      pub misplaced : arePlaces a b places ≡ false → replied ≡ refused why.badPlaces 0
-      unfolding joinReply matrixCheck inTurn
-      misplaced h = rw (oka, okb, h)
+      pub misplaced : arePlaces a b places ≡ false → Refused a b places starts₀ columns₀ values₀ why.badPlaces
+      misplaced h = refused-joins why.badPlaces (unfold joinReply matrixCheck inTurn in rw (oka, okb, h))
 
-      pub unlimited : arePlaces a b places ≡ true → inLimits (joined a b places) ≡ false → replied ≡ refused why.pastLimits 0
-      unfolding joinReply matrixCheck inTurn
-      unlimited h e = rw (oka, okb, h, e)
+      pub unlimited : arePlaces a b places ≡ true → inLimits (joined a b places) ≡ false → Refused a b places starts₀ columns₀ values₀ why.pastLimits
+      unlimited h e = refused-joins why.pastLimits (unfold joinReply matrixCheck inTurn in rw (oka, okb, h, e))
 
 -- ---- the test of places
 
