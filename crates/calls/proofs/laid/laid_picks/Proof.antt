@@ -114,6 +114,17 @@ returns-2 c =
 
 -- ---- the picks
 
+-- from the displacements back to the test of the room, from the picks to the displacements, from what is told to the
+-- picks
+abbrev fitted : tie.After-displace → tie.Else2
+fitted d = d .before .before
+
+abbrev moved : tie.After-walk → tie.After-displace
+moved k = k .before .before .before .before .before .before .before .before .before .before .before .before
+
+abbrev walked : tie.After-came-to3 → tie.After-walk
+walked c = c .before .before .before .before .before .before .before .before .before .before .before .before
+
 displace-requires : tie.Need-displace-requires
 displace-requires c κs = let d = given-displaced (start (sized (counts (rows (reached (c .before))))) .pre .0) in (d .0, d .1, d .2, refl)
 
@@ -135,28 +146,24 @@ walk-requires c κs =
 
 ready-workers-requires : tie.Need-ready-workers-requires
 ready-workers-requires c κs =
-    let l = rows (reached (c .before .before .before .before .before .before .before .before .before .before .before .before .before .before .before .before .before .before .before .before .before .before)) in
+    let l = rows (reached (fitted (moved (c .before .before .before .before .before .before .before .before)))) in
     let f = counts l in
     let u = sized f in
     let t = l .lay .ensures _ (planned u) (counted f) (planned-blank (planned u)) in
     (whole-few (planned u), planned-recorded (planned u), (_, t .1))
 
--- from what they came to back to the test of the room
-abbrev walking : tie.After-came-to3 → tie.Else2
-walking c = c .before .before .before .before .before .before .before .before .before .before .before .before .before .before .before .before .before .before .before .before .before .before .before .before .before .before
-
 same-length-6 : tie.Need-same-length-6
-same-length-6 c = let h = reached (walking c) in h .lay-ahead .kept .1 .1 .1 .1 .1 .1 .1 .1 .1 .1 .1 .0 ∙ sized (counts (rows h)) .lay-sizes .kept .1 .1 .1 .1 .1 .1 .1 .1 .0
+same-length-6 c = let h = reached (fitted (moved (walked c))) in h .lay-ahead .kept .1 .1 .1 .1 .1 .1 .1 .1 .1 .1 .1 .0 ∙ sized (counts (rows h)) .lay-sizes .kept .1 .1 .1 .1 .1 .1 .1 .1 .0
 
 same-length-7 : tie.Need-same-length-7
-same-length-7 c = let h = reached (walking c) in h .lay-ahead .kept .1 .1 .1 .1 .1 .1 .1 .1 .1 .1 .1 .1 .0 ∙ sized (counts (rows h)) .lay-sizes .kept .1 .1 .1 .1 .1 .1 .1 .1 .1 .0
+same-length-7 c = let h = reached (fitted (moved (walked c))) in h .lay-ahead .kept .1 .1 .1 .1 .1 .1 .1 .1 .1 .1 .1 .1 .0 ∙ sized (counts (rows h)) .lay-sizes .kept .1 .1 .1 .1 .1 .1 .1 .1 .1 .0
 
 returns-3 : tie.Need-returns-3
 unfolding jobOf planOf
 returns-3 c =
-    let k = c .before .before .before .before .before .before .before .before .before .before .before .before in
-    let d = k .before .before .before .before .before .before .before .before .before .before .before .before in
-    let e = d .before .before in
+    let k = walked c in
+    let d = moved k in
+    let e = fitted d in
     let h = reached e in
     let l = rows h in
     let f = counts l in
@@ -167,10 +174,10 @@ returns-3 c =
     let ahead = ahead-updates _ (t .0) r (job-displaced _ _ _ _ _ _ _ (rw (given-many g) at (d .displace .ensures))) in
     let fine = counted-state g (counted f) _ refl ∙ holds (tested l .before .is-fine .ensures) (tested l .if1 .left) in
     let a = c .before in
-    let walked = k .walk .ensures _ (g .accepted) refl (t .0) ahead in
+    let taken = k .walk .ensures _ (g .accepted) refl (t .0) ahead in
     let ready = c .before .before .before .ready-workers .ensures _ _ (g .accepted) refl (t .0) in (
       λ y zs. rw (c .came-to3 .ensures .1, a .answered2 .ensures .0, a .answered2 .ensures .1)
-          (taken-picks _ _ _ _ fine (k .before .before .before .before .before .before .before .before .before .before .rule-of .ensures) _ walked _ ready (a .before .told .ensures zs)),
+          (taken-picks _ _ _ _ fine (k .before .before .before .before .before .before .before .before .before .before .rule-of .ensures) _ taken _ ready (a .before .told .ensures zs)),
       λ y. absurd (clash (c .came-to3 .ensures .0) y),
       λ e. c .came-to3 .ensures .0,
     )

@@ -25,6 +25,17 @@ second-same i places ds ws {first} {seen} h =
     cells-same i (λ c. leb c i && not (marked (i + 1) seen c)) (λ c. leb c i && not (first c)) (λ k. getD places (getD ds k 0) 0) (λ k. getD ws k (pos 0)) (λ k. getD ws k (pos 0)) (length ds)
     (λ l m. ap (λ (b : Bool). leb (getD places (getD ds l 0) 0) i && not b) (h .is (getD places (getD ds l 0) 0))) (λ l m. refl)
 
+-- from the held row back to the function's entry, from the marked row to the held one, from the first net's entries to
+-- the marked row
+abbrev start : tie.After-hold → tie.Start
+start h = h .before .before .before .before .before .before
+
+abbrev held : tie.After-mark → tie.After-hold
+held m = m .before .before
+
+abbrev marks : tie.After-put-first → tie.After-mark
+marks f = f .before .before .before .before .before .before
+
 add-hold : tie.Need-add-hold
 add-hold c = omega (arith, c .before .before .before .pre .2)
 
@@ -32,21 +43,22 @@ hold-requires : tie.Need-hold-requires
 hold-requires c κs = let s = c .before .before .before .before .before in (s .pre .1, s .pre .3, s .pre .4)
 
 add-mark : tie.Need-add-mark
-add-mark c = omega (arith, c .before .before .before .before .before .before .pre .2)
+add-mark c = omega (arith, start c .pre .2)
 
 mark-requires : tie.Need-mark-requires
-mark-requires c κs = let s = c .before .before .before .before .before .before .before in (s .pre .0 .low, s .pre .5)
+mark-requires c κs = let s = start (c .before) in (s .pre .0 .low, s .pre .5)
 
 put-first-requires : tie.Need-put-first-requires
-put-first-requires c κs = let s = c .before .before .before .before .before .before .before .before .before .before .before .before .before in let h = c .before .before .before .before .before .before .before .hold .ensures in (s .pre .0, h .long, h .beside, s .pre .2, s .pre .6, s .pre .7)
+put-first-requires c κs = let o = held (c .before .before .before .before .before) in let s = start o in let h = o .hold .ensures in (s .pre .0, h .long, h .beside, s .pre .2, s .pre .6, s .pre .7)
 
 returns : tie.Need-returns
 unfolding rowEntries
 returns c =
     let f = c .before in
-    let s = f .before .before .before .before .before .before .before .before .before .before .before .before .before .before in
-    let h = f .before .before .before .before .before .before .before .before .hold .ensures in
-    let k = f .before .before .before .before .before .before .mark .ensures in (
+    let m = marks f in
+    let s = start (held m) in
+    let h = held m .hold .ensures in
+    let k = m .mark .ensures in (
       emitted-stop (emitted-same (first-same (s .args .i) (s .args .columns1 .now) (s .args .values1 .now) h) (f .put-first .ensures)) (c .if1 .taken) _,
       held-before h,
       h .beside,
@@ -55,17 +67,20 @@ returns c =
 
 put-second-requires : tie.Need-put-second-requires
 put-second-requires c κs =
-    let s = c .before .before .before .before .before .before .before .before .before .before .before .before .before .before .before .before .before .before .before in
-    (s .pre .1, c .before .before .before .before .before .before .before .before .before .before .before .mark .ensures .long, s .pre .2, c .before .before .before .before .if1 .left, c .before .before .before .before .before .put-first .ensures .arrays)
+    let e = c .before .before .before .before in
+    let m = marks (e .before) in
+    let s = start (held m) in
+    (s .pre .1, m .mark .ensures .long, s .pre .2, e .if1 .left, e .before .put-first .ensures .arrays)
 
 returns-2 : tie.Need-returns-2
 unfolding rowEntries
 returns-2 c =
     let e = c .before .before .before .before .before in
     let f = e .before in
-    let s = f .before .before .before .before .before .before .before .before .before .before .before .before .before .before in
-    let h = f .before .before .before .before .before .before .before .before .hold .ensures in
-    let k = f .before .before .before .before .before .before .mark .ensures in (
+    let m = marks f in
+    let s = start (held m) in
+    let h = held m .hold .ensures in
+    let k = m .mark .ensures in (
       emitted-then (emitted-same (first-same (s .args .i) (s .args .columns1 .now) (s .args .values1 .now) h) (f .put-first .ensures)) (e .if1 .left)
           (emitted-same (second-same (s .args .i) (s .args .places .now) (s .args .columns2 .now) (s .args .values2 .now) k) (c .put-second .ensures)),
       held-before h,
