@@ -186,7 +186,6 @@ fn files_that_cannot_be_read() {
             &["prepare", SMALL, path, &list],
             &["prepare", SMALL, &plan, path],
             &["pick", path, &run],
-            &["pick", &job, path],
             &["pick", &job, &run, path],
             &["survey", path, &list],
             &["survey", SMALL, path],
@@ -199,13 +198,17 @@ fn files_that_cannot_be_read() {
             &["rows", path, &list, &list],
             &["rows", &one, path, &list],
             &["rows", &one, &one, path],
-            &["barrier", path, "line"],
             &["control", path],
             &["diff", path, &list],
             &["diff", &list, path],
         ] {
             mzk().check_said(arguments, 3, said);
         }
+    }
+    let unbegun = format!("{missing}; --fresh begins it");
+    for (path, said) in [("no such file", unbegun), (&*folder, is_folder)] {
+        mzk().check_said(&["pick", &job, path], 3, &said);
+        mzk().check_said(&["barrier", path, "line"], 3, &said);
     }
 }
 
