@@ -6,28 +6,28 @@ use native.Mathlib.Omega.{arith}
 use lib.IntN.{ℤ, pos}
 use lib.ListN.{length, get_or}
 use Rattle.run.specs.Job.{Job}
-use Rattle.run.specs.Updates.{count, displacementAt, updates, accesses, next}
-use Rattle.tables.specs.code.Laid.{maxUpdates, Laid, Bounded}
-use Rattle.upper.proofs.UpperRows.{upper-whole}
-use Rattle.steps.specs.code.Steps.{StepTables, UpdatesAhead}
+use Rattle.run.specs.Updates.{count, displacement_at, updates, accesses, next}
+use Rattle.tables.specs.Code.Laid.{max_updates, Laid, Bounded}
+use Rattle.upper.proofs.UpperRows.{upper_whole}
+use Rattle.steps.specs.Code.Steps.{StepTables, UpdatesAhead}
 use Rattle.steps.proofs.TableUpdates.{RowFound, updates-are, row_below, begun-before, table-update, entry-inside}
-use Rattle.ahead.specs.code.Ahead.{PartsAhead}
+use Rattle.ahead.specs.Code.Ahead.{PartsAhead}
 
 module _ (j : Job) {first row begins leaves ends : List ℕ} (laid : Laid j first row begins leaves ends) {made : List ℕ} {picks : ℕ} {parts at : List ℕ} {beside : List ℤ}
     (r : PartsAhead j.matrix j.plan.order first row made picks parts at beside) where
   -- the tables as the picks need them
-  pub ahead-tables : Bounded j.matrix.n first row leaves → length beside ≡ length at → length at ≤ maxUpdates → StepTables j.matrix.n first row begins parts leaves at beside
-  ahead-tables b long room = record {
+  pub ahead_tables : Bounded j.matrix.n first row leaves → length beside ≡ length at → length at ≤ max_updates → StepTables j.matrix.n first row begins parts leaves at beside
+  ahead_tables b long room = record {
     bounded = b;
     at_low = r.at_low;
     long = long;
     room = room;
     begun = λ w k l h. begun-before j laid w l k (omega (arith, updates-are j laid.counted w l));
-    inside = λ w k l h. entry-inside j laid w l k (omega (arith, updates-are j laid.counted w l)) parts (λ p low. omega (arith, r.room p low, ap length (upper-whole j p low)));
+    inside = λ w k l h. entry-inside j laid w l k (omega (arith, updates-are j laid.counted w l)) parts (λ p low. omega (arith, r.room p low, ap length (upper_whole j p low)));
   }
 
   -- the updates are the job's
-  pub ahead-updates : {displaced : List ℤ} → ((p : ℕ) → p < j.matrix.n → get_or displaced p (pos 0) ≡ displacementAt j p) → UpdatesAhead j made picks first row begins parts displaced at beside
+  pub ahead-updates : {displaced : List ℤ} → ((p : ℕ) → p < j.matrix.n → get_or displaced p (pos 0) ≡ displacement_at j p) → UpdatesAhead j made picks first row begins parts displaced at beside
   unfolding next accesses
   ahead-updates {displaced} d = record {
     is = λ new w l from to left.

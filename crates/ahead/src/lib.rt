@@ -1,11 +1,13 @@
 // The upper triangle for a list of picks: whole, or of those rows alone whose updates the picks can reach, as few picks
 // reach few rows.
+#![tactic(auto)]
+
 ghost use Rattle.std.specs.Prelude.{◌≡◌, Bool, true, false, ◌||◌, List, ℕ, ◌^◌, ◌≤◌, ◌<◌, eqb, length, get_or, take};
-ghost use Rattle.matrix.specs.Limits.{maxRows};
-ghost use Rattle.matrix.specs.Matrix.{matrixOf};
-ghost use Rattle.tables.specs.code.Laid.{maxUpdates, Bounded};
-ghost use Rattle.upper.specs.code.Upper.{Lent};
-ghost use Rattle.ahead.specs.code.Ahead.{Indexed, PartsOf, Sized, With, PartsAhead};
+ghost use Rattle.matrix.specs.Limits.{max_rows};
+ghost use Rattle.matrix.specs.Matrix.{matrix_of};
+ghost use Rattle.tables.specs.Code.Laid.{max_updates, Bounded};
+ghost use Rattle.upper.specs.Code.Upper.{Lent};
+ghost use Rattle.ahead.specs.Code.Ahead.{Indexed, PartsOf, Sized, With, PartsAhead};
 
 use base::numbers::least;
 use base::shorts::wide;
@@ -31,8 +33,8 @@ pub fn lay_sizes(
     at: &mut [u16],
     beside: &mut [i32],
 )
-    requires { Lent n starts.now columns.now values.now order.now × (length position.old ≡ maxRows) × (length parts.old ≡ maxRows) × (length sizes.old ≡ maxRows)
-        × ((p : ℕ) → get_or parts.old p 0 ≡ 0) × ((k : ℕ) → get_or at.old k 0 ≡ 0) × (maxRows ≤ length at.old) × (length at.old ≤ maxUpdates) × (length beside.old ≡ length at.old) }
+    requires { Lent n starts.now columns.now values.now order.now × (length position.old ≡ max_rows) × (length parts.old ≡ max_rows) × (length sizes.old ≡ max_rows)
+        × ((p : ℕ) → get_or parts.old p 0 ≡ 0) × ((k : ℕ) → get_or at.old k 0 ≡ 0) × (max_rows ≤ length at.old) × (length at.old ≤ max_updates) × (length beside.old ≡ length at.old) }
     ensures { Sized n starts.now columns.now values.now order.now position.new sizes.new parts.new at.new beside.new }
 {
     if at.len() == MAX_UPDATES {
@@ -57,11 +59,11 @@ fn lay_part(
     beside: &mut [i32],
 ) -> usize
     requires { ((n : ℕ) × Indexed n starts.now columns.now values.now order.now position.now sizes.now × (p < n))
-        × (place ≤ length at.old) × (length at.old ≤ maxUpdates) × (length beside.old ≡ length at.old) }
+        × (place ≤ length at.old) × (length at.old ≤ max_updates) × (length beside.old ≡ length at.old) }
     ensures { (n : ℕ) (rows : ℕ → Bool) → Indexed n starts.now columns.now values.now order.now position.now sizes.now
-        → p < n → PartsOf (matrixOf n starts.now columns.now values.now) (take n order.now) rows place parts.old at.old beside.old
+        → p < n → PartsOf (matrix_of n starts.now columns.now values.now) (take n order.now) rows place parts.old at.old beside.old
         → result ≤ length at.old
-        → PartsOf (matrixOf n starts.now columns.now values.now) (take n order.now) (λ q. rows q || eqb q p) result parts.new at.new beside.new }
+        → PartsOf (matrix_of n starts.now columns.now values.now) (take n order.now) (λ q. rows q || eqb q p) result parts.new at.new beside.new }
 {
     let size = sizes[p] as usize;
     let end = place + size;
@@ -92,13 +94,13 @@ fn lay_parts(
     beside: &mut [i32],
 ) -> usize
     requires { ((n : ℕ) × Indexed n starts.now columns.now values.now order.now position.now sizes.now × ((k : ℕ) → get_or row.now k 0 < n))
-        × (to ≤ maxUpdates) × (place ≤ length at.old) × (length at.old ≤ maxUpdates) × (length beside.old ≡ length at.old) }
+        × (to ≤ max_updates) × (place ≤ length at.old) × (length at.old ≤ max_updates) × (length beside.old ≡ length at.old) }
     ensures { (n : ℕ) (rows : ℕ → Bool) → Indexed n starts.now columns.now values.now order.now position.now sizes.now
         → ((k : ℕ) → get_or row.now k 0 < n)
-        → PartsOf (matrixOf n starts.now columns.now values.now) (take n order.now) rows place parts.old at.old beside.old
+        → PartsOf (matrix_of n starts.now columns.now values.now) (take n order.now) rows place parts.old at.old beside.old
         → result ≤ length at.old
         → ((more : ℕ → Bool) × With rows row.now from to more
-        × PartsOf (matrixOf n starts.now columns.now values.now) (take n order.now) more result parts.new at.new beside.new) }
+        × PartsOf (matrix_of n starts.now columns.now values.now) (take n order.now) more result parts.new at.new beside.new) }
 {
     let mut next = place;
     let mut last = MAX_ROWS;
@@ -138,13 +140,13 @@ pub fn lay_ahead(
 ) -> bool
     requires { ((n : ℕ) × Lent n starts.now columns.now values.now order.now × Sized n starts.now columns.now values.now order.now position.now sizes.now parts.old at.old beside.old
         × ((leaves : List ℕ) × Bounded n first.now row.now leaves))
-        × (length at.old < maxUpdates → picks < 2 ^ 32) × (length at.old ≤ maxUpdates) × (length beside.old ≡ length at.old) }
+        × (length at.old < max_updates → picks < 2 ^ 32) × (length at.old ≤ max_updates) × (length beside.old ≡ length at.old) }
     ensures { (result ≡ true → (n : ℕ) → Lent n starts.now columns.now values.now order.now
         → Sized n starts.now columns.now values.now order.now position.now sizes.now parts.old at.old beside.old
         → ((k : ℕ) → get_or row.now k 0 < n)
-        → PartsAhead (matrixOf n starts.now columns.now values.now) (take n order.now) first.now row.now made.now picks
+        → PartsAhead (matrix_of n starts.now columns.now values.now) (take n order.now) first.now row.now made.now picks
         parts.new at.new beside.new)
-        × (length at.old ≡ maxUpdates → result ≡ true) }
+        × (length at.old ≡ max_updates → result ≡ true) }
 {
     if at.len() == MAX_UPDATES {
         return true;

@@ -14,23 +14,23 @@ use denote.Enum.Declared.{tag_of}
 use borrow.Author.Tests.{leb-true}
 use Rattle.base.specs.Replies.{Check, in_turn, lent}
 use Rattle.base.proofs.Fill.{length-made}
-use Rattle.matrix.specs.Limits.{maxRows}
+use Rattle.matrix.specs.Limits.{max_rows}
 use Rattle.matrix.specs.Matrix.{Matrix}
 use Rattle.run.specs.Job.{job_of}
 use Rattle.run.specs.Machine.{over, original}
 use Rattle.base.specs.Lists.{position_of}
 use Rattle.run.specs.State.{State}
-use Rattle.run.specs.Calls.{pickedOf, passedOf, readyOf, forcesOf, answer_of, stateCheck, answer, jobChecks, answerLent}
+use Rattle.run.specs.Calls.{picked_of, passed_of, ready_of, forces_of, answer_of, state_check, answer, job_checks, answer_lent}
 use Rattle.run.specs.Answers.{Answer, forces, denied, shown}
-use Rattle.calls.specs.Performed.{asCall, asAnswer, Performed}
+use Rattle.calls.specs.Performed.{as_call, as_answer, Performed}
 use Rattle.calls.specs.declared.Call as asked
 use Rattle.calls.specs.declared.Call.TheVariants.{Picks, ReadySet, ForceList, Preview, Rounds}
 use Rattle.calls.specs.contracts.Response.{the_type}
 use Rattle.calls.specs.declared.Response.{Response}
 use Rattle.calls.specs.declared.Response.TheVariants.{Picked, Ready, Forces, Refused, Previewed}
-use Rattle.words.specs.LittleEndian.{signedBytes, stored}
-use Rattle.answers.specs.Runs.{replyTo, forceBytes}
-use Rattle.answers.specs.code.Ran.{ForcesFit}
+use Rattle.words.specs.LittleEndian.{signed_bytes, stored}
+use Rattle.answers.specs.Runs.{reply_to, force_bytes}
+use Rattle.answers.specs.Code.Ran.{ForcesFit}
 
 -- forces are n, and there is room for them
 abbrev Given : (n room : ℕ) → Answer → Type 0
@@ -46,13 +46,13 @@ given-turn n room (c ∷ cs) a g = go c.holds (given-turn n room cs a g)
     go true h = h
     go false h = λ zs e. absurd (let z : ◌≡◌ {A = ℕ} 0 1 = cc in omega arith)
 
-given : (m : Matrix) (x : List ℤ) (order groups : List ℕ) (count : ℕ) (s : State) (call : asked.Call) (ws : List ℕ) (room : ℕ) → Given m.n room (answerLent m x order groups count s (asCall call ws room))
-unfolding answerLent answer answer_of pickedOf passedOf readyOf job_of forcesOf original shown
+given : (m : Matrix) (x : List ℤ) (order groups : List ℕ) (count : ℕ) (s : State) (call : asked.Call) (ws : List ℕ) (room : ℕ) → Given m.n room (answer_lent m x order groups count s (as_call call ws room))
+unfolding answer_lent answer answer_of picked_of passed_of ready_of job_of forces_of original shown
 given m x order groups count s call ws room =
     let j = job_of m x order groups count in
-    given-turn m.n room (jobChecks m x order groups count) _ (given-turn m.n room (stateCheck j s) _ (of call))
+    given-turn m.n room (job_checks m x order groups count) _ (given-turn m.n room (state_check j s) _ (of call))
   where
-    go : (a b : Bool) → leb m.n room ≡ b → Given m.n room (forcesOf a b m.n (original (job_of m x order groups count) s.sums))
+    go : (a b : Bool) → leb m.n room ≡ b → Given m.n room (forces_of a b m.n (original (job_of m x order groups count) s.sums))
     go false b e zs f = absurd (let z : ◌≡◌ {A = ℕ} 0 1 = cc in omega arith)
     go true false e zs f = absurd (let z : ◌≡◌ {A = ℕ} 0 1 = cc in omega arith)
     go true true e zs f =
@@ -60,7 +60,7 @@ given m x order groups count s call ws room =
         let same : made ≡ zs = cc in
         (ap length (sym same) ∙ length-made (λ i. get_or s.sums (position_of (job_of m x order groups count).plan.order i) (pos 0)) [] m.n, leb-true m.n room e)
 
-    of : (c : asked.Call) → Given m.n room (answer_of (job_of m x order groups count) s (asCall c ws room))
+    of : (c : asked.Call) → Given m.n room (answer_of (job_of m x order groups count) s (as_call c ws room))
     of Picks zs f = absurd (let z : ◌≡◌ {A = ℕ} 0 1 = cc in omega arith)
     of ReadySet zs f = absurd (let z : ◌≡◌ {A = ℕ} 0 1 = cc in omega arith)
     of Preview zs f = absurd (let z : ◌≡◌ {A = ℕ} 0 1 = cc in omega arith)
@@ -69,21 +69,21 @@ given m x order groups count s call ws room =
 
 -- a call that has the first part of an array for its forces
 module _ {m : Matrix} {x : List ℤ} {order groups : List ℕ} {count : ℕ} {s : State} (call : asked.Call) (ws : List ℕ) (size : ℕ) {old : List ℤ} (answer : Response) {t : State} {part : List ℤ}
-    (h : Performed m x order groups count s (asCall call ws size) old (asAnswer answer (take m.n part)) t part) where
+    (h : Performed m x order groups count s (as_call call ws size) old (as_answer answer (take m.n part)) t part) where
   enough : answer ≡ Forces → (m.n ≤ length part) × (m.n ≤ size)
   enough f =
-      let g = given m x order groups count s call ws size (take m.n part) (sym h.answers ∙ ap (λ (r : Response). asAnswer r (take m.n part)) f) in
+      let g = given m x order groups count s call ws size (take m.n part) (sym h.answers ∙ ap (λ (r : Response). as_answer r (take m.n part)) f) in
       (omega (arith, g.0, length-take m.n part), g.1)
 
   -- what is asked before they are stored
-  pub forces-fit : (rest : List ℤ) (bytes : List ℕ) → size ≤ length bytes / 8 → ForcesFit m.n answer (part ++ rest) bytes
-  forces-fit rest bytes r f = let e = enough f in (omega (arith, e.0, length-append part rest), omega (arith, e.1))
+  pub forces_fit : (rest : List ℤ) (bytes : List ℕ) → size ≤ length bytes / 8 → ForcesFit m.n answer (part ++ rest) bytes
+  forces_fit rest bytes r f = let e = enough f in (omega (arith, e.0, length-append part rest), omega (arith, e.1))
 
   -- they are the array's first
-  pub performed-made : (rest : List ℤ) → Performed m x order groups count s (asCall call ws size) old (asAnswer answer (take m.n (part ++ rest))) t part
-  performed-made rest = record { answers = go answer refl ∙ h.answers; leaves = h.leaves; forces = h.forces }
+  pub performed_made : (rest : List ℤ) → Performed m x order groups count s (as_call call ws size) old (as_answer answer (take m.n (part ++ rest))) t part
+  performed_made rest = record { answers = go answer refl ∙ h.answers; leaves = h.leaves; forces = h.forces }
     where
-      go : (r : Response) → answer ≡ r → asAnswer r (take m.n (part ++ rest)) ≡ asAnswer r (take m.n part)
+      go : (r : Response) → answer ≡ r → as_answer r (take m.n (part ++ rest)) ≡ as_answer r (take m.n part)
       go Forces f = ap forces (take-append-le m.n part rest (enough f).0)
       go (Picked k q p) f = refl
       go (Ready b k) f = refl
@@ -94,24 +94,24 @@ module _ {m : Matrix} {x : List ℤ} {order groups : List ℕ} {count : ℕ} {s 
 
 -- as many zeros as the longest matrix has rows; the first k of them are lent on
 abbrev pub zeros : List ℤ
-zeros = replicate maxRows (pos 0)
+zeros = replicate max_rows (pos 0)
 
-zeros-long : length zeros ≡ maxRows
+zeros-long : length zeros ≡ max_rows
 zeros-long = refl
 
-module _ (k room : ℕ) (e : k ≡ min room maxRows) where
-  pub lent-on : length (take k zeros) ≡ k
-  lent-on = let l = zeros-long in length-take-le k zeros (omega arith)
+module _ (k room : ℕ) (e : k ≡ min room max_rows) where
+  pub lent_on : length (take k zeros) ≡ k
+  lent_on = let l = zeros-long in length-take-le k zeros (omega arith)
 
   -- the array after the call
-  pub array_long : (part : List ℤ) → length part ≡ length (take k zeros) → length (part ++ drop k zeros) ≡ maxRows
-  array_long part l = omega (arith, zeros-long, lent-on, length-append part (drop k zeros), length-drop k zeros)
+  pub array_long : (part : List ℤ) → length part ≡ length (take k zeros) → length (part ++ drop k zeros) ≡ max_rows
+  array_long part l = omega (arith, zeros-long, lent_on, length-append part (drop k zeros), length-drop k zeros)
 
 -- ---- the store
 
 -- other answers leave the list
-pub forces-kept : (r : Response) → OneOf (0 ∷ 1 ∷ 3 ∷ 4 ∷ []) (tag_of the_type r) → (zs : List ℤ) (bytes : List ℕ) → bytes ≡ lent (replyTo (asAnswer r zs)) (forceBytes (asAnswer r zs)) bytes
-unfolding replyTo forceBytes lent
+pub forces-kept : (r : Response) → OneOf (0 ∷ 1 ∷ 3 ∷ 4 ∷ []) (tag_of the_type r) → (zs : List ℤ) (bytes : List ℕ) → bytes ≡ lent (reply_to (as_answer r zs)) (force_bytes (as_answer r zs)) bytes
+unfolding reply_to force_bytes lent
 forces-kept (Picked k zero p) h zs bytes = refl
 forces-kept (Picked k (suc q) p) h zs bytes = refl
 forces-kept (Ready b k) h zs bytes = refl
@@ -121,7 +121,7 @@ forces-kept (Previewed k zero p b n) h zs bytes = refl
 forces-kept (Previewed k (suc q) p b n) h zs bytes = refl
 
 -- forces for which there is room
-pub forces-stored : (zs : List ℤ) (bytes : List ℕ) {new : List ℕ} → length zs ≤ length bytes / 8 → new ≡ stored (signedBytes 8 (take (length bytes / 8) zs)) bytes
-    → new ≡ lent (replyTo (forces zs)) (forceBytes (forces zs)) bytes
-unfolding replyTo forceBytes lent
+pub forces-stored : (zs : List ℤ) (bytes : List ℕ) {new : List ℕ} → length zs ≤ length bytes / 8 → new ≡ stored (signed_bytes 8 (take (length bytes / 8) zs)) bytes
+    → new ≡ lent (reply_to (forces zs)) (force_bytes (forces zs)) bytes
+unfolding reply_to force_bytes lent
 forces-stored zs bytes l e = e ∙ rw (take_all (length bytes / 8) zs l)

@@ -18,29 +18,29 @@ use Rattle.base.specs.Replies.{Check, in_turn}
 use Rattle.base.proofs.Booleans.{and_left}
 use Rattle.base.proofs.Replies.{accepted-all}
 use Rattle.matrix.specs.Matrix.{Matrix}
-use Rattle.matrix.specs.code.Room.{maxStarts}
-use Rattle.matrix.proofs.Matrix.{matrix-facts}
-use Rattle.plan.specs.Sound.{maxWorkers}
+use Rattle.matrix.specs.Code.Room.{max_starts}
+use Rattle.matrix.proofs.Matrix.{matrix_facts}
+use Rattle.plan.specs.Sound.{max_workers}
 use Rattle.run.specs.Job.{Job, job_of, Accepted}
-use Rattle.run.specs.Machine.{steps, ready, bits, over, original, isState, countsFine}
+use Rattle.run.specs.Machine.{steps, ready, bits, over, original, is_state, counts_fine}
 use Rattle.run.specs.Rounds.{round}
 use Rattle.run.specs.State.{State}
-use Rattle.run.specs.Calls.{place_of, pickedOf, passedOf, readyOf, forcesOf, answer_of, stateCheck, answer, jobChecks, answerLent, afterLent}
-use Rattle.run.specs.Answers.{Call, picks, readySet, forceList, preview, rounds, Answer, picked, denied, previewed, shown, bitsTold, countTold}
+use Rattle.run.specs.Calls.{place_of, picked_of, passed_of, ready_of, forces_of, answer_of, state_check, answer, job_checks, answer_lent, after_lent}
+use Rattle.run.specs.Answers.{Call, picks, ready_set, force_list, preview, rounds, Answer, picked, denied, previewed, shown, bits_told, count_told}
 use Rattle.machine.specs.Record.{state_of}
 use Rattle.machine.specs.declared.state.State as code
-use Rattle.calls.specs.Performed.{asAnswer}
+use Rattle.calls.specs.Performed.{as_answer}
 use Rattle.calls.specs.contracts.Response.{the_type}
 use Rattle.calls.specs.declared.Response.{Response}
 use Rattle.calls.specs.declared.Response.TheVariants.{Picked, Ready, Forces, Refused, Previewed}
 use Rattle.calls.proofs.JobChecked.{job-given}
-use Rattle.words.specs.LittleEndian.{number, signedNumber, signed, signedBytes, stored}
-use Rattle.words.proofs.Blocks.{length-decoded}
+use Rattle.words.specs.LittleEndian.{number, signed_number, signed, signed_bytes, stored}
+use Rattle.words.proofs.Blocks.{length_decoded}
 use Rattle.lent.specs.Word.{word}
-use Rattle.answers.specs.Runs.{stateBytes, countBytes, stateIn, answer_in, replyTo, forceBytes, bytesIn, leftBy, Moved, setIn, roundWord}
-use Rattle.answers.specs.code.Ran.{StateIs, Called, Taken, Parts, Ran, RanLent, Took, Gave, Looks, LowPlace, LowMoves, Plain, PicksFit}
-use Rattle.answers.proofs.RunCalls.{decoded, always-refused}
-use Rattle.answers.proofs.TakenFew.{number-low, round-number-low, few-ready, ready-low, taken-few, moves-few}
+use Rattle.answers.specs.Runs.{state_bytes, count_bytes, state_in, answer_in, reply_to, force_bytes, bytes_in, left_by, Moved, set_in, round_word}
+use Rattle.answers.specs.Code.Ran.{StateIs, Called, Taken, Parts, Ran, RanLent, Took, Gave, Looks, LowPlace, LowMoves, Plain, PicksFit}
+use Rattle.answers.proofs.RunCalls.{decoded, always_refused}
+use Rattle.answers.proofs.TakenFew.{number_low, round-number-low, few-ready, ready-low, taken-few, moves-few}
 
 -- ---- a call that took picks, or none, and was not refused
 
@@ -67,38 +67,38 @@ previewed-told : (t q p b k : ℕ) → Told (previewed t q p b k)
 previewed-told t q p b k number place e = let z : ◌≡◌ {A = ℕ} 0 1 = cc in omega arith
 
 -- the place of an ending is no more than the picks taken
-pub place-low : (number taken : ℕ) → place_of number taken ≤ taken
+pub place_low : (number taken : ℕ) → place_of number taken ≤ taken
 unfolding place_of
-place-low zero taken = omega arith
-place-low (suc k) taken = omega arith
+place_low zero taken = omega arith
+place_low (suc k) taken = omega arith
 
 module _ (m : Matrix) (x : List ℤ) (order groups : List ℕ) (count : ℕ) (s : State) (c : Call) where
   abbrev job : Job
   job = job_of m x order groups count
 
-  module _ {b : Answer} (d : Told b) (e : b ≡ answerLent m x order groups count s c) where
-    checked : (in_turn replies.refused (jobChecks m x order groups count) (replies.accepted 0) ≡ replies.accepted 0) × (b ≡ answer job s c)
-    unfolding answerLent
-    checked = turn-told (jobChecks m x order groups count) (answer job s c) d e
+  module _ {b : Answer} (d : Told b) (e : b ≡ answer_lent m x order groups count s c) where
+    checked : (in_turn replies.refused (job_checks m x order groups count) (replies.accepted 0) ≡ replies.accepted 0) × (b ≡ answer job s c)
+    unfolding answer_lent
+    checked = turn-told (job_checks m x order groups count) (answer job s c) d e
 
-    stated : (in_turn replies.refused (stateCheck job s) (replies.accepted 0) ≡ replies.accepted 0) × (b ≡ answer_of job s c)
+    stated : (in_turn replies.refused (state_check job s) (replies.accepted 0) ≡ replies.accepted 0) × (b ≡ answer_of job s c)
     unfolding answer
-    stated = turn-told (stateCheck job s) (answer_of job s c) d checked.1
+    stated = turn-told (state_check job s) (answer_of job s c) d checked.1
 
     accepted : Accepted job
     accepted = (job-given m x order groups count 0 checked.0).accepted
 
     -- there are n sums
     pub enough : length s.sums ≡ m.n
-    unfolding stateCheck isState job_of
-    enough = eqb-true (length s.sums) m.n (and_left (eqb (length s.sums) m.n) (countsFine job s.made maxWorkers) (accepted-all (stateCheck job s) (replies.accepted 0) 0 stated.0).0)
+    unfolding state_check is_state job_of
+    enough = eqb-true (length s.sums) m.n (and_left (eqb (length s.sums) m.n) (counts_fine job s.made max_workers) (accepted-all (state_check job s) (replies.accepted 0) 0 stated.0).0)
 
     -- the sums were not cut
-    pub sums-whole : {sums : List ℤ} → s.sums ≡ take maxStarts sums → take maxStarts sums ≡ sums
+    pub sums-whole : {sums : List ℤ} → s.sums ≡ take max_starts sums → take max_starts sums ≡ sums
     unfolding job_of
-    sums-whole {sums} f = take_all maxStarts sums (omega (arith, ap length f, enough, length-take maxStarts sums, (matrix-facts m accepted.matrix).few))
+    sums-whole {sums} f = take_all max_starts sums (omega (arith, ap length f, enough, length-take max_starts sums, (matrix_facts m accepted.matrix).few))
 
-  module _ {t q p : ℕ} (e : picked t q p ≡ answerLent m x order groups count s c) (long : length s.made ≡ maxWorkers) where
+  module _ {t q p : ℕ} (e : picked t q p ≡ answer_lent m x order groups count s c) (long : length s.made ≡ max_workers) where
     abbrev is : picked t q p ≡ answer_of job s c
     is = (stated (picked-told t q p) e).1
 
@@ -106,15 +106,15 @@ module _ (m : Matrix) (x : List ℤ) (order groups : List ℕ) (count : ℕ) (s 
     ok = accepted (picked-told t q p) e
 
     -- no forces are picks
-    other : {A : Type 0} (a b : Bool) (n : ℕ) (zs : List ℤ) → picked t q p ≡ forcesOf a b n zs → A
-    unfolding forcesOf
+    other : {A : Type 0} (a b : Bool) (n : ℕ) (zs : List ℤ) → picked t q p ≡ forces_of a b n zs → A
+    unfolding forces_of
     other false b n zs told = absurd (let z : ◌≡◌ {A = ℕ} 0 1 = cc in omega arith)
     other true false n zs told = absurd (let z : ◌≡◌ {A = ℕ} 0 1 = cc in omega arith)
     other true true n zs told = absurd (let z : ◌≡◌ {A = ℕ} 0 1 = cc in omega arith)
 
     -- the place fits a word's low half, but of rounds
     pub picked_low : Plain c → p < 2 ^ 32
-    unfolding answer_of pickedOf readyOf shown Plain
+    unfolding answer_of picked_of ready_of shown Plain
     picked_low plain = go c is plain
       where
         go : (d : Call) → picked t q p ≡ answer_of job s d → Plain d → p < 2 ^ 32
@@ -122,15 +122,15 @@ module _ (m : Matrix) (x : List ℤ) (order groups : List ℕ) (count : ℕ) (s 
             let r = steps job s ws in
             let same : picked t q p ≡ picked r.taken r.number (place_of r.number r.taken) = told in
             let place : p ≡ place_of r.number r.taken = cc in
-            omega (arith, place-low r.number r.taken, taken-few job ok s ws long)
-        go readySet told h = absurd (let z : ◌≡◌ {A = ℕ} 0 1 = cc in omega arith)
-        go (forceList room) told h = other (over job s.made) (leb job.matrix.n room) job.matrix.n (original job s.sums) told
+            omega (arith, place_low r.number r.taken, taken-few job ok s ws long)
+        go ready_set told h = absurd (let z : ◌≡◌ {A = ℕ} 0 1 = cc in omega arith)
+        go (force_list room) told h = other (over job s.made) (leb job.matrix.n room) job.matrix.n (original job s.sums) told
         go (preview ws) told h = absurd (let z : ◌≡◌ {A = ℕ} 0 1 = cc in omega arith)
         go (rounds ws) told h = absurd h
 
     -- the moves made and the number fit the word of rounds
     pub picked-few : (t < 2 ^ 24) × (q < 2 ^ 8)
-    unfolding answer_of pickedOf passedOf readyOf shown
+    unfolding answer_of picked_of passed_of ready_of shown
     picked-few = go c is
       where
         go : (d : Call) → picked t q p ≡ answer_of job s d → (t < 2 ^ 24) × (q < 2 ^ 8)
@@ -139,9 +139,9 @@ module _ (m : Matrix) (x : List ℤ) (order groups : List ℕ) (count : ℕ) (s 
             let same : picked t q p ≡ picked r.taken r.number (place_of r.number r.taken) = told in
             let taken : t ≡ r.taken = cc in
             let number : q ≡ r.number = cc in
-            (omega (arith, taken-few job ok s ws long), omega (arith, number-low job s ws))
-        go readySet told = absurd (let z : ◌≡◌ {A = ℕ} 0 1 = cc in omega arith)
-        go (forceList room) told = other (over job s.made) (leb job.matrix.n room) job.matrix.n (original job s.sums) told
+            (omega (arith, taken-few job ok s ws long), omega (arith, number_low job s ws))
+        go ready_set told = absurd (let z : ◌≡◌ {A = ℕ} 0 1 = cc in omega arith)
+        go (force_list room) told = other (over job s.made) (leb job.matrix.n room) job.matrix.n (original job s.sums) told
         go (preview ws) told = absurd (let z : ◌≡◌ {A = ℕ} 0 1 = cc in omega arith)
         go (rounds ws) told =
             let r = round job s ws in
@@ -150,13 +150,13 @@ module _ (m : Matrix) (x : List ℤ) (order groups : List ℕ) (count : ℕ) (s 
             let number : q ≡ r.number = cc in
             (omega (arith, moves-few job ok s ws long), omega (arith, round-number-low job s ws))
 
-  module _ {t q p b k : ℕ} (e : previewed t q p b k ≡ answerLent m x order groups count s c) where
+  module _ {t q p b k : ℕ} (e : previewed t q p b k ≡ answer_lent m x order groups count s c) where
     -- the parts of its word fit it
-    pub preview-parts : length s.made ≡ maxWorkers → Parts t q p b k
-    unfolding answer_of pickedOf passedOf readyOf forcesOf shown bitsTold countTold
+    pub preview-parts : length s.made ≡ max_workers → Parts t q p b k
+    unfolding answer_of picked_of passed_of ready_of forces_of shown bits_told count_told
     preview-parts long = go c (stated (previewed-told t q p b k) e).1
       where
-        other : (a c : Bool) (n : ℕ) (zs : List ℤ) → previewed t q p b k ≡ forcesOf a c n zs → Parts t q p b k
+        other : (a c : Bool) (n : ℕ) (zs : List ℤ) → previewed t q p b k ≡ forces_of a c n zs → Parts t q p b k
         other false c n zs told = absurd (let z : ◌≡◌ {A = ℕ} 0 1 = cc in omega arith)
         other true false n zs told = absurd (let z : ◌≡◌ {A = ℕ} 0 1 = cc in omega arith)
         other true true n zs told = absurd (let z : ◌≡◌ {A = ℕ} 0 1 = cc in omega arith)
@@ -164,8 +164,8 @@ module _ (m : Matrix) (x : List ℤ) (order groups : List ℕ) (count : ℕ) (s 
         go : (d : Call) → previewed t q p b k ≡ answer_of job s d → Parts t q p b k
         go (picks ws) told = absurd (let z : ◌≡◌ {A = ℕ} 0 1 = cc in omega arith)
         go (rounds ws) told = absurd (let z : ◌≡◌ {A = ℕ} 0 1 = cc in omega arith)
-        go readySet told = absurd (let z : ◌≡◌ {A = ℕ} 0 1 = cc in omega arith)
-        go (forceList room) told = other (over job s.made) (leb job.matrix.n room) job.matrix.n (original job s.sums) told
+        go ready_set told = absurd (let z : ◌≡◌ {A = ℕ} 0 1 = cc in omega arith)
+        go (force_list room) told = other (over job s.made) (leb job.matrix.n room) job.matrix.n (original job s.sums) told
         go (preview ws) told =
             let r = steps job s ws in
             let ok = accepted (previewed-told t q p b k) e in
@@ -176,67 +176,67 @@ module _ (m : Matrix) (x : List ℤ) (order groups : List ℕ) (count : ℕ) (s 
             let set : b ≡ bits (ready job r.state.made) = cc in
             let count : k ≡ length (ready job r.state.made) = cc in
             record {
-              taken-low = omega (arith, taken-few job ok s ws long);
-              number-low = omega (arith, number-low job s ws);
-              place-low = omega (arith, place-low r.number r.taken, taken-few job ok s ws long);
+              taken_low = omega (arith, taken-few job ok s ws long);
+              number_low = omega (arith, number_low job s ws);
+              place_low = omega (arith, place_low r.number r.taken, taken-few job ok s ws long);
               count_low = omega (arith, few-ready job ok r.state.made);
-              bits-low = omega (arith, ready-low job ok r.state.made);
+              bits_low = omega (arith, ready-low job ok r.state.made);
             }
 
 -- ---- what the call leaves
 
 module _ (m : Matrix) (x : List ℤ) (order groups : List ℕ) (count : ℕ) (c : Call) (state sums : List ℕ) where
   -- a call that is not refused has the bytes of a state: no others are taken
-  whole-state : {b : Answer} → Told b → answer_in m x order groups count state sums c ≡ b → length state ≡ stateBytes
+  whole-state : {b : Answer} → Told b → answer_in m x order groups count state sums c ≡ b → length state ≡ state_bytes
   unfolding answer_in
-  whole-state {b} d e = go (eqb (length state) stateBytes) refl e
+  whole-state {b} d e = go (eqb (length state) state_bytes) refl e
     where
-      go : (t : Bool) → eqb (length state) stateBytes ≡ t
-          → cond t (answerLent m x order groups count (stateIn state sums) c) (in_turn denied (jobChecks m x order groups count) (denied why.notState 0)) ≡ b → length state ≡ stateBytes
-      go true t f = eqb-true (length state) stateBytes t
-      go false t f = let a = always-refused (jobChecks m x order groups count) why.notState 0 in absurd (d a.0 a.1 (sym f ∙ a.2))
+      go : (t : Bool) → eqb (length state) state_bytes ≡ t
+          → cond t (answer_lent m x order groups count (state_in state sums) c) (in_turn denied (job_checks m x order groups count) (denied why.not_state 0)) ≡ b → length state ≡ state_bytes
+      go true t f = eqb-true (length state) state_bytes t
+      go false t f = let a = always_refused (job_checks m x order groups count) why.not_state 0 in absurd (d a.0 a.1 (sym f ∙ a.2))
 
 -- a call in bytes that is not refused
 module _ (m : Matrix) (x : List ℤ) (order groups : List ℕ) (count : ℕ) (c : Call) (state sums : List ℕ) (r : code.State) {zs : List ℤ}
-    (is : length state ≡ stateBytes → StateIs r state) (lent : zs ≡ cond (eqb (length state) stateBytes) (take maxStarts (signed 8 sums)) [])
+    (is : length state ≡ state_bytes → StateIs r state) (lent : zs ≡ cond (eqb (length state) state_bytes) (take max_starts (signed 8 sums)) [])
     {b : Answer} (d : Told b) (e : answer_in m x order groups count state sums c ≡ b) where
-  told : b ≡ answerLent m x order groups count (state_of r zs) c
+  told : b ≡ answer_lent m x order groups count (state_of r zs) c
   told = sym (decoded m x order groups count c state sums r is lent ∙ e)
 
-  whole : length state ≡ stateBytes
+  whole : length state ≡ state_bytes
   whole = whole-state m x order groups count c state sums d e
 
   -- all its sums are lent on
   all-lent : zs ≡ signed 8 sums
   all-lent =
-      let cut : zs ≡ take maxStarts (signed 8 sums) = lent ∙ rw (eq-eqb (length state) stateBytes whole) in
+      let cut : zs ≡ take max_starts (signed 8 sums) = lent ∙ rw (eq-eqb (length state) state_bytes whole) in
       cut ∙ sums-whole m x order groups count (state_of r zs) c d told cut
 
-  same-state : state_of r zs ≡ stateIn state sums
+  same-state : state_of r zs ≡ state_in state sums
   same-state = let d = is whole in rw (d.made, d.held, all-lent)
 
-  sixteen : length r.made ≡ maxWorkers
-  sixteen = rw ((is whole).made, length-decoded number 4 (take countBytes state), length-take-le countBytes state (omega (arith, whole)))
+  sixteen : length r.made ≡ max_workers
+  sixteen = rw ((is whole).made, length_decoded number 4 (take count_bytes state), length-take-le count_bytes state (omega (arith, whole)))
 
 module _ (m : Matrix) (x : List ℤ) (order groups : List ℕ) (count : ℕ) (c : Call) (state sums : List ℕ) (r : code.State) {zs : List ℤ}
-    (is : length state ≡ stateBytes → StateIs r state) (lent : zs ≡ cond (eqb (length state) stateBytes) (take maxStarts (signed 8 sums)) []) where
+    (is : length state ≡ state_bytes → StateIs r state) (lent : zs ≡ cond (eqb (length state) state_bytes) (take max_starts (signed 8 sums)) []) where
   -- what is stored of picks that it took
   picks-taken : {k q p : ℕ} → answer_in m x order groups count state sums c ≡ picked k q p → {after : code.State} {part : List ℤ} (rest : List ℤ) → length part ≡ length zs
-      → state_of after part ≡ afterLent m x order groups count (state_of r zs) c → Taken m.n (afterLent m x order groups count (stateIn state sums) c) k q state sums after (part ++ rest)
+      → state_of after part ≡ after_lent m x order groups count (state_of r zs) c → Taken m.n (after_lent m x order groups count (state_in state sums) c) k q state sums after (part ++ rest)
   picks-taken {k} {q} {p} e {after} {part} rest long f =
       let d = picked-told k q p in
       let be = told m x order groups count c state sums r is lent d e in
       let rows : length zs ≡ m.n = enough m x order groups count (state_of r zs) c d be in
       let lists : zs ≡ signed 8 sums = all-lent m x order groups count c state sums r is lent d e in
-      let room : length zs ≡ length sums / 8 = ap (λ (ys : List ℤ). length ys) lists ∙ length-decoded (signedNumber 8) 8 sums in
+      let room : length zs ≡ length sums / 8 = ap (λ (ys : List ℤ). length ys) lists ∙ length_decoded (signed_number 8) 8 sums in
       let few = picked-few m x order groups count (state_of r zs) c be (sixteen m x order groups count c state sums r is lent d e) in
       record {
-        left = ap (state_of after) (take_at part rest m.n (long ∙ rows)) ∙ f ∙ ap (λ (s : State). afterLent m x order groups count s c) (same-state m x order groups count c state sums r is lent d e);
+        left = ap (state_of after) (take_at part rest m.n (long ∙ rows)) ∙ f ∙ ap (λ (s : State). after_lent m x order groups count s c) (same-state m x order groups count c state sums r is lent d e);
         whole = whole m x order groups count c state sums r is lent d e;
         inside = omega (arith, long, rows, length-append part rest);
         room = omega (arith, rows, room);
-        moves-low = few.0;
-        number-low = few.1;
+        moves_low = few.0;
+        number_low = few.1;
       }
 
   -- the place of an ending, but of rounds
@@ -253,7 +253,7 @@ module _ (m : Matrix) (x : List ℤ) (order groups : List ℕ) (count : ℕ) (c 
 
 -- a call in bytes, of which the first sums of an array are those that it was lent
 pub ran : (m : Matrix) (x : List ℤ) (order groups : List ℕ) (count : ℕ) (c : Call) (state sums : List ℕ) (r : code.State) {zs : List ℤ}
-    → (length state ≡ stateBytes → StateIs r state) → zs ≡ cond (eqb (length state) stateBytes) (take maxStarts (signed 8 sums)) []
+    → (length state ≡ state_bytes → StateIs r state) → zs ≡ cond (eqb (length state) state_bytes) (take max_starts (signed 8 sums)) []
     → {bytes : List ℕ} {answer : Response} {after : code.State} {part : List ℤ} (rest : List ℤ) {left : List ℕ} → length part ≡ length zs
     → Called m x order groups count (state_of r zs) c bytes answer (state_of after part) left → RanLent m x order groups count state sums bytes c answer after (part ++ rest) left
 ran m x order groups count c state sums r is lent {bytes} rest long h =
@@ -261,7 +261,7 @@ ran m x order groups count c state sums r is lent {bytes} rest long h =
     record {
       made = h.made;
       answers = told;
-      lists = h.lists ∙ ap (λ (a : Answer). replies.lent (replyTo a) (forceBytes a) bytes) told;
+      lists = h.lists ∙ ap (λ (a : Answer). replies.lent (reply_to a) (force_bytes a) bytes) told;
       taken = λ k q p e. picks-taken m x order groups count c state sums r is lent e rest long h.leaves;
       low = λ plain k q p e. place-fits m x order groups count c state sums r is lent plain e;
       looked = λ t q p b k e. looked m x order groups count c state sums r is lent e;
@@ -270,20 +270,20 @@ ran m x order groups count c state sums r is lent {bytes} rest long h =
 -- ---- what is stored
 
 -- the reply of picks that one ended
-pub ended : (k q p : ℕ) → q ≢ 0 → replyTo (picked k q p) ≡ replies.refused q p
-unfolding replyTo
+pub ended : (k q p : ℕ) → q ≢ 0 → reply_to (picked k q p) ≡ replies.refused q p
+unfolding reply_to
 ended k zero p h = absurd (h refl)
 ended k (suc q) p h = refl
 
 -- .. and of their preview
-pub same-reply : (k q p b n : ℕ) → replyTo (picked k q p) ≡ replyTo (previewed k q p b n)
-unfolding replyTo
+pub same-reply : (k q p b n : ℕ) → reply_to (picked k q p) ≡ reply_to (previewed k q p b n)
+unfolding reply_to
 same-reply k zero p b n = refl
 same-reply k (suc q) p b n = refl
 
 -- other answers have no set
-pub set-none : (r : Response) → OneOf (0 ∷ 1 ∷ 2 ∷ 3 ∷ []) (tag_of the_type r) → (zs : List ℤ) → 0 ≡ setIn (asAnswer r zs)
-unfolding setIn
+pub set-none : (r : Response) → OneOf (0 ∷ 1 ∷ 2 ∷ 3 ∷ []) (tag_of the_type r) → (zs : List ℤ) → 0 ≡ set_in (as_answer r zs)
+unfolding set_in
 set-none (Picked k q p) h zs = refl
 set-none (Ready b k) h zs = refl
 set-none Forces h zs = refl
@@ -291,22 +291,22 @@ set-none (Refused q p) h zs = refl
 set-none (Previewed t q p b k) h zs = absurd (⊎_elim (λ e. omega arith) (⊎_elim (λ e. omega arith) (⊎_elim (λ e. omega arith) (λ e. omega arith))) h)
 
 -- a preview's set lies above its picks
-pub preview-fits : (r : Response) → Looks r → {w v : ℕ} → w ≡ word (replyTo (asAnswer r [])) → v ≡ setIn (asAnswer r []) → (v ≡ 0) ⊎ (w + v < 2 ^ 64)
-unfolding setIn replyTo word
+pub preview-fits : (r : Response) → Looks r → {w v : ℕ} → w ≡ word (reply_to (as_answer r [])) → v ≡ set_in (as_answer r []) → (v ≡ 0) ⊎ (w + v < 2 ^ 64)
+unfolding set_in reply_to word
 preview-fits (Picked k q p) h e f = inl f
 preview-fits (Ready b k) h e f = inl f
 preview-fits Forces h e f = inl f
 preview-fits (Refused q p) h e f = inl f
-preview-fits (Previewed t zero p b k) h e f = let g = h t 0 p b k refl in inr (omega (arith, g.taken-low, g.count_low, g.bits-low))
-preview-fits (Previewed t (suc q) p b k) h e f = let g = h t (suc q) p b k refl in inr (omega (arith, g.number-low, g.place-low, g.count_low, g.bits-low))
+preview-fits (Previewed t zero p b k) h e f = let g = h t 0 p b k refl in inr (omega (arith, g.taken_low, g.count_low, g.bits_low))
+preview-fits (Previewed t (suc q) p b k) h e f = let g = h t (suc q) p b k refl in inr (omega (arith, g.number_low, g.place_low, g.count_low, g.bits_low))
 
 -- an answer of another kind than picks
 pub not-picked : (r : Response) → OneOf (1 ∷ 2 ∷ 3 ∷ 4 ∷ []) (tag_of the_type r) → (k q p : ℕ) → r ≢ Picked k q p
 not-picked r h k q p e = let g : OneOf (1 ∷ 2 ∷ 3 ∷ 4 ∷ []) 0 = rw e at h in ⊎_elim (λ y. omega arith) (⊎_elim (λ y. omega arith) (⊎_elim (λ y. omega arith) (λ y. omega arith))) g
 
 -- .. has its own word in rounds
-pub round-other : (r : Response) → OneOf (1 ∷ 2 ∷ 3 ∷ 4 ∷ []) (tag_of the_type r) → (zs : List ℤ) → word (replyTo (asAnswer r zs)) ≡ roundWord (asAnswer r zs)
-unfolding roundWord
+pub round-other : (r : Response) → OneOf (1 ∷ 2 ∷ 3 ∷ 4 ∷ []) (tag_of the_type r) → (zs : List ℤ) → word (reply_to (as_answer r zs)) ≡ round_word (as_answer r zs)
+unfolding round_word
 round-other (Picked k q p) h zs = absurd (not-picked (Picked k q p) h k q p refl)
 round-other (Ready b k) h zs = refl
 round-other Forces h zs = refl
@@ -314,14 +314,14 @@ round-other (Refused q p) h zs = refl
 round-other (Previewed t q p b k) h zs = refl
 
 -- the word of rounds that a pick ended
-pub round-ended : (t q p : ℕ) → q ≢ 0 → p % 2 ^ 32 + q * 2 ^ 32 + t * 2 ^ 40 ≡ roundWord (picked t q p)
-unfolding roundWord
+pub round-ended : (t q p : ℕ) → q ≢ 0 → p % 2 ^ 32 + q * 2 ^ 32 + t * 2 ^ 40 ≡ round_word (picked t q p)
+unfolding round_word
 round-ended t zero p h = absurd (h refl)
 round-ended t (suc q) p h = refl
 
 -- other answers leave both lists
-pub picks-kept : (r : Response) → OneOf (1 ∷ 2 ∷ 3 ∷ 4 ∷ []) (tag_of the_type r) → (zs : List ℤ) (new old : List ℕ) → old ≡ leftBy (asAnswer r zs) new old
-unfolding leftBy
+pub picks-kept : (r : Response) → OneOf (1 ∷ 2 ∷ 3 ∷ 4 ∷ []) (tag_of the_type r) → (zs : List ℤ) (new old : List ℕ) → old ≡ left_by (as_answer r zs) new old
+unfolding left_by
 picks-kept (Picked k q p) h zs new old = absurd (⊎_elim (λ e. omega arith) (⊎_elim (λ e. omega arith) (⊎_elim (λ e. omega arith) (λ e. omega arith))) h)
 picks-kept (Ready b k) h zs new old = refl
 picks-kept Forces h zs new old = refl
@@ -329,35 +329,35 @@ picks-kept (Refused q p) h zs new old = refl
 picks-kept (Previewed t q p b k) h zs new old = refl
 
 -- sums for which there is room
-pub sums-stored : (zs : List ℤ) (bytes : List ℕ) {new : List ℕ} → length zs ≤ length bytes / 8 → new ≡ stored (signedBytes 8 (take (length bytes / 8) zs)) bytes → new ≡ stored (signedBytes 8 zs) bytes
+pub sums-stored : (zs : List ℤ) (bytes : List ℕ) {new : List ℕ} → length zs ≤ length bytes / 8 → new ≡ stored (signed_bytes 8 (take (length bytes / 8) zs)) bytes → new ≡ stored (signed_bytes 8 zs) bytes
 sums-stored zs bytes l e = e ∙ rw (take_all (length bytes / 8) zs l)
 
 module _ {n : ℕ} {c : Call} {a : Answer} {s : State} {state sums old : List ℕ} {answer : Response} {after : code.State} {new : List ℤ} {left : List ℕ} (h : Ran n c a s state sums old answer after new left) where
   picked-is : (k q p : ℕ) → answer ≡ Picked k q p → Taken n s k q state sums after new
-  picked-is k q p e = h.taken k q p (sym h.answers ∙ ap (λ (r : Response). asAnswer r h.made) e)
+  picked-is k q p e = h.taken k q p (sym h.answers ∙ ap (λ (r : Response). as_answer r h.made) e)
 
-  as-answer : {r : Response} → answer ≡ r → a ≡ asAnswer r h.made
-  as-answer e = sym h.answers ∙ ap (λ (r : Response). asAnswer r h.made) e
+  as-answer : {r : Response} → answer ≡ r → a ≡ as_answer r h.made
+  as-answer e = sym h.answers ∙ ap (λ (r : Response). as_answer r h.made) e
 
   -- what is asked before
-  ran-looks : Looks answer
-  ran-looks t q p b k e = h.looked t q p b k (as-answer e)
+  ran_looks : Looks answer
+  ran_looks t q p b k e = h.looked t q p b k (as-answer e)
 
-  ran-low : Plain c → LowPlace answer
-  ran-low plain = (λ k q p e. h.low plain k q p (as-answer e), ran-looks)
+  ran_low : Plain c → LowPlace answer
+  ran_low plain = (λ k q p e. h.low plain k q p (as-answer e), ran_looks)
 
-  ran-moves : LowMoves answer
-  ran-moves = (λ k q p e. let t = picked-is k q p e in (t.moves-low, t.number-low), ran-looks)
+  ran_moves : LowMoves answer
+  ran_moves = (λ k q p e. let t = picked-is k q p e in (t.moves_low, t.number_low), ran_looks)
 
-  pub ran-fits : PicksFit n answer new state sums
-  ran-fits k q p e = let t = picked-is k q p e in (t.whole, t.inside, t.room)
+  pub ran_fits : PicksFit n answer new state sums
+  ran_fits k q p e = let t = picked-is k q p e in (t.whole, t.inside, t.room)
 
   -- whatever stands for forces that picks do not have
-  left_is : (zs : List ℤ) (f : State → List ℕ) (bytes : List ℕ) → leftBy (asAnswer answer zs) (f (state_of after (take n new))) bytes ≡ leftBy a (f s) bytes
-  unfolding leftBy
-  left_is zs f bytes = go answer refl ∙ ap (λ (b : Answer). leftBy b (f s) bytes) h.answers
+  left_is : (zs : List ℤ) (f : State → List ℕ) (bytes : List ℕ) → left_by (as_answer answer zs) (f (state_of after (take n new))) bytes ≡ left_by a (f s) bytes
+  unfolding left_by
+  left_is zs f bytes = go answer refl ∙ ap (λ (b : Answer). left_by b (f s) bytes) h.answers
     where
-      go : (r : Response) → answer ≡ r → leftBy (asAnswer r zs) (f (state_of after (take n new))) bytes ≡ leftBy (asAnswer r h.made) (f s) bytes
+      go : (r : Response) → answer ≡ r → left_by (as_answer r zs) (f (state_of after (take n new))) bytes ≡ left_by (as_answer r h.made) (f s) bytes
       go (Picked k q p) e = ap (λ (u : State). stored (f u) bytes) (picked-is k q p e).left
       go (Ready b k) e = refl
       go Forces e = refl
@@ -365,26 +365,26 @@ module _ {n : ℕ} {c : Call} {a : Answer} {s : State} {state sums old : List �
       go (Previewed t q p b k) e = refl
 
   -- a call that takes picks, which are stored
-  pub ran-took : (zs : List ℤ) {newState newSums : List ℕ} → newState ≡ leftBy (asAnswer answer zs) (bytesIn (state_of after (take n new))) state → newSums ≡ leftBy (asAnswer answer zs) (signedBytes 8 (take n new)) sums
-      → Took c a a s state sums answer newState newSums
-  ran-took zs g i = record {
+  pub ran_took : (zs : List ℤ) {new_state new_sums : List ℕ} → new_state ≡ left_by (as_answer answer zs) (bytes_in (state_of after (take n new))) state → new_sums ≡ left_by (as_answer answer zs) (signed_bytes 8 (take n new)) sums
+      → Took c a a s state sums answer new_state new_sums
+  ran_took zs g i = record {
     made = h.made;
     answers = h.answers;
-    state-left = g ∙ left_is zs bytesIn state;
-    sums-left = i ∙ left_is zs (λ (u : State). signedBytes 8 u.sums) sums;
-    place-low = ran-low;
-    moves-low = ran-moves;
+    state-left = g ∙ left_is zs bytes_in state;
+    sums_left = i ∙ left_is zs (λ (u : State). signed_bytes 8 u.sums) sums;
+    place_low = ran_low;
+    moves_low = ran_moves;
   }
 
   -- one that leaves state and sums
-  pub ran-gave : Gave c a old answer left
-  ran-gave = record { made = h.made; answers = h.answers; lists = h.lists; place-low = ran-low }
+  pub ran_gave : Gave c a old answer left
+  ran_gave = record { made = h.made; answers = h.answers; lists = h.lists; place_low = ran_low }
 
 -- ---- what a call returns, where f gives the word of an answer
 
-pub took-moved : {c : Call} {told a : Answer} {s : State} {state sums : List ℕ} {answer : Response} {newState newSums : List ℕ} → Took c told a s state sums answer newState newSums
-    → (f : Answer → ℕ) {w : ℕ} → ((zs : List ℤ) → w ≡ f (asAnswer answer zs)) → Moved (f told) a s state sums w newState newSums
-took-moved h f e = record { returns = e h.made ∙ ap f h.answers; state-left = h.state-left; sums-left = h.sums-left }
+pub took_moved : {c : Call} {told a : Answer} {s : State} {state sums : List ℕ} {answer : Response} {new_state new_sums : List ℕ} → Took c told a s state sums answer new_state new_sums
+    → (f : Answer → ℕ) {w : ℕ} → ((zs : List ℤ) → w ≡ f (as_answer answer zs)) → Moved (f told) a s state sums w new_state new_sums
+took_moved h f e = record { returns = e h.made ∙ ap f h.answers; state-left = h.state-left; sums_left = h.sums_left }
 
-pub gave_word : {c : Call} {told : Answer} {old : List ℕ} {answer : Response} {new : List ℕ} → Gave c told old answer new → (f : Answer → ℕ) {w : ℕ} → ((zs : List ℤ) → w ≡ f (asAnswer answer zs)) → w ≡ f told
+pub gave_word : {c : Call} {told : Answer} {old : List ℕ} {answer : Response} {new : List ℕ} → Gave c told old answer new → (f : Answer → ℕ) {w : ℕ} → ((zs : List ℤ) → w ≡ f (as_answer answer zs)) → w ≡ f told
 gave_word h f e = e h.made ∙ ap f h.answers

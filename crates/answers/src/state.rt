@@ -1,8 +1,8 @@
 // A run's state in bytes.
 ghost use Rattle.std.specs.Prelude.{◌≡◌, cond, [], ◌++◌, eqb, length};
-ghost use Rattle.words.specs.LittleEndian.{unsignedBytes, signedBytes, stored};
-ghost use Rattle.answers.specs.Runs.{stateBytes};
-ghost use Rattle.answers.specs.code.Ran.{StateIs};
+ghost use Rattle.words.specs.LittleEndian.{unsigned_bytes, signed_bytes, stored};
+ghost use Rattle.answers.specs.Runs.{state_bytes};
+ghost use Rattle.answers.specs.Code.Ran.{StateIs};
 
 use machine::state::State;
 use plan::MAX_WORKERS;
@@ -16,7 +16,7 @@ pub const STATE_BYTES: usize = COUNT_BYTES + 8 * MAX_WORKERS;
 
 // Bytes of another length are no state; for those a fresh one stands in.
 pub fn load_state(bytes: &[u8]) -> State
-    ensures { length bytes.now ≡ stateBytes → StateIs result bytes.now }
+    ensures { length bytes.now ≡ state_bytes → StateIs result bytes.now }
 {
     if bytes.len() != STATE_BYTES {
         return State::fresh();
@@ -33,7 +33,7 @@ pub fn load_state(bytes: &[u8]) -> State
 
 // The sums beside a state: none where the bytes are no state, so that it is refused as one without n sums.
 pub fn sums_of<'a>(state: &[u8], sums: &'a [u8]) -> &'a [u8]
-    ensures { result.now ≡ cond (eqb (length state.now) stateBytes) sums.now [] }
+    ensures { result.now ≡ cond (eqb (length state.now) state_bytes) sums.now [] }
 {
     if state.len() != STATE_BYTES {
         return &sums[..0];
@@ -42,8 +42,8 @@ pub fn sums_of<'a>(state: &[u8], sums: &'a [u8]) -> &'a [u8]
 }
 
 pub fn store_state(state: State, bytes: &mut [u8])
-    requires { length bytes.old ≡ stateBytes }
-    ensures { bytes.new ≡ stored (unsignedBytes 4 state.made ++ signedBytes 8 state.held) bytes.old }
+    requires { length bytes.old ≡ state_bytes }
+    ensures { bytes.new ≡ stored (unsigned_bytes 4 state.made ++ signed_bytes 8 state.held) bytes.old }
 {
     let made = state.made;
     store_u32(&made, &mut bytes[..COUNT_BYTES]);

@@ -2,10 +2,10 @@
 ghost use Rattle.std.specs.Prelude.{◌≡◌, take};
 ghost use Rattle.base.specs.Replies.{lent};
 ghost use Rattle.machine.specs.Record.{state_of};
-ghost use Rattle.calls.specs.Performed.{asAnswer};
-ghost use Rattle.words.specs.LittleEndian.{signedBytes};
-ghost use Rattle.answers.specs.Runs.{replyTo, forceBytes, bytesIn, leftBy};
-ghost use Rattle.answers.specs.code.Ran.{PicksFit, ForcesFit};
+ghost use Rattle.calls.specs.Performed.{as_answer};
+ghost use Rattle.words.specs.LittleEndian.{signed_bytes};
+ghost use Rattle.answers.specs.Runs.{reply_to, force_bytes, bytes_in, left_by};
+ghost use Rattle.answers.specs.Code.Ran.{PicksFit, ForcesFit};
 
 use crate::state::store_state;
 use calls::Response;
@@ -22,8 +22,8 @@ pub fn store_picks(
     sums: &mut [u8],
 )
     requires { PicksFit n answer new.now state.old sums.old }
-    ensures state { state.new ≡ leftBy (asAnswer answer new.now) (bytesIn (state_of after (take n new.now))) state.old }
-    ensures sums { sums.new ≡ leftBy (asAnswer answer new.now) (signedBytes 8 (take n new.now)) sums.old }
+    ensures state { state.new ≡ left_by (as_answer answer new.now) (bytes_in (state_of after (take n new.now))) state.old }
+    ensures sums { sums.new ≡ left_by (as_answer answer new.now) (signed_bytes 8 (take n new.now)) sums.old }
 {
     let Response::Picked(_, _, _) = answer else {
         return;
@@ -36,7 +36,7 @@ pub fn store_picks(
 // The forces of an answer that has them. Any other answer leaves the list.
 pub fn store_forces(n: u32, answer: Response, made: &[i64], forces: &mut [u8])
     requires { ForcesFit n answer made.now forces.old }
-    ensures { forces.new ≡ lent (replyTo (asAnswer answer (take n made.now))) (forceBytes (asAnswer answer (take n made.now))) forces.old }
+    ensures { forces.new ≡ lent (reply_to (as_answer answer (take n made.now))) (force_bytes (as_answer answer (take n made.now))) forces.old }
 {
     let Response::Forces = answer else {
         return;

@@ -1,9 +1,9 @@
 // The word of an answer to a call on a run.
 ghost use Rattle.std.specs.Prelude.{◌≡◌, List, ◌^◌, ◌<◌, ℤ};
 ghost use Rattle.run.specs.Answers.{picked};
-ghost use Rattle.calls.specs.Performed.{asAnswer};
-ghost use Rattle.answers.specs.Runs.{replyTo, setIn, previewWord, roundWord};
-ghost use Rattle.answers.specs.code.Ran.{LowPlace, LowMoves, Looks};
+ghost use Rattle.calls.specs.Performed.{as_answer};
+ghost use Rattle.answers.specs.Runs.{reply_to, set_in, preview_word, round_word};
+ghost use Rattle.answers.specs.Code.Ran.{LowPlace, LowMoves, Looks};
 ghost use Rattle.lent.specs.Word.{word};
 
 use base::Verdict;
@@ -17,7 +17,7 @@ const SET_BITS: u64 = 281474976710656;
 // The picks taken, or the number and place of the one that ended them.
 fn word_of_end(taken: usize, number: u32, place: usize) -> u64
     requires { place < 2 ^ 32 }
-    ensures { result ≡ word (replyTo (picked taken number place)) }
+    ensures { result ≡ word (reply_to (picked taken number place)) }
 {
     if number == 0 {
         return taken as u64;
@@ -29,7 +29,7 @@ fn word_of_end(taken: usize, number: u32, place: usize) -> u64
 // refusal's number and place.
 pub fn word_of(answer: Response) -> u64
     requires { LowPlace answer }
-    ensures { (forces : List ℤ) → result ≡ word (replyTo (asAnswer answer forces)) }
+    ensures { (forces : List ℤ) → result ≡ word (reply_to (as_answer answer forces)) }
 {
     match answer {
         Response::Picked(taken, number, place) => word_of_end(taken, number, place),
@@ -43,7 +43,7 @@ pub fn word_of(answer: Response) -> u64
 // The ready set of a preview: the count from bit 40 on, a bit for each worker from bit 48 on.
 fn set_of(answer: Response) -> u64
     requires { Looks answer }
-    ensures { (forces : List ℤ) → result ≡ setIn (asAnswer answer forces) }
+    ensures { (forces : List ℤ) → result ≡ set_in (as_answer answer forces) }
 {
     let Response::Previewed(_, _, _, bits, count) = answer else {
         return 0;
@@ -54,7 +54,7 @@ fn set_of(answer: Response) -> u64
 // The word of a preview: its picks, and above them the ready set afterwards.
 pub fn word_of_preview(answer: Response) -> u64
     requires { LowPlace answer }
-    ensures { (forces : List ℤ) → result ≡ previewWord (asAnswer answer forces) }
+    ensures { (forces : List ℤ) → result ≡ preview_word (as_answer answer forces) }
 {
     word_of(answer) + set_of(answer)
 }
@@ -62,7 +62,7 @@ pub fn word_of_preview(answer: Response) -> u64
 // The word of rounds: the moves made, or the number and place of what ended them, and above them the moves made.
 pub fn word_of_round(answer: Response) -> u64
     requires { LowMoves answer }
-    ensures { (forces : List ℤ) → result ≡ roundWord (asAnswer answer forces) }
+    ensures { (forces : List ℤ) → result ≡ round_word (as_answer answer forces) }
 {
     let Response::Picked(taken, why, place) = answer else {
         return word_of(answer);

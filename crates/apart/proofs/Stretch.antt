@@ -9,8 +9,8 @@ use lib.ListN.{length, get_or, take, drop, length-take, length-drop, drop_of_len
 use lib.Seq.{take_all, take-nil, take-take, length-take-le, get_or-take, get_or-drop}
 use borrow.Author.Tests.{leb-true, leb-false}
 use Rattle.base.proofs.Lists.{take-drop}
-use Rattle.plan.specs.Sound.{eachOnce}
-use Rattle.plan.proofs.Once.{once, low-at}
+use Rattle.plan.specs.Sound.{each_once}
+use Rattle.plan.proofs.Once.{once, low_at}
 
 pub stretch : (n start size : ℕ) (order : List ℕ) → n ≤ length order → take (min (start + size) n - min start n) (drop (min start n) order) ≡ take size (drop start (take n order))
 stretch n start size order l = go (leb start n) refl (leb (start + size) n) refl
@@ -37,7 +37,7 @@ part_low n from to order low l j h =
     subst (λ (v : ℕ). v < n) (sym (get_or-take (to - from) (drop from order) j 0 short ∙ get_or-drop from order j 0)) (low (from + j) (omega arith))
 
 -- an order that has each row once has rows only
-pub order-low : (n : ℕ) (order : List ℕ) → eachOnce n (take n order) ≡ true → (j : ℕ) → j < n → get_or order j 0 < n
+pub order-low : (n : ℕ) (order : List ℕ) → each_once n (take n order) ≡ true → (j : ℕ) → j < n → get_or order j 0 < n
 order-low n order h j l =
     let w = once n (take n order) h in
-    subst (λ (v : ℕ). v < n) (get_or-take n order j 0 l) (low-at n (take n order) j w.low (omega (arith, w.long)))
+    subst (λ (v : ℕ). v < n) (get_or-take n order j 0 l) (low_at n (take n order) j w.low (omega (arith, w.long)))

@@ -10,11 +10,11 @@ use lib.Dec.{eqb, ltb}
 use lib.ListN.{length, get_or, take, drop, set, replicate, length-set, length-replicate, get_or-replicate, take-append-drop, get_or-eq_default}
 use lib.Seq.{take-suc, get_or-set_same, get_or-set_other}
 use borrow.Author.Tests.{eqb-true, eqb-false, eq-eqb, ne_eqb, ltb-true, ltb-false, lt-ltb, le-ltb}
-use Rattle.base.specs.Lists.{any, isIn, concat}
-use Rattle.base.proofs.Booleans.{and-false, clash, is_false}
-use Rattle.base.proofs.Lists.{isIn-append, any_of, any-ext}
-use Rattle.matrix.specs.Limits.{maxRows}
-use Rattle.apart.specs.code.Marks.{closed, touchedBy, around, clashes, Stamped, Touched, UpTo, Opened, Widened, Fresh}
+use Rattle.base.specs.Lists.{any, is_in, concat}
+use Rattle.base.proofs.Booleans.{and_false, clash, is_false}
+use Rattle.base.proofs.Lists.{is_in-append, any_of, any_ext}
+use Rattle.matrix.specs.Limits.{max_rows}
+use Rattle.apart.specs.Code.Marks.{closed, touched_by, around, clashes, Stamped, Touched, UpTo, Opened, Widened, Fresh}
 
 -- ---- lists
 
@@ -29,7 +29,7 @@ any_append p (x ∷ xs) ys = go (p x) (any_append p xs ys)
 -- ---- touched
 
 -- no row is marked at first
-pub unmarked : (k : ℕ) → k ≡ maxRows → UpTo 0 (replicate k 0)
+pub unmarked : (k : ℕ) → k ≡ max_rows → UpTo 0 (replicate k 0)
 unmarked k e = record { long = length-replicate k 0 ∙ e; most = λ v. zeros v (ltb v k) refl }
   where
     zeros : (v : ℕ) (b : Bool) → ltb v k ≡ b → get_or (replicate k 0) v 0 ≤ 0
@@ -41,9 +41,9 @@ module _ (low mine : ℕ) where
   touched_none marks = record { free = refl; stamped = λ _. record { long = refl; is = λ v. refl } }
 
   -- a row with another child's mark
-  pub touched-clash : (marks marks' : List ℕ) (z : ℕ) → low < get_or marks z 0 → get_or marks z 0 ≢ mine → Touched low mine (z ∷ []) marks marks' false
+  pub touched_clash : (marks marks' : List ℕ) (z : ℕ) → low < get_or marks z 0 → get_or marks z 0 ≢ mine → Touched low mine (z ∷ []) marks marks' false
   unfolding clashes
-  touched-clash marks marks' z l d = record { free = rw (lt-ltb low (get_or marks z 0) l, ne_eqb (get_or marks z 0) mine d); stamped = λ e. absurd (true≢false (sym e)) }
+  touched_clash marks marks' z l d = record { free = rw (lt-ltb low (get_or marks z 0) l, ne_eqb (get_or marks z 0) mine d); stamped = λ e. absurd (true≢false (sym e)) }
 
   -- a row without
   pub touched-free : (marks : List ℕ) (z : ℕ) → z < length marks → (get_or marks z 0 ≤ low) ⊎ (get_or marks z 0 ≡ mine) → Touched low mine (z ∷ []) marks (set marks z mine) true
@@ -52,7 +52,7 @@ module _ (low mine : ℕ) where
     where
       free : (get_or marks z 0 ≤ low) ⊎ (get_or marks z 0 ≡ mine) → ltb low (get_or marks z 0) && not (eqb (get_or marks z 0) mine) ≡ false
       free (inl a) = rw (le-ltb low (get_or marks z 0) a)
-      free (inr a) = rw (eq-eqb (get_or marks z 0) mine a) (and-false (ltb low (get_or marks z 0)))
+      free (inr a) = rw (eq-eqb (get_or marks z 0) mine a) (and_false (ltb low (get_or marks z 0)))
 
       go : (v : ℕ) (b : Bool) → eqb v z ≡ b → get_or (set marks z mine) v 0 ≡ cond (eqb v z || false) mine (get_or marks v 0)
       go v true e = rw e (subst (λ (y : ℕ). get_or (set marks z mine) y 0 ≡ mine) (sym (eqb-true v z e)) (get_or-set_same marks z mine 0 l))
@@ -70,24 +70,24 @@ module _ (low mine : ℕ) where
     -- a row that was touched has no other child's mark, before or after
     same : (v : ℕ) → clashes low mine b v ≡ clashes low mine a v
     unfolding clashes
-    same v = go (isIn xs v) refl
+    same v = go (is_in xs v) refl
       where
-        go : (t : Bool) → isIn xs v ≡ t → ltb low (get_or b v 0) && not (eqb (get_or b v 0) mine) ≡ ltb low (get_or a v 0) && not (eqb (get_or a v 0) mine)
+        go : (t : Bool) → is_in xs v ≡ t → ltb low (get_or b v 0) && not (eqb (get_or b v 0) mine) ≡ ltb low (get_or a v 0) && not (eqb (get_or a v 0) mine)
         go true e =
             rw ((first.stamped refl).is v, e, eq-eqb mine mine refl)
-            (and-false (ltb low mine) ∙ sym (is_false (λ (h : clashes low mine a v ≡ true). clash (any_of (clashes low mine a) xs v e h) none)))
+            (and_false (ltb low mine) ∙ sym (is_false (λ (h : clashes low mine a v ≡ true). clash (any_of (clashes low mine a) xs v e h) none)))
         go false e = rw ((first.stamped refl).is v, e)
 
     pub touched-append : Touched low mine (xs ++ ys) a c r
     touched-append = record {
-      free = then.free ∙ ap not (any-ext (clashes low mine b) (clashes low mine a) ys (λ v _. same v) ∙ sym (any_append (clashes low mine a) xs ys ∙ rw none));
+      free = then.free ∙ ap not (any_ext (clashes low mine b) (clashes low mine a) ys (λ v _. same v) ∙ sym (any_append (clashes low mine a) xs ys ∙ rw none));
       stamped = λ e. both (then.stamped e);
     }
       where
         both : Stamped mine ys b c → Stamped mine (xs ++ ys) a c
         both s = record {
           long = s.long ∙ (first.stamped refl).long;
-          is = λ v. s.is v ∙ rw ((first.stamped refl).is v, isIn-append xs ys v) (either (isIn xs v) (isIn ys v) (get_or a v 0));
+          is = λ v. s.is v ∙ rw ((first.stamped refl).is v, is_in-append xs ys v) (either (is_in xs v) (is_in ys v) (get_or a v 0));
         }
           where
             either : (p q : Bool) (m : ℕ) → cond q mine (cond p mine m) ≡ cond (p || q) mine m
@@ -143,10 +143,10 @@ module _ (low mine : ℕ) (xs : List ℕ) (j : ℕ) (here : j < length xs) where
 -- ---- rows that have touched theirs
 
 -- rows stamped twice, the second time all of the first and more
-pub stamped-over : (mine : ℕ) (xs ys a b c : List ℕ) → ((v : ℕ) → isIn xs v ≡ true → isIn ys v ≡ true) → Stamped mine xs a b → Stamped mine ys b c → Stamped mine ys a c
-stamped-over mine xs ys a b c more s t = record { long = t.long ∙ s.long; is = λ v. t.is v ∙ go v (isIn xs v) refl (isIn ys v) refl }
+pub stamped-over : (mine : ℕ) (xs ys a b c : List ℕ) → ((v : ℕ) → is_in xs v ≡ true → is_in ys v ≡ true) → Stamped mine xs a b → Stamped mine ys b c → Stamped mine ys a c
+stamped-over mine xs ys a b c more s t = record { long = t.long ∙ s.long; is = λ v. t.is v ∙ go v (is_in xs v) refl (is_in ys v) refl }
   where
-    go : (v : ℕ) (p : Bool) → isIn xs v ≡ p → (q : Bool) → isIn ys v ≡ q → cond q mine (get_or b v 0) ≡ cond q mine (get_or a v 0)
+    go : (v : ℕ) (p : Bool) → is_in xs v ≡ p → (q : Bool) → is_in ys v ≡ q → cond q mine (get_or b v 0) ≡ cond q mine (get_or a v 0)
     go v p e true f = refl
     go v true e false f = absurd (true≢false (sym (more v e) ∙ f))
     go v false e false f = s.is v ∙ rw e
@@ -154,7 +154,7 @@ stamped-over mine xs ys a b c more s t = record { long = t.long ∙ s.long; is =
 -- marks up to mine are no other child's
 pub none_above : (mine : ℕ) (marks zs : List ℕ) → ((v : ℕ) → get_or marks v 0 ≤ mine) → not (any (clashes mine mine marks) zs) ≡ true
 unfolding clashes
-none_above mine marks zs h = ap not (any-ext (clashes mine mine marks) (λ z. false) zs (λ v _. rw (le-ltb mine (get_or marks v 0) (h v))) ∙ never zs)
+none_above mine marks zs h = ap not (any_ext (clashes mine mine marks) (λ z. false) zs (λ v _. rw (le-ltb mine (get_or marks v 0) (h v))) ∙ never zs)
   where
     never : (xs : List ℕ) → any (λ (x : ℕ). false) xs ≡ false
     never [] = refl
@@ -167,7 +167,7 @@ module _ {n : ℕ} {starts columns : List ℕ} {mine : ℕ} where
 
   -- more rows are stamped
   pub opened-kept : (done marks marks' zs : List ℕ) → Opened n starts columns mine done marks → Stamped mine zs marks marks' → Opened n starts columns mine done marks'
-  opened-kept done marks marks' zs o s = record { long = o.long; most = o.most; opened = λ v e z h. s.is z ∙ same (isIn zs z) (o.opened v e z h) }
+  opened-kept done marks marks' zs o s = record { long = o.long; most = o.most; opened = λ v e z h. s.is z ∙ same (is_in zs z) (o.opened v e z h) }
     where
       same : (b : Bool) {m : ℕ} → m ≡ mine → cond b mine m ≡ mine
       same true e = refl
@@ -177,8 +177,8 @@ module _ {n : ℕ} {starts columns : List ℕ} {mine : ℕ} where
   pub touched-before : (low : ℕ) (done marks : List ℕ) (u : ℕ) → Opened n starts columns mine done marks → get_or done u 0 ≡ mine → Touched low mine (closed n starts columns u) marks marks true
   unfolding clashes
   touched-before low done marks u o e = record {
-    free = sym (ap not (any-ext (clashes low mine marks) (λ z. false) zs (λ z h. rw (eq-eqb (get_or marks z 0) mine (o.opened u e z h)) (and-false (ltb low (get_or marks z 0)))) ∙ never zs));
-    stamped = λ _. record { long = refl; is = λ v. same v (isIn zs v) refl };
+    free = sym (ap not (any_ext (clashes low mine marks) (λ z. false) zs (λ z h. rw (eq-eqb (get_or marks z 0) mine (o.opened u e z h)) (and_false (ltb low (get_or marks z 0)))) ∙ never zs));
+    stamped = λ _. record { long = refl; is = λ v. same v (is_in zs v) refl };
   }
     where
       zs : List ℕ
@@ -188,14 +188,14 @@ module _ {n : ℕ} {starts columns : List ℕ} {mine : ℕ} where
       never [] = refl
       never (x ∷ xs) = never xs
 
-      same : (v : ℕ) (b : Bool) → isIn (closed n starts columns u) v ≡ b → get_or marks v 0 ≡ cond b mine (get_or marks v 0)
+      same : (v : ℕ) (b : Bool) → is_in (closed n starts columns u) v ≡ b → get_or marks v 0 ≡ cond b mine (get_or marks v 0)
       same v true h = o.opened u e v h
       same v false h = refl
 
   -- now it has
-  pub opened-more : (low : ℕ) (done marks marks' : List ℕ) (u : ℕ) (r : Bool) → u < length done → Opened n starts columns mine done marks → Touched low mine (closed n starts columns u) marks marks' r
+  pub opened_more : (low : ℕ) (done marks marks' : List ℕ) (u : ℕ) (r : Bool) → u < length done → Opened n starts columns mine done marks → Touched low mine (closed n starts columns u) marks marks' r
       → Widened n starts columns low mine (closed n starts columns u) marks (set done u mine) marks' r
-  opened-more low done marks marks' u r l o t = record {
+  opened_more low done marks marks' u r l o t = record {
     touched = t;
     after = λ e.
         let s = t.stamped e in
@@ -208,16 +208,16 @@ module _ {n : ℕ} {starts columns : List ℕ} {mine : ℕ} where
       most v false e = omega (arith, get_or-set_other done u v mine 0 (eqb-false v u e), o.most v)
 
       now : Opened n starts columns mine done marks' → Stamped mine (closed n starts columns u) marks marks' → (v : ℕ) (b : Bool) → eqb v u ≡ b → get_or (set done u mine) v 0 ≡ mine
-          → (z : ℕ) → isIn (closed n starts columns v) z ≡ true → get_or marks' z 0 ≡ mine
+          → (z : ℕ) → is_in (closed n starts columns v) z ≡ true → get_or marks' z 0 ≡ mine
       now kept s v true e h z i =
-          let here : isIn (closed n starts columns u) z ≡ true = subst (λ (y : ℕ). isIn (closed n starts columns y) z ≡ true) (eqb-true v u e) i in
+          let here : is_in (closed n starts columns u) z ≡ true = subst (λ (y : ℕ). is_in (closed n starts columns y) z ≡ true) (eqb-true v u e) i in
           s.is z ∙ rw here
       now kept s v false e h z i = kept.opened v (sym (get_or-set_other done u v mine 0 (eqb-false v u e)) ∙ h) z i
 
 -- rows some of which touched theirs, list after list
-pub around-two : (n : ℕ) (starts columns rows : List ℕ) → concat (map (λ u. touchedBy n starts columns (closed n starts columns u)) rows) ≡ around n starts columns 2 rows
+pub around-two : (n : ℕ) (starts columns rows : List ℕ) → concat (map (λ u. touched_by n starts columns (closed n starts columns u)) rows) ≡ around n starts columns 2 rows
 unfolding around
 around-two n starts columns [] = refl
 around-two n starts columns (u ∷ rows) =
-    ap (λ (l : List ℕ). touchedBy n starts columns (closed n starts columns u) ++ l) (around-two n starts columns rows)
-    ∙ sym (concat-map-append (closed n starts columns) (closed n starts columns u) (touchedBy n starts columns rows))
+    ap (λ (l : List ℕ). touched_by n starts columns (closed n starts columns u) ++ l) (around-two n starts columns rows)
+    ∙ sym (concat-map-append (closed n starts columns) (closed n starts columns u) (touched_by n starts columns rows))

@@ -1,15 +1,17 @@
 // Like-coloured children of a group are beyond k joins of each other.
+#![tactic(auto)]
+
 mod marks;
 mod wide;
 
 ghost use Rattle.std.specs.Prelude.{◌≡◌, ℕ, ◌+◌, ◌-◌, ◌/◌, ◌^◌, ◌≤◌, ◌<◌, length, get_or, take};
-ghost use Rattle.matrix.specs.Limits.{maxRows};
+ghost use Rattle.matrix.specs.Limits.{max_rows};
 ghost use Rattle.matrix.specs.Matrix.{neighbours};
-ghost use Rattle.matrix.specs.code.Pattern.{pattern};
-ghost use Rattle.plan.specs.Sound.{maxGroups, maxDistance, children, beyond, likeApart};
-ghost use Rattle.plan.specs.code.Checks.{ofRecord, Small, belowWhole, ofColour};
-ghost use Rattle.shape.specs.code.Shape.{PlanLists};
-ghost use Rattle.apart.specs.code.Marks.{OfMatrix, around, aroundLike, Opened, Widened, Fresh, Compared, UpTo, Judged};
+ghost use Rattle.matrix.specs.Code.Pattern.{pattern};
+ghost use Rattle.plan.specs.Sound.{max_groups, max_distance, children, beyond, like_apart};
+ghost use Rattle.plan.specs.Code.Checks.{of_record, Small, below_whole, of_colour};
+ghost use Rattle.shape.specs.Code.Shape.{PlanLists};
+ghost use Rattle.apart.specs.Code.Marks.{OfMatrix, around, around_like, Opened, Widened, Fresh, Compared, UpTo, Judged};
 
 use base::numbers::least;
 use marks::{touch_all, touch_rows};
@@ -30,7 +32,7 @@ fn touch_near(
     low: u32,
     mine: u32,
 ) -> bool
-    requires { OfMatrix n starts.now columns.now × (length marks.old ≡ maxRows) × Opened n starts.now columns.now mine done.old marks.old
+    requires { OfMatrix n starts.now columns.now × (length marks.old ≡ max_rows) × Opened n starts.now columns.now mine done.old marks.old
         × ((i : ℕ) → i < length rows.now → get_or rows.now i 0 < n) × (j ≤ 2) }
     ensures { Widened n starts.now columns.now low mine (around n starts.now columns.now j rows.now) marks.old done.new marks.new result }
 {
@@ -57,7 +59,7 @@ fn compare_rows(
     mine: u32,
 ) -> bool
     requires { OfMatrix n starts.now columns.now × Fresh mine marks.old × Fresh mine done.old
-        × ((i : ℕ) → i < length rows.now → get_or rows.now i 0 < n) × (k ≤ maxDistance) }
+        × ((i : ℕ) → i < length rows.now → get_or rows.now i 0 < n) × (k ≤ max_distance) }
     ensures { Compared low mine (around n starts.now columns.now (k / 2) rows.now) (around n starts.now columns.now (k - k / 2) rows.now)
         marks.old done.new marks.new result }
 {
@@ -85,9 +87,9 @@ fn compare_like(
     low: u32,
     mine: u32,
 ) -> bool
-    requires { OfMatrix n starts.now columns.now × Fresh mine marks.old × Fresh mine done.old × Small g × (n ≤ length order.now) × ((j : ℕ) → j < n → get_or order.now j 0 < n) × (k ≤ maxDistance) }
-    ensures { Compared low mine (aroundLike n starts.now columns.now (take n order.now) (k / 2) colour (ofRecord g))
-        (aroundLike n starts.now columns.now (take n order.now) (k - k / 2) colour (ofRecord g)) marks.old done.new marks.new result }
+    requires { OfMatrix n starts.now columns.now × Fresh mine marks.old × Fresh mine done.old × Small g × (n ≤ length order.now) × ((j : ℕ) → j < n → get_or order.now j 0 < n) × (k ≤ max_distance) }
+    ensures { Compared low mine (around_like n starts.now columns.now (take n order.now) (k / 2) colour (of_record g))
+        (around_like n starts.now columns.now (take n order.now) (k - k / 2) colour (of_record g)) marks.old done.new marks.new result }
 {
     if g.colour != colour {
         return true;
@@ -123,9 +125,9 @@ pub fn apart_below(
     colour: u32,
     low: u32,
 ) -> bool
-    requires { OfMatrix n starts.now columns.now × PlanLists n order.now groups.now count × (parent < count) × UpTo low marks.old × UpTo low done.old × (low + maxGroups < 2 ^ 32) × (k ≤ maxDistance) }
-    ensures { Judged (likeApart (beyond (neighbours (pattern n starts.now columns.now)) k) (take n order.now)
-        (ofColour colour (children parent (belowWhole count groups.now)))) (low + maxGroups) marks.new done.new result }
+    requires { OfMatrix n starts.now columns.now × PlanLists n order.now groups.now count × (parent < count) × UpTo low marks.old × UpTo low done.old × (low + max_groups < 2 ^ 32) × (k ≤ max_distance) }
+    ensures { Judged (like_apart (beyond (neighbours (pattern n starts.now columns.now)) k) (take n order.now)
+        (of_colour colour (children parent (below_whole count groups.now)))) (low + max_groups) marks.new done.new result }
 {
     let mut i = next_child(groups, count, parent, parent + 1);
     while i < count {

@@ -1,7 +1,7 @@
 // Marks on the rows that a group touches: its rows and the rows adjacent to them.
 ghost use Rattle.std.specs.Prelude.{◌≡◌, [], ◌∷◌, ℕ, ◌<◌, length, get_or};
-ghost use Rattle.apart.specs.code.Marks.{OfMatrix, closed, touchedBy, Touched};
-ghost use Rattle.matrix.specs.Limits.{maxRows};
+ghost use Rattle.apart.specs.Code.Marks.{OfMatrix, closed, touched_by, Touched};
+ghost use Rattle.matrix.specs.Limits.{max_rows};
 
 use base::slices::wide_at;
 use matrix::limits::MAX_ROWS;
@@ -9,7 +9,7 @@ use matrix::row::columns_of;
 
 // Row z gets the mark mine, unless it has another child's mark. Many rows have it already.
 fn touch(marks: &mut [u32; MAX_ROWS], z: usize, low: u32, mine: u32) -> bool
-    requires { (length marks.old ≡ maxRows) × (z < maxRows) }
+    requires { (length marks.old ≡ max_rows) × (z < max_rows) }
     ensures { Touched low mine (z ∷ []) marks.old marks.new result }
 {
     let m = marks[z];
@@ -25,7 +25,7 @@ fn touch(marks: &mut [u32; MAX_ROWS], z: usize, low: u32, mine: u32) -> bool
 
 // So does the row at j of a list.
 fn touch_at(marks: &mut [u32; MAX_ROWS], rows: &[u32], j: usize, low: u32, mine: u32) -> bool
-    requires { (length marks.old ≡ maxRows) × (j < length rows.now) × (get_or rows.now j 0 < maxRows) }
+    requires { (length marks.old ≡ max_rows) × (j < length rows.now) × (get_or rows.now j 0 < max_rows) }
     ensures { Touched low mine (get_or rows.now j 0 ∷ []) marks.old marks.new result }
 {
     touch(marks, wide_at(rows, j), low, mine)
@@ -33,7 +33,7 @@ fn touch_at(marks: &mut [u32; MAX_ROWS], rows: &[u32], j: usize, low: u32, mine:
 
 // So do the rows of a list, two a turn: a turn for each is slower where the linker puts it across a line of the cache.
 pub fn touch_all(marks: &mut [u32; MAX_ROWS], rows: &[u32], low: u32, mine: u32) -> bool
-    requires { (length marks.old ≡ maxRows) × ((j : ℕ) → j < length rows.now → get_or rows.now j 0 < maxRows) }
+    requires { (length marks.old ≡ max_rows) × ((j : ℕ) → j < length rows.now → get_or rows.now j 0 < max_rows) }
     ensures { Touched low mine rows.now marks.old marks.new result }
 {
     let mut j = 0;
@@ -62,7 +62,7 @@ pub fn touch_row(
     low: u32,
     mine: u32,
 ) -> bool
-    requires { OfMatrix n starts.now columns.now × (length marks.old ≡ maxRows) × (u < n) }
+    requires { OfMatrix n starts.now columns.now × (length marks.old ≡ max_rows) × (u < n) }
     ensures { Touched low mine (closed n starts.now columns.now u) marks.old marks.new result }
 {
     if !touch(marks, u, low, mine) {
@@ -81,8 +81,8 @@ pub fn touch_rows(
     low: u32,
     mine: u32,
 ) -> bool
-    requires { OfMatrix n starts.now columns.now × (length marks.old ≡ maxRows) × ((j : ℕ) → j < length rows.now → get_or rows.now j 0 < n) }
-    ensures { Touched low mine (touchedBy n starts.now columns.now rows.now) marks.old marks.new result }
+    requires { OfMatrix n starts.now columns.now × (length marks.old ≡ max_rows) × ((j : ℕ) → j < length rows.now → get_or rows.now j 0 < n) }
+    ensures { Touched low mine (touched_by n starts.now columns.now rows.now) marks.old marks.new result }
 {
     let mut j = 0;
     while j < rows.len() {

@@ -1,7 +1,7 @@
 // Marks on the rows within two joins of a group. A row whose mark in done is the group's has touched its rows before.
 ghost use Rattle.std.specs.Prelude.{◌≡◌, ℕ, ◌<◌, length, get_or};
-ghost use Rattle.matrix.specs.Limits.{maxRows};
-ghost use Rattle.apart.specs.code.Marks.{OfMatrix, closed, touchedBy, around, Opened, Widened};
+ghost use Rattle.matrix.specs.Limits.{max_rows};
+ghost use Rattle.apart.specs.Code.Marks.{OfMatrix, closed, touched_by, around, Opened, Widened};
 
 use crate::marks::touch_row;
 use base::slices::wide_at;
@@ -19,7 +19,7 @@ fn touch_once(
     low: u32,
     mine: u32,
 ) -> bool
-    requires { OfMatrix n starts.now columns.now × (length marks.old ≡ maxRows) × Opened n starts.now columns.now mine done.old marks.old × (u < n) }
+    requires { OfMatrix n starts.now columns.now × (length marks.old ≡ max_rows) × Opened n starts.now columns.now mine done.old marks.old × (u < n) }
     ensures { Widened n starts.now columns.now low mine (closed n starts.now columns.now u) marks.old done.new marks.new result }
 {
     if done[u] == mine {
@@ -40,9 +40,9 @@ fn touch_each(
     low: u32,
     mine: u32,
 ) -> bool
-    requires { OfMatrix n starts.now columns.now × (length marks.old ≡ maxRows) × Opened n starts.now columns.now mine done.old marks.old
+    requires { OfMatrix n starts.now columns.now × (length marks.old ≡ max_rows) × Opened n starts.now columns.now mine done.old marks.old
         × ((j : ℕ) → j < length rows.now → get_or rows.now j 0 < n) }
-    ensures { Widened n starts.now columns.now low mine (touchedBy n starts.now columns.now rows.now) marks.old done.new marks.new result }
+    ensures { Widened n starts.now columns.now low mine (touched_by n starts.now columns.now rows.now) marks.old done.new marks.new result }
 {
     let mut j = 0;
     while j < rows.len() {
@@ -66,8 +66,8 @@ fn touch_around(
     low: u32,
     mine: u32,
 ) -> bool
-    requires { OfMatrix n starts.now columns.now × (length marks.old ≡ maxRows) × Opened n starts.now columns.now mine done.old marks.old × (u < n) }
-    ensures { Widened n starts.now columns.now low mine (touchedBy n starts.now columns.now (closed n starts.now columns.now u)) marks.old done.new marks.new result }
+    requires { OfMatrix n starts.now columns.now × (length marks.old ≡ max_rows) × Opened n starts.now columns.now mine done.old marks.old × (u < n) }
+    ensures { Widened n starts.now columns.now low mine (touched_by n starts.now columns.now (closed n starts.now columns.now u)) marks.old done.new marks.new result }
 {
     if !touch_once(n, starts, columns, marks, done, u, low, mine) {
         return false;
@@ -95,7 +95,7 @@ pub fn touch_wide(
     low: u32,
     mine: u32,
 ) -> bool
-    requires { OfMatrix n starts.now columns.now × (length marks.old ≡ maxRows) × Opened n starts.now columns.now mine done.old marks.old
+    requires { OfMatrix n starts.now columns.now × (length marks.old ≡ max_rows) × Opened n starts.now columns.now mine done.old marks.old
         × ((j : ℕ) → j < length rows.now → get_or rows.now j 0 < n) }
     ensures { Widened n starts.now columns.now low mine (around n starts.now columns.now 2 rows.now) marks.old done.new marks.new result }
 {

@@ -3,9 +3,9 @@ use Rattle.std.specs.Prelude.{ℕ, ◌/◌, ◌%◌, ◌^◌, Bool, List, ◌==�
 use Rattle.base.specs.Lists.{range}
 
 -- bit v of a number is set
-unfoldable pub hasBit : (number v : ℕ) → Bool
-hasBit number v = number / 2 ^ v % 2 == 1
+unfoldable pub has_bit : (number v : ℕ) → Bool
+has_bit number v = number / 2 ^ v % 2 == 1
 
 -- the workers that two bytes have bits for
-abbrev pub allWorkers : List ℕ
-allWorkers = range 0 16
+abbrev pub all_workers : List ℕ
+all_workers = range 0 16

@@ -1,10 +1,12 @@
 // A model of the barrier unit: its registers, and how often all have come.
+#![tactic(auto)]
+
 pub mod sets;
 
 ghost use Rattle.std.specs.Prelude.{◌≡◌};
 ghost use Rattle.base.specs.Replies.{accepted};
-ghost use Rattle.base.specs.Verdicts.{replyOf};
-ghost use Rattle.barrier.specs.Registers.{allZero, enlisted, arriving, acknowledged, enabled, afterWrite, register, addressed, isUp};
+ghost use Rattle.base.specs.Verdicts.{reply_of};
+ghost use Rattle.barrier.specs.Registers.{all_zero, enlisted, arriving, acknowledged, enabled, after_write, register, addressed, is_up};
 
 use base::{REGISTER, Verdict};
 use sets::{as_high, bit_0, high, low, with_high, with_low};
@@ -33,7 +35,7 @@ pub struct Written {
 impl Barrier {
     // An all-zero unit.
     pub fn new() -> Self
-        ensures { result ≡ allZero }
+        ensures { result ≡ all_zero }
     {
         Self {
             members: 0,
@@ -111,7 +113,7 @@ impl Barrier {
 
     // The unit after a write.
     fn after(self, address: u32, byte: u8) -> Self
-        ensures { result ≡ afterWrite self address byte }
+        ensures { result ≡ after_write self address byte }
     {
         let members = self.members;
         match address {
@@ -143,7 +145,7 @@ impl Barrier {
 
     // A byte is written to a register.
     pub fn write(self, address: u32, byte: u8) -> Written
-        ensures { (replyOf result.verdict ≡ addressed address (accepted 0)) × (result.unit ≡ afterWrite self address byte) }
+        ensures { (reply_of result.verdict ≡ addressed address (accepted 0)) × (result.unit ≡ after_write self address byte) }
     {
         let unit = self.after(address, byte);
         if LAST < address {
@@ -160,7 +162,7 @@ impl Barrier {
 
     // A register is read: accepted with its byte.
     pub fn read(self, address: u32) -> Verdict
-        ensures { replyOf result ≡ addressed address (accepted (register self address)) }
+        ensures { reply_of result ≡ addressed address (accepted (register self address)) }
     {
         if LAST < address {
             return Verdict::Refused(REGISTER, 0);
@@ -170,7 +172,7 @@ impl Barrier {
 
     // Whether the interrupt line is up.
     pub fn line(self) -> bool
-        ensures { result ≡ isUp self }
+        ensures { result ≡ is_up self }
     {
         self.status && self.enable
     }

@@ -1,6 +1,6 @@
 // Sets of sixteen workers by mask and shift: bit 0 for worker 0, low byte first.
 ghost use Rattle.std.specs.Prelude.{◌≡◌, ◌+◌, ◌*◌, ◌/◌, ◌%◌};
-ghost use Rattle.barrier.specs.Bits.{hasBit};
+ghost use Rattle.barrier.specs.Bits.{has_bit};
 
 // The two bytes of a set.
 pub fn low(set: u16) -> u8
@@ -44,7 +44,7 @@ pub fn set_of(low: u8, high: u8) -> u16
 
 // Bit 0 of a byte.
 pub fn bit_0(byte: u8) -> bool
-    ensures { result ≡ hasBit byte 0 }
+    ensures { result ≡ has_bit byte 0 }
 {
     byte & 1 == 1
 }

@@ -15,18 +15,18 @@ use Rattle.base.proofs.Booleans.{and_left, and_right, clash}
 module _ (xs ys : List ℕ) (i : ℕ) where
   module _ (h : i < length ys) where
     -- the next element is the same, is another, or is not there
-    pub begins-more : i < length xs → get_or xs i 0 ≡ get_or ys i 0 → begins (drop i xs) (drop i ys) ≡ begins (drop (i + 1) xs) (drop (i + 1) ys)
-    begins-more l e = rw (add-one i, drop-cons xs i 0 l, drop-cons ys i 0 h, eq-eqb (get_or xs i 0) (get_or ys i 0) e)
+    pub begins_more : i < length xs → get_or xs i 0 ≡ get_or ys i 0 → begins (drop i xs) (drop i ys) ≡ begins (drop (i + 1) xs) (drop (i + 1) ys)
+    begins_more l e = rw (add-one i, drop-cons xs i 0 l, drop-cons ys i 0 h, eq-eqb (get_or xs i 0) (get_or ys i 0) e)
 
-    pub begins-bad : i < length xs → (get_or xs i 0 ≡ get_or ys i 0 → ⊥) → begins (drop i xs) (drop i ys) ≡ false
-    begins-bad l e = rw (drop-cons xs i 0 l, drop-cons ys i 0 h, ne_eqb (get_or xs i 0) (get_or ys i 0) e)
+    pub begins_bad : i < length xs → (get_or xs i 0 ≡ get_or ys i 0 → ⊥) → begins (drop i xs) (drop i ys) ≡ false
+    begins_bad l e = rw (drop-cons xs i 0 l, drop-cons ys i 0 h, ne_eqb (get_or xs i 0) (get_or ys i 0) e)
 
     pub begins-short : length xs ≤ i → begins (drop i xs) (drop i ys) ≡ false
     begins-short l = rw (drop_of_length-le xs l, drop-cons ys i 0 h)
 
   -- nothing is left to compare
-  pub begins-end : length ys ≤ i → begins (drop i xs) (drop i ys) ≡ true
-  begins-end h = rw (drop_of_length-le ys h)
+  pub begins_end : length ys ≤ i → begins (drop i xs) (drop i ys) ≡ true
+  begins_end h = rw (drop_of_length-le ys h)
 
 pub begins-append : (ys xs : List ℕ) → begins (ys ++ xs) ys ≡ true
 begins-append [] xs = refl

@@ -8,10 +8,10 @@ use native.Mathlib.Omega.{arith}
 use lib.Dec.{eqb, ltb}
 use lib.ListN.{take}
 use borrow.Author.Tests.{eqb-true, eqb-false, eq-eqb, ne_eqb, ltb-false, le-ltb}
-use Rattle.base.specs.Lists.{any, filter, keep, isIn, range, best, bestOf}
-use Rattle.base.specs.code.Scores.{byScore}
-use Rattle.base.proofs.Booleans.{or-true, or_cases, or_mono, both_ways}
-use Rattle.base.proofs.Lists.{filter-append, filter-swap, filter-in, filter-of, isIn-range, isIn-concat-map, any_of, any-get, of-all}
+use Rattle.base.specs.Lists.{any, filter, keep, is_in, range, best, best_of}
+use Rattle.base.specs.Code.Scores.{by_score}
+use Rattle.base.proofs.Booleans.{or_true, or_cases, or_mono, both_ways}
+use Rattle.base.proofs.Lists.{filter-append, filter_swap, filter_in, filter-of, is_in-range, is_in-concat-map, any_of, any-get, of-all}
 use Rattle.base.proofs.Each.{Each, all-each}
 
 module _ {ℓ} {A : Type ℓ} (P : A → Type 0) (score : A → ℕ) where
@@ -27,37 +27,37 @@ module _ {ℓ} {A : Type ℓ} (P : A → Type 0) (score : A → ℕ) where
 
 module _ (score : ℕ → ℕ) where
   -- it is one of them
-  pub best-in : (xs : List ℕ) (v : ℕ) → isIn (bestOf score xs) v ≡ true → isIn xs v ≡ true
-  best-in [] v h = h
-  best-in (x ∷ xs) v h = go (or_cases (eqb v (best score x xs)) false h)
+  pub best_in : (xs : List ℕ) (v : ℕ) → is_in (best_of score xs) v ≡ true → is_in xs v ≡ true
+  best_in [] v h = h
+  best_in (x ∷ xs) v h = go (or_cases (eqb v (best score x xs)) false h)
     where
       mine : ℕ → Bool
-      mine = isIn (x ∷ xs)
+      mine = is_in (x ∷ xs)
 
       one : mine (best score x xs) ≡ true
       one =
           best-is (λ u. mine u ≡ true) score x xs (rw (eq-eqb x x refl) refl)
-          (all-each (λ u. mine u ≡ true) mine (λ u k. k) xs (of-all mine xs (λ u k. rw k (or-true (eqb u x)))))
+          (all-each (λ u. mine u ≡ true) mine (λ u k. k) xs (of-all mine xs (λ u k. rw k (or_true (eqb u x)))))
 
-      go : (eqb v (best score x xs) ≡ true) ⊎ (false ≡ true) → isIn (x ∷ xs) v ≡ true
+      go : (eqb v (best score x xs) ≡ true) ⊎ (false ≡ true) → is_in (x ∷ xs) v ≡ true
       go (inl e) = rw (eqb-true v (best score x xs) e) one
       go (inr e) = absurd (true≢false (sym e))
 
   -- of some numbers there is one
-  pub best-some : (xs : List ℕ) (v : ℕ) → isIn xs v ≡ true → (r : ℕ) × (isIn (bestOf score xs) r ≡ true)
+  pub best-some : (xs : List ℕ) (v : ℕ) → is_in xs v ≡ true → (r : ℕ) × (is_in (best_of score xs) r ≡ true)
   best-some [] v h = absurd (true≢false (sym h))
   best-some (x ∷ xs) v h = (best score x xs, rw (eq-eqb (best score x xs) (best score x xs) refl) refl)
 
   -- no score is less than that of x
-  stays : (x : ℕ) (xs : List ℕ) → ((v : ℕ) → isIn xs v ≡ true → score x ≤ score v) → best score x xs ≡ x
+  stays : (x : ℕ) (xs : List ℕ) → ((v : ℕ) → is_in xs v ≡ true → score x ≤ score v) → best score x xs ≡ x
   unfolding best
   stays x [] h = refl
   stays x (y ∷ ys) h =
       rw (le-ltb (score y) (score x) (h y (rw (eq-eqb y y refl) refl)))
-      (stays x ys (λ v i. h v (rw i (or-true (eqb v y)))))
+      (stays x ys (λ v i. h v (rw i (or_true (eqb v y)))))
 
   -- no score is less than k: the first number of score k
-  found : (k : ℕ) (x : ℕ) (xs : List ℕ) (y : ℕ) (ys : List ℕ) → ((v : ℕ) → isIn (x ∷ xs) v ≡ true → k ≤ score v) → filter (λ v. eqb (score v) k) (x ∷ xs) ≡ y ∷ ys → best score x xs ≡ y
+  found : (k : ℕ) (x : ℕ) (xs : List ℕ) (y : ℕ) (ys : List ℕ) → ((v : ℕ) → is_in (x ∷ xs) v ≡ true → k ≤ score v) → filter (λ v. eqb (score v) k) (x ∷ xs) ≡ y ∷ ys → best score x xs ≡ y
   unfolding best
   found k x [] y ys h e = go (eqb (score x) k) e
     where
@@ -69,11 +69,11 @@ module _ (score : ℕ → ℕ) where
       own : k ≤ score x
       own = h x (rw (eq-eqb x x refl) refl)
 
-      next : (v : ℕ) → isIn (z ∷ zs) v ≡ true → k ≤ score v
-      next v i = h v (rw i (or-true (eqb v x)))
+      next : (v : ℕ) → is_in (z ∷ zs) v ≡ true → k ≤ score v
+      next v i = h v (rw i (or_true (eqb v x)))
 
       go : (b : Bool) → eqb (score x) k ≡ b → keep b x (filter (λ v. eqb (score v) k) (z ∷ zs)) ≡ y ∷ ys → (c : Bool) → ltb (score z) (score x) ≡ c
-          → ((c : Bool) → ((v : ℕ) → isIn (cond c z x ∷ zs) v ≡ true → k ≤ score v) → filter (λ v. eqb (score v) k) (cond c z x ∷ zs) ≡ y ∷ ys → best score (cond c z x) zs ≡ y)
+          → ((c : Bool) → ((v : ℕ) → is_in (cond c z x ∷ zs) v ≡ true → k ≤ score v) → filter (λ v. eqb (score v) k) (cond c z x ∷ zs) ≡ y ∷ ys → best score (cond c z x) zs ≡ y)
           → best score (cond c z x) zs ≡ y
       go true a q c d ih =
           let s : score x ≡ k = eqb-true (score x) k a in
@@ -84,46 +84,46 @@ module _ (score : ℕ → ℕ) where
           let n : score x ≢ k = eqb-false (score x) k a in
           let m : eqb (score z) k ≡ false = ne_eqb (score z) k (λ (f : score z ≡ k). omega (arith, own, ltb-false (score z) (score x) d)) in
           let r : filter (λ v. eqb (score v) k) zs ≡ y ∷ ys = rw m at q in
-          ih false (λ v i. h v (or_mono (eqb v x) (isIn zs v) (eqb v x) (isIn (z ∷ zs) v) (λ e. e) (λ e. rw e (or-true (eqb v z))) i)) (rw a r)
+          ih false (λ v i. h v (or_mono (eqb v x) (is_in zs v) (eqb v x) (is_in (z ∷ zs) v) (λ e. e) (λ e. rw e (or_true (eqb v z))) i)) (rw a r)
 
-  by-score-none : (k m : ℕ) → byScore score k m [] ≡ []
-  by-score-none k zero = refl
-  by-score-none k (suc m) = by-score-none (suc k) m
+  by_score_none : (k m : ℕ) → by_score score k m [] ≡ []
+  by_score_none k zero = refl
+  by_score_none k (suc m) = by_score_none (suc k) m
 
   -- the first by score
-  pub best-first : (m k : ℕ) (xs : List ℕ) → ((v : ℕ) → isIn xs v ≡ true → (k ≤ score v) × (score v < k + m)) → bestOf score xs ≡ take 1 (byScore score k m xs)
-  best-first m k [] h = ap (take 1) (sym (by-score-none k m))
+  pub best-first : (m k : ℕ) (xs : List ℕ) → ((v : ℕ) → is_in xs v ≡ true → (k ≤ score v) × (score v < k + m)) → best_of score xs ≡ take 1 (by_score score k m xs)
+  best-first m k [] h = ap (take 1) (sym (by_score_none k m))
   best-first zero k (x ∷ xs) h = let q = h x (rw (eq-eqb x x refl) refl) in absurd (omega arith)
   best-first (suc m) k (x ∷ xs) h = go (filter (λ v. eqb (score v) k) (x ∷ xs)) refl (best-first m (suc k) (x ∷ xs))
     where
       go : (ys : List ℕ) → filter (λ v. eqb (score v) k) (x ∷ xs) ≡ ys
-          → (((v : ℕ) → isIn (x ∷ xs) v ≡ true → (suc k ≤ score v) × (score v < suc k + m)) → best score x xs ∷ [] ≡ take 1 (byScore score (suc k) m (x ∷ xs)))
-          → best score x xs ∷ [] ≡ take 1 (ys ++ byScore score (suc k) m (x ∷ xs))
+          → (((v : ℕ) → is_in (x ∷ xs) v ≡ true → (suc k ≤ score v) × (score v < suc k + m)) → best score x xs ∷ [] ≡ take 1 (by_score score (suc k) m (x ∷ xs)))
+          → best score x xs ∷ [] ≡ take 1 (ys ++ by_score score (suc k) m (x ∷ xs))
       go [] e ih = ih (λ v i.
           let q = h v i in
-          let n : score v ≢ k = λ (f : score v ≡ k). true≢false (sym (filter-of (λ v. eqb (score v) k) (x ∷ xs) v i (eq-eqb (score v) k f)) ∙ ap (λ (l : List ℕ). isIn l v) e) in
+          let n : score v ≢ k = λ (f : score v ≡ k). true≢false (sym (filter-of (λ v. eqb (score v) k) (x ∷ xs) v i (eq-eqb (score v) k f)) ∙ ap (λ (l : List ℕ). is_in l v) e) in
           (omega arith, omega arith))
       go (y ∷ ys) e ih = ap (λ (v : ℕ). v ∷ []) (found k x xs y ys (λ v i. (h v i).0) e)
 
   -- of those that pass a test
-  pub by-score-filter : (p : ℕ → Bool) (m k : ℕ) (xs : List ℕ) → byScore score k m (filter p xs) ≡ filter p (byScore score k m xs)
-  by-score-filter p zero k xs = refl
-  by-score-filter p (suc m) k xs =
-      ap (λ (l : List ℕ). l ++ byScore score (suc k) m (filter p xs)) (filter-swap p (λ v. eqb (score v) k) xs)
-      ∙ ap (λ (l : List ℕ). filter p (filter (λ v. eqb (score v) k) xs) ++ l) (by-score-filter p m (suc k) xs)
-      ∙ sym (filter-append p (filter (λ v. eqb (score v) k) xs) (byScore score (suc k) m xs))
+  pub by_score_filter : (p : ℕ → Bool) (m k : ℕ) (xs : List ℕ) → by_score score k m (filter p xs) ≡ filter p (by_score score k m xs)
+  by_score_filter p zero k xs = refl
+  by_score_filter p (suc m) k xs =
+      ap (λ (l : List ℕ). l ++ by_score score (suc k) m (filter p xs)) (filter_swap p (λ v. eqb (score v) k) xs)
+      ∙ ap (λ (l : List ℕ). filter p (filter (λ v. eqb (score v) k) xs) ++ l) (by_score_filter p m (suc k) xs)
+      ∙ sym (filter-append p (filter (λ v. eqb (score v) k) xs) (by_score score (suc k) m xs))
 
   -- the same numbers
-  pub by-score-in : (m : ℕ) (xs : List ℕ) → ((v : ℕ) → isIn xs v ≡ true → score v < m) → isIn (byScore score 0 m xs) ≡ isIn xs
-  by-score-in m xs few = fun_ext (λ v. isIn-concat-map at (range 0 m) v ∙ both_ways (any (λ d. isIn (at d) v) (range 0 m)) (isIn xs v) (part v) (whole v))
+  pub by_score_in : (m : ℕ) (xs : List ℕ) → ((v : ℕ) → is_in xs v ≡ true → score v < m) → is_in (by_score score 0 m xs) ≡ is_in xs
+  by_score_in m xs few = fun_ext (λ v. is_in-concat-map at (range 0 m) v ∙ both_ways (any (λ d. is_in (at d) v) (range 0 m)) (is_in xs v) (part v) (whole v))
     where
       at : ℕ → List ℕ
       at d = filter (λ v. eqb (score v) d) xs
 
-      part : (v : ℕ) → any (λ d. isIn (at d) v) (range 0 m) ≡ true → isIn xs v ≡ true
-      part v h = let (d, i, k) = any-get (λ d. isIn (at d) v) (range 0 m) h in filter-in (λ v. eqb (score v) d) xs v k
+      part : (v : ℕ) → any (λ d. is_in (at d) v) (range 0 m) ≡ true → is_in xs v ≡ true
+      part v h = let (d, i, k) = any-get (λ d. is_in (at d) v) (range 0 m) h in filter_in (λ v. eqb (score v) d) xs v k
 
-      whole : (v : ℕ) → isIn xs v ≡ true → any (λ d. isIn (at d) v) (range 0 m) ≡ true
+      whole : (v : ℕ) → is_in xs v ≡ true → any (λ d. is_in (at d) v) (range 0 m) ≡ true
       whole v h =
-          any_of (λ d. isIn (at d) v) (range 0 m) (score v) (isIn-range 0 m (score v) (omega arith) (omega (arith, few v h)))
+          any_of (λ d. is_in (at d) v) (range 0 m) (score v) (is_in-range 0 m (score v) (omega arith) (omega (arith, few v h)))
           (filter-of (λ u. eqb (score u) (score v)) xs v h (eq-eqb (score v) (score v) refl))

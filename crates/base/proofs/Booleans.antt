@@ -9,9 +9,9 @@ use lib.Dec.{eqb, leb}
 use lib.ListN.{get_or}
 use borrow.Author.Tests.{eqb-true, eqb-false, eq-eqb, ne_eqb, leb-true, le-leb, not-true, not-false}
 
-pub and-false : (b : Bool) → b && false ≡ false
-and-false true = refl
-and-false false = refl
+pub and_false : (b : Bool) → b && false ≡ false
+and_false true = refl
+and_false false = refl
 
 pub and_left : (a b : Bool) → a && b ≡ true → a ≡ true
 and_left true b h = refl
@@ -21,9 +21,9 @@ pub and_right : (a b : Bool) → a && b ≡ true → b ≡ true
 and_right true b h = h
 and_right false b h = absurd (true≢false (sym h))
 
-pub or-true : (b : Bool) → b || true ≡ true
-or-true true = refl
-or-true false = refl
+pub or_true : (b : Bool) → b || true ≡ true
+or_true true = refl
+or_true false = refl
 
 pub or_cases : (a b : Bool) → a || b ≡ true → (a ≡ true) ⊎ (b ≡ true)
 or_cases true b h = inl refl
@@ -43,7 +43,7 @@ or_right_false false b h = h
 
 pub or_mono : (a b c d : Bool) → (a ≡ true → c ≡ true) → (b ≡ true → d ≡ true) → a || b ≡ true → c || d ≡ true
 or_mono true b c d f g h = rw (f refl) refl
-or_mono false b c d f g h = rw (g h) (or-true c)
+or_mono false b c d f g h = rw (g h) (or_true c)
 
 pub clash : {b : Bool} → b ≡ true → b ≡ false → ⊥
 clash p q = true≢false (sym p ∙ q)
@@ -60,18 +60,18 @@ abbrev pub conj : Bool → List Bool → Bool
 conj a [] = a
 conj a (b ∷ bs) = conj (a && b) bs
 
-pub conj-first : (a : Bool) (bs : List Bool) → conj a bs ≡ true → a ≡ true
-conj-first a [] h = h
-conj-first a (b ∷ bs) h = and_left a b (conj-first (a && b) bs h)
+pub conj_first : (a : Bool) (bs : List Bool) → conj a bs ≡ true → a ≡ true
+conj_first a [] h = h
+conj_first a (b ∷ bs) h = and_left a b (conj_first (a && b) bs h)
 
-pub conj-at : (a : Bool) (bs : List Bool) → conj a bs ≡ true → (k : ℕ) → get_or bs k true ≡ true
-conj-at a [] h k = refl
-conj-at a (b ∷ bs) h zero = and_right a b (conj-first (a && b) bs h)
-conj-at a (b ∷ bs) h (suc k) = conj-at (a && b) bs h k
+pub conj_at : (a : Bool) (bs : List Bool) → conj a bs ≡ true → (k : ℕ) → get_or bs k true ≡ true
+conj_at a [] h k = refl
+conj_at a (b ∷ bs) h zero = and_right a b (conj_first (a && b) bs h)
+conj_at a (b ∷ bs) h (suc k) = conj_at (a && b) bs h k
 
-pub or-false : (b : Bool) → b || false ≡ b
-or-false true = refl
-or-false false = refl
+pub or_false : (b : Bool) → b || false ≡ b
+or_false true = refl
+or_false false = refl
 
 -- a test that cannot hold
 pub is_false : {b : Bool} → (b ≡ true → ⊥) → b ≡ false
@@ -79,17 +79,17 @@ is_false {b = true} h = absurd (h refl)
 is_false {b = false} h = refl
 
 -- one test that fails
-pub conj-fails : (a : Bool) (bs : List Bool) (k : ℕ) → get_or bs k true ≡ false → conj a bs ≡ false
-conj-fails a bs k h = go (conj a bs) refl
+pub conj_fails : (a : Bool) (bs : List Bool) (k : ℕ) → get_or bs k true ≡ false → conj a bs ≡ false
+conj_fails a bs k h = go (conj a bs) refl
   where
     go : (b : Bool) → conj a bs ≡ b → b ≡ false
-    go true e = absurd (clash (conj-at a bs e k) h)
+    go true e = absurd (clash (conj_at a bs e k) h)
     go false e = refl
 
-pub and-cross : (a b c d : Bool) → a && b && (c && d) ≡ a && c && (b && d)
-and-cross true true c d = refl
-and-cross true false c d = sym (and-false c)
-and-cross false b c d = refl
+pub and_cross : (a b c d : Bool) → a && b && (c && d) ≡ a && c && (b && d)
+and_cross true true c d = refl
+and_cross true false c d = sym (and_false c)
+and_cross false b c d = refl
 
 -- a call's test `if !t`, where t is what the call tests: it fails, or holds
 pub fails : {t b : Bool} → t ≡ b → not t ≡ true → b ≡ false
@@ -112,8 +112,8 @@ both_ways false true p q = q refl
 both_ways false false p q = refl
 
 -- equality of numbers, tested either way round
-pub eqb-sym : (a b : ℕ) → eqb a b ≡ eqb b a
-eqb-sym a b = go (eqb a b) refl
+pub eqb_sym : (a b : ℕ) → eqb a b ≡ eqb b a
+eqb_sym a b = go (eqb a b) refl
   where
     go : (t : Bool) → eqb a b ≡ t → t ≡ eqb b a
     go true e = sym (eq-eqb b a (sym (eqb-true a b e)))

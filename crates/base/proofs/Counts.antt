@@ -7,9 +7,9 @@ use native.Mathlib.Omega.{arith}
 use lib.Dec.{eqb}
 use lib.ListN.{length}
 use borrow.Author.Tests.{eqb-true, eq-eqb, ne_eqb}
-use Rattle.base.specs.Lists.{filter, keep, isIn, range, bit}
-pub use Rattle.base.specs.code.Counts.{count}
-use Rattle.base.proofs.Lists.{isIn-range, length-filter-le, length-range}
+use Rattle.base.specs.Lists.{filter, keep, is_in, range, bit}
+pub use Rattle.base.specs.Code.Counts.{count}
+use Rattle.base.proofs.Lists.{is_in-range, length-filter-le, length-range}
 
 -- the same numbers, as often
 abbrev pub Same : List ℕ → List ℕ → Type 0
@@ -41,24 +41,24 @@ count-split v p xs = go (p v) (count-filter v p xs) (count-filter v (λ u. not (
     go true a b = omega arith
     go false a b = omega arith
 
-pub count-in : (v : ℕ) (xs : List ℕ) → 1 ≤ count v xs → isIn xs v ≡ true
+pub count-in : (v : ℕ) (xs : List ℕ) → 1 ≤ count v xs → is_in xs v ≡ true
 count-in v [] h = absurd (omega arith)
 count-in v (x ∷ xs) h = go (eqb v x) refl (count-in v xs)
   where
-    go : (b : Bool) → eqb v x ≡ b → (1 ≤ count v xs → isIn xs v ≡ true) → eqb v x || isIn xs v ≡ true
+    go : (b : Bool) → eqb v x ≡ b → (1 ≤ count v xs → is_in xs v ≡ true) → eqb v x || is_in xs v ≡ true
     go true e ih = rw e refl
     go false e ih = let q : 1 ≤ bit false + count v xs = rw e at h in rw e (ih (omega arith))
 
-pub in_count : (v : ℕ) (xs : List ℕ) → isIn xs v ≡ true → 1 ≤ count v xs
+pub in_count : (v : ℕ) (xs : List ℕ) → is_in xs v ≡ true → 1 ≤ count v xs
 in_count v [] h = absurd (true≢false (sym h))
 in_count v (x ∷ xs) h = go (eqb v x) refl (in_count v xs)
   where
-    go : (b : Bool) → eqb v x ≡ b → (isIn xs v ≡ true → 1 ≤ count v xs) → 1 ≤ bit (eqb v x) + count v xs
+    go : (b : Bool) → eqb v x ≡ b → (is_in xs v ≡ true → 1 ≤ count v xs) → 1 ≤ bit (eqb v x) + count v xs
     go true e ih = rw e (omega arith)
     go false e ih = rw e (omega (arith, ih (rw e at h)))
 
-pub out-count : (v : ℕ) (xs : List ℕ) → isIn xs v ≡ false → count v xs ≡ 0
-out-count v xs h = go (count v xs) refl
+pub out_count : (v : ℕ) (xs : List ℕ) → is_in xs v ≡ false → count v xs ≡ 0
+out_count v xs h = go (count v xs) refl
   where
     go : (m : ℕ) → count v xs ≡ m → count v xs ≡ 0
     go zero e = e
@@ -84,19 +84,19 @@ remove : ℕ → List ℕ → List ℕ
 remove v [] = []
 remove v (x ∷ xs) = cond (eqb v x) xs (x ∷ remove v xs)
 
-remove-length : (v : ℕ) (xs : List ℕ) → 1 ≤ count v xs → suc (length (remove v xs)) ≡ length xs
+remove_length : (v : ℕ) (xs : List ℕ) → 1 ≤ count v xs → suc (length (remove v xs)) ≡ length xs
 unfolding remove
-remove-length v [] h = absurd (omega arith)
-remove-length v (x ∷ xs) h = go (eqb v x) refl (remove-length v xs)
+remove_length v [] h = absurd (omega arith)
+remove_length v (x ∷ xs) h = go (eqb v x) refl (remove_length v xs)
   where
     go : (b : Bool) → eqb v x ≡ b → (1 ≤ count v xs → suc (length (remove v xs)) ≡ length xs) → suc (length (cond b xs (x ∷ remove v xs))) ≡ suc (length xs)
     go true e ih = refl
     go false e ih = let q : 1 ≤ bit false + count v xs = rw e at h in ap suc (ih (omega arith))
 
-remove-count : (v u : ℕ) (xs : List ℕ) → 1 ≤ count v xs → count u (remove v xs) + bit (eqb u v) ≡ count u xs
+remove_count : (v u : ℕ) (xs : List ℕ) → 1 ≤ count v xs → count u (remove v xs) + bit (eqb u v) ≡ count u xs
 unfolding remove
-remove-count v u [] h = absurd (omega arith)
-remove-count v u (x ∷ xs) h = go (eqb v x) refl (remove-count v u xs)
+remove_count v u [] h = absurd (omega arith)
+remove_count v u (x ∷ xs) h = go (eqb v x) refl (remove_count v u xs)
   where
     go : (b : Bool) → eqb v x ≡ b → (1 ≤ count v xs → count u (remove v xs) + bit (eqb u v) ≡ count u xs)
         → count u (cond b xs (x ∷ remove v xs)) + bit (eqb u v) ≡ bit (eqb u x) + count u xs
@@ -113,17 +113,17 @@ same_length (x ∷ xs) ys s =
     let me : eqb x x ≡ true = eq-eqb x x refl in
     let q : bit true + count x xs ≡ count x ys = rw me at (s x) in
     let one : 1 ≤ count x ys = omega arith in
-    ap suc (same_length xs (remove x ys) (λ u. omega (arith, s u, remove-count x u ys one))) ∙ remove-length x ys one
+    ap suc (same_length xs (remove x ys) (λ u. omega (arith, s u, remove_count x u ys one))) ∙ remove_length x ys one
 
 -- numbers below n, each once: the same in ascending order, and at most n
-module _ (n : ℕ) (xs : List ℕ) (below : (v : ℕ) → isIn xs v ≡ true → v < n) (once : (v : ℕ) → count v xs ≤ 1) where
-  pub once-length : length (filter (isIn xs) (range 0 n)) ≡ length xs
-  once-length = same_length (filter (isIn xs) (range 0 n)) xs (λ v. count-filter v (isIn xs) (range 0 n) ∙ go v (isIn xs v) refl)
+module _ (n : ℕ) (xs : List ℕ) (below : (v : ℕ) → is_in xs v ≡ true → v < n) (once : (v : ℕ) → count v xs ≤ 1) where
+  pub once-length : length (filter (is_in xs) (range 0 n)) ≡ length xs
+  once-length = same_length (filter (is_in xs) (range 0 n)) xs (λ v. count-filter v (is_in xs) (range 0 n) ∙ go v (is_in xs v) refl)
     where
-      go : (v : ℕ) (b : Bool) → isIn xs v ≡ b → bit b * count v (range 0 n) ≡ count v xs
+      go : (v : ℕ) (b : Bool) → is_in xs v ≡ b → bit b * count v (range 0 n) ≡ count v xs
       go v true e =
-          omega (arith, count-range v 0 n, in_count v (range 0 n) (isIn-range 0 n v (omega arith) (omega (arith, below v e))), once v, in_count v xs e)
-      go v false e = omega (arith, out-count v xs e)
+          omega (arith, count-range v 0 n, in_count v (range 0 n) (is_in-range 0 n v (omega arith) (omega (arith, below v e))), once v, in_count v xs e)
+      go v false e = omega (arith, out_count v xs e)
 
   pub once-short : length xs ≤ n
-  once-short = omega (arith, once-length, length-filter-le (isIn xs) (range 0 n), length-range 0 n)
+  once-short = omega (arith, once-length, length-filter-le (is_in xs) (range 0 n), length-range 0 n)

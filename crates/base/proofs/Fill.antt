@@ -32,5 +32,5 @@ module _ {ℓ} {A : Type ℓ} (f : ℕ → A) (old : List A) where
       (sym (append_assoc (map f (range 0 i)) (f i ∷ []) (drop (suc i) old)) ∙ ap (λ (ys : List A). ys ++ drop (suc i) old) (sym (ap (map f) (range_snoc 0 i) ∙ map_snoc (range 0 i) (0 + i) ∙ ap (λ (k : ℕ). map f (range 0 i) ++ (f k ∷ [])) e)))
 
 -- A loop that copies a list over another: one element more
-pub copy-one : {A : Type 0} (new old : List A) (d : A) (k : ℕ) → k < length new → k < length old → set (take k new ++ drop k old) k (get_or new k d) ≡ take (k + 1) new ++ drop (k + 1) old
-copy-one new old d k h l = rw (add-one k, take-suc new k d h, drop-cons old k d l, set_at (take k new) (get_or old k d) (drop (suc k) old) (get_or new k d) k (length-take-le k new (omega arith)), append_assoc)
+pub copy_one : {A : Type 0} (new old : List A) (d : A) (k : ℕ) → k < length new → k < length old → set (take k new ++ drop k old) k (get_or new k d) ≡ take (k + 1) new ++ drop (k + 1) old
+copy_one new old d k h l = rw (add-one k, take-suc new k d h, drop-cons old k d l, set_at (take k new) (get_or old k d) (drop (suc k) old) (get_or new k d) k (length-take-le k new (omega arith)), append_assoc)

@@ -8,7 +8,7 @@ use native.Mathlib.Omega.{arith}
 use lib.ListN.{length, drop}
 use lib.Seq.{drop-length}
 use Rattle.base.specs.Lists.{all, range}
-use Rattle.base.proofs.Booleans.{and-cross}
+use Rattle.base.proofs.Booleans.{and_cross}
 
 module _ (p : ℕ → Bool) (n : ℕ) where
   -- at first all are left
@@ -22,8 +22,8 @@ module _ (p : ℕ → Bool) (n : ℕ) where
   pub all-left-pass : (i : ℕ) → i < n → p i ≡ true → all p (range i (n - i)) ≡ all p (range (i + 1) (n - (i + 1)))
   all-left-pass i l h = all-left-next i l ∙ rw h
 
-  pub all-left-fail : (i : ℕ) → i < n → p i ≡ false → all p (range i (n - i)) ≡ false
-  all-left-fail i l h = all-left-next i l ∙ rw h
+  pub all-left_fail : (i : ℕ) → i < n → p i ≡ false → all p (range i (n - i)) ≡ false
+  all-left_fail i l h = all-left-next i l ∙ rw h
 
   -- at the end none is left
   pub all-left-none : all p (range n (n - n)) ≡ true
@@ -37,7 +37,7 @@ module _ {ℓ} {A : Type ℓ} where
   -- two tests of every element
   pub all-and : (p q : A → Bool) (xs : List A) → all (λ x. p x && q x) xs ≡ all p xs && all q xs
   all-and p q [] = refl
-  all-and p q (x ∷ xs) = rw (all-and p q xs) (and-cross (p x) (q x) (all p xs) (all q xs))
+  all-and p q (x ∷ xs) = rw (all-and p q xs) (and_cross (p x) (q x) (all p xs) (all q xs))
 
   -- the same test of every element
   pub all_same : (p q : A → Bool) (xs : List A) → ((x : A) → p x ≡ q x) → all p xs ≡ all q xs

@@ -8,8 +8,8 @@ use lib.Dec.{eqb}
 use lib.ListN.{length, drop, length-append}
 use lib.Seq.{slice, take-append-add, take-append_seam, drop-append_seam}
 use borrow.Author.Tests.{eqb-true, eqb-false, eq-eqb}
-use Rattle.base.specs.Lists.{filter, keep, concat, range, isIn, sumBelow, bit}
-use Rattle.base.proofs.Booleans.{or-true}
+use Rattle.base.specs.Lists.{filter, keep, concat, range, is_in, sum_below, bit}
+use Rattle.base.proofs.Booleans.{or_true}
 use Rattle.base.proofs.Lists.{concat-append, concat-filter, range_snoc, range-append, map-range-same}
 use Rattle.base.proofs.Sums.{sum-below-same}
 
@@ -26,46 +26,46 @@ module _ {A B : Type 0} where
       go false e = e
 
   -- pieces of the elements that pass a test
-  pub pieces-of-filter : (p : A → Bool) (f : A → List B) (xs : List A) → concat (map f (filter p xs)) ≡ concat (map (λ (x : A). cond (p x) (f x) []) xs)
-  pieces-of-filter p f [] = refl
-  pieces-of-filter p f (x ∷ xs) = go (p x) (pieces-of-filter p f xs)
+  pub pieces_of-filter : (p : A → Bool) (f : A → List B) (xs : List A) → concat (map f (filter p xs)) ≡ concat (map (λ (x : A). cond (p x) (f x) []) xs)
+  pieces_of-filter p f [] = refl
+  pieces_of-filter p f (x ∷ xs) = go (p x) (pieces_of-filter p f xs)
     where
       go : (b : Bool) → concat (map f (filter p xs)) ≡ concat (map (λ (y : A). cond (p y) (f y) []) xs) → concat (map f (keep b x (filter p xs))) ≡ cond b (f x) [] ++ concat (map (λ (y : A). cond (p y) (f y) []) xs)
       go true e = ap (λ (l : List B). f x ++ l) e
       go false e = e
 
   -- pieces of one element
-  pub pieces-single : (f : A → B) (xs : List A) → concat (map (λ (x : A). f x ∷ []) xs) ≡ map f xs
-  pieces-single f [] = refl
-  pieces-single f (x ∷ xs) = ap (λ (l : List B). f x ∷ l) (pieces-single f xs)
+  pub pieces_single : (f : A → B) (xs : List A) → concat (map (λ (x : A). f x ∷ []) xs) ≡ map f xs
+  pieces_single f [] = refl
+  pieces_single f (x ∷ xs) = ap (λ (l : List B). f x ∷ l) (pieces_single f xs)
 
   -- a filter of pieces
-  pub filter-pieces : (q : B → Bool) (f : A → List B) (xs : List A) → filter q (concat (map f xs)) ≡ concat (map (λ (x : A). filter q (f x)) xs)
-  filter-pieces q f xs = sym (concat-filter q (map f xs)) ∙ ap concat (map-map (filter q) f xs)
+  pub filter_pieces : (q : B → Bool) (f : A → List B) (xs : List A) → filter q (concat (map f xs)) ≡ concat (map (λ (x : A). filter q (f x)) xs)
+  filter_pieces q f xs = sym (concat-filter q (map f xs)) ∙ ap concat (map-map (filter q) f xs)
 
 module _ {A B C : Type 0} where
   -- a map of pieces
-  pub map-pieces : (g : B → C) (f : A → List B) (xs : List A) → map g (concat (map f xs)) ≡ concat (map (λ (x : A). map g (f x)) xs)
-  map-pieces g f [] = refl
-  map-pieces g f (x ∷ xs) = map-append g (f x) (concat (map f xs)) ∙ ap (λ (l : List C). map g (f x) ++ l) (map-pieces g f xs)
+  pub map_pieces : (g : B → C) (f : A → List B) (xs : List A) → map g (concat (map f xs)) ≡ concat (map (λ (x : A). map g (f x)) xs)
+  map_pieces g f [] = refl
+  map_pieces g f (x ∷ xs) = map-append g (f x) (concat (map f xs)) ∙ ap (λ (l : List C). map g (f x) ++ l) (map_pieces g f xs)
 
 -- functions that agree on the members of a list
-pub map-members : {A : Type 0} (f g : ℕ → A) (xs : List ℕ) → ((v : ℕ) → isIn xs v ≡ true → f v ≡ g v) → map f xs ≡ map g xs
+pub map-members : {A : Type 0} (f g : ℕ → A) (xs : List ℕ) → ((v : ℕ) → is_in xs v ≡ true → f v ≡ g v) → map f xs ≡ map g xs
 map-members f g [] h = refl
-map-members f g (x ∷ xs) h = rw (h x (rw (eq-eqb x x refl)), map-members f g xs (λ v k. h v (rw k (or-true (eqb v x)))))
+map-members f g (x ∷ xs) h = rw (h x (rw (eq-eqb x x refl)), map-members f g xs (λ v k. h v (rw k (or_true (eqb v x)))))
 
 -- ---- one piece for each number of a range
 
 module _ {A : Type 0} where
   -- one piece more
-  pub pieces-snoc : (f : ℕ → List A) (k n : ℕ) → concat (map f (range k (suc n))) ≡ concat (map f (range k n)) ++ f (k + n)
-  pieces-snoc f k n =
+  pub pieces_snoc : (f : ℕ → List A) (k n : ℕ) → concat (map f (range k (suc n))) ≡ concat (map f (range k n)) ++ f (k + n)
+  pieces_snoc f k n =
       ap (λ (l : List ℕ). concat (map f l)) (range_snoc k n) ∙ ap concat (map-append f (range k n) ((k + n) ∷ []))
       ∙ concat-append (map f (range k n)) (f (k + n) ∷ []) ∙ ap (λ (l : List A). concat (map f (range k n)) ++ l) (append-nil (f (k + n)))
 
   -- pieces that are the same
-  pub pieces-same : (f g : ℕ → List A) (k n : ℕ) → ((c : ℕ) → k ≤ c → c < k + n → f c ≡ g c) → concat (map f (range k n)) ≡ concat (map g (range k n))
-  pieces-same f g k n h = ap concat (map-range-same f g k n h)
+  pub pieces_same : (f g : ℕ → List A) (k n : ℕ) → ((c : ℕ) → k ≤ c → c < k + n → f c ≡ g c) → concat (map f (range k n)) ≡ concat (map g (range k n))
+  pieces_same f g k n h = ap concat (map-range-same f g k n h)
 
   module _ (f : ℕ → List A) where
     -- empty pieces
@@ -74,9 +74,9 @@ module _ {A : Type 0} where
     pieces_none k (suc n) h = rw (h k (omega arith) (omega arith)) (pieces_none (suc k) n (λ c a b. h c (omega arith) (omega arith)))
 
     -- one piece among empty ones
-    pub pieces-one : (k n q : ℕ) → k ≤ q → q < k + n → ((c : ℕ) → k ≤ c → c < k + n → (c ≡ q → ⊥) → f c ≡ []) → concat (map f (range k n)) ≡ f q
-    pieces-one k zero q a b h = absurd (omega arith)
-    pieces-one k (suc n) q a b h = go (eqb k q) refl (λ a' b'. pieces-one (suc k) n q a' b' (λ c x y z. h c (omega arith) (omega arith) z))
+    pub pieces_one : (k n q : ℕ) → k ≤ q → q < k + n → ((c : ℕ) → k ≤ c → c < k + n → (c ≡ q → ⊥) → f c ≡ []) → concat (map f (range k n)) ≡ f q
+    pieces_one k zero q a b h = absurd (omega arith)
+    pieces_one k (suc n) q a b h = go (eqb k q) refl (λ a' b'. pieces_one (suc k) n q a' b' (λ c x y z. h c (omega arith) (omega arith) z))
       where
         go : (t : Bool) → eqb k q ≡ t → (suc k ≤ q → q < suc k + n → concat (map f (range (suc k) n)) ≡ f q) → f k ++ concat (map f (range (suc k) n)) ≡ f q
         go true e ih =
@@ -88,34 +88,34 @@ module _ {A : Type 0} where
             rw (h k (omega arith) (omega arith) g) (ih l (omega arith))
 
     -- how many elements they have
-    pub length-pieces : (n : ℕ) → length (concat (map f (range 0 n))) ≡ sumBelow (λ (c : ℕ). length (f c)) n
-    unfolding sumBelow
-    length-pieces zero = refl
-    length-pieces (suc n) =
+    pub length_pieces : (n : ℕ) → length (concat (map f (range 0 n))) ≡ sum_below (λ (c : ℕ). length (f c)) n
+    unfolding sum_below
+    length_pieces zero = refl
+    length_pieces (suc n) =
         let z : 0 + n ≡ n = omega arith in
-        let e : concat (map f (range 0 (suc n))) ≡ concat (map f (range 0 n)) ++ f n = pieces-snoc f 0 n ∙ ap (λ (i : ℕ). concat (map f (range 0 n)) ++ f i) z in
-        ap length e ∙ length-append (concat (map f (range 0 n))) (f n) ∙ rw (length-pieces n)
+        let e : concat (map f (range 0 (suc n))) ≡ concat (map f (range 0 n)) ++ f n = pieces_snoc f 0 n ∙ ap (λ (i : ℕ). concat (map f (range 0 n)) ++ f i) z in
+        ap length e ∙ length-append (concat (map f (range 0 n))) (f n) ∙ rw (length_pieces n)
 
 -- ---- one piece between the others
 
 module _ {A : Type 0} where
   -- the list between two others
-  pub slice-between : (xs ys zs : List A) → slice (length xs) (length xs + length ys) (xs ++ (ys ++ zs)) ≡ ys
-  slice-between xs ys zs =
+  pub slice_between : (xs ys zs : List A) → slice (length xs) (length xs + length ys) (xs ++ (ys ++ zs)) ≡ ys
+  slice_between xs ys zs =
       ap (drop (length xs)) (take-append-add xs (ys ++ zs) (length ys) ∙ ap (λ (l : List A). xs ++ l) (take-append_seam ys zs)) ∙ drop-append_seam xs ys
 
   -- piece i between the others
-  pub pieces-between : (f : ℕ → List A) (n i : ℕ) → i < n → concat (map f (range 0 n)) ≡ concat (map f (range 0 i)) ++ (f i ++ concat (map f (range (suc i) (n - suc i))))
-  pieces-between f n i l =
+  pub pieces_between : (f : ℕ → List A) (n i : ℕ) → i < n → concat (map f (range 0 n)) ≡ concat (map f (range 0 i)) ++ (f i ++ concat (map f (range (suc i) (n - suc i))))
+  pieces_between f n i l =
       let e : i + suc (n - suc i) ≡ n = omega arith in
       let z : 0 + i ≡ i = omega arith in
       ap (λ (k : ℕ). concat (map f (range 0 k))) (sym e) ∙ ap (λ (r : List ℕ). concat (map f r)) (range-append 0 i (suc (n - suc i)))
       ∙ ap concat (map-append f (range 0 i) (range (0 + i) (suc (n - suc i)))) ∙ concat-append (map f (range 0 i)) (map f (range (0 + i) (suc (n - suc i)))) ∙ rw z
 
 -- how many numbers of a range pass a test
-pub length-filter-range : (p : ℕ → Bool) (n : ℕ) → length (filter p (range 0 n)) ≡ sumBelow (λ (i : ℕ). bit (p i)) n
+pub length-filter-range : (p : ℕ → Bool) (n : ℕ) → length (filter p (range 0 n)) ≡ sum_below (λ (i : ℕ). bit (p i)) n
 length-filter-range p n =
-    ap length (sym (pieces-single (λ (x : ℕ). x) (filter p (range 0 n)) ∙ map-id (filter p (range 0 n)))) ∙ ap length (pieces-of-filter p (λ (x : ℕ). x ∷ []) (range 0 n)) ∙ length-pieces (λ (x : ℕ). cond (p x) (x ∷ []) []) n
+    ap length (sym (pieces_single (λ (x : ℕ). x) (filter p (range 0 n)) ∙ map-id (filter p (range 0 n)))) ∙ ap length (pieces_of-filter p (λ (x : ℕ). x ∷ []) (range 0 n)) ∙ length_pieces (λ (x : ℕ). cond (p x) (x ∷ []) []) n
     ∙ sum-below-same (λ (i : ℕ). length (cond (p i) (i ∷ []) [])) (λ (i : ℕ). bit (p i)) n (λ i l. one i (p i))
   where
     one : (i : ℕ) (b : Bool) → length (cond b (i ∷ []) []) ≡ bit b

@@ -12,25 +12,25 @@ use Rattle.base.proofs.Each.{Each}
 
 module _ {ℓ} {A : Type ℓ} (refuse : (number place : ℕ) → A) (c : Check) (cs : List Check) (a : A) where
   -- the first check holds, or fails
-  pub inTurn-pass : c.holds ≡ true → in_turn refuse (c ∷ cs) a ≡ in_turn refuse cs a
+  pub in_turn-pass : c.holds ≡ true → in_turn refuse (c ∷ cs) a ≡ in_turn refuse cs a
   unfolding in_turn
-  inTurn-pass h = rw h
+  in_turn-pass h = rw h
 
-  pub inTurn-fail : c.holds ≡ false → in_turn refuse (c ∷ cs) a ≡ refuse c.number c.place
+  pub in_turn_fail : c.holds ≡ false → in_turn refuse (c ∷ cs) a ≡ refuse c.number c.place
   unfolding in_turn
-  inTurn-fail h = rw h
+  in_turn_fail h = rw h
 
 -- checks that all hold refuse nothing
-pub inTurn-all {ℓ} : {A : Type ℓ} (refuse : (number place : ℕ) → A) (cs : List Check) (a : A) → all (λ c. c.holds) cs ≡ true → in_turn refuse cs a ≡ a
+pub in_turn-all {ℓ} : {A : Type ℓ} (refuse : (number place : ℕ) → A) (cs : List Check) (a : A) → all (λ c. c.holds) cs ≡ true → in_turn refuse cs a ≡ a
 unfolding in_turn
-inTurn-all refuse [] a h = refl
-inTurn-all refuse (c ∷ cs) a h = rw (and_left c.holds (all (λ c. c.holds) cs) h) (inTurn-all refuse cs a (and_right c.holds (all (λ c. c.holds) cs) h))
+in_turn-all refuse [] a h = refl
+in_turn-all refuse (c ∷ cs) a h = rw (and_left c.holds (all (λ c. c.holds) cs) h) (in_turn-all refuse cs a (and_right c.holds (all (λ c. c.holds) cs) h))
 
 -- what is made of the answer is made of the refusals
-pub inTurn-map : {A B : Type 0} (f : A → B) (refuse : (number place : ℕ) → A) (cs : List Check) (a : A) → f (in_turn refuse cs a) ≡ in_turn (λ number place. f (refuse number place)) cs (f a)
+pub in_turn-map : {A B : Type 0} (f : A → B) (refuse : (number place : ℕ) → A) (cs : List Check) (a : A) → f (in_turn refuse cs a) ≡ in_turn (λ number place. f (refuse number place)) cs (f a)
 unfolding in_turn
-inTurn-map f refuse [] a = refl
-inTurn-map f refuse (c ∷ cs) a = go c.holds (inTurn-map f refuse cs a)
+in_turn-map f refuse [] a = refl
+in_turn-map f refuse (c ∷ cs) a = go c.holds (in_turn-map f refuse cs a)
   where
     go : (t : Bool) → f (in_turn refuse cs a) ≡ in_turn (λ number place. f (refuse number place)) cs (f a)
         → f (cond t (in_turn refuse cs a) (refuse c.number c.place)) ≡ cond t (in_turn (λ number place. f (refuse number place)) cs (f a)) (f (refuse c.number c.place))
@@ -38,10 +38,10 @@ inTurn-map f refuse (c ∷ cs) a = go c.holds (inTurn-map f refuse cs a)
     go false e = refl
 
 -- a call leaves one thing or the other
-pub inTurn-either : {A : Type 0} (P : A → Type 0) (a b : A) (cs : List Check) → P a → P b → P (in_turn (λ number place. a) cs b)
+pub in_turn-either : {A : Type 0} (P : A → Type 0) (a b : A) (cs : List Check) → P a → P b → P (in_turn (λ number place. a) cs b)
 unfolding in_turn
-inTurn-either P a b [] x y = y
-inTurn-either P a b (c ∷ cs) x y = go c.holds (inTurn-either P a b cs x y)
+in_turn-either P a b [] x y = y
+in_turn-either P a b (c ∷ cs) x y = go c.holds (in_turn-either P a b cs x y)
   where
     go : (t : Bool) → P (in_turn (λ number place. a) cs b) → P (cond t (in_turn (λ number place. a) cs b) a)
     go true z = z
@@ -52,9 +52,9 @@ abbrev pub checked : Check → Reply
 checked c = in_turn refused (c ∷ []) (accepted 0)
 
 module _ (c : Check) where
-  pub checked-accepted : (k : ℕ) → accepted k ≡ checked c → c.holds ≡ true
+  pub checked_accepted : (k : ℕ) → accepted k ≡ checked c → c.holds ≡ true
   unfolding in_turn
-  checked-accepted k e = go c.holds e
+  checked_accepted k e = go c.holds e
     where
       go : (b : Bool) → accepted k ≡ cond b (accepted 0) (refused c.number c.place) → b ≡ true
       go true e = refl
@@ -81,9 +81,9 @@ module _ {ℓ} {A : Type ℓ} (answer old : List A) where
 
 module _ {ℓ} {A : Type ℓ} (refuse : (number place : ℕ) → A) where
   -- what comes after a check matters only where the check holds
-  pub inTurn-same : (c : Check) (cs ds : List Check) (a b : A) → (c.holds ≡ true → in_turn refuse cs a ≡ in_turn refuse ds b) → in_turn refuse (c ∷ cs) a ≡ in_turn refuse (c ∷ ds) b
+  pub in_turn-same : (c : Check) (cs ds : List Check) (a b : A) → (c.holds ≡ true → in_turn refuse cs a ≡ in_turn refuse ds b) → in_turn refuse (c ∷ cs) a ≡ in_turn refuse (c ∷ ds) b
   unfolding in_turn
-  inTurn-same c cs ds a b h = go c.holds h
+  in_turn-same c cs ds a b h = go c.holds h
     where
       go : (t : Bool) → (t ≡ true → in_turn refuse cs a ≡ in_turn refuse ds b) → cond t (in_turn refuse cs a) (refuse c.number c.place) ≡ cond t (in_turn refuse ds b) (refuse c.number c.place)
       go true h = h refl

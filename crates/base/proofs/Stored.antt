@@ -15,8 +15,8 @@ stored vs xs at h =
     rw (sets-eq vs xs at h) (take_at (take at xs ++ vs) (drop (at + length vs) xs) (at + length vs) long)
 
 -- a record, of any width, at an index
-pub stored-record : (vs xs : List ℕ) (i : ℕ) → length vs * (i + 1) ≤ length xs → take (length vs * (i + 1)) (sets xs (length vs * i) vs) ≡ take (length vs * i) xs ++ vs
-stored-record vs xs i h =
+pub stored_record : (vs xs : List ℕ) (i : ℕ) → length vs * (i + 1) ≤ length xs → take (length vs * (i + 1)) (sets xs (length vs * i) vs) ≡ take (length vs * i) xs ++ vs
+stored_record vs xs i h =
     let next : length vs * (i + 1) ≡ length vs * i + length vs = omega arith in
     rw next (stored vs xs (length vs * i) (omega arith))
 
@@ -27,5 +27,5 @@ copied from to i = take i from ++ drop i to
 pub copied_next : (from to : List ℕ) (i : ℕ) → i < length from → length from ≤ length to → set (copied from to i) i (get_or from i 0) ≡ copied from to (i + 1)
 copied_next from to i l m = rw add-one (rw (zero-add i, zero-add (suc i)) at (paste-suc to 0 from i 0 (omega arith) l))
 
-pub length-copied : (from to : List ℕ) (i : ℕ) → i ≤ length from → length from ≤ length to → length (copied from to i) ≡ length to
-length-copied from to i l m = rw (zero-add i) at (length-paste to 0 from i (omega arith) l)
+pub length_copied : (from to : List ℕ) (i : ℕ) → i ≤ length from → length from ≤ length to → length (copied from to i) ≡ length to
+length_copied from to i l m = rw (zero-add i) at (length-paste to 0 from i (omega arith) l)

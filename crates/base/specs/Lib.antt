@@ -5,4 +5,4 @@ pub mod Integers
 pub mod Refusals
 pub mod Replies
 pub mod Verdicts
-pub mod code
+pub mod Code

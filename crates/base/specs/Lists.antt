@@ -22,24 +22,24 @@ module _ {ℓ} {A : Type ℓ} where
   all p (x ∷ xs) = p x && all p xs
 
   -- the list from the first element on that passes the test
-  abbrev pub fromFirst : (A → Bool) → List A → List A
-  fromFirst p [] = []
-  fromFirst p (x ∷ xs) = cond (p x) (x ∷ xs) (fromFirst p xs)
+  abbrev pub from_first : (A → Bool) → List A → List A
+  from_first p [] = []
+  from_first p (x ∷ xs) = cond (p x) (x ∷ xs) (from_first p xs)
 
   -- the lists one after the other
   abbrev pub concat : List (List A) → List A
   concat [] = []
   concat (x ∷ xs) = x ++ concat xs
 
-  abbrev pub trimCons : List A → List (List A) → List (List A)
-  trimCons [] [] = []
-  trimCons [] (y ∷ ys) = [] ∷ y ∷ ys
-  trimCons (x ∷ xs) ys = (x ∷ xs) ∷ ys
+  abbrev pub trim_cons : List A → List (List A) → List (List A)
+  trim_cons [] [] = []
+  trim_cons [] (y ∷ ys) = [] ∷ y ∷ ys
+  trim_cons (x ∷ xs) ys = (x ∷ xs) ∷ ys
 
   -- without the empty lists at the end
   abbrev pub trim : List (List A) → List (List A)
   trim [] = []
-  trim (x ∷ xs) = trimCons x (trim xs)
+  trim (x ∷ xs) = trim_cons x (trim xs)
 
   abbrev pub is_empty : List A → Bool
   is_empty [] = true
@@ -51,13 +51,13 @@ module _ {ℓ} {A : Type ℓ} where
   best score x (y ∷ ys) = best score (cond (ltb (score y) (score x)) y x) ys
 
   -- that element alone; of no elements none
-  abbrev pub bestOf : (score : A → ℕ) → List A → List A
-  bestOf score [] = []
-  bestOf score (x ∷ xs) = best score x xs ∷ []
+  abbrev pub best_of : (score : A → ℕ) → List A → List A
+  best_of score [] = []
+  best_of score (x ∷ xs) = best score x xs ∷ []
 
 -- v is in the list
-abbrev pub isIn : List ℕ → ℕ → Bool
-isIn xs v = any (eqb v) xs
+abbrev pub is_in : List ℕ → ℕ → Bool
+is_in xs v = any (eqb v) xs
 
 -- xs begins with ys
 abbrev pub begins : (xs ys : List ℕ) → Bool
@@ -75,9 +75,9 @@ range k zero = []
 range k (suc n) = k ∷ range (suc k) n
 
 -- the sum of f 0 .. f (n - 1)
-unfoldable pub sumBelow : (ℕ → ℕ) → ℕ → ℕ
-sumBelow f zero = 0
-sumBelow f (suc n) = sumBelow f n + f n
+unfoldable pub sum_below : (ℕ → ℕ) → ℕ → ℕ
+sum_below f zero = 0
+sum_below f (suc n) = sum_below f n + f n
 
 abbrev pub distance : ℕ → ℕ → ℕ
 distance x y = (x - y) + (y - x)
@@ -90,7 +90,7 @@ bit false = 0
 -- no number stands twice
 abbrev pub distinct : List ℕ → Bool
 distinct [] = true
-distinct (x ∷ xs) = not (isIn xs x) && distinct xs
+distinct (x ∷ xs) = not (is_in xs x) && distinct xs
 
 -- where v stands in a list; the list's length if it does not
 unfoldable pub position_of : List ℕ → ℕ → ℕ

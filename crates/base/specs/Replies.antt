@@ -25,7 +25,7 @@ module _ {ℓ} {A : Type ℓ} where
 
 -- "9: a lent list is too short (length needed ..)"; room is the list's length
 abbrev pub room_for : (needed room : ℕ) → Check
-room_for needed room = record { holds = leb needed room; number = why.tooShort; place = needed }
+room_for needed room = record { holds = leb needed room; number = why.too_short; place = needed }
 
 module _ {ℓ} {A : Type ℓ} where
   -- A lent list after a call: "Places past the answer are unchanged", and on a refusal the whole list is

@@ -4,6 +4,6 @@ use Rattle.base.specs.declared.Verdict.{Verdict}
 use Rattle.base.specs.declared.Verdict.TheVariants.{Accepted, Refused}
 
 -- document 01's number and values for each case of an answer
-abbrev pub replyOf : Verdict → Reply
-replyOf (Accepted k) = accepted k
-replyOf (Refused q p) = refused q p
+abbrev pub reply_of : Verdict → Reply
+reply_of (Accepted k) = accepted k
+reply_of (Refused q p) = refused q p

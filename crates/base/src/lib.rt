@@ -1,10 +1,12 @@
 // Lists, whole numbers and replies that every layer speaks of.
+#![tactic(auto)]
+
 pub mod bytes;
 pub mod numbers;
 pub mod shorts;
 pub mod slices;
 
-// What a call replies: accepted, with its count; or refused, with a number and a place. `replyOf` of
+// What a call replies: accepted, with its count; or refused, with a number and a place. `reply_of` of
 // specs/Verdicts.antt says it in document 01's words.
 #[derive(Drop)]
 pub enum Verdict {

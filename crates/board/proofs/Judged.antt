@@ -6,40 +6,40 @@ use lib.ListN.{length}
 use borrow.Author.Tests.{le-leb, lt-leb}
 use Rattle.base.specs.Refusals as why
 use Rattle.base.specs.Replies.{Reply, refused, room_for, in_turn}
-use Rattle.barrier.specs.Registers.{lastAddress, addressCheck, addressed}
-use Rattle.board.specs.Unit.{unitSize}
+use Rattle.barrier.specs.Registers.{last_address, address_check, addressed}
+use Rattle.board.specs.Unit.{unit_size}
 
 -- the model's reply at a register that there is
-pub addressed-in : (address : ℕ) (reply : Reply) → address ≤ lastAddress → addressed address reply ≡ reply
+pub addressed_in : (address : ℕ) (reply : Reply) → address ≤ last_address → addressed address reply ≡ reply
 unfolding addressed in_turn
-addressed-in address reply l = rw (le-leb address lastAddress l)
+addressed_in address reply l = rw (le-leb address last_address l)
 
 -- of a call that names a register
 module _ (unit : List ℕ) (address : ℕ) (reply : Reply) where
   abbrev judged : Reply
-  judged = in_turn refused (addressCheck address ∷ room_for unitSize (length unit) ∷ []) reply
+  judged = in_turn refused (address_check address ∷ room_for unit_size (length unit) ∷ []) reply
 
-  pub no_register : lastAddress < address → judged ≡ refused why.noRegister 0
+  pub no_register_lem : last_address < address → judged ≡ refused why.no_register 0
   unfolding in_turn
-  no_register l = rw (lt-leb address lastAddress l)
+  no_register_lem l = rw (lt-leb address last_address l)
 
-  pub cut_short : address ≤ lastAddress → length unit < unitSize → judged ≡ refused why.tooShort unitSize
+  pub cut_short : address ≤ last_address → length unit < unit_size → judged ≡ refused why.too_short unit_size
   unfolding in_turn
-  cut_short l s = rw (le-leb address lastAddress l, lt-leb unitSize (length unit) s)
+  cut_short l s = rw (le-leb address last_address l, lt-leb unit_size (length unit) s)
 
-  pub in_reach : address ≤ lastAddress → unitSize ≤ length unit → judged ≡ reply
+  pub in_reach : address ≤ last_address → unit_size ≤ length unit → judged ≡ reply
   unfolding in_turn
-  in_reach l s = rw (le-leb address lastAddress l, le-leb unitSize (length unit) s)
+  in_reach l s = rw (le-leb address last_address l, le-leb unit_size (length unit) s)
 
 -- of the others
 module _ (unit : List ℕ) (reply : Reply) where
   abbrev sized : Reply
-  sized = in_turn refused (room_for unitSize (length unit) ∷ []) reply
+  sized = in_turn refused (room_for unit_size (length unit) ∷ []) reply
 
-  pub too_few : length unit < unitSize → sized ≡ refused why.tooShort unitSize
+  pub too_few : length unit < unit_size → sized ≡ refused why.too_short unit_size
   unfolding in_turn
-  too_few s = rw (lt-leb unitSize (length unit) s)
+  too_few s = rw (lt-leb unit_size (length unit) s)
 
-  pub enough : unitSize ≤ length unit → sized ≡ reply
+  pub enough : unit_size ≤ length unit → sized ≡ reply
   unfolding in_turn
-  enough s = rw (le-leb unitSize (length unit) s)
+  enough s = rw (le-leb unit_size (length unit) s)

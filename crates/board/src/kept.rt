@@ -1,7 +1,7 @@
 // A unit kept in bytes: its six registers, then the count of releases.
 ghost use Rattle.std.specs.Prelude.{◌≡◌, ◌≤◌, length};
 ghost use Rattle.words.specs.LittleEndian.{stored};
-ghost use Rattle.board.specs.Unit.{unitSize, unitIn, unitBytes};
+ghost use Rattle.board.specs.Unit.{unit_size, unit_in, unit_bytes};
 
 use barrier::Barrier;
 use barrier::sets::{bit_0, high, low, set_of};
@@ -13,8 +13,8 @@ pub(crate) const SIZE: usize = 10;
 const RELEASES: usize = 6;
 
 pub(crate) fn load(bytes: &[u8]) -> Barrier
-    requires { unitSize ≤ length bytes.now }
-    ensures { result ≡ unitIn bytes.now }
+    requires { unit_size ≤ length bytes.now }
+    ensures { result ≡ unit_in bytes.now }
 {
     Barrier {
         members: set_of(bytes[0], bytes[1]),
@@ -26,8 +26,8 @@ pub(crate) fn load(bytes: &[u8]) -> Barrier
 }
 
 pub(crate) fn store(unit: Barrier, bytes: &mut [u8])
-    requires { unitSize ≤ length bytes.old }
-    ensures { bytes.new ≡ stored (unitBytes unit) bytes.old }
+    requires { unit_size ≤ length bytes.old }
+    ensures { bytes.new ≡ stored (unit_bytes unit) bytes.old }
 {
     let members = unit.members;
     let arrived = unit.arrived;

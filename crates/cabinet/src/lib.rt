@@ -1,11 +1,13 @@
 // A call on a run whose lists stand in bytes: numbers are decoded into arrays, the proved call is made.
+#![tactic(auto)]
+
 ghost use Rattle.std.specs.Prelude.{◌≡◌, List, ℕ, ◌/◌, length, take};
-ghost use Rattle.matrix.specs.code.Room.{maxStarts, maxCells};
+ghost use Rattle.matrix.specs.Code.Room.{max_starts, max_cells};
 ghost use Rattle.machine.specs.Record.{state_of};
-ghost use Rattle.calls.specs.Performed.{asCall};
+ghost use Rattle.calls.specs.Performed.{as_call};
 ghost use Rattle.words.specs.LittleEndian.{unsigned, signed};
-ghost use Rattle.lent.specs.Bytes.{matrixIn};
-ghost use Rattle.answers.specs.code.Ran.{Called, RanLent, TookLent, GaveLent};
+ghost use Rattle.lent.specs.Bytes.{matrix_in};
+ghost use Rattle.answers.specs.Code.Ran.{Called, RanLent, TookLent, GaveLent};
 
 use answers::state::{load_state, sums_of};
 use answers::stored::{store_forces, store_picks};
@@ -41,9 +43,9 @@ fn perform_on(
     forces: &mut [u8],
     asked: Asked,
 ) -> Done
-    ensures { (cs vs : List ℕ) → columns.now ≡ take maxCells (unsigned 4 cs) → values.now ≡ take maxCells (signed 4 vs)
-        → Called (matrixIn asked.n row_starts.now cs vs) (signed 4 movements.now) (unsigned 4 order.now) (unsigned 4 groups.now) asked.group_count
-        (state_of asked.state sums.old) (asCall asked.call schedule.now (length forces.old / 8)) forces.old result.answer (state_of result.state sums.new) forces.new }
+    ensures { (cs vs : List ℕ) → columns.now ≡ take max_cells (unsigned 4 cs) → values.now ≡ take max_cells (signed 4 vs)
+        → Called (matrix_in asked.n row_starts.now cs vs) (signed 4 movements.now) (unsigned 4 order.now) (unsigned 4 groups.now) asked.group_count
+        (state_of asked.state sums.old) (as_call asked.call schedule.now (length forces.old / 8)) forces.old result.answer (state_of result.state sums.new) forces.new }
 {
     let mut starts = [0u32; MAX_STARTS];
     let mut displacements = [0i32; MAX_STARTS];
@@ -91,9 +93,9 @@ fn perform_in(
     schedule: &[u8],
     call: Call,
 ) -> Done
-    requires { length new.old ≡ maxStarts }
-    ensures { RanLent (matrixIn n row_starts.now columns.now values.now) (signed 4 movements.now) (unsigned 4 order.now) (unsigned 4 groups.now) group_count
-        state.now sums.now forces.old (asCall call schedule.now (length forces.old / 8)) result.answer result.state new.new forces.new }
+    requires { length new.old ≡ max_starts }
+    ensures { RanLent (matrix_in n row_starts.now columns.now values.now) (signed 4 movements.now) (unsigned 4 order.now) (unsigned 4 groups.now) group_count
+        state.now sums.now forces.old (as_call call schedule.now (length forces.old / 8)) result.answer result.state new.new forces.new }
 {
     let kept = load_i64(sums_of(state, sums), new);
     let asked = Asked {
@@ -149,8 +151,8 @@ pub fn take_in(
     schedule: &[u8],
     call: Call,
 ) -> Response
-    ensures { TookLent (matrixIn n row_starts.now columns.now values.now) (signed 4 movements.now) (unsigned 4 order.now) (unsigned 4 groups.now) group_count
-        state.old sums.old (asCall call schedule.now 0) result state.new sums.new }
+    ensures { TookLent (matrix_in n row_starts.now columns.now values.now) (signed 4 movements.now) (unsigned 4 order.now) (unsigned 4 groups.now) group_count
+        state.old sums.old (as_call call schedule.now 0) result state.new sums.new }
 {
     let mut new = [0i64; MAX_STARTS];
     let mut none = [0u8; 0];
@@ -192,8 +194,8 @@ pub fn look_in(
     sums: &[u8],
     call: Call,
 ) -> Response
-    ensures { GaveLent (matrixIn n row_starts.now columns.now values.now) (signed 4 movements.now) (unsigned 4 order.now) (unsigned 4 groups.now) group_count
-        state.now sums.now (asCall call schedule.now (length forces.old / 8)) forces.old result forces.new }
+    ensures { GaveLent (matrix_in n row_starts.now columns.now values.now) (signed 4 movements.now) (unsigned 4 order.now) (unsigned 4 groups.now) group_count
+        state.now sums.now (as_call call schedule.now (length forces.old / 8)) forces.old result forces.new }
 {
     let mut new = [0i64; MAX_STARTS];
     let done = perform_in(

@@ -9,16 +9,16 @@ use lib.Seq.{take_at}
 use borrow.Author.Tests.{le-leb, lt-leb}
 use Rattle.base.specs.Refusals as why
 use Rattle.base.proofs.Fill.{length-made}
-use Rattle.plan.specs.Sound.{eachOnce}
+use Rattle.plan.specs.Sound.{each_once}
 use Rattle.plan.proofs.Once.{Once, once}
 use Rattle.run.specs.Job.{Job}
 use Rattle.run.specs.Machine.{original}
 use Rattle.base.specs.Lists.{position_of}
 use Rattle.run.specs.Answers as calls
-use Rattle.run.specs.Calls.{forcesOf, forcesLent}
-use Rattle.calls.specs.code.Listed.{Listed}
-use Rattle.calls.specs.code.Scatter.{Scattered}
-use Rattle.calls.proofs.Scattering.{scattered-original}
+use Rattle.run.specs.Calls.{forces_of, forces_lent}
+use Rattle.calls.specs.Code.Listed.{Listed}
+use Rattle.calls.specs.Code.Scatter.{Scattered}
+use Rattle.calls.proofs.Scattering.{scattered_original}
 
 original-long : (j : Job) (sums : List ℤ) → length (original j sums) ≡ j.matrix.n
 unfolding original
@@ -26,23 +26,23 @@ original-long j sums = length-made (λ i. get_or sums (position_of j.plan.order 
 
 module _ (j : Job) {n : ℕ} (rows : j.matrix.n ≡ n) {is_over : Bool} (sums old : List ℤ) where
   -- the run is not over
-  pub listed-early : is_over ≡ false → Listed j is_over sums old (calls.denied why.tooEarly 0) old
-  unfolding forcesOf forcesLent
+  pub listed-early : is_over ≡ false → Listed j is_over sums old (calls.denied why.too_early 0) old
+  unfolding forces_of forces_lent
   listed-early e = record { answers = rw e; forces = refl }
 
   module _ (over : is_over ≡ true) where
     -- the list is too short
-    pub listed-short : length old < n → Listed j is_over sums old (calls.denied why.tooShort n) old
-    unfolding forcesOf forcesLent
+    pub listed-short : length old < n → Listed j is_over sums old (calls.denied why.too_short n) old
+    unfolding forces_of forces_lent
     listed-short l = record { answers = rw (over, rows, lt-leb n (length old) l); forces = refl }
 
     -- the sums stand in the places of their rows
-    pub listed : (order : List ℕ) → j.plan.order ≡ take n order → eachOnce n (take n order) ≡ true → n ≤ length old → {new : List ℤ} → Scattered n n (take n order) sums old new
+    pub listed : (order : List ℕ) → j.plan.order ≡ take n order → each_once n (take n order) ≡ true → n ≤ length old → {new : List ℤ} → Scattered n n (take n order) sums old new
         → Listed j is_over sums old (calls.forces (take n new)) new
-    unfolding forcesOf forcesLent
+    unfolding forces_of forces_lent
     listed order is each l {new} s =
         let o : Once j.matrix.n j.plan.order = rw (rows, is) (once n (take n order) each) in
-        let all : new ≡ original j sums ++ drop n old = rw (← rows) (scattered-original j o sums old new (rw rows l) (rw (rows, is) s)) in
+        let all : new ≡ original j sums ++ drop n old = rw (← rows) (scattered_original j o sums old new (rw rows l) (rw (rows, is) s)) in
         let long : length (original j sums) ≡ n = original-long j sums ∙ rows in
         let front : take n new ≡ original j sums = rw all (take_at (original j sums) (drop n old) n long) in
         record {

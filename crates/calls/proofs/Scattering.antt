@@ -14,27 +14,27 @@ use Rattle.base.proofs.Booleans.{same_or}
 use Rattle.base.proofs.Lists.{map-range-zero}
 use Rattle.base.proofs.Fill.{length-made}
 use Rattle.base.proofs.Positions.{position_at}
-use Rattle.plan.proofs.Once.{Once, low-at, injective}
+use Rattle.plan.proofs.Once.{Once, low_at, injective}
 use Rattle.run.specs.Job.{Job}
 use Rattle.run.specs.Machine.{original}
 use Rattle.base.specs.Lists.{position_of}
-use Rattle.calls.specs.code.Scatter.{Scattered}
+use Rattle.calls.specs.Code.Scatter.{Scattered}
 
 module _ (n : ℕ) (order : List ℕ) (once : Once n order) (sums old : List ℤ) (room : n ≤ length old) where
-  pub scattered-none : Scattered 0 n order sums old old
-  scattered-none = record { long = refl; is = λ p l. absurd (omega arith); rest = λ v l. refl }
+  pub scattered_none : Scattered 0 n order sums old old
+  scattered_none = record { long = refl; is = λ p l. absurd (omega arith); rest = λ v l. refl }
 
   module _ (k : ℕ) (l : k < n) (new : List ℤ) (s : Scattered k n order sums old new) where
     -- the row at a position has its place
     pub place-below : get_or order k 0 < length new
-    place-below = omega (arith, low-at n order k once.low (omega (arith, once.long)), s.long)
+    place-below = omega (arith, low_at n order k once.low (omega (arith, once.long)), s.long)
 
     -- one position more
-    pub scattered-next : Scattered (k + 1) n order sums old (set new (get_or order k 0) (get_or sums k (pos 0)))
-    scattered-next = record {
+    pub scattered_next : Scattered (k + 1) n order sums old (set new (get_or order k 0) (get_or sums k (pos 0)))
+    scattered_next = record {
       long = length-set new (get_or order k 0) (get_or sums k (pos 0)) ∙ s.long;
       is = λ p h. go p h (same_or p k);
-      rest = λ v h. get_or-set_other new (get_or order k 0) v (get_or sums k (pos 0)) (pos 0) (λ e. omega (arith, low-at n order k once.low (omega (arith, once.long)))) ∙ s.rest v h;
+      rest = λ v h. get_or-set_other new (get_or order k 0) v (get_or sums k (pos 0)) (pos 0) (λ e. omega (arith, low_at n order k once.low (omega (arith, once.long)))) ∙ s.rest v h;
     }
       where
         go : (p : ℕ) → p < k + 1 → (p ≡ k) ⊎ (p ≢ k) → get_or (set new (get_or order k 0) (get_or sums k (pos 0))) (get_or order p 0) (pos 0) ≡ get_or sums p (pos 0)
@@ -42,10 +42,10 @@ module _ (n : ℕ) (order : List ℕ) (once : Once n order) (sums old : List ℤ
         go p h (inr d) = get_or-set_other new (get_or order k 0) (get_or order p 0) (get_or sums k (pos 0)) (pos 0) (injective n order once p k (omega arith) l d) ∙ s.is p (omega arith)
 
 -- all positions: the force list
-pub scattered-original : (j : Job) → Once j.matrix.n j.plan.order → (sums old new : List ℤ) → j.matrix.n ≤ length old
+pub scattered_original : (j : Job) → Once j.matrix.n j.plan.order → (sums old new : List ℤ) → j.matrix.n ≤ length old
     → Scattered j.matrix.n j.matrix.n j.plan.order sums old new → new ≡ original j sums ++ drop j.matrix.n old
 unfolding original
-scattered-original j once sums old new room s = ext_get_or (pos 0) new (original j sums ++ drop j.matrix.n old) (s.long ∙ sym long) (λ v l. go v (ltb v j.matrix.n) refl)
+scattered_original j once sums old new room s = ext_get_or (pos 0) new (original j sums ++ drop j.matrix.n old) (s.long ∙ sym long) (λ v l. go v (ltb v j.matrix.n) refl)
   where
     made : length (original j sums) ≡ j.matrix.n
     made = length-made (λ i. get_or sums (position_of j.plan.order i) (pos 0)) old j.matrix.n

@@ -4,31 +4,31 @@ use Rattle.std.specs.Prelude.{◌≡◌, List, ℕ, ℤ}
 use Rattle.matrix.specs.Matrix.{Matrix}
 use Rattle.run.specs.State.{State}
 use Rattle.run.specs.Answers as calls
-use Rattle.run.specs.Calls.{answerLent, afterLent, forcesLent}
+use Rattle.run.specs.Calls.{answer_lent, after_lent, forces_lent}
 use Rattle.calls.specs.declared.Call.{Call}
 use Rattle.calls.specs.declared.Call.TheVariants as call
 use Rattle.calls.specs.declared.Response.{Response}
 use Rattle.calls.specs.declared.Response.TheVariants as response
 
 -- what is asked, with the lent schedule, or with the length of the lent list of forces
-abbrev pub asCall : Call → (schedule : List ℕ) (room : ℕ) → calls.Call
-asCall call.Picks schedule room = calls.picks schedule
-asCall call.ReadySet schedule room = calls.readySet
-asCall call.ForceList schedule room = calls.forceList room
-asCall call.Preview schedule room = calls.preview schedule
-asCall call.Rounds schedule room = calls.rounds schedule
+abbrev pub as_call : Call → (schedule : List ℕ) (room : ℕ) → calls.Call
+as_call call.Picks schedule room = calls.picks schedule
+as_call call.ReadySet schedule room = calls.ready_set
+as_call call.ForceList schedule room = calls.force_list room
+as_call call.Preview schedule room = calls.preview schedule
+as_call call.Rounds schedule room = calls.rounds schedule
 
 -- what is answered; forces are those that the call leaves in the lent list
-abbrev pub asAnswer : Response → (forces : List ℤ) → calls.Answer
-asAnswer (response.Picked taken number place) forces = calls.picked taken number place
-asAnswer (response.Ready bits count) forces = calls.isReady bits count
-asAnswer response.Forces forces = calls.forces forces
-asAnswer (response.Refused number place) forces = calls.denied number place
-asAnswer (response.Previewed taken number place bits count) forces = calls.previewed taken number place bits count
+abbrev pub as_answer : Response → (forces : List ℤ) → calls.Answer
+as_answer (response.Picked taken number place) forces = calls.picked taken number place
+as_answer (response.Ready bits count) forces = calls.is_ready bits count
+as_answer response.Forces forces = calls.forces forces
+as_answer (response.Refused number place) forces = calls.denied number place
+as_answer (response.Previewed taken number place bits count) forces = calls.previewed taken number place bits count
 
 -- A call c in state s on lent lists, with old in the list of forces: its answer, the state after it, and the list after
 -- it
 pub record Performed (m : Matrix) (x : List ℤ) (order groups : List ℕ) (count : ℕ) (s : State) (c : calls.Call) (old : List ℤ) (answer : calls.Answer) (after : State) (new : List ℤ) : Type 0 where
-  pub answers : answer ≡ answerLent m x order groups count s c
-  pub leaves : after ≡ afterLent m x order groups count s c
-  pub forces : new ≡ forcesLent (answerLent m x order groups count s c) old
+  pub answers : answer ≡ answer_lent m x order groups count s c
+  pub leaves : after ≡ after_lent m x order groups count s c
+  pub forces : new ≡ forces_lent (answer_lent m x order groups count s c) old

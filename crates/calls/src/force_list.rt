@@ -1,10 +1,10 @@
 // The force list: the sums of a finished run, from plan order into original order.
 ghost use Rattle.std.specs.Prelude.{◌≡◌, true, ◌≤◌, length, take};
-ghost use Rattle.plan.specs.Sound.{eachOnce};
+ghost use Rattle.plan.specs.Sound.{each_once};
 ghost use Rattle.run.specs.Job.{Job};
-ghost use Rattle.calls.specs.code.Scatter.{Scattered};
-ghost use Rattle.calls.specs.Performed.{asAnswer};
-ghost use Rattle.calls.specs.code.Listed.{Listed};
+ghost use Rattle.calls.specs.Code.Scatter.{Scattered};
+ghost use Rattle.calls.specs.Performed.{as_answer};
+ghost use Rattle.calls.specs.Code.Listed.{Listed};
 
 use crate::Response;
 use base::slices::wide_at;
@@ -12,7 +12,7 @@ use base::{EARLY, SHORT};
 
 // The sum at each position goes to the place of its row.
 fn scatter(n: usize, order: &[u32], sums: &[i64], forces: &mut [i64])
-    requires { (n ≤ length order.now) × (eachOnce n (take n order.now) ≡ true) × (n ≤ length sums.now) × (n ≤ length forces.old) }
+    requires { (n ≤ length order.now) × (each_once n (take n order.now) ≡ true) × (n ≤ length sums.now) × (n ≤ length forces.old) }
     ensures { Scattered n n (take n order.now) sums.now forces.old forces.new }
 {
     let mut p = 0;
@@ -30,9 +30,9 @@ pub(crate) fn force_list(
     sums: &[i64],
     forces: &mut [i64],
 ) -> Response
-    requires { (n ≤ length order.now) × (eachOnce n (take n order.now) ≡ true) × (n ≤ length sums.now) }
+    requires { (n ≤ length order.now) × (each_once n (take n order.now) ≡ true) × (n ≤ length sums.now) }
     ensures { (j : Job) → j.matrix.n ≡ n → j.plan.order ≡ take n order.now
-        → Listed j is_over sums.now forces.old (asAnswer result (take n forces.new)) forces.new }
+        → Listed j is_over sums.now forces.old (as_answer result (take n forces.new)) forces.new }
 {
     if !is_over {
         return Response::Refused(EARLY, 0);

@@ -1,14 +1,14 @@
 // Picks by the tables of their job, laid as far as the schedule reads them.
 ghost use Rattle.std.specs.Prelude.{◌≡◌, true, false, List, ◌/◌, ℤ, length};
-ghost use Rattle.matrix.specs.Matrix.{matrixOf};
+ghost use Rattle.matrix.specs.Matrix.{matrix_of};
 ghost use Rattle.plan.specs.Groups.{width};
 ghost use Rattle.run.specs.Job.{job_of};
-ghost use Rattle.tables.specs.code.Laid.{maxUpdates};
-ghost use Rattle.layout.specs.code.UpdateTable.{Given};
+ghost use Rattle.tables.specs.Code.Laid.{max_updates};
+ghost use Rattle.layout.specs.Code.UpdateTable.{Given};
 ghost use Rattle.machine.specs.Record.{state_of};
-ghost use Rattle.calls.specs.Performed.{asAnswer};
-ghost use Rattle.calls.specs.code.Made.{Taken};
-ghost use Rattle.calls.specs.code.Room.{Room};
+ghost use Rattle.calls.specs.Performed.{as_answer};
+ghost use Rattle.calls.specs.Code.Made.{Taken};
+ghost use Rattle.calls.specs.Code.Room.{Room};
 
 use crate::picks::{rule_of, told};
 use crate::{Call, Done, Response, answered};
@@ -65,9 +65,9 @@ pub(crate) fn laid_picks(
 ) -> Tried
     requires { Given (length sums.old) starts.now columns.now values.now displacements.now order.now groups.now (length groups.now / width)
         × Room (length schedule.now) at.old beside.old }
-    ensures { (result.fits ≡ true → (zs : List ℤ) → Taken (job_of (matrixOf (length sums.old) starts.now columns.now values.now) displacements.now order.now groups.now (length groups.now / width))
-        (state_of wanted.state sums.old) wanted.call schedule.now (asAnswer result.done.answer zs) (state_of result.done.state sums.new))
-        × (result.fits ≡ false → sums.new ≡ sums.old) × (length at.old ≡ maxUpdates → result.fits ≡ true) }
+    ensures { (result.fits ≡ true → (zs : List ℤ) → Taken (job_of (matrix_of (length sums.old) starts.now columns.now values.now) displacements.now order.now groups.now (length groups.now / width))
+        (state_of wanted.state sums.old) wanted.call schedule.now (as_answer result.done.answer zs) (state_of result.done.state sums.new))
+        × (result.fits ≡ false → sums.new ≡ sums.old) × (length at.old ≡ max_updates → result.fits ≡ true) }
 {
     let mut position = [0u32; MAX_ROWS];
     let mut parts = [0u32; MAX_ROWS];

@@ -1,4 +1,6 @@
 // A call on a run, by the lists that a caller lends: the checks, then what is asked.
+#![tactic(auto)]
+
 mod force_list;
 mod laid;
 pub mod picks;
@@ -7,16 +9,16 @@ mod short;
 
 ghost use Rattle.std.specs.Prelude.{◌≡◌, ◌≢◌, false, List, ℕ, ◌/◌, ℤ, length, take};
 ghost use Rattle.base.specs.Replies.{accepted, refused, in_turn};
-ghost use Rattle.base.specs.Verdicts.{replyOf};
-ghost use Rattle.matrix.specs.Matrix.{matrixOf};
+ghost use Rattle.base.specs.Verdicts.{reply_of};
+ghost use Rattle.matrix.specs.Matrix.{matrix_of};
 ghost use Rattle.plan.specs.Groups.{width};
-ghost use Rattle.run.specs.Calls.{jobChecks};
+ghost use Rattle.run.specs.Calls.{job_checks};
 ghost use Rattle.run.specs.Job.{job_of};
-ghost use Rattle.layout.specs.code.UpdateTable.{Given};
+ghost use Rattle.layout.specs.Code.UpdateTable.{Given};
 ghost use Rattle.machine.specs.Record.{state_of};
 ghost use Rattle.calls.specs.declared.Call.TheVariants.{Preview};
-ghost use Rattle.calls.specs.Performed.{asCall, asAnswer, Performed};
-ghost use Rattle.calls.specs.code.Made.{is_taken, Made};
+ghost use Rattle.calls.specs.Performed.{as_call, as_answer, Performed};
+ghost use Rattle.calls.specs.Code.Made.{is_taken, Made};
 
 use base::{MATRIX, STATE, UNSOUND, Verdict};
 use force_list::force_list;
@@ -71,7 +73,7 @@ pub fn check_job(
     groups: &[u32],
     count: u32,
 ) -> Verdict
-    ensures { replyOf result ≡ in_turn refused (jobChecks (matrixOf n starts.now columns.now values.now) displacements.now order.now groups.now count) (accepted 0) }
+    ensures { reply_of result ≡ in_turn refused (job_checks (matrix_of n starts.now columns.now values.now) displacements.now order.now groups.now count) (accepted 0) }
 {
     if !is_matrix(n, starts, columns, values) {
         return Verdict::Refused(MATRIX, 0);
@@ -109,9 +111,9 @@ fn report(
 ) -> Response
     requires { (values : List ℤ) × (x : List ℤ) × Given (length sums.now) starts.now columns.now values x order.now groups.now (length groups.now / width) }
     ensures { (values x : List ℤ) (schedule : List ℕ) → Given (length sums.now) starts.now columns.now values x order.now groups.now (length groups.now / width)
-        → is_taken call ≡ false → call ≢ Preview → Made (job_of (matrixOf (length sums.now) starts.now columns.now values) x order.now groups.now (length groups.now / width))
-        (state_of state sums.now) (asCall call schedule (length forces.old)) forces.old
-        (asAnswer result (take (length sums.now) forces.new)) (state_of state sums.now) forces.new }
+        → is_taken call ≡ false → call ≢ Preview → Made (job_of (matrix_of (length sums.now) starts.now columns.now values) x order.now groups.now (length groups.now / width))
+        (state_of state sums.now) (as_call call schedule (length forces.old)) forces.old
+        (as_answer result (take (length sums.now) forces.new)) (state_of state sums.now) forces.new }
 {
     let n = sums.len();
     let count = groups.len() / WIDTH;
@@ -146,9 +148,9 @@ pub fn perform(
     forces: &mut [i64],
     call: Call,
 ) -> Done
-    ensures { Performed (matrixOf n starts.now columns.now values.now) displacements.now order.now groups.now count
-        (state_of state sums.old) (asCall call schedule.now (length forces.old)) forces.old
-        (asAnswer result.answer (take n forces.new)) (state_of result.state sums.new) forces.new }
+    ensures { Performed (matrix_of n starts.now columns.now values.now) displacements.now order.now groups.now count
+        (state_of state sums.old) (as_call call schedule.now (length forces.old)) forces.old
+        (as_answer result.answer (take n forces.new)) (state_of result.state sums.new) forces.new }
 {
     let checked = check_job(
         n,

@@ -1,16 +1,16 @@
 // The picks of a schedule, by the tables of the job, and what they would do.
 ghost use Rattle.std.specs.Prelude.{◌≡◌, true, List, ◌++◌, ◌/◌, ◌≤◌, ℤ, length, drop};
 ghost use Rattle.std.specs.Int.Count.{ones};
-ghost use Rattle.matrix.specs.Limits.{maxRows};
-ghost use Rattle.matrix.specs.Matrix.{matrixOf};
+ghost use Rattle.matrix.specs.Limits.{max_rows};
+ghost use Rattle.matrix.specs.Matrix.{matrix_of};
 ghost use Rattle.plan.specs.Groups.{width};
 ghost use Rattle.run.specs.Answers as calls;
 ghost use Rattle.run.specs.Calls.{place_of};
 ghost use Rattle.run.specs.Job.{job_of};
-ghost use Rattle.layout.specs.code.UpdateTable.{Given};
+ghost use Rattle.layout.specs.Code.UpdateTable.{Given};
 ghost use Rattle.machine.specs.Record.{state_of};
-ghost use Rattle.calls.specs.Performed.{asAnswer};
-ghost use Rattle.calls.specs.code.Made.{Made, is_taken, ruleOf, toldBy, Taken};
+ghost use Rattle.calls.specs.Performed.{as_answer};
+ghost use Rattle.calls.specs.Code.Made.{Made, is_taken, rule_of, told_by, Taken};
 
 use crate::laid::{Wanted, laid_picks};
 use crate::short::is_short;
@@ -34,7 +34,7 @@ pub(crate) fn is_taken(call: Call) -> bool
 
 // Whether they are passed over where their workers cannot move.
 pub(crate) fn rule_of(call: Call) -> Rule
-    ensures { result ≡ ruleOf call }
+    ensures { result ≡ rule_of call }
 {
     if let Call::Rounds = call {
         return Rule::Skip;
@@ -51,7 +51,7 @@ pub fn place_of(number: u32, past: usize) -> usize
 
 // The answer of picks, and of a preview with who is ready after them.
 pub(crate) fn told(call: Call, taken: usize, number: u32, past: usize, ready: u16) -> Response
-    ensures { (zs : List ℤ) → asAnswer result zs ≡ toldBy call (calls.picked taken number (place_of number past)) (calls.isReady ready (ones ready)) }
+    ensures { (zs : List ℤ) → as_answer result zs ≡ told_by call (calls.picked taken number (place_of number past)) (calls.is_ready ready (ones ready)) }
 {
     let place = place_of(number, past);
     if let Call::Preview = call {
@@ -75,8 +75,8 @@ pub(crate) fn picks(
     call: Call,
 ) -> Done
     requires { Given (length sums.old) starts.now columns.now values.now displacements.now order.now groups.now (length groups.now / width) }
-    ensures { (zs : List ℤ) → Taken (job_of (matrixOf (length sums.old) starts.now columns.now values.now) displacements.now order.now groups.now (length groups.now / width))
-        (state_of state sums.old) call schedule.now (asAnswer result.answer zs) (state_of result.state sums.new) }
+    ensures { (zs : List ℤ) → Taken (job_of (matrix_of (length sums.old) starts.now columns.now values.now) displacements.now order.now groups.now (length groups.now / width))
+        (state_of state sums.old) call schedule.now (as_answer result.answer zs) (state_of result.state sums.new) }
 {
     let wanted = Wanted {
         state: state,
@@ -122,7 +122,7 @@ pub(crate) fn picks(
 
 // The numbers of a list, at the front of an array.
 fn copy(from: &[i64], to: &mut [i64; MAX_ROWS])
-    requires { (length from.now ≤ maxRows) × (length to.old ≡ maxRows) }
+    requires { (length from.now ≤ max_rows) × (length to.old ≡ max_rows) }
     ensures { to.new ≡ from.now ++ drop (length from.now) to.old }
 {
     let mut i = 0;
@@ -145,8 +145,8 @@ pub(crate) fn preview(
     schedule: &[u8],
 ) -> Response
     requires { Given (length sums.now) starts.now columns.now values.now displacements.now order.now groups.now (length groups.now / width) }
-    ensures { (old zs : List ℤ) → Made (job_of (matrixOf (length sums.now) starts.now columns.now values.now) displacements.now order.now groups.now (length groups.now / width))
-        (state_of state sums.now) (calls.preview schedule.now) old (asAnswer result zs) (state_of state sums.now) old }
+    ensures { (old zs : List ℤ) → Made (job_of (matrix_of (length sums.now) starts.now columns.now values.now) displacements.now order.now groups.now (length groups.now / width))
+        (state_of state sums.now) (calls.preview schedule.now) old (as_answer result zs) (state_of state sums.now) old }
 {
     let mut copied = [0i64; MAX_ROWS];
     copy(sums, &mut copied);

@@ -1,11 +1,11 @@
 // The ready set: the workers whose next step would be taken.
 ghost use Rattle.std.specs.Prelude.{◌≡◌, List, ◌/◌, ℤ, length};
 ghost use Rattle.plan.specs.Groups.{width};
-ghost use Rattle.run.specs.Calls.{readyOf};
+ghost use Rattle.run.specs.Calls.{ready_of};
 ghost use Rattle.run.specs.Job.{Job};
-ghost use Rattle.tables.specs.code.Laid.{Counted};
-ghost use Rattle.layout.specs.code.UpdateTable.{Planned};
-ghost use Rattle.calls.specs.Performed.{asAnswer};
+ghost use Rattle.tables.specs.Code.Laid.{Counted};
+ghost use Rattle.layout.specs.Code.UpdateTable.{Planned};
+ghost use Rattle.calls.specs.Performed.{as_answer};
 
 use crate::Response;
 use layout::lay;
@@ -24,7 +24,7 @@ pub(crate) fn ready_set(
     first: [u32; FIRSTS],
 ) -> Response
     requires { (j : Job) × Planned j groups.now (length groups.now / width) sizes.now × Counted j first }
-    ensures { (j : Job) (zs : List ℤ) → Planned j groups.now (length groups.now / width) sizes.now → Counted j first → asAnswer result zs ≡ readyOf j state.made }
+    ensures { (j : Job) (zs : List ℤ) → Planned j groups.now (length groups.now / width) sizes.now → Counted j first → as_answer result zs ≡ ready_of j state.made }
 {
     let mut row = [0u16; MAX_UPDATES];
     let mut begins = [0u32; MAX_ROWS];

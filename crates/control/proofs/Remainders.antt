@@ -1,6 +1,6 @@
 -- Remainders of whole numbers: a sum's and a product's are those of the remainders. Assumes nothing.
 use Rattle.std.proofs.Common.{◌≡◌, ℕ, suc, ◌+◌, ◌-◌, ◌*◌, ◌/◌, ◌%◌, ◌^◌, ◌<◌, Bool, true, false, cond, ltb, ℤ, pos, negsuc, ◌+ℤ◌, ◌-ℤ◌, ◌*ℤ◌, nat_abs, refl, ap, div-add-mod', arith}
-use Rattle.base.proofs.Integers.{up, down, lin-add, lin-neg, lin-sub, lin-equal}
+use Rattle.base.proofs.Integers.{up, down, lin_add, lin_neg, lin_sub, lin_equal}
 use Rattle.words.specs.LittleEndian.{to_signed}
 use Rattle.control.specs.ControlNumber.{modulus, remainder}
 
@@ -8,13 +8,13 @@ use Rattle.control.specs.ControlNumber.{modulus, remainder}
 
 up-mul : (k : ℕ) (z : ℤ) → (up (pos k *ℤ z) ≡ k * up z) × (down (pos k *ℤ z) ≡ k * down z)
 up-mul k (pos n) = (refl, omega arith)
-up-mul k (negsuc n) = (omega (arith, (lin-neg (pos (k * suc n))).0), (lin-neg (pos (k * suc n))).1)
+up-mul k (negsuc n) = (omega (arith, (lin_neg (pos (k * suc n))).0), (lin_neg (pos (k * suc n))).1)
 
 -- k × a is k × b and k times what a is more
 pub mul-sub : (k : ℕ) (a b : ℤ) → pos k *ℤ a ≡ (pos k *ℤ b) +ℤ (pos k *ℤ (a -ℤ b))
 mul-sub k a b =
-    lin-equal (pos k *ℤ a) ((pos k *ℤ b) +ℤ (pos k *ℤ (a -ℤ b)))
-    (omega (arith, up-mul k (a -ℤ b), up-mul k a, up-mul k b, ap (λ (x : ℕ). k * x) (lin-sub a b), lin-add (pos k *ℤ b) (pos k *ℤ (a -ℤ b))))
+    lin_equal (pos k *ℤ a) ((pos k *ℤ b) +ℤ (pos k *ℤ (a -ℤ b)))
+    (omega (arith, up-mul k (a -ℤ b), up-mul k a, up-mul k b, ap (λ (x : ℕ). k * x) (lin_sub a b), lin_add (pos k *ℤ b) (pos k *ℤ (a -ℤ b))))
 
 -- ---- remainders
 
@@ -43,7 +43,7 @@ pub remainder-add : (a b : ℤ) → remainder (a +ℤ b) ≡ (remainder a + rema
 remainder-add a b =
     let l = leaves a in
     let m = leaves b in
-    leaves-only (a +ℤ b) (remainder a + remainder b) (record { over = l.over + m.over; under = l.under + m.under; is = omega (arith, lin-add a b, l.is, m.is) })
+    leaves-only (a +ℤ b) (remainder a + remainder b) (record { over = l.over + m.over; under = l.under + m.under; is = omega (arith, lin_add a b, l.is, m.is) })
 
 pub remainder-mul : (k : ℕ) (z : ℤ) → remainder (pos k *ℤ z) ≡ k * remainder z % modulus
 remainder-mul k z =
@@ -68,12 +68,12 @@ remainder-low low high l h = go (ltb (2 * (low + high * modulus)) (256 ^ 8)) ref
     go false e = omega arith
 
 -- no remainder: a multiple
-pub multiple-none : (z : ℤ) → nat_abs z % modulus ≡ 0 → remainder z ≡ 0
+pub multiple_none : (z : ℤ) → nat_abs z % modulus ≡ 0 → remainder z ≡ 0
 unfolding remainder
-multiple-none (pos n) h = h
-multiple-none (negsuc n) h = omega arith
+multiple_none (pos n) h = h
+multiple_none (negsuc n) h = omega arith
 
-pub none-multiple : (z : ℤ) → remainder z ≡ 0 → nat_abs z % modulus ≡ 0
+pub none_multiple : (z : ℤ) → remainder z ≡ 0 → nat_abs z % modulus ≡ 0
 unfolding remainder
-none-multiple (pos n) h = h
-none-multiple (negsuc n) h = omega arith
+none_multiple (pos n) h = h
+none_multiple (negsuc n) h = omega arith

@@ -16,5 +16,5 @@ unfoldable pub weighed : (forces : List ℤ) (number : ℕ) → ℤ
 weighed forces number = pos (suc number) *ℤ slice_index_or forces number (pos 0)
 
 -- "the sum over freedoms, in original order, of (number + 1) × force, kept modulo 4,294,967,296"
-unfoldable pub controlNumber : List ℤ → ℕ
-controlNumber forces = remainder (sumℤ (weighed forces) (length forces))
+unfoldable pub control_number : List ℤ → ℕ
+control_number forces = remainder (sumℤ (weighed forces) (length forces))

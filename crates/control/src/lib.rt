@@ -1,7 +1,9 @@
 // The control number of a list of forces: sums and products that wrap at 32 bits.
+#![tactic(auto)]
+
 ghost use Rattle.std.specs.Prelude.{◌≡◌, ◌*◌, ◌%◌};
 ghost use Rattle.words.specs.LittleEndian.{signed};
-ghost use Rattle.control.specs.ControlNumber.{modulus, controlNumber};
+ghost use Rattle.control.specs.ControlNumber.{modulus, control_number};
 
 use std::num::wrapping_add_u32;
 use words::number::read_u32;
@@ -20,7 +22,7 @@ fn product(a: u32, b: u32) -> u32
 
 // Forces of eight bytes each, however many there are.
 pub fn control(forces: &[u8]) -> u32
-    ensures { result ≡ controlNumber (signed 8 forces.now) }
+    ensures { result ≡ control_number (signed 8 forces.now) }
 {
     let count = forces.len() / FORCE;
     let mut sum: u32 = 0;

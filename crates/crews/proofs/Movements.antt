@@ -9,8 +9,8 @@ use lib.IntN.{ℤ}
 use Rattle.matrix.specs.Matrix.{Matrix}
 use Rattle.plan.specs.Groups.{Plan}
 use Rattle.run.specs.Job.{Job, row_at, workers}
-use Rattle.run.specs.Updates.{Update, later, withEach, rowUpdates, owner, when, up_to, updates, accesses, count, finished, noUpdate, next, waits}
-use Rattle.run.specs.Machine.{refusal, readyBelow, ready}
+use Rattle.run.specs.Updates.{Update, later, with_each, row_updates, owner, when, up_to, updates, accesses, count, finished, no_update, next, waits}
+use Rattle.run.specs.Machine.{refusal, ready_below, ready}
 use Rattle.crews.specs.Crews.{in_row}
 
 module _ (m : Matrix) (p : Plan) (x y : List ℤ) where
@@ -21,47 +21,47 @@ module _ (m : Matrix) (p : Plan) (x y : List ℤ) where
   k = record { matrix = m; displacements = y; plan = p }
 
   -- the rows of a list of updates
-  abbrev rowsIn : List Update → List ℕ
-  rowsIn us = map (λ u. u.row) us
+  abbrev rows_in : List Update → List ℕ
+  rows_in us = map (λ u. u.row) us
 
-  each_rows : (q : ℕ) (qs : List ℕ) → rowsIn (withEach j q qs) ≡ rowsIn (withEach k q qs)
-  unfolding withEach
+  each_rows : (q : ℕ) (qs : List ℕ) → rows_in (with_each j q qs) ≡ rows_in (with_each k q qs)
+  unfolding with_each
   each_rows q [] = refl
   each_rows q (t ∷ ts) = ap (λ (l : List ℕ). q ∷ q ∷ l) (each_rows q ts)
 
-  row-rows : (q : ℕ) → rowsIn (rowUpdates j q) ≡ rowsIn (rowUpdates k q)
-  unfolding rowUpdates later row_at
+  row-rows : (q : ℕ) → rows_in (row_updates j q) ≡ rows_in (row_updates k q)
+  unfolding row_updates later row_at
   row-rows q = ap (λ (l : List ℕ). q ∷ l) (each_rows q (later j q))
 
-  up-rows : (w e : ℕ) → rowsIn (up_to j w e) ≡ rowsIn (up_to k w e)
+  up-rows : (w e : ℕ) → rows_in (up_to j w e) ≡ rows_in (up_to k w e)
   unfolding up_to owner when
   up-rows w zero = refl
   up-rows w (suc e) =
-      map-append (λ u. u.row) (up_to j w e) (when mine (rowUpdates j e)) ∙ ap₂ ◌++◌ (up-rows w e) (go mine) ∙ sym (map-append (λ u. u.row) (up_to k w e) (when mine (rowUpdates k e)))
+      map-append (λ u. u.row) (up_to j w e) (when mine (row_updates j e)) ∙ ap₂ ◌++◌ (up-rows w e) (go mine) ∙ sym (map-append (λ u. u.row) (up_to k w e) (when mine (row_updates k e)))
     where
       mine : Bool
       mine = eqb (owner j e) w
 
-      go : (b : Bool) → rowsIn (when b (rowUpdates j e)) ≡ rowsIn (when b (rowUpdates k e))
+      go : (b : Bool) → rows_in (when b (row_updates j e)) ≡ rows_in (when b (row_updates k e))
       go true = row-rows e
       go false = refl
 
-  cum-same : (w e : ℕ) → length (up_to j w e) ≡ length (up_to k w e)
-  cum-same w e = sym (length-map (up_to j w e) (λ u. u.row)) ∙ ap length (up-rows w e) ∙ length-map (up_to k w e) (λ u. u.row)
+  cum_same : (w e : ℕ) → length (up_to j w e) ≡ length (up_to k w e)
+  cum_same w e = sym (length-map (up_to j w e) (λ u. u.row)) ∙ ap length (up-rows w e) ∙ length-map (up_to k w e) (λ u. u.row)
 
   accesses-same : (w : ℕ) → accesses j w ≡ accesses k w
   unfolding accesses updates
-  accesses-same w = rw (cum-same w m.n) refl
+  accesses-same w = rw (cum_same w m.n) refl
 
   next-row-same : (made : List ℕ) (w : ℕ) → (next j made w).row ≡ (next k made w).row
-  unfolding next updates noUpdate
+  unfolding next updates no_update
   next-row-same made w =
-      sym (get_or-map (λ u. u.row) (up_to j w m.n) (count made w / 2) noUpdate) ∙ ap (λ (l : List ℕ). get_or l (count made w / 2) 0) (up-rows w m.n)
-      ∙ get_or-map (λ u. u.row) (up_to k w m.n) (count made w / 2) noUpdate
+      sym (get_or-map (λ u. u.row) (up_to j w m.n) (count made w / 2) no_update) ∙ ap (λ (l : List ℕ). get_or l (count made w / 2) 0) (up-rows w m.n)
+      ∙ get_or-map (λ u. u.row) (up_to k w m.n) (count made w / 2) no_update
 
   finished-same : (made : List ℕ) → finished j made ≡ finished k made
   unfolding finished
-  finished-same made = fun_ext (λ g. rw (cum-same g.first _) refl)
+  finished-same made = fun_ext (λ g. rw (cum_same g.first _) refl)
 
   waits-same : (made : List ℕ) (w : ℕ) → waits j made w ≡ waits k made w
   unfolding waits
@@ -71,12 +71,12 @@ module _ (m : Matrix) (p : Plan) (x y : List ℤ) where
   unfolding refusal workers
   refusal-same made w = rw (accesses-same w, waits-same made w) refl
 
-  pub away-same : (made : List ℕ) (w : ℕ) → in_row j made w ≡ in_row k made w
+  pub away_same : (made : List ℕ) (w : ℕ) → in_row j made w ≡ in_row k made w
   unfolding in_row
-  away-same made w = rw (accesses-same w, next-row-same made w, cum-same w (next k made w).row) refl
+  away_same made w = rw (accesses-same w, next-row-same made w, cum_same w (next k made w).row) refl
 
-  ready-below-same : (made : List ℕ) (e : ℕ) → readyBelow j made e ≡ readyBelow k made e
-  unfolding readyBelow
+  ready-below-same : (made : List ℕ) (e : ℕ) → ready_below j made e ≡ ready_below k made e
+  unfolding ready_below
   ready-below-same made zero = refl
   ready-below-same made (suc e) = rw (refusal-same made e, ready-below-same made e) refl
 

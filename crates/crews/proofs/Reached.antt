@@ -10,26 +10,26 @@ use Rattle.base.specs.Lists.{filter}
 use Rattle.base.specs.Refusals as why
 use Rattle.base.specs.Replies.{in_turn}
 use Rattle.base.proofs.Lists.{filter-append}
-use Rattle.plan.specs.Sound.{maxWorkers}
+use Rattle.plan.specs.Sound.{max_workers}
 use Rattle.run.specs.Job.{Job, Accepted}
 use Rattle.run.specs.State.{State, fresh}
-use Rattle.run.specs.Machine.{moved, step, Stepped, steps, isState, Outcome, halted}
+use Rattle.run.specs.Machine.{moved, step, Stepped, steps, is_state, Outcome, halted}
 use Rattle.run.specs.Machine as machine
-use Rattle.run.specs.Schedule.{oneTaken, pass, skipsNone}
+use Rattle.run.specs.Schedule.{one_taken, pass, skips_none}
 use Rattle.run.specs.Answers.{picks, picked}
-use Rattle.run.specs.Calls.{place_of, pickedOf, stateCheck, answer_of, after_of, answer, after}
-use Rattle.run.specs.Sequence.{answersFrom, stateAfter}
+use Rattle.run.specs.Calls.{place_of, picked_of, state_check, answer_of, after_of, answer, after}
+use Rattle.run.specs.Sequence.{answers_from, state_after}
 use Rattle.run.specs.OneAccess.{Walk}
-use Rattle.run.specs.EveryRun.{taken_of, runState, runAnswers}
-use Rattle.run.proofs.Invariant.{inv-fresh}
+use Rattle.run.specs.EveryRun.{taken_of, run_state, run_answers}
+use Rattle.run.proofs.Invariant.{inv_fresh}
 use Rattle.run.proofs.Schedule.{steps_on}
-use Rattle.run.proofs.Taken.{walks-taken}
-use Rattle.run.proofs.Passes.{pass_on, pass-end}
+use Rattle.run.proofs.Taken.{walks_taken}
+use Rattle.run.proofs.Passes.{pass_on, pass_end}
 use Rattle.run.proofs.AsModel.{fine}
 use Rattle.run.proofs.Accepted.{facts}
-use Rattle.crews.specs.Crews.{Crew, crew0, crew1, crewNumber, Two, own_of, putFor, Roof, jobFor, crewStep, turn, namedFor, turns}
-use Rattle.crews.specs.Calls.{BothCall, picksBoth, readySets, forcesFor, BothAnswer, one, deniedBoth, stateChecks, answerBoth, after_both}
-use Rattle.crews.specs.TwoCrews.{bothFresh, bothState, takenOfBoth, picksTaken, allTaken, takenFor}
+use Rattle.crews.specs.Crews.{Crew, crew0, crew1, crew_number, Two, own_of, put_for, Roof, job_for, crew_step, turn, named_for, turns}
+use Rattle.crews.specs.Calls.{BothCall, picks_both, ready_sets, forces_for, BothAnswer, one, denied_both, state_checks, answer_both, after_both}
+use Rattle.crews.specs.TwoCrews.{both_fresh, both_state, taken_of_both, picks_taken, all_taken, taken_for}
 use Rattle.crews.proofs.Turns.{crew-moved, took}
 
 -- from s to e by steps of these workers, all taken
@@ -37,90 +37,90 @@ abbrev pub Follows : Job → State → List ℕ → State → Type 0
 Follows j s ws e = steps j s ws ≡ record { state = e; taken = length ws; number = 0 }
 
 follows_on : (j : Job) (s : State) (w : ℕ) (ws : List ℕ) (t e : State) → step j s w ≡ moved t → Follows j t ws e → Follows j s (w ∷ ws) e
-unfolding machine.oneMore
-follows_on j s w ws t e m f = steps_on j s w ws t m ∙ ap machine.oneMore f
+unfolding machine.one_more
+follows_on j s w ws t e m f = steps_on j s w ws t m ∙ ap machine.one_more f
 
 -- the workers that picks name for a crew, in two lists
-named-append : (c : Crew) (xs ys : List ℕ) → namedFor c (xs ++ ys) ≡ namedFor c xs ++ namedFor c ys
-unfolding namedFor
+named-append : (c : Crew) (xs ys : List ℕ) → named_for c (xs ++ ys) ≡ named_for c xs ++ named_for c ys
+unfolding named_for
 named-append c xs ys =
-    ap (map (λ b. b % maxWorkers)) (filter-append (λ b. eqb (b / maxWorkers) (crewNumber c)) xs ys)
-    ∙ map-append (λ b. b % maxWorkers) (filter (λ b. eqb (b / maxWorkers) (crewNumber c)) xs) (filter (λ b. eqb (b / maxWorkers) (crewNumber c)) ys)
+    ap (map (λ b. b % max_workers)) (filter-append (λ b. eqb (b / max_workers) (crew_number c)) xs ys)
+    ∙ map-append (λ b. b % max_workers) (filter (λ b. eqb (b / max_workers) (crew_number c)) xs) (filter (λ b. eqb (b / max_workers) (crew_number c)) ys)
 
 module _ (r : Roof) where
   -- a pick that is taken for crew d, seen by crew c
-  follow_one : (s : Two State) (c d : Crew) (b : ℕ) (t : State) → b / maxWorkers ≡ crewNumber d → crewStep r s d (b % maxWorkers) ≡ moved t
-      → (bs vs : List ℕ) (e : State) → Follows (jobFor r c) (own_of (putFor s d t) c) (namedFor c bs ++ vs) e → Follows (jobFor r c) (own_of s c) (namedFor c (b ∷ bs) ++ vs) e
-  unfolding namedFor
-  follow_one s crew0 crew0 b t n m bs vs e f = rw n (follows_on (jobFor r crew0) s.of0 (b % maxWorkers) (namedFor crew0 bs ++ vs) t e (crew-moved r s crew0 (b % maxWorkers) t m).own f)
+  follow_one : (s : Two State) (c d : Crew) (b : ℕ) (t : State) → b / max_workers ≡ crew_number d → crew_step r s d (b % max_workers) ≡ moved t
+      → (bs vs : List ℕ) (e : State) → Follows (job_for r c) (own_of (put_for s d t) c) (named_for c bs ++ vs) e → Follows (job_for r c) (own_of s c) (named_for c (b ∷ bs) ++ vs) e
+  unfolding named_for
+  follow_one s crew0 crew0 b t n m bs vs e f = rw n (follows_on (job_for r crew0) s.of0 (b % max_workers) (named_for crew0 bs ++ vs) t e (crew-moved r s crew0 (b % max_workers) t m).own f)
   follow_one s crew0 crew1 b t n m bs vs e f = rw n f
   follow_one s crew1 crew0 b t n m bs vs e f = rw n f
-  follow_one s crew1 crew1 b t n m bs vs e f = rw n (follows_on (jobFor r crew1) s.of1 (b % maxWorkers) (namedFor crew1 bs ++ vs) t e (crew-moved r s crew1 (b % maxWorkers) t m).own f)
+  follow_one s crew1 crew1 b t n m bs vs e f = rw n (follows_on (job_for r crew1) s.of1 (b % max_workers) (named_for crew1 bs ++ vs) t e (crew-moved r s crew1 (b % max_workers) t m).own f)
 
   module _ (c : Crew) where
     abbrev j : Job
-    j = jobFor r c
+    j = job_for r c
 
     -- a schedule for both, before what follows
-    follow-turns : (s : Two State) (bs vs : List ℕ) (e : State) → Follows j (own_of (turns r s bs).state c) vs e → Follows j (own_of s c) (namedFor c (take (turns r s bs).taken bs) ++ vs) e
-    unfolding pass oneTaken
-    follow-turns s [] vs e = λ f. unfold namedFor in f
-    follow-turns s (b ∷ bs) vs e = go (turn r s b) refl (λ t. follow-turns t bs vs e)
+    follow_turns : (s : Two State) (bs vs : List ℕ) (e : State) → Follows j (own_of (turns r s bs).state c) vs e → Follows j (own_of s c) (named_for c (take (turns r s bs).taken bs) ++ vs) e
+    unfolding pass one_taken
+    follow_turns s [] vs e = λ f. unfold named_for in f
+    follow_turns s (b ∷ bs) vs e = go (turn r s b) refl (λ t. follow_turns t bs vs e)
       where
-        go : (o : Outcome (Two State)) → turn r s b ≡ o → ((t : Two State) → Follows j (own_of (turns r t bs).state c) vs e → Follows j (own_of t c) (namedFor c (take (turns r t bs).taken bs) ++ vs) e)
-            → Follows j (own_of (turns r s (b ∷ bs)).state c) vs e → Follows j (own_of s c) (namedFor c (take (turns r s (b ∷ bs)).taken (b ∷ bs)) ++ vs) e
+        go : (o : Outcome (Two State)) → turn r s b ≡ o → ((t : Two State) → Follows j (own_of (turns r t bs).state c) vs e → Follows j (own_of t c) (named_for c (take (turns r t bs).taken bs) ++ vs) e)
+            → Follows j (own_of (turns r s (b ∷ bs)).state c) vs e → Follows j (own_of s c) (named_for c (take (turns r s (b ∷ bs)).taken (b ∷ bs)) ++ vs) e
         go (moved t) m ih =
             let k = took r s b t m in
-            rw (pass_on skipsNone (turn r) s b bs t m)
+            rw (pass_on skips_none (turn r) s b bs t m)
             (λ f. follow_one s c k.crew b k.state k.named k.moves (take (turns r t bs).taken bs) vs e
-            (subst (λ (u : Two State). Follows j (own_of u c) (namedFor c (take (turns r t bs).taken bs) ++ vs) e) k.is (ih t f)))
-        go (halted k) m ih = rw (pass-end skipsNone (turn r) s b bs k m refl) (λ f. unfold namedFor in f)
+            (subst (λ (u : Two State). Follows j (own_of u c) (named_for c (take (turns r t bs).taken bs) ++ vs) e) k.is (ih t f)))
+        go (halted k) m ih = rw (pass_end skips_none (turn r) s b bs k m refl) (λ f. unfold named_for in f)
 
     -- a call for both
-    follow-call : (s : Two State) (call : BothCall) (vs : List ℕ) (e : State) → Follows j (own_of (after_both r s call) c) vs e → Follows j (own_of s c) (namedFor c (picksTaken r s call) ++ vs) e
-    unfolding picksTaken answerBoth after_both stateChecks in_turn takenOfBoth taken_of pickedOf namedFor
-    follow-call s (picksBoth bs) vs e = by (isState (jobFor r crew0) s.of0) (isState (jobFor r crew1) s.of1)
+    follow_call : (s : Two State) (call : BothCall) (vs : List ℕ) (e : State) → Follows j (own_of (after_both r s call) c) vs e → Follows j (own_of s c) (named_for c (picks_taken r s call) ++ vs) e
+    unfolding picks_taken answer_both after_both state_checks in_turn taken_of_both taken_of picked_of named_for
+    follow_call s (picks_both bs) vs e = by (is_state (job_for r crew0) s.of0) (is_state (job_for r crew1) s.of1)
       where
         told : BothAnswer
-        told = one (pickedOf (turns r s bs).taken (turns r s bs).number)
+        told = one (picked_of (turns r s bs).taken (turns r s bs).number)
 
         by : (x y : Bool) → Follows j (own_of (cond x (cond y (turns r s bs).state s) s) c) vs e
-            → Follows j (own_of s c) (namedFor c (take (takenOfBoth (cond x (cond y told (deniedBoth why.notState 0)) (deniedBoth why.notState 0))) bs) ++ vs) e
-        by true true f = follow-turns s bs vs e f
+            → Follows j (own_of s c) (named_for c (take (taken_of_both (cond x (cond y told (denied_both why.not_state 0)) (denied_both why.not_state 0))) bs) ++ vs) e
+        by true true f = follow_turns s bs vs e f
         by true false f = f
         by false y f = f
-    follow-call s readySets vs e = λ f. f
-    follow-call s (forcesFor d room) vs e = λ f. f
+    follow_call s ready_sets vs e = λ f. f
+    follow_call s (forces_for d room) vs e = λ f. f
 
     -- a list of calls
-    follow-all : (s : Two State) (cs : List BothCall) → Follows j (own_of s c) (namedFor c (allTaken r s cs)) (own_of (stateAfter (after_both r) s cs) c)
-    unfolding allTaken stateAfter
-    follow-all s [] = unfold namedFor steps in refl
-    follow-all s (call ∷ cs) =
-        rw (named-append c (picksTaken r s call) (allTaken r (after_both r s call) cs))
-        (follow-call s call (namedFor c (allTaken r (after_both r s call) cs)) (own_of (stateAfter (after_both r) (after_both r s call) cs) c) (follow-all (after_both r s call) cs))
+    follow_all : (s : Two State) (cs : List BothCall) → Follows j (own_of s c) (named_for c (all_taken r s cs)) (own_of (state_after (after_both r) s cs) c)
+    unfolding all_taken state_after
+    follow_all s [] = unfold named_for steps in refl
+    follow_all s (call ∷ cs) =
+        rw (named-append c (picks_taken r s call) (all_taken r (after_both r s call) cs))
+        (follow_call s call (named_for c (all_taken r (after_both r s call) cs)) (own_of (state_after (after_both r) (after_both r s call) cs) c) (follow_all (after_both r s call) cs))
 
     -- .. from fresh
-    followed : (cs : List BothCall) → Follows j (fresh r.matrix.n) (takenFor r cs c) (own_of (bothState r cs) c)
-    unfolding takenFor bothState
-    followed cs = subst (λ (s : State). Follows j s (namedFor c (allTaken r (bothFresh r.matrix.n) cs)) (own_of (stateAfter (after_both r) (bothFresh r.matrix.n) cs) c)) (same c) (follow-all (bothFresh r.matrix.n) cs)
+    followed : (cs : List BothCall) → Follows j (fresh r.matrix.n) (taken_for r cs c) (own_of (both_state r cs) c)
+    unfolding taken_for both_state
+    followed cs = subst (λ (s : State). Follows j s (named_for c (all_taken r (both_fresh r.matrix.n) cs)) (own_of (state_after (after_both r) (both_fresh r.matrix.n) cs) c)) (same c) (follow_all (both_fresh r.matrix.n) cs)
       where
-        same : (c : Crew) → own_of (bothFresh r.matrix.n) c ≡ fresh r.matrix.n
-        same crew0 = unfold bothFresh in refl
-        same crew1 = unfold bothFresh in refl
+        same : (c : Crew) → own_of (both_fresh r.matrix.n) c ≡ fresh r.matrix.n
+        same crew0 = unfold both_fresh in refl
+        same crew1 = unfold both_fresh in refl
 
     module _ (ok : Accepted j) (cs : List BothCall) where
       -- so the crew's own run comes to the same state
-      pub reached : own_of (bothState r cs) c ≡ runState j (picks (takenFor r cs c) ∷ [])
-      unfolding runState stateAfter after after_of stateCheck in_turn
-      reached = rw (fine j (facts j ok) (fresh r.matrix.n) (inv-fresh j)) (sym (ap (λ (k : Stepped). k.state) (followed cs)))
+      pub reached : own_of (both_state r cs) c ≡ run_state j (picks (taken_for r cs c) ∷ [])
+      unfolding run_state state_after after after_of state_check in_turn
+      reached = rw (fine j (facts j ok) (fresh r.matrix.n) (inv_fresh j)) (sym (ap (λ (k : Stepped). k.state) (followed cs)))
 
       -- .. and takes all these picks
-      pub answered : runAnswers j (picks (takenFor r cs c) ∷ []) ≡ picked (length (takenFor r cs c)) 0 0 ∷ []
-      unfolding runAnswers answersFrom answer answer_of stateCheck in_turn pickedOf place_of
-      answered = rw (fine j (facts j ok) (fresh r.matrix.n) (inv-fresh j), followed cs) refl
+      pub answered : run_answers j (picks (taken_for r cs c) ∷ []) ≡ picked (length (taken_for r cs c)) 0 0 ∷ []
+      unfolding run_answers answers_from answer answer_of state_check in_turn picked_of place_of
+      answered = rw (fine j (facts j ok) (fresh r.matrix.n) (inv_fresh j), followed cs) refl
 
       -- each makes its one access
-      pub walked : Walk j (fresh r.matrix.n) (takenFor r cs c) (own_of (bothState r cs) c)
-      walked = subst (λ (ws : List ℕ). Walk j (fresh r.matrix.n) ws (own_of (bothState r cs) c)) (take-length (takenFor r cs c))
-          (subst (λ (k : Stepped). Walk j (fresh r.matrix.n) (take k.taken (takenFor r cs c)) k.state) (followed cs) (walks-taken j (facts j ok) (fresh r.matrix.n) (inv-fresh j) (takenFor r cs c)))
+      pub walked : Walk j (fresh r.matrix.n) (taken_for r cs c) (own_of (both_state r cs) c)
+      walked = subst (λ (ws : List ℕ). Walk j (fresh r.matrix.n) ws (own_of (both_state r cs) c)) (take-length (taken_for r cs c))
+          (subst (λ (k : Stepped). Walk j (fresh r.matrix.n) (take k.taken (taken_for r cs c)) k.state) (followed cs) (walks_taken j (facts j ok) (fresh r.matrix.n) (inv_fresh j) (taken_for r cs c)))

@@ -11,21 +11,21 @@ use Rattle.base.proofs.Lists.{filter-of, in_pos}
 use Rattle.run.specs.Job.{Job, workers}
 use Rattle.run.specs.State.{State, fresh}
 use Rattle.run.specs.Machine.{moved, ready, over}
-use Rattle.plan.specs.Sound.{maxWorkers}
+use Rattle.plan.specs.Sound.{max_workers}
 use Rattle.run.proofs.Able.{Able, able-refusal}
 use Rattle.run.proofs.Invariant.{zero-count}
 use Rattle.run.proofs.Onward.{onward-length}
-use Rattle.run.proofs.ReadySet.{ready-in}
+use Rattle.run.proofs.ReadySet.{ready_in}
 use Rattle.run.proofs.Forest.{WholePlan}
 use Rattle.run.proofs.Progress.{some-able}
 use Rattle.run.proofs.Accepted.{tree_of, facts}
-use Rattle.crews.specs.Crews.{Crew, crew0, crew1, other, Two, own_of, putFor, Roof, jobFor, in_row, isAway, unlessAway, crewRefusal, crewStep, crewReady}
+use Rattle.crews.specs.Crews.{Crew, crew0, crew1, other, Two, own_of, put_for, Roof, job_for, in_row, is_away, unless_away, crew_refusal, crew_step, crew_ready}
 use Rattle.crews.specs.Calls.{BothCall}
-use Rattle.crews.specs.TwoCrews.{AcceptedRoof, bothFresh, bothState}
-use Rattle.crews.proofs.Rows.{in-row-left, in-row-begun, RowFree, onward-free}
-use Rattle.crews.proofs.Turns.{not-away, crew-moved, calls-keep}
+use Rattle.crews.specs.TwoCrews.{AcceptedRoof, both_fresh, both_state}
+use Rattle.crews.proofs.Rows.{in_row-left, in_row-begun, RowFree, onward-free}
+use Rattle.crews.proofs.Turns.{not_away, crew-moved, calls-keep}
 use Rattle.crews.proofs.Alone.{alone}
-use Rattle.crews.proofs.Kept.{put-each}
+use Rattle.crews.proofs.Kept.{put_each}
 
 -- ---- two runs over one plan, of which one is not finished
 
@@ -40,78 +40,78 @@ module _ (j k : Job) (made new : List ℕ) (same : workers j ≡ workers k) (W :
     where
       go : (w : ℕ) → Able j made w → (b : Bool) → in_row k new w ≡ b → Free j k made new w ⊎ Free k j new made w
       go w a false e = inl (a, e)
-      go w a true e = inr (record { inPlan = subst (λ (n : ℕ). w < n) same a.inPlan; left = in-row-left k new w e; going = free w e }, is_false (λ h. alone w h e))
+      go w a true e = inr (record { in_plan = subst (λ (n : ℕ). w < n) same a.in_plan; left = in_row-left k new w e; going = free w e }, is_false (λ h. alone w h e))
 
 -- ---- two crews
 
 module _ (r : Roof) (ok : AcceptedRoof r) (cs : List BothCall) where
   abbrev s : Two State
-  s = bothState r cs
+  s = both_state r cs
 
   -- who is inside a row of a crew does not wait there: of every count that a step for a crew leads to
   abbrev NoneWaits : Crew → State → Type 0
-  NoneWaits c t = (length t.made ≡ maxWorkers) × RowFree (jobFor r c) t.made
+  NoneWaits c t = (length t.made ≡ max_workers) × RowFree (job_for r c) t.made
 
-  step-free : (s : Two State) (c : Crew) (w : ℕ) (t : State) → crewStep r s c w ≡ moved t → ((d : Crew) → NoneWaits d (own_of s d)) → (d : Crew) → NoneWaits d (own_of (putFor s c t) d)
-  unfolding crewRefusal
+  step-free : (s : Two State) (c : Crew) (w : ℕ) (t : State) → crew_step r s c w ≡ moved t → ((d : Crew) → NoneWaits d (own_of s d)) → (d : Crew) → NoneWaits d (own_of (put_for s c t) d)
+  unfolding crew_refusal
   step-free s c w t h free =
       let m = crew-moved r s c w t h in
       let long = (free c).0 in
-      put-each NoneWaits s c t
-      (rw m.made (onward-length (own_of s c).made w ∙ long, onward-free (jobFor r c) (facts (jobFor r c) (ok c)).few (own_of s c).made long (free c).1 w (not-away _ (isAway r s c w) m.free).0))
+      put_each NoneWaits s c t
+      (rw m.made (onward-length (own_of s c).made w ∙ long, onward-free (job_for r c) (facts (job_for r c) (ok c)).few (own_of s c).made long (free c).1 w (not_away _ (is_away r s c w) m.free).0))
       free
 
-  free : (c : Crew) → RowFree (jobFor r c) (own_of s c).made
-  unfolding bothState
-  free c = (calls-keep r (λ t. (d : Crew) → NoneWaits d (own_of t d)) step-free (bothFresh r.matrix.n) cs at_first c).1
+  free : (c : Crew) → RowFree (job_for r c) (own_of s c).made
+  unfolding both_state
+  free c = (calls-keep r (λ t. (d : Crew) → NoneWaits d (own_of t d)) step-free (both_fresh r.matrix.n) cs at_first c).1
     where
       begins : (d : Crew) → NoneWaits d (fresh r.matrix.n)
-      begins d = unfold fresh in (refl, λ w h. absurd (omega (arith, in-row-begun (jobFor r d) (fresh r.matrix.n).made w h, zero-count w)))
+      begins d = unfold fresh in (refl, λ w h. absurd (omega (arith, in_row-begun (job_for r d) (fresh r.matrix.n).made w h, zero-count w)))
 
-      at_first : (d : Crew) → NoneWaits d (own_of (bothFresh r.matrix.n) d)
-      at_first crew0 = unfold bothFresh in begins crew0
-      at_first crew1 = unfold bothFresh in begins crew1
+      at_first : (d : Crew) → NoneWaits d (own_of (both_fresh r.matrix.n) d)
+      at_first crew0 = unfold both_fresh in begins crew0
+      at_first crew1 = unfold both_fresh in begins crew1
 
   -- a worker that can move for crew c
   pub record Moves : Type 0 where
     pub crew : Crew
     pub worker : ℕ
-    pub able : Able (jobFor r crew) (own_of s crew).made worker
-    pub here : isAway r s crew worker ≡ false
+    pub able : Able (job_for r crew) (own_of s crew).made worker
+    pub here : is_away r s crew worker ≡ false
 
   -- .. or the other
-  found : (c : Crew) (w : ℕ) → Free (jobFor r c) (jobFor r (other c)) (own_of s c).made (own_of s (other c)).made w ⊎ Free (jobFor r (other c)) (jobFor r c) (own_of s (other c)).made (own_of s c).made w → Moves
-  unfolding isAway
+  found : (c : Crew) (w : ℕ) → Free (job_for r c) (job_for r (other c)) (own_of s c).made (own_of s (other c)).made w ⊎ Free (job_for r (other c)) (job_for r c) (own_of s (other c)).made (own_of s c).made w → Moves
+  unfolding is_away
   found c w (inl (a, h)) = record { crew = c; worker = w; able = a; here = h }
   found crew0 w (inr (a, h)) = record { crew = crew1; worker = w; able = a; here = h }
   found crew1 w (inr (a, h)) = record { crew = crew0; worker = w; able = a; here = h }
 
-  one-row : (c : Crew) (w : ℕ) → in_row (jobFor r c) (own_of s c).made w ≡ true → in_row (jobFor r (other c)) (own_of s (other c)).made w ≡ true → ⊥
+  one-row : (c : Crew) (w : ℕ) → in_row (job_for r c) (own_of s c).made w ≡ true → in_row (job_for r (other c)) (own_of s (other c)).made w ≡ true → ⊥
   one-row crew0 w x y = alone r cs w x y
   one-row crew1 w x y = alone r cs w y x
 
   -- until both are finished there is one
-  pub moving : (c : Crew) → over (jobFor r c) (own_of s c).made ≡ false → Moves
+  pub moving : (c : Crew) → over (job_for r c) (own_of s c).made ≡ false → Moves
   unfolding workers
   moving c o =
-      let (w, m) = either-moves (jobFor r c) (jobFor r (other c)) (own_of s c).made (own_of s (other c)).made refl (tree_of (jobFor r c) (ok c)) (free (other c)) (one-row c) o in
+      let (w, m) = either-moves (job_for r c) (job_for r (other c)) (own_of s c).made (own_of s (other c)).made refl (tree_of (job_for r c) (ok c)) (free (other c)) (one-row c) o in
       found c w m
 
   -- who is inside a row of a crew can move for it
-  pub inside-moves : (c : Crew) (w : ℕ) → w < workers (jobFor r c) → in_row (jobFor r c) (own_of s c).made w ≡ true → crewRefusal r s c w ≡ 0
-  unfolding crewRefusal unlessAway isAway
+  pub inside-moves : (c : Crew) (w : ℕ) → w < workers (job_for r c) → in_row (job_for r c) (own_of s c).made w ≡ true → crew_refusal r s c w ≡ 0
+  unfolding crew_refusal unless_away is_away
   inside-moves c w l h =
-      rw (able-refusal (jobFor r c) (own_of s c).made w (record { inPlan = l; left = in-row-left (jobFor r c) (own_of s c).made w h; going = free c w h }), is_false (one-row c w h)) refl
+      rw (able-refusal (job_for r c) (own_of s c).made w (record { in_plan = l; left = in_row-left (job_for r c) (own_of s c).made w h; going = free c w h }), is_false (one-row c w h)) refl
 
   module _ (m : Moves) where
     -- its step is not refused
-    pub not-refused : crewRefusal r s m.crew m.worker ≡ 0
-    unfolding crewRefusal unlessAway
-    not-refused = rw (able-refusal (jobFor r m.crew) (own_of s m.crew).made m.worker m.able, m.here) refl
+    pub not-refused : crew_refusal r s m.crew m.worker ≡ 0
+    unfolding crew_refusal unless_away
+    not-refused = rw (able-refusal (job_for r m.crew) (own_of s m.crew).made m.worker m.able, m.here) refl
 
     -- .. and it is in its crew's ready set
-    pub in-ready : 1 ≤ length (crewReady r s m.crew)
-    unfolding crewReady
-    in-ready =
-        in_pos (crewReady r s m.crew) m.worker
-        (filter-of (λ w. not (isAway r s m.crew w)) (ready (jobFor r m.crew) (own_of s m.crew).made) m.worker (ready-in (jobFor r m.crew) (own_of s m.crew).made m.worker m.able) (rw m.here refl))
+    pub in_ready : 1 ≤ length (crew_ready r s m.crew)
+    unfolding crew_ready
+    in_ready =
+        in_pos (crew_ready r s m.crew) m.worker
+        (filter-of (λ w. not (is_away r s m.crew w)) (ready (job_for r m.crew) (own_of s m.crew).made) m.worker (ready_in (job_for r m.crew) (own_of s m.crew).made m.worker m.able) (rw m.here refl))

@@ -7,19 +7,19 @@ use native.Mathlib.Omega.{arith}
 use lib.ListN.{length, take, drop, get_or, length-append, length-map}
 use lib.Seq.{take-take}
 use Rattle.base.specs.Lists.{concat}
-use Rattle.levels.specs.code.Rows.{adjOf}
+use Rattle.levels.specs.Code.Rows.{adj_of}
 use Rattle.plan.specs.Groups.{Plan, red, blue, group_of}
 use Rattle.race.specs.Loads.{load_of}
 use Rattle.extents.specs.Extents.{Policy, Extent, extent, cut}
 use Rattle.race.specs.Planner as planner
-use Rattle.race.specs.Planner.{Planner, childOf, pairs, planPairs, ◌then◌, planGroup}
-use Rattle.cycle.specs.code.Cycle.{redGroup, blueGroup, leftAfter, PairsTask, pairsPlan}
+use Rattle.race.specs.Planner.{Planner, child_of, pairs, plan_pairs, ◌then◌, plan_group}
+use Rattle.cycle.specs.Code.Cycle.{red_group, blue_group, left_after, PairsTask, pairs_plan}
 use Rattle.cycle.specs.declared.Parent.{Parent}
 use Rattle.cycle.specs.declared.Left.{Left}
 use Rattle.cycle.specs.declared.Pair.{Pair}
 use Rattle.extents.specs.PairLevels.{PairTakes}
-use Rattle.loads.proofs.Stretches.{rowsIn, ends_at, rows_split}
-use Rattle.cycle.proofs.PairPlans.{extentOf, cut_of, extent-of, taken-most, Bounds, pair-bounds, pairs_next}
+use Rattle.loads.proofs.Stretches.{rows_in, ends_at, rows_split}
+use Rattle.cycle.proofs.PairPlans.{extent_of, cut_of, extent-of, taken-most, Bounds, pair_bounds, pairs_next}
 
 -- what the code finds of the next pair
 abbrev pub Found : (policy : Policy) (up : Parent) (left : Left) (ends loads : List ℕ) → Pair → Type 0
@@ -31,21 +31,21 @@ Found policy up left ends loads pair =
 
 -- the plan of a pair and those after it, its sizes known
 pairs-cons : (child : Planner) (up depth start first index : ℕ) (rs bs : List ℕ) (v : ℕ) (cs : List planner.Pair) (a b : ℕ) → length rs ≡ a → length bs ≡ b
-    → let r = child index (childOf up depth start a first v red) rs in
+    → let r = child index (child_of up depth start a first v red) rs in
     let i = index + length r.groups in
-    let s = child i (childOf up depth (start + a) b first v blue) bs in
-    planPairs child up depth start first index (record { reds = rs; blues = bs; workers = v } ∷ cs)
-    ≡ (r then (s then planPairs child up depth (start + a + b) (first + v) (i + length s.groups) cs))
-unfolding planPairs
+    let s = child i (child_of up depth (start + a) b first v blue) bs in
+    plan_pairs child up depth start first index (record { reds = rs; blues = bs; workers = v } ∷ cs)
+    ≡ (r then (s then plan_pairs child up depth (start + a + b) (first + v) (i + length s.groups) cs))
+unfolding plan_pairs
 pairs-cons child up depth start first index rs bs v cs a b ea eb = rw (← ea, ← eb)
 
 module _ {n : ℕ} {policy : Policy} {stages : ℕ} {starts columns stretch ends loads records : List ℕ} {up : Parent} {left : Left} {ls : List (List ℕ)}
     (task : PairsTask n policy stages starts columns stretch ends loads records up left ls) {pair : Pair} (found : Found policy up left ends loads pair) where
   abbrev adj : ℕ → List ℕ
-  adj = adjOf n starts columns
+  adj = adj_of n starts columns
 
   found' : Found policy up left ends (map (load_of adj) ls) pair
-  found' = rw task.loads-are at found
+  found' = rw task.loads_are at found
 
   abbrev k : ℕ
   k = pair.levels
@@ -64,7 +64,7 @@ module _ {n : ℕ} {policy : Policy} {stages : ℕ} {starts columns stretch ends
 
   pub bounds : Bounds policy.reach (length ls) k c
   bounds = rw (length-map ls (load_of adj)) at
-      (pair-bounds up.workers up.load policy left.free (map (load_of adj) ls) k c task.far.0 task.free (rw (length-map ls (load_of adj)) task.levels) found'.0 cut-is)
+      (pair_bounds up.workers up.load policy left.free (map (load_of adj) ls) k c task.far.0 task.free (rw (length-map ls (load_of adj)) task.levels) found'.0 cut-is)
 
   -- its rows
   abbrev pub reds : List ℕ
@@ -76,11 +76,11 @@ module _ {n : ℕ} {policy : Policy} {stages : ℕ} {starts columns stretch ends
   abbrev pub later : List ℕ
   later = concat (drop k ls)
 
-  end-at : (j : ℕ) → 1 ≤ j → j ≤ length ls → get_or ends (j - 1) 0 - left.done ≡ rowsIn j ls
+  end-at : (j : ℕ) → 1 ≤ j → j ≤ length ls → get_or ends (j - 1) 0 - left.done ≡ rows_in j ls
   end-at zero a b = absurd (omega arith)
   end-at (suc j) a b =
       let less : suc j - 1 ≡ j = omega arith in
-      rw (less, task.levelled.ends-are, ends_at left.done ls j b) (omega arith)
+      rw (less, task.levelled.ends_are, ends_at left.done ls j b) (omega arith)
 
   pub reds-length : length reds ≡ pair.reds
   reds-length = sym (found'.2 ∙ rw (← cut-is) (end-at c (omega (arith, bounds.reds)) (omega (arith, bounds.blues, bounds.most))))
@@ -91,53 +91,53 @@ module _ {n : ℕ} {policy : Policy} {stages : ℕ} {starts columns stretch ends
       rows_split (take k ls) c
       ∙ ap (λ (ms : List (List ℕ)). concat ms ++ blues) (take-take c k ls (omega (arith, bounds.blues)))
 
-  pub rows_is : pair.rows ≡ rowsIn k ls
+  pub rows_is : pair.rows ≡ rows_in k ls
   rows_is = found'.3 ∙ end-at k (omega (arith, bounds.some)) bounds.most
 
   pub rows-length : pair.reds + length blues ≡ pair.rows
   rows-length = omega (arith, rows_is, ap length both, length-append reds blues, reds-length)
 
-  pub stretch-parts : stretch ≡ reds ++ (blues ++ later)
-  stretch-parts = task.levelled.rows_are ∙ rows_split ls k ∙ ap (λ (xs : List ℕ). xs ++ later) both ∙ append_assoc reds blues later
+  pub stretch_parts : stretch ≡ reds ++ (blues ++ later)
+  stretch_parts = task.levelled.rows_are ∙ rows_split ls k ∙ ap (λ (xs : List ℕ). xs ++ later) both ∙ append_assoc reds blues later
 
   pub blues-length : length blues ≡ pair.rows - pair.reds
   blues-length = omega (arith, rows-length)
 
   -- the plans of its red group, of its blue group from an index on, and of the pairs after it from an index on
-  abbrev pub redPlan : Plan
-  redPlan = planGroup adj n policy stages left.index (group_of (redGroup up left pair)) reds
+  abbrev pub red_plan : Plan
+  red_plan = plan_group adj n policy stages left.index (group_of (red_group up left pair)) reds
 
-  abbrev pub bluePlan : (index : ℕ) → Plan
-  bluePlan i = planGroup adj n policy stages i (group_of (blueGroup up left pair)) blues
+  abbrev pub blue_plan : (index : ℕ) → Plan
+  blue_plan i = plan_group adj n policy stages i (group_of (blue_group up left pair)) blues
 
-  abbrev pub restPlan : (index : ℕ) → Plan
-  restPlan j = pairsPlan adj n policy stages up (leftAfter left pair j) (drop k ls)
+  abbrev pub rest_plan : (index : ℕ) → Plan
+  rest_plan j = pairs_plan adj n policy stages up (left_after left pair j) (drop k ls)
 
-  abbrev pub blueIndex : ℕ
-  blueIndex = left.index + length redPlan.groups
+  abbrev pub blue_index : ℕ
+  blue_index = left.index + length red_plan.groups
 
-  abbrev pub restIndex : ℕ
-  restIndex = blueIndex + length (bluePlan blueIndex).groups
+  abbrev pub rest_index : ℕ
+  rest_index = blue_index + length (blue_plan blue_index).groups
 
   -- the three make the plan of the pairs that are left
-  pub plan-next : pairsPlan adj n policy stages up left ls ≡ (redPlan then (bluePlan blueIndex then restPlan restIndex))
+  pub plan-next : pairs_plan adj n policy stages up left ls ≡ (red_plan then (blue_plan blue_index then rest_plan rest_index))
   plan-next =
-      let child = planGroup adj n policy stages in
+      let child = plan_group adj n policy stages in
       let one : concat (take c (take k ls)) ≡ reds = ap concat (take-take c k ls (omega (arith, bounds.blues))) in
       let start : up.start + left.done + pair.reds + (pair.rows - pair.reds) ≡ up.start + (left.done + pair.rows) = omega (arith, rows-length) in
       let next = pairs_next adj up.workers up.load policy task.far.0 left.free ls task.free task.levels in
-      ap (planPairs child up.index (up.depth + 1) (up.start + left.done) left.first left.index) (rw (← found'.0, ← found'.1, one) at next)
+      ap (plan_pairs child up.index (up.depth + 1) (up.start + left.done) left.first left.index) (rw (← found'.0, ← found'.1, one) at next)
       ∙ pairs-cons child up.index (up.depth + 1) (up.start + left.done) left.first left.index reds blues pair.workers
       (pairs adj (length (drop k ls)) up.workers up.load policy (left.free - pair.workers) (drop k ls)) pair.reds (pair.rows - pair.reds) reds-length blues-length
-      ∙ ap (λ (x : ℕ). redPlan then (bluePlan blueIndex then planPairs child up.index (up.depth + 1) x (left.first + pair.workers) restIndex
+      ∙ ap (λ (x : ℕ). red_plan then (blue_plan blue_index then plan_pairs child up.index (up.depth + 1) x (left.first + pair.workers) rest_index
       (pairs adj (length (drop k ls)) up.workers up.load policy (left.free - pair.workers) (drop k ls)))) start
 
-  pub count_next : length (pairsPlan adj n policy stages up left ls).groups ≡ length redPlan.groups + (length (bluePlan blueIndex).groups + length (restPlan restIndex).groups)
+  pub count_next : length (pairs_plan adj n policy stages up left ls).groups ≡ length red_plan.groups + (length (blue_plan blue_index).groups + length (rest_plan rest_index).groups)
   unfolding ◌then◌
   count_next = rw plan-next (simp length-append)
 
   -- what it takes
-  taken : PairTakes policy.reach (length ls) left.free (extentOf adj up.workers up.load policy task.far.0 left.free ls)
+  taken : PairTakes policy.reach (length ls) left.free (extent_of adj up.workers up.load policy task.far.0 left.free ls)
   taken = extent-of adj up.workers up.load policy task.far.0 left.free ls task.free task.levels
 
   -- no more workers than are free
@@ -149,7 +149,7 @@ module _ {n : ℕ} {policy : Policy} {stages : ℕ} {starts columns stretch ends
   left_over some = go taken.rest
     where
       e : Extent
-      e = extentOf adj up.workers up.load policy task.far.0 left.free ls
+      e = extent_of adj up.workers up.load policy task.far.0 left.free ls
 
       go : ((e.levels ≡ length ls) × (e.workers ≡ left.free)) ⊎ ((e.levels + 2 * policy.reach ≤ length ls) × (e.workers < left.free)) → (pair.levels + 2 * policy.reach ≤ length ls) × (pair.workers < left.free)
       go (inl h) = absurd (some (found'.0 ∙ h.0))

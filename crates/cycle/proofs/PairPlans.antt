@@ -28,9 +28,9 @@ pub record Bounds (reach all levels red : ℕ) : Type 0 where
   pub reds : reach ≤ red
   pub blues : red + reach ≤ levels
 
-pub pair-bounds : (w R : ℕ) (policy : Policy) (free : ℕ) (qs : List ℕ) (levels c : ℕ) → 1 ≤ policy.reach → 1 ≤ free → 2 * policy.reach ≤ length qs → levels ≡ (extent w R policy free qs).levels → c ≡ cut policy.reach (take levels qs)
+pub pair_bounds : (w R : ℕ) (policy : Policy) (free : ℕ) (qs : List ℕ) (levels c : ℕ) → 1 ≤ policy.reach → 1 ≤ free → 2 * policy.reach ≤ length qs → levels ≡ (extent w R policy free qs).levels → c ≡ cut policy.reach (take levels qs)
     → Bounds policy.reach (length qs) levels c
-pair-bounds w R policy free qs levels c some f l e d =
+pair_bounds w R policy free qs levels c some f l e d =
     let t = extent-taken w R policy free qs some f l in
     let most : levels ≤ length qs = omega (arith, taken-most t) in
     let long : length (take levels qs) ≡ levels = length-take-le levels qs most in
@@ -39,15 +39,15 @@ pair-bounds w R policy free qs levels c some f l e d =
 
 module _ (adj : ℕ → List ℕ) (w R : ℕ) (policy : Policy) (some : 1 ≤ policy.reach) where
   -- the next pair's extent
-  abbrev pub extentOf : (free : ℕ) → List (List ℕ) → Extent
-  extentOf free ls = extent w R policy free (map (load_of adj) ls)
+  abbrev pub extent_of : (free : ℕ) → List (List ℕ) → Extent
+  extent_of free ls = extent w R policy free (map (load_of adj) ls)
 
   -- how many of its levels are red
   abbrev pub cut_of : (levels : ℕ) → List (List ℕ) → ℕ
   cut_of levels ls = cut policy.reach (map (load_of adj) (take levels ls))
 
   -- it takes at least 2 × reach levels and a worker, and leaves as much or nothing
-  pub extent-of : (free : ℕ) (ls : List (List ℕ)) → 1 ≤ free → 2 * policy.reach ≤ length ls → PairTakes policy.reach (length ls) free (extentOf free ls)
+  pub extent-of : (free : ℕ) (ls : List (List ℕ)) → 1 ≤ free → 2 * policy.reach ≤ length ls → PairTakes policy.reach (length ls) free (extent_of free ls)
   extent-of free ls f l = rw (length-map ls (load_of adj)) at (extent-taken w R policy free (map (load_of adj) ls) some f (rw (length-map ls (load_of adj)) l))
 
   pairs-none : (k free : ℕ) → pairs adj k w R policy free [] ≡ []
@@ -77,14 +77,14 @@ module _ (adj : ℕ → List ℕ) (w R : ℕ) (policy : Policy) (some : 1 ≤ po
   pairs-enough (suc j) zero free ls a b f l = absurd (omega arith)
   pairs-enough (suc j) (suc k) free [] a b f l = absurd (omega arith)
   pairs-enough (suc j) (suc k) free (x ∷ ls) a b f l =
-      let e = extentOf free (x ∷ ls) in
+      let e = extent_of free (x ∷ ls) in
       let t = extent-of free (x ∷ ls) f l in
       let left : length (drop e.levels (x ∷ ls)) ≡ suc (length ls) - e.levels = length-drop e.levels (x ∷ ls) in
       rw (rest-enough j k free (x ∷ ls) e t (omega (arith, t.long)) (omega (arith, t.long)) (pairs-enough j k))
 
   -- the next pair, and those in the levels and workers that it leaves
   pub pairs_next : (free : ℕ) (ls : List (List ℕ)) → 1 ≤ free → 2 * policy.reach ≤ length ls
-      → let e = extentOf free ls in
+      → let e = extent_of free ls in
       let mine = take e.levels ls in
       let c = cut_of e.levels ls in
       let rest = drop e.levels ls in
@@ -93,7 +93,7 @@ module _ (adj : ℕ → List ℕ) (w R : ℕ) (policy : Policy) (some : 1 ≤ po
   unfolding pairs
   pairs_next free [] f l = absurd (omega arith)
   pairs_next free (x ∷ ls) f l =
-      let e = extentOf free (x ∷ ls) in
+      let e = extent_of free (x ∷ ls) in
       let t = extent-of free (x ∷ ls) f l in
       let rest = drop e.levels (x ∷ ls) in
       let left : length rest ≡ suc (length ls) - e.levels = length-drop e.levels (x ∷ ls) in

@@ -7,25 +7,25 @@ use native.Mathlib.Omega.{arith}
 use lib.ListN.{length, take, drop, get_or, length-drop, length-map, drop_of_length-le}
 use lib.Seq.{take_all}
 use Rattle.base.specs.Lists.{sum}
-use Rattle.levels.specs.code.Group.{Proper}
-use Rattle.levels.specs.code.Rows.{adjOf}
+use Rattle.levels.specs.Code.Group.{Proper}
+use Rattle.levels.specs.Code.Rows.{adj_of}
 use Rattle.levels.proofs.Proper.{proper-left, proper-right}
 use Rattle.plan.specs.Groups.{Plan, group_of}
 use Rattle.race.specs.Loads.{load_of}
-use Rattle.race.specs.Planner.{pairs, planPairs, ◌then◌, planGroup}
+use Rattle.race.specs.Planner.{pairs, plan_pairs, ◌then◌, plan_group}
 use Rattle.extents.specs.Extents.{Policy}
-use Rattle.extents.specs.code.Scans.{Scale}
-use Rattle.loads.specs.code.Stretches.{levelsIn, endsOf, Levelled}
-use Rattle.cycle.specs.code.Records.{Holds}
-use Rattle.cycle.specs.code.Cycle.{redGroup, blueGroup, leftAfter, Fits, GroupTask, PairsTask, pairsPlan}
+use Rattle.extents.specs.Code.Scans.{Scale}
+use Rattle.loads.specs.Code.Stretches.{levels_in, ends_of, Levelled}
+use Rattle.cycle.specs.Code.Records.{Holds}
+use Rattle.cycle.specs.Code.Cycle.{red_group, blue_group, left_after, Fits, GroupTask, PairsTask, pairs_plan}
 use Rattle.cycle.specs.declared.Parent.{Parent}
 use Rattle.cycle.specs.declared.Left.{Left}
 use Rattle.cycle.specs.declared.Pair.{Pair}
 use Rattle.extents.proofs.Ends.{sum-split}
-use Rattle.cycle.proofs.Thirds.{fronted, part, patched, first_part, first_back, second-part, second_back, third-part, third_back, three-length}
+use Rattle.cycle.proofs.Thirds.{fronted, part, patched, first_part, first_back, second-part, second_back, third_part, third_back, three_length}
 use Rattle.loads.proofs.Stretches.{length-ends, ends_at, ends-drop, levels-in}
 use Rattle.cycle.proofs.Holding.{holds-nothing, holds_then}
-use Rattle.cycle.proofs.NextPair.{Found, bounds, reds, blues, later, reds-length, rows_is, rows-length, blues-length, stretch-parts, redPlan, bluePlan, restPlan, blueIndex, restIndex, plan-next, count_next, workers-most, left_over}
+use Rattle.cycle.proofs.NextPair.{Found, bounds, reds, blues, later, reds-length, rows_is, rows-length, blues-length, stretch_parts, red_plan, blue_plan, rest_plan, blue_index, rest_index, plan-next, count_next, workers-most, left_over}
 
 -- what is lent of a list from a place on
 pub part_to_end : (xs : List ℕ) (a : ℕ) → part xs a (length xs) ≡ drop a xs
@@ -39,15 +39,15 @@ map-drop f (suc k) (l ∷ ls) = map-drop f k ls
 module _ {n : ℕ} {policy : Policy} {stages : ℕ} {starts columns stretch ends loads records : List ℕ} {up : Parent} {left : Left} {ls : List (List ℕ)}
     (task : PairsTask n policy stages starts columns stretch ends loads records up left ls) where
   pub ends-count : length ends ≡ length ls
-  ends-count = ap length task.levelled.ends-are ∙ length-ends left.done ls
+  ends-count = ap length task.levelled.ends_are ∙ length-ends left.done ls
 
   pub loads-count : length loads ≡ length ls
-  loads-count = ap length task.loads-are ∙ length-map ls (load_of (adjOf n starts columns))
+  loads-count = ap length task.loads_are ∙ length-map ls (load_of (adj_of n starts columns))
 
   -- what the search for the next pair asks
-  pub next-asked : Scale up.workers up.load × (sum loads ≤ up.load) × (1 ≤ policy.reach) × (2 * policy.reach ≤ length loads) × (policy.p ≤ 100) × (1 ≤ left.free) × (length ends ≡ length loads)
+  pub next_asked : Scale up.workers up.load × (sum loads ≤ up.load) × (1 ≤ policy.reach) × (2 * policy.reach ≤ length loads) × (policy.p ≤ 100) × (1 ≤ left.free) × (length ends ≡ length loads)
       × ((j : ℕ) → j < length ends → left.done ≤ get_or ends j 0)
-  next-asked = (
+  next_asked = (
     task.scale,
     task.within,
     task.far.0,
@@ -55,13 +55,13 @@ module _ {n : ℕ} {policy : Policy} {stages : ℕ} {starts columns stretch ends
     task.share,
     task.free,
     ends-count ∙ sym loads-count,
-    λ j l. rw (task.levelled.ends-are, ends_at left.done ls j (omega (arith, ends-count))) (omega arith),
+    λ j l. rw (task.levelled.ends_are, ends_at left.done ls j (omega (arith, ends-count))) (omega arith),
   )
 
 module _ {n : ℕ} {policy : Policy} {stages : ℕ} {starts columns stretch ends loads records : List ℕ} {up : Parent} {left : Left} {ls : List (List ℕ)}
     (task : PairsTask n policy stages starts columns stretch ends loads records up left ls) {pair : Pair} (found : Found policy up left ends loads pair) where
   abbrev adj : ℕ → List ℕ
-  adj = adjOf n starts columns
+  adj = adj_of n starts columns
 
   abbrev a : ℕ
   a = pair.reds
@@ -71,42 +71,42 @@ module _ {n : ℕ} {policy : Policy} {stages : ℕ} {starts columns stretch ends
 
   -- the plan of the pairs that are left
   abbrev plan : Plan
-  plan = pairsPlan adj n policy stages up left ls
+  plan = pairs_plan adj n policy stages up left ls
 
   -- ---- the red group
 
   red-part : take a stretch ≡ reds task found
-  red-part = rw (stretch-parts task found) (first_part (reds task found) (blues task found) (later task found) a b (reds-length task found) (rows-length task found))
+  red-part = rw (stretch_parts task found) (first_part (reds task found) (blues task found) (later task found) a b (reds-length task found) (rows-length task found))
 
-  stretch-length : length stretch ≡ b + length (later task found)
-  stretch-length = ap length (stretch-parts task found) ∙ three-length (reds task found) (blues task found) (later task found) a b (reds-length task found) (rows-length task found)
+  stretch_length : length stretch ≡ b + length (later task found)
+  stretch_length = ap length (stretch_parts task found) ∙ three_length (reds task found) (blues task found) (later task found) a b (reds-length task found) (rows-length task found)
 
   parts-proper : Proper n (reds task found ++ (blues task found ++ later task found))
-  parts-proper = rw (stretch-parts task found) at task.proper
+  parts-proper = rw (stretch_parts task found) at task.proper
 
   rest-proper : Proper n (blues task found ++ later task found)
   rest-proper = proper-right n (reds task found) (blues task found ++ later task found) parts-proper
 
   -- the parts lie in the stretch
   pub parts_in : (a ≤ b) × (b ≤ length stretch)
-  parts_in = (omega (arith, rows-length task found), omega (arith, stretch-length))
+  parts_in = (omega (arith, rows-length task found), omega (arith, stretch_length))
 
   -- its levels are among those that are left
-  pub levels-in-ends : (2 * policy.reach ≤ pair.levels) × (pair.levels ≤ length ends) × (pair.levels ≤ length loads)
-  levels-in-ends = let k = bounds task found in (k.some, omega (arith, ends-count task), omega (arith, loads-count task))
+  pub levels_in_ends : (2 * policy.reach ≤ pair.levels) × (pair.levels ≤ length ends) × (pair.levels ≤ length loads)
+  levels_in_ends = let k = bounds task found in (k.some, omega (arith, ends-count task), omega (arith, loads-count task))
 
   -- its numbers are small
   pub pair_fits : Fits up left pair
   pair_fits = record { parts = parts_in.0; inside = omega (arith, parts_in, task.inside); some = workers-most task found; workers = task.workers; shallow = omega (arith, task.shallow) }
 
-  pub red-task : GroupTask n policy stages left.index starts columns (take a stretch) records (redGroup up left pair)
-  red-task = rw red-part (record {
+  pub red_task : GroupTask n policy stages left.index starts columns (take a stretch) records (red_group up left pair)
+  red_task = rw red-part (record {
     rows = task.rows;
     proper = proper-left n (reds task found) (blues task found ++ later task found) parts-proper;
     share = task.share;
     far = task.far;
     size = sym (reds-length task found);
-    inside = omega (arith, task.inside, stretch-length, reds-length task found, rows-length task found);
+    inside = omega (arith, task.inside, stretch_length, reds-length task found, rows-length task found);
     workers = omega (arith, task.workers, workers-most task found);
     shallow = task.shallow;
     few = task.few;
@@ -115,37 +115,37 @@ module _ {n : ℕ} {policy : Policy} {stages : ℕ} {starts columns stretch ends
 
   -- ---- the blue group, once the red one is planned
 
-  module _ {xs records₁ : List ℕ} {i : ℕ} (red-held : Holds (planGroup adj n policy stages left.index (group_of (redGroup up left pair)) (take a stretch)) left.index records xs records₁ i)
+  module _ {xs records₁ : List ℕ} {i : ℕ} (red-held : Holds (plan_group adj n policy stages left.index (group_of (red_group up left pair)) (take a stretch)) left.index records xs records₁ i)
       (xs-long : length xs ≡ length (take a stretch)) (long₁ : length records₁ ≡ length records) where
-    red-held' : Holds (redPlan task found) left.index records xs records₁ i
-    red-held' = rw red-part at red-held
+    red_held' : Holds (red_plan task found) left.index records xs records₁ i
+    red_held' = rw red-part at red-held
 
-    xs-length : length xs ≡ a
-    xs-length = xs-long ∙ ap length red-part ∙ reds-length task found
+    xs_length : length xs ≡ a
+    xs_length = xs-long ∙ ap length red-part ∙ reds-length task found
 
     abbrev pub one : List ℕ
     one = fronted stretch a xs
 
     one-is : one ≡ xs ++ (blues task found ++ later task found)
-    one-is = rw (stretch-parts task found) (first_back (reds task found) (blues task found) (later task found) a b (reds-length task found) (rows-length task found) xs)
+    one-is = rw (stretch_parts task found) (first_back (reds task found) (blues task found) (later task found) a b (reds-length task found) (rows-length task found) xs)
 
     blue-part : part one a b ≡ blues task found
-    blue-part = rw one-is (second-part xs (blues task found) (later task found) a b xs-length (rows-length task found))
+    blue-part = rw one-is (second-part xs (blues task found) (later task found) a b xs_length (rows-length task found))
 
     pub one-length : length one ≡ length stretch
-    one-length = ap length one-is ∙ three-length xs (blues task found) (later task found) a b xs-length (rows-length task found) ∙ sym stretch-length
+    one-length = ap length one-is ∙ three_length xs (blues task found) (later task found) a b xs_length (rows-length task found) ∙ sym stretch_length
 
-    i-is : i ≡ blueIndex task found
-    i-is = red-held'.count-is
+    i_is : i ≡ blue_index task found
+    i_is = red_held'.count_is
 
-    pub blue-task : GroupTask n policy stages i starts columns (part one a b) records₁ (blueGroup up left pair)
-    blue-task = rw (blue-part, i-is) (record {
+    pub blue_task : GroupTask n policy stages i starts columns (part one a b) records₁ (blue_group up left pair)
+    blue_task = rw (blue-part, i_is) (record {
       rows = task.rows;
       proper = proper-left n (blues task found) (later task found) rest-proper;
       share = task.share;
       far = task.far;
       size = sym (blues-length task found);
-      inside = omega (arith, task.inside, stretch-length, rows-length task found);
+      inside = omega (arith, task.inside, stretch_length, rows-length task found);
       workers = omega (arith, task.workers, workers-most task found);
       shallow = task.shallow;
       few = omega (arith, task.few);
@@ -154,91 +154,91 @@ module _ {n : ℕ} {policy : Policy} {stages : ℕ} {starts columns stretch ends
 
     -- ---- the pairs after it, once both are planned
 
-    module _ {ys records₂ : List ℕ} {j : ℕ} (blue-held : Holds (planGroup adj n policy stages i (group_of (blueGroup up left pair)) (part one a b)) i records₁ ys records₂ j)
+    module _ {ys records₂ : List ℕ} {j : ℕ} (blue-held : Holds (plan_group adj n policy stages i (group_of (blue_group up left pair)) (part one a b)) i records₁ ys records₂ j)
         (ys-long : length ys ≡ length (part one a b)) (long₂ : length records₂ ≡ length records₁) where
-      blue-held' : Holds (bluePlan task found (blueIndex task found)) (blueIndex task found) records₁ ys records₂ j
-      blue-held' = rw (blue-part, i-is) at blue-held
+      blue_held' : Holds (blue_plan task found (blue_index task found)) (blue_index task found) records₁ ys records₂ j
+      blue_held' = rw (blue-part, i_is) at blue-held
 
-      rows-length' : a + length ys ≡ b
-      rows-length' = omega (arith, ys-long, ap length blue-part, rows-length task found)
+      rows_length' : a + length ys ≡ b
+      rows_length' = omega (arith, ys-long, ap length blue-part, rows-length task found)
 
       abbrev pub two : List ℕ
       two = patched one a b ys
 
       two_is : two ≡ xs ++ (ys ++ later task found)
-      two_is = rw one-is (second_back xs (blues task found) (later task found) a b xs-length (rows-length task found) ys)
+      two_is = rw one-is (second_back xs (blues task found) (later task found) a b xs_length (rows-length task found) ys)
 
       pub two-length : length two ≡ length stretch
-      two-length = ap length two_is ∙ three-length xs ys (later task found) a b xs-length rows-length' ∙ sym stretch-length
+      two-length = ap length two_is ∙ three_length xs ys (later task found) a b xs_length rows_length' ∙ sym stretch_length
 
-      j-is : j ≡ restIndex task found
-      j-is = blue-held'.count-is
+      j_is : j ≡ rest_index task found
+      j_is = blue_held'.count_is
 
       -- the plan so far and the rest's make the whole
-      held_next : {zs after : List ℕ} {count : ℕ} → Holds (restPlan task found j) j records₂ zs after count → Holds plan left.index records (xs ++ (ys ++ zs)) after count
+      held_next : {zs after : List ℕ} {count : ℕ} → Holds (rest_plan task found j) j records₂ zs after count → Holds plan left.index records (xs ++ (ys ++ zs)) after count
       held_next {zs} {after} {count} h =
           rw (plan-next task found)
-          (holds_then (redPlan task found) (bluePlan task found (blueIndex task found) then restPlan task found (restIndex task found)) left.index (blueIndex task found) count records records₁ after xs (ys ++ zs)
-          (rw i-is at red-held')
-          (holds_then (bluePlan task found (blueIndex task found)) (restPlan task found (restIndex task found)) (blueIndex task found) (restIndex task found) count records₁ records₂ after ys zs
-          (rw j-is at blue-held') (rw j-is at h)))
+          (holds_then (red_plan task found) (blue_plan task found (blue_index task found) then rest_plan task found (rest_index task found)) left.index (blue_index task found) count records records₁ after xs (ys ++ zs)
+          (rw i_is at red_held')
+          (holds_then (blue_plan task found (blue_index task found)) (rest_plan task found (rest_index task found)) (blue_index task found) (rest_index task found) count records₁ records₂ after ys zs
+          (rw j_is at blue_held') (rw j_is at h)))
 
       -- it took all levels
       pub last-held : pair.levels ≡ length ends → Holds plan left.index records two records₂ j
-      unfolding pairs planPairs
+      unfolding pairs plan_pairs
       last-held all =
           let none : drop pair.levels ls ≡ [] = drop_of_length-le ls {i = pair.levels} (omega (arith, ends-count task)) in
           rw two_is (held_next (rw none (holds-nothing j records₂ [] refl)))
 
       rest_part : part two b (length two) ≡ later task found
-      rest_part = rw two_is (third-part xs ys (later task found) a b xs-length rows-length')
+      rest_part = rw two_is (third_part xs ys (later task found) a b xs_length rows_length')
 
       -- the whole once the rest is back
       pub whole_length : (zs : List ℕ) → length zs ≡ length (part two b (length two)) → length (patched two b (length two) zs) ≡ length stretch
       whole_length zs zs-long =
-          rw (two_is, third_back xs ys (later task found) a b xs-length rows-length' zs)
-          (three-length xs ys zs a b xs-length rows-length' ∙ omega (arith, stretch-length, zs-long, ap length rest_part))
+          rw (two_is, third_back xs ys (later task found) a b xs_length rows_length' zs)
+          (three_length xs ys zs a b xs_length rows_length' ∙ omega (arith, stretch_length, zs-long, ap length rest_part))
 
       -- it left some
       module _ (some : pair.levels ≡ length ends → ⊥) where
         rest-levelled : Levelled (left.done + b) (part ends pair.levels (length ends)) (part two b (length two)) (drop pair.levels ls)
         rest-levelled = record {
-          ends-are =
+          ends_are =
               part_to_end ends pair.levels
-              ∙ ap (drop pair.levels) task.levelled.ends-are
+              ∙ ap (drop pair.levels) task.levelled.ends_are
               ∙ ends-drop left.done pair.levels ls
-              ∙ ap (λ (x : ℕ). endsOf (left.done + x) (drop pair.levels ls)) (sym (rows_is task found));
+              ∙ ap (λ (x : ℕ). ends_of (left.done + x) (drop pair.levels ls)) (sym (rows_is task found));
           rows_are = rest_part;
         }
 
-        rest-levels : levelsIn (left.done + b) (part ends pair.levels (length ends)) (part two b (length two)) ≡ drop pair.levels ls
+        rest-levels : levels_in (left.done + b) (part ends pair.levels (length ends)) (part two b (length two)) ≡ drop pair.levels ls
         rest-levels = levels-in rest-levelled
 
         over : (pair.levels + 2 * policy.reach ≤ length ls) × (pair.workers < left.free)
         over = left_over task found (λ e. some (e ∙ sym (ends-count task)))
 
-        pub rest-task : PairsTask n policy stages starts columns (part two b (length two)) (part ends pair.levels (length ends)) (part loads pair.levels (length loads)) records₂ up (leftAfter left pair j)
-            (levelsIn (left.done + b) (part ends pair.levels (length ends)) (part two b (length two)))
-        rest-task = rw rest-levels (record {
+        pub rest_task : PairsTask n policy stages starts columns (part two b (length two)) (part ends pair.levels (length ends)) (part loads pair.levels (length loads)) records₂ up (left_after left pair j)
+            (levels_in (left.done + b) (part ends pair.levels (length ends)) (part two b (length two)))
+        rest_task = rw rest-levels (record {
           rows = task.rows;
           proper = rw rest_part (proper-right n (blues task found) (later task found) rest-proper);
           levelled = rest-levelled;
-          loads-are = part_to_end loads pair.levels ∙ ap (drop pair.levels) task.loads-are ∙ map-drop (load_of adj) pair.levels ls;
+          loads_are = part_to_end loads pair.levels ∙ ap (drop pair.levels) task.loads_are ∙ map-drop (load_of adj) pair.levels ls;
           share = task.share;
           far = task.far;
           scale = task.scale;
           within = omega (arith, task.within, ap sum (part_to_end loads pair.levels), sum-split pair.levels loads);
           levels = omega (arith, length-drop pair.levels ls, over);
           free = omega (arith, over);
-          inside = omega (arith, task.inside, stretch-length, ap length rest_part);
+          inside = omega (arith, task.inside, stretch_length, ap length rest_part);
           workers = omega (arith, task.workers, over);
           shallow = task.shallow;
           few = omega (arith, task.few);
-          room = rw j-is (omega (arith, task.room, count_next task found));
+          room = rw j_is (omega (arith, task.room, count_next task found));
         })
 
         pub next-held : {zs after : List ℕ} {count : ℕ}
-            → Holds (pairsPlan adj n policy stages up (leftAfter left pair j) (levelsIn (left.done + b) (part ends pair.levels (length ends)) (part two b (length two)))) j records₂ zs after count
+            → Holds (pairs_plan adj n policy stages up (left_after left pair j) (levels_in (left.done + b) (part ends pair.levels (length ends)) (part two b (length two)))) j records₂ zs after count
             → Holds plan left.index records (patched two b (length two) zs) after count
         next-held {zs} h =
-            rw (two_is, third_back xs ys (later task found) a b xs-length rows-length' zs) (held_next (rw rest-levels at h))
+            rw (two_is, third_back xs ys (later task found) a b xs_length rows_length' zs) (held_next (rw rest-levels at h))

@@ -48,8 +48,8 @@ module _ (xs ys zs : List ℕ) (a b : ℕ) (a-is : length xs ≡ a) (b-is : a + 
   after : drop b three ≡ zs
   after = rw regroup (drop_at (xs ++ ys) zs b both-length)
 
-  pub third-part : part three b (length three) ≡ zs
-  third-part = rw after (take_all (length three - b) zs (omega (arith, length-append xs (ys ++ zs), length-append ys zs)))
+  pub third_part : part three b (length three) ≡ zs
+  third_part = rw after (take_all (length three - b) zs (omega (arith, length-append xs (ys ++ zs), length-append ys zs)))
 
   pub third_back : (zs' : List ℕ) → patched three b (length three) zs' ≡ xs ++ (ys ++ zs')
   third_back zs' =
@@ -57,5 +57,5 @@ module _ (xs ys zs : List ℕ) (a b : ℕ) (a-is : length xs ≡ a) (b-is : a + 
       let before : take b three ≡ xs ++ ys = rw regroup (take_at (xs ++ ys) zs b both-length) in
       rw (after, none, append-nil, before) (append_assoc xs ys zs')
 
-  pub three-length : length three ≡ b + length zs
-  three-length = omega (arith, length-append xs (ys ++ zs), length-append ys zs)
+  pub three_length : length three ≡ b + length zs
+  three_length = omega (arith, length-append xs (ys ++ zs), length-append ys zs)

@@ -1,17 +1,19 @@
 // The group planner and the pair planner, which call each other. The rows' degrees stand in keys, as the sort takes
 // them; list, tried and queue are what it works in, the same for every group.
+#![tactic(auto)]
+
 ghost use Rattle.std.specs.Prelude.{◌≡◌, ℕ, ◌+◌, ◌-◌, ◌*◌, ◌<◌, ◌≤◌, length, take, get_or};
 ghost use Rattle.base.specs.Lists.{sum};
-ghost use Rattle.matrix.specs.Limits.{maxRows};
-ghost use Rattle.levels.specs.code.Rows.{adjOf};
+ghost use Rattle.matrix.specs.Limits.{max_rows};
+ghost use Rattle.levels.specs.Code.Rows.{adj_of};
 ghost use Rattle.extents.specs.Extents.{extent, cut};
-ghost use Rattle.race.specs.Planner.{planGroup};
-ghost use Rattle.extents.specs.code.Scans.{policyOf, Scale};
-ghost use Rattle.loads.specs.code.Stretches.{levelsIn};
-ghost use Rattle.sort.specs.code.Sort.{Keyed, Room};
+ghost use Rattle.race.specs.Planner.{plan_group};
+ghost use Rattle.extents.specs.Code.Scans.{policy_of, Scale};
+ghost use Rattle.loads.specs.Code.Stretches.{levels_in};
+ghost use Rattle.sort.specs.Code.Sort.{Keyed, Room};
 ghost use Rattle.plan.specs.Groups.{group_of};
-ghost use Rattle.cycle.specs.code.Records.{Holds};
-ghost use Rattle.cycle.specs.code.Cycle.{redGroup, blueGroup, leftAfter, Fits, GroupTask, PairsTask, pairsPlan};
+ghost use Rattle.cycle.specs.Code.Records.{Holds};
+ghost use Rattle.cycle.specs.Code.Cycle.{red_group, blue_group, left_after, Fits, GroupTask, PairsTask, pairs_plan};
 
 use extents::{Policy, cut, next_extent};
 use loads::level_loads;
@@ -59,8 +61,8 @@ pub struct Pair {
 fn next_pair(ends: &[u32], loads: &[u32], policy: Policy, up: Parent, left: Left) -> Pair
     requires { Scale up.workers up.load × (sum loads.now ≤ up.load) × (1 ≤ policy.reach) × (2 * policy.reach ≤ length loads.now) × (policy.p ≤ 100) × (1 ≤ left.free) × (length ends.now ≡ length loads.now)
         × ((j : ℕ) → j < length ends.now → left.done ≤ get_or ends.now j 0) }
-    ensures { (result.levels ≡ (extent up.workers up.load (policyOf policy) left.free loads.now).levels)
-        × (result.workers ≡ (extent up.workers up.load (policyOf policy) left.free loads.now).workers)
+    ensures { (result.levels ≡ (extent up.workers up.load (policy_of policy) left.free loads.now).levels)
+        × (result.workers ≡ (extent up.workers up.load (policy_of policy) left.free loads.now).workers)
         × (result.reds ≡ get_or ends.now (cut policy.reach (take result.levels loads.now) - 1) 0 - left.done)
         × (result.rows ≡ get_or ends.now (result.levels - 1) 0 - left.done) }
 {
@@ -80,7 +82,7 @@ fn next_pair(ends: &[u32], loads: &[u32], policy: Policy, up: Parent, left: Left
 // The pair's red group.
 fn red_of(up: Parent, left: Left, pair: Pair) -> Group
     requires { Fits up left pair }
-    ensures { result ≡ redGroup up left pair }
+    ensures { result ≡ red_group up left pair }
 {
     Group {
         start: up.start + left.done,
@@ -96,7 +98,7 @@ fn red_of(up: Parent, left: Left, pair: Pair) -> Group
 // .. and its blue group.
 fn blue_of(up: Parent, left: Left, pair: Pair) -> Group
     requires { Fits up left pair }
-    ensures { result ≡ blueGroup up left pair }
+    ensures { result ≡ blue_group up left pair }
 {
     Group {
         start: up.start + left.done + pair.reds,
@@ -112,7 +114,7 @@ fn blue_of(up: Parent, left: Left, pair: Pair) -> Group
 // What is left after the pair, with the next record's index.
 fn after(up: Parent, left: Left, pair: Pair, index: u32) -> Left
     requires { Fits up left pair }
-    ensures { result ≡ leftAfter left pair index }
+    ensures { result ≡ left_after left pair index }
 {
     Left {
         done: left.done + pair.rows,
@@ -139,9 +141,9 @@ pub fn plan_group(
     index: u32,
     g: Group,
 ) -> u32
-    requires { GroupTask n (policyOf policy) stages index starts.now columns.now order.old records.old g × Keyed (adjOf n starts.now columns.now) n keys.now × Room n list.old tried.old queue.old }
-    ensures { Holds (planGroup (adjOf n starts.now columns.now) n (policyOf policy) stages index (group_of g) order.old)
-        index records.old order.new records.new result × (length queue.new ≡ maxRows) }
+    requires { GroupTask n (policy_of policy) stages index starts.now columns.now order.old records.old g × Keyed (adj_of n starts.now columns.now) n keys.now × Room n list.old tried.old queue.old }
+    ensures { Holds (plan_group (adj_of n starts.now columns.now) n (policy_of policy) stages index (group_of g) order.old)
+        index records.old order.new records.new result × (length queue.new ≡ max_rows) }
 {
     put(records, index as usize, g);
     if stages == 0 {
@@ -219,9 +221,9 @@ fn plan_pairs(
     stages: u32,
     rest: Rest,
 ) -> u32
-    requires { PairsTask n (policyOf policy) stages starts.now columns.now order.old ends.now loads.now records.old rest.up rest.left (levelsIn rest.left.done ends.now order.old) × Keyed (adjOf n starts.now columns.now) n keys.now × Room n list.old tried.old queue.old }
-    ensures { Holds (pairsPlan (adjOf n starts.now columns.now) n (policyOf policy) stages rest.up rest.left (levelsIn rest.left.done ends.now order.old))
-        rest.left.index records.old order.new records.new result × (length queue.new ≡ maxRows) }
+    requires { PairsTask n (policy_of policy) stages starts.now columns.now order.old ends.now loads.now records.old rest.up rest.left (levels_in rest.left.done ends.now order.old) × Keyed (adj_of n starts.now columns.now) n keys.now × Room n list.old tried.old queue.old }
+    ensures { Holds (pairs_plan (adj_of n starts.now columns.now) n (policy_of policy) stages rest.up rest.left (levels_in rest.left.done ends.now order.old))
+        rest.left.index records.old order.new records.new result × (length queue.new ≡ max_rows) }
 {
     let up = rest.up;
     let left = rest.left;

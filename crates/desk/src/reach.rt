@@ -1,9 +1,9 @@
 // survey: how far a survey error reaches.
 ghost use Rattle.std.specs.Prelude.{◌≡◌, cond, ◌≤◌, eqb, length};
-ghost use Rattle.matrix.specs.Limits.{maxRows};
-ghost use Rattle.matrix.specs.Matrix.{matrixOf};
+ghost use Rattle.matrix.specs.Limits.{max_rows};
+ghost use Rattle.matrix.specs.Matrix.{matrix_of};
 ghost use Rattle.words.specs.LittleEndian.{signed};
-ghost use Rattle.lent.specs.Bytes.{matrixIn};
+ghost use Rattle.lent.specs.Bytes.{matrix_in};
 ghost use Rattle.desk.specs.Lent.{SurveyAnswered};
 
 use base::Verdict;
@@ -39,8 +39,8 @@ fn survey_of(
     amounts: &mut [u8],
     shift: &mut [u8],
 ) -> u64
-    requires { (maxRows ≤ length sums.old) × (maxRows ≤ length moves.old) }
-    ensures { SurveyAnswered (matrixOf n starts.now columns.now values.now) displacements.now t row amounts.old shift.old result amounts.new shift.new }
+    requires { (max_rows ≤ length sums.old) × (max_rows ≤ length moves.old) }
+    ensures { SurveyAnswered (matrix_of n starts.now columns.now values.now) displacements.now t row amounts.old shift.old result amounts.new shift.new }
 {
     let amounts_room = least(amounts.len() / 8, sums.len());
     let shift_room = least(shift.len() / 4, moves.len());
@@ -76,7 +76,7 @@ pub fn survey_in(
     amounts: &mut [u8],
     shift: &mut [u8],
 ) -> u64
-    ensures { SurveyAnswered (matrixIn n row_starts.now columns.now values.now) (signed 4 movements.now) t row amounts.old shift.old result amounts.new shift.new }
+    ensures { SurveyAnswered (matrix_in n row_starts.now columns.now values.now) (signed 4 movements.now) t row amounts.old shift.old result amounts.new shift.new }
 {
     let mut starts = [0u32; MAX_STARTS];
     let mut displacements = [0i32; MAX_STARTS];

@@ -8,18 +8,18 @@ use native.Mathlib.Omega.{arith}
 use lib.ListN.{length, take, drop, get_or, take-append-drop}
 use lib.Seq.{take-suc, drop-cons}
 use Rattle.base.specs.Lists.{sum}
-use Rattle.plan.specs.Sound.{maxWorkers}
-use Rattle.extents.specs.Extents.{End, endsFrom, nearest}
-use Rattle.extents.specs.code.Scans.{maxLoad, endsOn}
+use Rattle.plan.specs.Sound.{max_workers}
+use Rattle.extents.specs.Extents.{End, ends_from, nearest}
+use Rattle.extents.specs.Code.Scans.{max_load, ends_on}
 
 -- ---- at most 32 bits
 
 -- the load of some levels times the workers of a group
-pub product-few : (q x : ℕ) → q ≤ maxLoad → x ≤ maxWorkers → q * x ≤ maxLoad * maxWorkers
+pub product-few : (q x : ℕ) → q ≤ max_load → x ≤ max_workers → q * x ≤ max_load * max_workers
 product-few q x a b = mul-le-mul a b
 
 -- a share of a load
-pub share-few : (p R : ℕ) → R ≤ maxLoad → (100 - p) * R ≤ 100 * maxLoad
+pub share-few : (p R : ℕ) → R ≤ max_load → (100 - p) * R ≤ 100 * max_load
 share-few p R few = let less : 100 - p ≤ 100 = omega arith in mul-le-mul less few
 
 -- the whole number of workers that is nearest to a share, as a load
@@ -52,12 +52,12 @@ end_at k qs = record { levels = k; load = sum (take k qs) }
 
 -- one level more is the next end
 pub ends_next : (qs : List ℕ) (k s : ℕ) → k < length qs
-    → endsFrom k s (drop k qs) ≡ record { levels = k + 1; load = s + get_or qs k 0 } ∷ endsFrom (k + 1) (s + get_or qs k 0) (drop (k + 1) qs)
-unfolding endsFrom
+    → ends_from k s (drop k qs) ≡ record { levels = k + 1; load = s + get_or qs k 0 } ∷ ends_from (k + 1) (s + get_or qs k 0) (drop (k + 1) qs)
+unfolding ends_from
 ends_next qs k s l = rw (drop-cons qs k 0, add-one)
 
-drop-ends : (k j s : ℕ) (qs : List ℕ) → drop k (endsFrom j s qs) ≡ endsFrom (j + k) (s + sum (take k qs)) (drop k qs)
-unfolding endsFrom
+drop-ends : (k j s : ℕ) (qs : List ℕ) → drop k (ends_from j s qs) ≡ ends_from (j + k) (s + sum (take k qs)) (drop k qs)
+unfolding ends_from
 drop-ends zero j s qs =
     let a : j + 0 ≡ j = omega arith in
     let b : s + 0 ≡ s = omega arith in
@@ -68,16 +68,16 @@ drop-ends (suc k) j s (q ∷ qs) =
     let b : s + q + sum (take k qs) ≡ s + (q + sum (take k qs)) = omega arith in
     rw (a, b) at (drop-ends k (j + 1) (s + q) qs)
 
-pub ends-after : (k : ℕ) (qs : List ℕ) → drop k (endsFrom 0 0 qs) ≡ endsFrom k (sum (take k qs)) (drop k qs)
+pub ends-after : (k : ℕ) (qs : List ℕ) → drop k (ends_from 0 0 qs) ≡ ends_from k (sum (take k qs)) (drop k qs)
 ends-after k qs =
     let a : 0 + k ≡ k = omega arith in
     let b : 0 + sum (take k qs) ≡ sum (take k qs) = omega arith in
     rw (a, b) at (drop-ends k 0 0 qs)
 
 -- the end of k levels, and those after it
-pub ends_on : (k : ℕ) (qs : List ℕ) → 1 ≤ k → k ≤ length qs → endsOn k qs ≡ end_at k qs ∷ endsFrom k (sum (take k qs)) (drop k qs)
-ends_on zero qs a b = absurd (omega arith)
-ends_on (suc k) qs a b =
+pub ends_on_lem : (k : ℕ) (qs : List ℕ) → 1 ≤ k → k ≤ length qs → ends_on k qs ≡ end_at k qs ∷ ends_from k (sum (take k qs)) (drop k qs)
+ends_on_lem zero qs a b = absurd (omega arith)
+ends_on_lem (suc k) qs a b =
     let e : suc k - 1 ≡ k = omega arith in
     let f : sum (take (k + 1) qs) ≡ sum (take k qs) + get_or qs k 0 = sum-next qs k (omega arith) in
     let g : k + 1 ≡ suc k = add-one k in

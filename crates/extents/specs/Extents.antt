@@ -2,7 +2,7 @@
 -- colouring keeps (document 02's k): "a pair has at least 2 × k levels, a colour at least k, a pair takes all if fewer
 -- than 2 × k would be left".
 use Rattle.std.specs.Prelude.{Bool, ◌||◌, cond, List, [], ◌∷◌, ℕ, ◌+◌, ◌*◌, ◌-◌, ◌/◌, max, ltb, leb, length, take, drop}
-use Rattle.base.specs.Lists.{fromFirst, best, sum, distance}
+use Rattle.base.specs.Lists.{from_first, best, sum, distance}
 
 -- what the rules take besides a group's levels, loads and workers: the distance that a colouring keeps (k in document
 -- 02, "from 1 to 4"), and "p is 50 to 99"
@@ -16,9 +16,9 @@ pub record End : Type 0 where
   pub load : ℕ
 
 -- every end past k levels of load s
-unfoldable pub endsFrom : ℕ → ℕ → List ℕ → List End
-endsFrom k s [] = []
-endsFrom k s (q ∷ qs) = record { levels = k + 1; load = s + q } ∷ endsFrom (k + 1) (s + q) qs
+unfoldable pub ends_from : ℕ → ℕ → List ℕ → List End
+ends_from k s [] = []
+ends_from k s (q ∷ qs) = record { levels = k + 1; load = s + q } ∷ ends_from (k + 1) (s + q) qs
 
 -- "levels of load q weigh a = q × w / R, and b is the nearest whole number, half going up, but at least 1"
 unfoldable pub nearest : (q w R : ℕ) → ℕ
@@ -39,25 +39,25 @@ pub record Extent : Type 0 where
 
 -- "a pair takes all if fewer than 2 × k would be left", "or if b is not below the free workers, the pair takes all
 -- levels and workers left"
-unfoldable pub extentOf : (reach b all free : ℕ) → End → Extent
-extentOf reach b all free e =
+unfoldable pub extent_of : (reach b all free : ℕ) → End → Extent
+extent_of reach b all free e =
     cond (ltb (all - e.levels) (2 * reach) || leb free b)
     (record { levels = all; workers = free })
     (record { levels = e.levels; workers = b })
 
 -- from the first end that serves, "this fixes b. Of this end and the later ends, take the one whose a is nearest to
 -- that b; the shorter wins a tie"; "If no end serves .. all levels and workers left"
-unfoldable pub extentFrom : (reach w R all free : ℕ) → List End → Extent
-extentFrom reach w R all free [] = record { levels = all; workers = free }
-extentFrom reach w R all free (e ∷ es) =
+unfoldable pub extent_from : (reach w R all free : ℕ) → List End → Extent
+extent_from reach w R all free [] = record { levels = all; workers = free }
+extent_from reach w R all free (e ∷ es) =
     let b = nearest e.load w R in
-    extentOf reach b all free (best (λ f. off b f.load w R) e es)
+    extent_of reach b all free (best (λ f. off b f.load w R) e es)
 
 -- the next pair: "From the first free level", at least 2 × k "levels are taken, then more until closeness is above p
 -- per cent"
 unfoldable pub extent : (w R : ℕ) (policy : Policy) (free : ℕ) → List ℕ → Extent
 extent w R policy free qs =
-    extentFrom policy.reach w R (length qs) free (fromFirst (λ e. serves e.load w R policy.p) (drop (2 * policy.reach - 1) (endsFrom 0 0 qs)))
+    extent_from policy.reach w R (length qs) free (from_first (λ e. serves e.load w R policy.p) (drop (2 * policy.reach - 1) (ends_from 0 0 qs)))
 
 unfoldable pub cut_at : (reach R : ℕ) → List End → ℕ
 cut_at reach R [] = reach
@@ -65,4 +65,4 @@ cut_at reach R (e ∷ es) = (best (λ f. distance f.load (R - f.load)) e es).lev
 
 -- how many of a pair's levels are red: "a colour at least k", "the cut makes the loads differ least, earliest on a tie"
 unfoldable pub cut : (reach : ℕ) → List ℕ → ℕ
-cut reach qs = cut_at reach (sum qs) (drop (reach - 1) (endsFrom 0 0 (take (length qs - reach) qs)))
+cut reach qs = cut_at reach (sum qs) (drop (reach - 1) (ends_from 0 0 (take (length qs - reach) qs)))

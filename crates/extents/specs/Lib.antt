@@ -1,3 +1,3 @@
 pub mod Extents
 pub mod PairLevels
-pub mod code
+pub mod Code

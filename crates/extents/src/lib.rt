@@ -1,9 +1,11 @@
 // Where a pair ends, and where it is cut, from the loads of the levels that are left.
+#![tactic(auto)]
+
 ghost use Rattle.std.specs.Prelude.{◌≡◌, ◌+◌, ◌-◌, ◌*◌, ◌<◌, ◌≤◌, length};
-ghost use Rattle.base.specs.Lists.{sum, distance, fromFirst};
-ghost use Rattle.plan.specs.Sound.{maxWorkers};
+ghost use Rattle.base.specs.Lists.{sum, distance, from_first};
+ghost use Rattle.plan.specs.Sound.{max_workers};
 ghost use Rattle.extents.specs.Extents.{nearest, serves, extent, cut};
-ghost use Rattle.extents.specs.code.Scans.{maxLoad, policyOf, endsOn, nearestEnd, Scale};
+ghost use Rattle.extents.specs.Code.Scans.{max_load, policy_of, ends_on, nearest_end, Scale};
 
 // What the rules take: a colour has at least reach levels, a pair twice as many, and closeness is to be above p per
 // cent.
@@ -29,7 +31,7 @@ fn off(a: u32, b: u32) -> u32
 
 // The load of all these levels.
 fn total(loads: &[u32]) -> u32
-    requires { sum loads.now ≤ maxLoad }
+    requires { sum loads.now ≤ max_load }
     ensures { result ≡ sum loads.now }
 {
     let mut s = 0;
@@ -62,7 +64,7 @@ fn serves(q: u32, w: u32, load: u32, p: u32) -> bool
 // How many levels the first end has that serves, of those with at least so many; one more than there are, if none does.
 fn first_end(loads: &[u32], least: usize, w: u32, load: u32, p: u32) -> usize
     requires { Scale w load × (sum loads.now ≤ load) × (1 ≤ least) × (least ≤ length loads.now) × (p ≤ 100) }
-    ensures { (fromFirst (λ e. serves e.load w load p) (endsOn least loads.now) ≡ endsOn result loads.now) × (least ≤ result) }
+    ensures { (from_first (λ e. serves e.load w load p) (ends_on least loads.now) ≡ ends_on result loads.now) × (least ≤ result) }
 {
     let mut k = least - 1;
     let mut q = total(&loads[..k]);
@@ -78,8 +80,8 @@ fn first_end(loads: &[u32], least: usize, w: u32, load: u32, p: u32) -> usize
 
 // How many levels that end has, of k or more, whose load times x is nearest to y; the shorter wins a tie.
 fn nearest_end(loads: &[u32], k: usize, x: u32, y: u32) -> usize
-    requires { (sum loads.now ≤ maxLoad) × (x ≤ maxWorkers) × (1 ≤ k) × (k ≤ length loads.now) }
-    ensures { (result ≡ nearestEnd x y (endsOn k loads.now)) × (k ≤ result) × (result ≤ length loads.now) }
+    requires { (sum loads.now ≤ max_load) × (x ≤ max_workers) × (1 ≤ k) × (k ≤ length loads.now) }
+    ensures { (result ≡ nearest_end x y (ends_on k loads.now)) × (k ≤ result) × (result ≤ length loads.now) }
 {
     let mut q = total(&loads[..k]);
     let mut best = k;
@@ -103,8 +105,8 @@ fn nearest_end(loads: &[u32], k: usize, x: u32, y: u32) -> usize
 // The next pair's levels and workers.
 pub fn next_extent(loads: &[u32], w: u32, load: u32, policy: Policy, free: u32) -> Extent
     requires { Scale w load × (sum loads.now ≤ load) × (1 ≤ policy.reach) × (2 * policy.reach ≤ length loads.now) × (policy.p ≤ 100) }
-    ensures { (result.levels ≡ (extent w load (policyOf policy) free loads.now).levels)
-        × (result.workers ≡ (extent w load (policyOf policy) free loads.now).workers) }
+    ensures { (result.levels ≡ (extent w load (policy_of policy) free loads.now).levels)
+        × (result.workers ≡ (extent w load (policy_of policy) free loads.now).workers) }
 {
     let all = loads.len();
     let least = 2 * policy.reach;
@@ -137,7 +139,7 @@ pub fn next_extent(loads: &[u32], w: u32, load: u32, policy: Policy, free: u32) 
 
 // How many of a pair's levels are red.
 pub fn cut(loads: &[u32], reach: usize) -> usize
-    requires { (sum loads.now ≤ maxLoad) × (1 ≤ reach) × (2 * reach ≤ length loads.now) }
+    requires { (sum loads.now ≤ max_load) × (1 ≤ reach) × (2 * reach ≤ length loads.now) }
     ensures { result ≡ cut reach loads.now }
 {
     let end = loads.len() - reach;

@@ -7,17 +7,17 @@ use native.Mathlib.Omega.{arith}
 use lib.ListN.{length, take, get_or}
 use lib.Seq.{take-suc}
 use Rattle.plan.specs.Groups.{width, fields_of, flat, group_of}
-use Rattle.plan.specs.Sound.{maxGroups}
+use Rattle.plan.specs.Sound.{max_groups}
 use Rattle.plan.specs.declared.fields.Group.{Group}
 use Rattle.cycle.proofs.Holding.{flat_append}
-use Rattle.groups.specs.code.Flattened.{few, Flattened}
+use Rattle.groups.specs.Code.Flattened.{few, Flattened}
 
 -- a list of numbers that begins with the records of the first k groups
 pub record Begun (gs : List Group) : Type 0 where
   pub k : ℕ
   pub numbers : List ℕ
   pub within : k ≤ length gs
-  pub in-plan : k ≤ maxGroups
+  pub in-plan : k ≤ max_groups
   pub is : take (width * k) numbers ≡ flat (map group_of (take k gs))
 
 pub no_record : (gs : List Group) (numbers : List ℕ) → take (width * 0) numbers ≡ flat (map group_of (take 0 gs))
@@ -28,21 +28,21 @@ no_record gs numbers = refl
 abbrev pub begin : (gs : List Group) (numbers : List ℕ) → Begun gs
 begin gs numbers = record { k = 0; numbers = numbers; within = omega arith; in-plan = omega arith; is = no_record gs numbers }
 
-pub one_more : (gs : List Group) (k : ℕ) (d : Group) → k < length gs → flat (map group_of (take (k + 1) gs)) ≡ flat (map group_of (take k gs)) ++ fields_of (group_of (get_or gs k d))
+pub one_more_lem : (gs : List Group) (k : ℕ) (d : Group) → k < length gs → flat (map group_of (take (k + 1) gs)) ≡ flat (map group_of (take k gs)) ++ fields_of (group_of (get_or gs k d))
 unfolding flat
-one_more gs k d l =
+one_more_lem gs k d l =
     rw (add-one k, take-suc gs k d l, map-append group_of (take k gs) (get_or gs k d ∷ []), flat_append (map group_of (take k gs)) (group_of (get_or gs k d) ∷ []))
     (rw (append-nil (fields_of (group_of (get_or gs k d)))))
 
 -- with one more
-abbrev pub next : {gs : List Group} (t : Begun gs) (d : Group) → t.k < length gs → t.k < maxGroups → (ns : List ℕ)
+abbrev pub next : {gs : List Group} (t : Begun gs) (d : Group) → t.k < length gs → t.k < max_groups → (ns : List ℕ)
     → take (width * (t.k + 1)) ns ≡ take (width * t.k) t.numbers ++ fields_of (group_of (get_or gs t.k d)) → Begun gs
 next {gs} t d l f ns e = record {
   k = t.k + 1;
   numbers = ns;
   within = omega arith;
   in-plan = omega arith;
-  is = e ∙ rw t.is (sym (one_more gs t.k d l));
+  is = e ∙ rw t.is (sym (one_more_lem gs t.k d l));
 }
 
 -- with as many as a plan may have

@@ -7,14 +7,14 @@ use native.Mathlib.Omega.{arith}
 use lib.ListN.{length, get_or, drop, set, length-append, length-drop, length-map}
 use lib.Seq.{drop-cons, drop-drop, set_at}
 use Rattle.plan.specs.Groups.{width, of_fields, records}
-use Rattle.plan.specs.code.Checks.{recordAt}
+use Rattle.plan.specs.Code.Checks.{record_at}
 use Rattle.plan.proofs.FlatRecords.{length-records}
 use Rattle.plan.specs.declared.fields.Group.{Group}
-use Rattle.groups.specs.Structs.{ofGroup}
-use Rattle.groups.specs.code.Flattened.{gathered}
+use Rattle.groups.specs.Structs.{of_group}
+use Rattle.groups.specs.Code.Flattened.{gathered}
 
-records-snoc : (k : ℕ) (ns : List ℕ) → records (suc k) ns ≡ records k ns ++ (recordAt ns k ∷ [])
-unfolding records recordAt
+records-snoc : (k : ℕ) (ns : List ℕ) → records (suc k) ns ≡ records k ns ++ (record_at ns k ∷ [])
+unfolding records record_at
 records-snoc zero ns = refl
 records-snoc (suc k) ns =
     let e : width + width * k ≡ width * suc k = omega arith in
@@ -26,14 +26,14 @@ module _ (ns : List ℕ) (gs : List Group) where
   unfolding gathered records
   gathered_none = refl
 
-  structs-long : (k : ℕ) → length (map ofGroup (records k ns)) ≡ k
-  structs-long k = length-map (records k ns) ofGroup ∙ length-records k ns
+  structs_long : (k : ℕ) → length (map of_group (records k ns)) ≡ k
+  structs_long k = length-map (records k ns) of_group ∙ length-records k ns
 
   pub length-gathered : (k : ℕ) → k ≤ length gs → length (gathered k ns gs) ≡ length gs
   unfolding gathered
-  length-gathered k l = length-append (map ofGroup (records k ns)) (drop k gs) ∙ omega (arith, structs-long k, length-drop k gs)
+  length-gathered k l = length-append (map of_group (records k ns)) (drop k gs) ∙ omega (arith, structs_long k, length-drop k gs)
 
-  pub gathered_next : (k : ℕ) (d : Group) → k < length gs → set (gathered k ns gs) k (ofGroup (recordAt ns k)) ≡ gathered (k + 1) ns gs
+  pub gathered_next : (k : ℕ) (d : Group) → k < length gs → set (gathered k ns gs) k (of_group (record_at ns k)) ≡ gathered (k + 1) ns gs
   unfolding gathered
   gathered_next k d l =
-      rw (drop-cons gs k d l, set_at (map ofGroup (records k ns)) (get_or gs k d) (drop (suc k) gs) (ofGroup (recordAt ns k)) k (structs-long k), add-one k, records-snoc k ns, map-append ofGroup (records k ns) (recordAt ns k ∷ []), append_assoc (map ofGroup (records k ns)) (ofGroup (recordAt ns k) ∷ []) (drop (suc k) gs))
+      rw (drop-cons gs k d l, set_at (map of_group (records k ns)) (get_or gs k d) (drop (suc k) gs) (of_group (record_at ns k)) k (structs_long k), add-one k, records-snoc k ns, map-append of_group (records k ns) (record_at ns k ∷ []), append_assoc (map of_group (records k ns)) (of_group (record_at ns k) ∷ []) (drop (suc k) gs))

@@ -5,71 +5,71 @@ use Prim.Native.Nat.{ℕ, ◌+◌, ◌*◌, ◌≤◌, min}
 use native.Mathlib.Omega.{arith}
 use lib.ListN.{length, take, drop, length-map}
 use lib.Seq.{length-take-le}
-use Rattle.base.specs.Verdicts.{replyOf}
+use Rattle.base.specs.Verdicts.{reply_of}
 use Rattle.base.specs.Replies.{Reply, accepted, refused, lent}
 use Rattle.base.specs.declared.Verdict.{Verdict}
-use Rattle.matrix.specs.Limits.{maxRows}
+use Rattle.matrix.specs.Limits.{max_rows}
 use Rattle.matrix.specs.Matrix.{Matrix}
 use Rattle.plan.specs.Groups.{width, flat}
-use Rattle.plan.specs.Sound.{maxGroups}
-use Rattle.plan.specs.code.Room.{maxFields}
+use Rattle.plan.specs.Sound.{max_groups}
+use Rattle.plan.specs.Code.Room.{max_fields}
 use Rattle.plan.proofs.FlatRecords.{records-flat, length-flat}
-use Rattle.race.specs.Planner.{plan, planReply}
+use Rattle.race.specs.Planner.{plan, plan_reply}
 use Rattle.plan.specs.declared.fields.Group.{Group}
-use Rattle.race.proofs.Rooms.{rooms-cut, planned}
-use Rattle.groups.specs.Structs.{ofGroup}
-use Rattle.groups.specs.code.Flattened.{gathered, count_of, Planned}
+use Rattle.race.proofs.Rooms.{rooms_cut, planned}
+use Rattle.groups.specs.Structs.{of_group}
+use Rattle.groups.specs.Code.Flattened.{gathered, count_of, Planned}
 use Rattle.groups.proofs.Gathering.{gathered_none}
 
 module _ (m : Matrix) (w p k : ℕ) (a room : ℕ) where
   -- the reply to a call with so much room for the groups
   abbrev reply : Reply
-  reply = planReply m w p k a (width * room)
+  reply = plan_reply m w p k a (width * room)
 
   -- it is the same with no more room than a plan can need
-  pub same-reply : planReply m w p k a (min (width * room) maxFields) ≡ reply
+  pub same-reply : plan_reply m w p k a (min (width * room) max_fields) ≡ reply
   same-reply =
-      let all : min a (a + maxRows) ≡ a = omega arith in
-      rw all at (rooms-cut m w p k a (width * room) (a + maxRows) maxFields (omega arith) (omega arith))
+      let all : min a (a + max_rows) ≡ a = omega arith in
+      rw all at (rooms_cut m w p k a (width * room) (a + max_rows) max_fields (omega arith) (omega arith))
 
   -- so many records fit a plan and the slice
-  pub reply-fits : (count_of reply ≤ maxGroups) × (count_of reply ≤ room)
+  pub reply-fits : (count_of reply ≤ max_groups) × (count_of reply ≤ room)
   reply-fits = go reply refl
     where
-      go : (r : Reply) → reply ≡ r → (count_of r ≤ maxGroups) × (count_of r ≤ room)
+      go : (r : Reply) → reply ≡ r → (count_of r ≤ max_groups) × (count_of r ≤ room)
       go (accepted c) e =
           let fits = (planned m w p k a (width * room) c e).groups-room in
-          let few = (planned m w p k a (min (width * room) maxFields) c (same-reply ∙ e)).groups-room in
+          let few = (planned m w p k a (min (width * room) max_fields) c (same-reply ∙ e)).groups-room in
           (omega arith, omega arith)
       go (refused q s) e = (omega arith, omega arith)
 
   -- the numbers that the call leaves, and what stands after them: their groups, written to a slice
-  pub reply-groups : (old rest : List ℕ) (gs : List Group) → gathered (count_of reply) (lent reply (flat (plan m w p k).groups) old ++ rest) gs ≡ lent reply (map ofGroup (plan m w p k).groups) gs
+  pub reply-groups : (old rest : List ℕ) (gs : List Group) → gathered (count_of reply) (lent reply (flat (plan m w p k).groups) old ++ rest) gs ≡ lent reply (map of_group (plan m w p k).groups) gs
   unfolding lent gathered
   reply-groups old rest gs = go reply refl
     where
-      go : (r : Reply) → reply ≡ r → gathered (count_of r) (lent r (flat (plan m w p k).groups) old ++ rest) gs ≡ lent r (map ofGroup (plan m w p k).groups) gs
+      go : (r : Reply) → reply ≡ r → gathered (count_of r) (lent r (flat (plan m w p k).groups) old ++ rest) gs ≡ lent r (map of_group (plan m w p k).groups) gs
       go (accepted c) e =
           let hs = (plan m w p k).groups in
           let count : length hs ≡ c = omega (arith, (planned m w p k a (width * room) c e).groups-size, length-flat hs) in
-          rw (append_assoc (flat hs) (drop (length (flat hs)) old) rest, ← count, records-flat hs (drop (length (flat hs)) old ++ rest), length-map hs ofGroup)
+          rw (append_assoc (flat hs) (drop (length (flat hs)) old) rest, ← count, records-flat hs (drop (length (flat hs)) old ++ rest), length-map hs of_group)
       go (refused q s) e = gathered_none (old ++ rest) gs
 
 -- the planner's call with the first numbers of an array
-pub made-planned : (m : Matrix) (w p k : ℕ) (order left zeros part : List ℕ) (room size count : ℕ) (answer : Verdict) → length zeros ≡ maxFields → size ≡ min (width * room) maxFields
-    → replyOf answer ≡ planReply m w p k (length order) (length (take size zeros))
-    → left ≡ lent (planReply m w p k (length order) (length (take size zeros))) (plan m w p k).order order
-    → part ≡ lent (planReply m w p k (length order) (length (take size zeros))) (flat (plan m w p k).groups) (take size zeros)
-    → count ≡ count_of (replyOf answer)
+pub made-planned : (m : Matrix) (w p k : ℕ) (order left zeros part : List ℕ) (room size count : ℕ) (answer : Verdict) → length zeros ≡ max_fields → size ≡ min (width * room) max_fields
+    → reply_of answer ≡ plan_reply m w p k (length order) (length (take size zeros))
+    → left ≡ lent (plan_reply m w p k (length order) (length (take size zeros))) (plan m w p k).order order
+    → part ≡ lent (plan_reply m w p k (length order) (length (take size zeros))) (flat (plan m w p k).groups) (take size zeros)
+    → count ≡ count_of (reply_of answer)
     → Planned m w p k order room (record { numbers = part ++ drop size zeros; count = count; answer = answer }) left
 made-planned m w p k order left zeros part room size count answer z s told o g c =
-    let long : length (take size zeros) ≡ min (width * room) maxFields = length-take-le size zeros (omega arith) ∙ s in
-    let same : planReply m w p k (length order) (length (take size zeros)) ≡ planReply m w p k (length order) (width * room) = rw long (same-reply m w p k (length order) room) in
-    let reply-is : replyOf answer ≡ planReply m w p k (length order) (width * room) = told ∙ same in
-    let count-is : count ≡ count_of (planReply m w p k (length order) (width * room)) = c ∙ ap count_of reply-is in
+    let long : length (take size zeros) ≡ min (width * room) max_fields = length-take-le size zeros (omega arith) ∙ s in
+    let same : plan_reply m w p k (length order) (length (take size zeros)) ≡ plan_reply m w p k (length order) (width * room) = rw long (same-reply m w p k (length order) room) in
+    let reply-is : reply_of answer ≡ plan_reply m w p k (length order) (width * room) = told ∙ same in
+    let count_is : count ≡ count_of (plan_reply m w p k (length order) (width * room)) = c ∙ ap count_of reply-is in
     record {
       reply = reply-is;
       order-left = rw same at o;
-      fits = rw count-is (reply-fits m w p k (length order) room);
-      groups-left = λ gs. rw (count-is, g, same) (reply-groups m w p k (length order) room (take size zeros) (drop size zeros) gs);
+      fits = rw count_is (reply-fits m w p k (length order) room);
+      groups-left = λ gs. rw (count_is, g, same) (reply-groups m w p k (length order) room (take size zeros) (drop size zeros) gs);
     }

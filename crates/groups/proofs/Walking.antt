@@ -28,61 +28,61 @@ use denote.Struct.Laws as LL
 use denote.Triple.Walked.{stay_dropped, Goes, Goes-dropped}
 use denote.Exit.{yes}
 use Rattle.plan.specs.Groups.{width}
-use Rattle.plan.specs.code.Room.{maxFields}
+use Rattle.plan.specs.Code.Room.{max_fields}
 use Rattle.plan.specs.declared.fields.Group.{Group}
 use Rattle.plan.specs.contracts.fields.Group as T
 use Rattle.plan.proofs.fields.Group.TheLaws as T'
 
 -- how many bytes the struct of a group has
-abbrev pub groupBytes : ℕ
-groupBytes = 4 * width
+abbrev pub group_bytes : ℕ
+group_bytes = 4 * width
 
 -- a flat list in the code
 abbrev pub Flat : RattleType
-Flat = Array u32 maxFields
+Flat = Array u32 max_fields
 
 -- a group that stands for no element
 abbrev pub none : Group
 none = record { start = 0; length = 0; first = 0; workers = 0; colour = 0; parent = 0; depth = 0 }
 
 -- the machine values of a group
-abbrev pub group-vals : Group → List Val
-group-vals = LL.vals T.the_type T'.the_laws
+abbrev pub group_vals : Group → List Val
+group_vals = LL.vals T.the_type T'.the_laws
 
-abbrev pub group-tells : Tells T.the_row (Is T.the_row) group-vals
-group-tells = LL.tells T.the_type T'.the_laws
+abbrev pub group_tells : Tells T.the_row (Is T.the_row) group_vals
+group_tells = LL.tells T.the_type T'.the_laws
 
 module _ {M : Type 1} {𝓤 : Ura M} (𝓛 : Logic 𝓤) where
-  abbrev pub group-copy : Copy 𝓛 T.the_row
-  group-copy = LL.copy T.the_type T'.the_copy 𝓛
+  abbrev pub group_copy : Copy 𝓛 T.the_row
+  group_copy = LL.copy T.the_type T'.the_copy 𝓛
 
-  abbrev pub group-makes : Makes 𝓛 T.the_row (Is T.the_row)
-  group-makes = LL.makes T.the_type T'.the_plain 𝓛
+  abbrev pub group_makes : Makes 𝓛 T.the_row (Is T.the_row)
+  group_makes = LL.makes T.the_type T'.the_plain 𝓛
 
-  abbrev pub group-lawful : Lawful 𝓛 T.the_row
-  group-lawful = LL.lawful T.the_type T'.the_laws 𝓛
+  abbrev pub group_lawful : Lawful 𝓛 T.the_row
+  group_lawful = LL.lawful T.the_type T'.the_laws 𝓛
 
   abbrev pub flat-makes : Makes 𝓛 Flat (Is Flat)
-  flat-makes = Array-Makes 𝓛 u32 (uint_Makes 𝓛 w32) maxFields
+  flat-makes = Array-Makes 𝓛 u32 (uint_Makes 𝓛 w32) max_fields
 
-  abbrev pub flat-lawful : Lawful 𝓛 Flat
-  flat-lawful = Array-Lawful 𝓛 u32 (uint_Lawful 𝓛 w32) maxFields
+  abbrev pub flat_lawful : Lawful 𝓛 Flat
+  flat_lawful = Array-Lawful 𝓛 u32 (uint_Lawful 𝓛 w32) max_fields
 
 -- the machine value of a slice
 abbrev pub at : {X : Type 0} → Bor (List X) → Val
 at s = slice_val s.ref_ptr (length s.now)
 
 -- the type of a flat list, as the code has it
-abbrev pub numbersTy : Ty
-numbersTy = ty_array (ty_int w32) maxFields
+abbrev pub numbers_ty : Ty
+numbers_ty = ty_array (ty_int w32) max_fields
 
 -- ---- parameters of which nothing is kept for the exit
 module _ {M : Type 1} {𝓤 : Ura M} (𝓛 : Logic 𝓤) (n : ℕ) where
-  pub u32-dropped : Goes 𝓛 n (plain (λ _. u32)) yes (stay_dropped (plain (λ _. u32)) yes)
-  u32-dropped = Goes-dropped 𝓛 n (plain (λ _. u32)) yes (λ κs x f. refl)
+  pub u32_dropped : Goes 𝓛 n (plain (λ _. u32)) yes (stay_dropped (plain (λ _. u32)) yes)
+  u32_dropped = Goes-dropped 𝓛 n (plain (λ _. u32)) yes (λ κs x f. refl)
 
-  pub slice-dropped : (j : ℕ) (ok : AllWithin n (j ∷ [])) (R : RattleType) → Goes 𝓛 n (shr_slice_of (j ∷ []) ok (plain (λ _. R))) yes (stay_dropped (shr_slice_of (j ∷ []) ok (plain (λ _. R))) yes)
-  slice-dropped j ok R = Goes-dropped 𝓛 n (shr_slice_of (j ∷ []) ok (plain (λ _. R))) yes (λ κs x f. refl)
+  pub slice_dropped : (j : ℕ) (ok : AllWithin n (j ∷ [])) (R : RattleType) → Goes 𝓛 n (shr_slice_of (j ∷ []) ok (plain (λ _. R))) yes (stay_dropped (shr_slice_of (j ∷ []) ok (plain (λ _. R))) yes)
+  slice_dropped j ok R = Goes-dropped 𝓛 n (shr_slice_of (j ∷ []) ok (plain (λ _. R))) yes (λ κs x f. refl)
 
 -- ---- a call
 module _ {M : Type 1} {𝓤 : Ura M} {𝓛 : Logic 𝓤} {K : Type 0} {Γ : List (Item 𝓤)} {G : Goal 𝓤 𝓛.H} where
@@ -103,8 +103,8 @@ module _ {M : Type 1} {𝓤 : Ura M} {𝓛 : Logic 𝓤} {K : Type 0} {Γ : List
 abbrev pub Nearer : {X : Type 0} → (X → ℕ) → X → X → Type 0
 Nearer left t u = left t < left u
 
-pub nearer-wf : {X : Type 0} (left : X → ℕ) → WellFounded (Nearer left)
-nearer-wf left = InvImage.wf left lt-wf_rel.wf
+pub nearer_wf : {X : Type 0} (left : X → ℕ) → WellFounded (Nearer left)
+nearer_wf left = InvImage.wf left lt-wf_rel.wf
 
 -- what runs after the first part of a sequence
 abbrev pub after : Body → Body

@@ -1,2 +1,2 @@
 pub mod Structs
-pub mod code
+pub mod Code

@@ -1,17 +1,19 @@
 // "The plan's groups are a list of records": here in a lent slice of structs. The borrow checker covers no function
 // over such a slice, so there are four, and thin: each is proved by a walk of its own. The work is done on flat lists,
 // by covered functions.
+#![tactic(auto)]
+
 ghost use Rattle.std.specs.Prelude.{◌≡◌, ◌++◌, map, ◌+◌, ◌*◌, ◌≤◌, ◌<◌, min, length, take};
 ghost use Rattle.base.specs.Replies.{lent};
-ghost use Rattle.base.specs.Verdicts.{replyOf};
-ghost use Rattle.matrix.specs.Matrix.{matrixOf};
+ghost use Rattle.base.specs.Verdicts.{reply_of};
+ghost use Rattle.matrix.specs.Matrix.{matrix_of};
 ghost use Rattle.plan.specs.Groups.{width, fields_of, flat, group_of};
-ghost use Rattle.plan.specs.Sound.{maxGroups, checkReply};
-ghost use Rattle.plan.specs.code.Room.{maxFields};
-ghost use Rattle.plan.specs.code.Checks.{recordAt};
-ghost use Rattle.race.specs.Planner.{plan, planReply};
-ghost use Rattle.groups.specs.Structs.{ofGroup};
-ghost use Rattle.groups.specs.code.Flattened.{Flattened, gathered, count_of, Planned};
+ghost use Rattle.plan.specs.Sound.{max_groups, check_reply};
+ghost use Rattle.plan.specs.Code.Room.{max_fields};
+ghost use Rattle.plan.specs.Code.Checks.{record_at};
+ghost use Rattle.race.specs.Planner.{plan, plan_reply};
+ghost use Rattle.groups.specs.Structs.{of_group};
+ghost use Rattle.groups.specs.Code.Flattened.{Flattened, gathered, count_of, Planned};
 
 use base::Verdict;
 use plan::fields::{Group, MAX_FIELDS, WIDTH};
@@ -22,7 +24,7 @@ const TOO_MANY: u32 = MAX_GROUPS as u32 + 1;
 
 // Writes a group's record at an index of a flat list.
 fn put(numbers: &mut [u32; MAX_FIELDS], k: usize, g: Group)
-    requires { k < maxGroups }
+    requires { k < max_groups }
     ensures { take (width * (k + 1)) numbers.new ≡ take (width * k) numbers.old ++ fields_of (group_of g) }
 {
     fields::put(numbers, k, g);
@@ -30,8 +32,8 @@ fn put(numbers: &mut [u32; MAX_FIELDS], k: usize, g: Group)
 
 // The group at an index of a flat list.
 fn get(numbers: &[u32; MAX_FIELDS], k: usize) -> Group
-    requires { k < maxGroups }
-    ensures { result ≡ ofGroup (recordAt numbers.now k) }
+    requires { k < max_groups }
+    ensures { result ≡ of_group (record_at numbers.now k) }
 {
     fields::get(numbers, k)
 }
@@ -51,7 +53,7 @@ fn flatten(groups: &[Group]) -> [u32; MAX_FIELDS]
 
 // Writes the first `count` groups of a flat list to the front of a slice.
 fn gather(numbers: [u32; MAX_FIELDS], count: usize, groups: &mut [Group])
-    requires { (count ≤ maxGroups) × (count ≤ length groups.old) }
+    requires { (count ≤ max_groups) × (count ≤ length groups.old) }
     ensures { groups.new ≡ gathered count numbers groups.old }
 {
     let mut k = 0usize;
@@ -72,7 +74,7 @@ fn check_flat(
     count: usize,
     k: u32,
 ) -> Verdict
-    ensures { replyOf result ≡ checkReply (matrixOf n starts.now columns.now values.now) order.now numbers count k }
+    ensures { reply_of result ≡ check_reply (matrix_of n starts.now columns.now values.now) order.now numbers count k }
 {
     if MAX_GROUPS < count {
         return sound::check(n, starts, columns, values, order, &numbers, TOO_MANY, k);
@@ -91,7 +93,7 @@ pub fn check(
     groups: &[Group],
     k: u32,
 ) -> Verdict
-    ensures { replyOf result ≡ checkReply (matrixOf n starts.now columns.now values.now) order.now (flat (map group_of groups.now)) (length groups.now) k }
+    ensures { reply_of result ≡ check_reply (matrix_of n starts.now columns.now values.now) order.now (flat (map group_of groups.now)) (length groups.now) k }
 {
     check_flat(
         n,
@@ -107,7 +109,7 @@ pub fn check(
 
 // How many groups a call accepted.
 fn count_of(answer: Verdict) -> usize
-    ensures { result ≡ count_of (replyOf answer) }
+    ensures { result ≡ count_of (reply_of answer) }
 {
     match answer {
         Verdict::Accepted(count) => count as usize,
@@ -117,7 +119,7 @@ fn count_of(answer: Verdict) -> usize
 
 // How many numbers of a flat list are lent to the planner, for a slice with room for so many groups.
 fn size_for(room: usize) -> usize
-    ensures { result ≡ min (width * room) maxFields }
+    ensures { result ≡ min (width * room) max_fields }
 {
     if room < MAX_GROUPS {
         WIDTH * room
@@ -146,7 +148,7 @@ fn plan_flat(
     order: &mut [u32],
     room: usize,
 ) -> Made
-    ensures { Planned (matrixOf n starts.now columns.now values.now) workers p k order.old room result order.new }
+    ensures { Planned (matrix_of n starts.now columns.now values.now) workers p k order.old room result order.new }
 {
     let mut numbers = [0u32; MAX_FIELDS];
     let size = size_for(room);
@@ -181,11 +183,11 @@ pub fn plan(
     order: &mut [u32],
     groups: &mut [Group],
 ) -> Verdict
-    ensures reply { replyOf result ≡ planReply (matrixOf n starts.now columns.now values.now) workers p k (length order.old) (width * length groups.old) }
-    ensures lent_order { order.new ≡ lent (planReply (matrixOf n starts.now columns.now values.now) workers p k (length order.old) (width * length groups.old))
-        (plan (matrixOf n starts.now columns.now values.now) workers p k).order order.old }
-    ensures lent_groups { groups.new ≡ lent (planReply (matrixOf n starts.now columns.now values.now) workers p k (length order.old) (width * length groups.old))
-        (map ofGroup (plan (matrixOf n starts.now columns.now values.now) workers p k).groups) groups.old }
+    ensures reply { reply_of result ≡ plan_reply (matrix_of n starts.now columns.now values.now) workers p k (length order.old) (width * length groups.old) }
+    ensures lent_order { order.new ≡ lent (plan_reply (matrix_of n starts.now columns.now values.now) workers p k (length order.old) (width * length groups.old))
+        (plan (matrix_of n starts.now columns.now values.now) workers p k).order order.old }
+    ensures lent_groups { groups.new ≡ lent (plan_reply (matrix_of n starts.now columns.now values.now) workers p k (length order.old) (width * length groups.old))
+        (map of_group (plan (matrix_of n starts.now columns.now values.now) workers p k).groups) groups.old }
 {
     let made = plan_flat(
         n,

@@ -10,86 +10,86 @@ use lib.IntN.{ℤ, pos}
 use lib.ListN.{length, set, length-set, length-append}
 use lib.Seq.{get_or-set_same, get_or-set_other}
 use Rattle.base.specs.Integers.{within}
-use Rattle.base.proofs.Booleans.{and-false}
+use Rattle.base.proofs.Booleans.{and_false}
 use Rattle.base.proofs.Lists.{all_append}
-use Rattle.matrix.specs.Limits.{maxEntries, max_value}
+use Rattle.matrix.specs.Limits.{max_entries, max_value}
 use Rattle.market.specs.Parse.{Triplet, triplet}
-use Rattle.compress.specs.code.Arrays.{Arrays, tripletsOf}
-use Rattle.joined.specs.code.Rows.{areSmall, Emitted}
+use Rattle.compress.specs.Code.Arrays.{Arrays, triplets_of}
+use Rattle.joined.specs.Code.Rows.{are_small, Emitted}
 
 -- ---- arrays
 
 module _ (m i j : ℕ) (v : ℤ) (rs cs : List ℕ) (vs : List ℤ) where
-  triplets-below : (k : ℕ) → k ≤ m → tripletsOf k (set rs m i) (set cs m j) (set vs m v) ≡ tripletsOf k rs cs vs
-  unfolding tripletsOf
-  triplets-below zero l = refl
-  triplets-below (suc k) l =
-      rw (triplets-below k (omega arith), get_or-set_other rs m k i 0 (λ e. omega (arith, e)), get_or-set_other cs m k j 0 (λ e. omega (arith, e)), get_or-set_other vs m k v (pos 0) (λ e. omega (arith, e)))
+  triplets_below : (k : ℕ) → k ≤ m → triplets_of k (set rs m i) (set cs m j) (set vs m v) ≡ triplets_of k rs cs vs
+  unfolding triplets_of
+  triplets_below zero l = refl
+  triplets_below (suc k) l =
+      rw (triplets_below k (omega arith), get_or-set_other rs m k i 0 (λ e. omega (arith, e)), get_or-set_other cs m k j 0 (λ e. omega (arith, e)), get_or-set_other vs m k v (pos 0) (λ e. omega (arith, e)))
 
-  triplets-more : m < length rs → m < length cs → m < length vs → tripletsOf (m + 1) (set rs m i) (set cs m j) (set vs m v) ≡ tripletsOf m rs cs vs ++ triplet i j v ∷ []
-  unfolding tripletsOf
-  triplets-more lr lc lv =
-      rw (add-one m) (rw (triplets-below m (omega arith), get_or-set_same rs m i 0 lr, get_or-set_same cs m j 0 lc, get_or-set_same vs m v (pos 0) lv))
+  triplets_more : m < length rs → m < length cs → m < length vs → triplets_of (m + 1) (set rs m i) (set cs m j) (set vs m v) ≡ triplets_of m rs cs vs ++ triplet i j v ∷ []
+  unfolding triplets_of
+  triplets_more lr lc lv =
+      rw (add-one m) (rw (triplets_below m (omega arith), get_or-set_same rs m i 0 lr, get_or-set_same cs m j 0 lc, get_or-set_same vs m v (pos 0) lv))
 
-pub length-triplets : (m : ℕ) (rs cs : List ℕ) (vs : List ℤ) → length (tripletsOf m rs cs vs) ≡ m
-unfolding tripletsOf
-length-triplets zero rs cs vs = refl
-length-triplets (suc m) rs cs vs = length-append (tripletsOf m rs cs vs) _ ∙ (let e = length-triplets m rs cs vs in omega (arith, e))
+pub length_triplets : (m : ℕ) (rs cs : List ℕ) (vs : List ℤ) → length (triplets_of m rs cs vs) ≡ m
+unfolding triplets_of
+length_triplets zero rs cs vs = refl
+length_triplets (suc m) rs cs vs = length-append (triplets_of m rs cs vs) _ ∙ (let e = length_triplets m rs cs vs in omega (arith, e))
 
 -- ---- values within their limit
 
-small-append : (xs ys : List Triplet) → areSmall (xs ++ ys) ≡ areSmall xs && areSmall ys
-unfolding areSmall
+small-append : (xs ys : List Triplet) → are_small (xs ++ ys) ≡ are_small xs && are_small ys
+unfolding are_small
 small-append xs ys = all_append (λ (t : Triplet). within max_value t.value) xs ys
 
-false-and : (a b : Bool) → a ≡ false → a && b ≡ false
-false-and a b e = rw e
+false_and : (a b : Bool) → a ≡ false → a && b ≡ false
+false_and a b e = rw e
 
 -- ---- entries
 
 module _ {m : ℕ} {rs cs : List ℕ} {vs : List ℤ} where
   -- none
-  pub emitted-none : Arrays rs cs vs → m ≤ maxEntries → Emitted [] m rs cs vs m rs cs vs
-  unfolding areSmall
-  emitted-none t l = record { arrays = t; size = λ h. omega arith; is = λ h. sym (append-nil (tripletsOf m rs cs vs)); small = λ h. refl; past = λ h. absurd (omega arith) }
+  pub emitted_none : Arrays rs cs vs → m ≤ max_entries → Emitted [] m rs cs vs m rs cs vs
+  unfolding are_small
+  emitted_none t l = record { arrays = t; size = λ h. omega arith; is = λ h. sym (append-nil (triplets_of m rs cs vs)); small = λ h. refl; past = λ h. absurd (omega arith) }
 
   -- one
-  pub emitted-one : Arrays rs cs vs → m < maxEntries → (i j : ℕ) (v : ℤ) → within max_value v ≡ true → Emitted (triplet i j v ∷ []) m rs cs vs (m + 1) (set rs m i) (set cs m j) (set vs m v)
-  unfolding areSmall
-  emitted-one t l i j v s = record {
+  pub emitted_one : Arrays rs cs vs → m < max_entries → (i j : ℕ) (v : ℤ) → within max_value v ≡ true → Emitted (triplet i j v ∷ []) m rs cs vs (m + 1) (set rs m i) (set cs m j) (set vs m v)
+  unfolding are_small
+  emitted_one t l i j v s = record {
     arrays = record { rows = length-set rs m i ∙ t.rows; columns = length-set cs m j ∙ t.columns; values = length-set vs m v ∙ t.values };
     size = λ h. refl;
-    is = λ h. triplets-more m i j v rs cs vs (omega (arith, t.rows)) (omega (arith, t.columns)) (omega (arith, t.values));
+    is = λ h. triplets_more m i j v rs cs vs (omega (arith, t.rows)) (omega (arith, t.columns)) (omega (arith, t.values));
     small = λ h. rw s;
     past = λ h. absurd (omega arith);
   }
 
   -- one whose value passes its limit, or for which there is no room
-  pub emitted-large : Arrays rs cs vs → (i j : ℕ) (v : ℤ) → within max_value v ≡ false → Emitted (triplet i j v ∷ []) m rs cs vs (maxEntries + 1) rs cs vs
-  unfolding areSmall
-  emitted-large t i j v s = record { arrays = t; size = λ h. absurd (omega arith); is = λ h. absurd (omega arith); small = λ h. absurd (omega arith); past = λ h. inl (rw s) }
+  pub emitted_large : Arrays rs cs vs → (i j : ℕ) (v : ℤ) → within max_value v ≡ false → Emitted (triplet i j v ∷ []) m rs cs vs (max_entries + 1) rs cs vs
+  unfolding are_small
+  emitted_large t i j v s = record { arrays = t; size = λ h. absurd (omega arith); is = λ h. absurd (omega arith); small = λ h. absurd (omega arith); past = λ h. inl (rw s) }
 
-  pub emitted-many : Arrays rs cs vs → maxEntries ≤ m → (t : Triplet) → Emitted (t ∷ []) m rs cs vs (maxEntries + 1) rs cs vs
-  emitted-many t l e = record { arrays = t; size = λ h. absurd (omega arith); is = λ h. absurd (omega arith); small = λ h. absurd (omega arith); past = λ h. inr (omega arith) }
+  pub emitted_many : Arrays rs cs vs → max_entries ≤ m → (t : Triplet) → Emitted (t ∷ []) m rs cs vs (max_entries + 1) rs cs vs
+  emitted_many t l e = record { arrays = t; size = λ h. absurd (omega arith); is = λ h. absurd (omega arith); small = λ h. absurd (omega arith); past = λ h. inr (omega arith) }
 
   module _ {xs : List Triplet} {r : ℕ} {rs₁ cs₁ : List ℕ} {vs₁ : List ℤ} (e : Emitted xs m rs cs vs r rs₁ cs₁ vs₁) where
     -- more after them
-    pub emitted_then : r ≤ maxEntries → {ys : List Triplet} {q : ℕ} {rs₂ cs₂ : List ℕ} {vs₂ : List ℤ} → Emitted ys r rs₁ cs₁ vs₁ q rs₂ cs₂ vs₂ → Emitted (xs ++ ys) m rs cs vs q rs₂ cs₂ vs₂
+    pub emitted_then : r ≤ max_entries → {ys : List Triplet} {q : ℕ} {rs₂ cs₂ : List ℕ} {vs₂ : List ℤ} → Emitted ys r rs₁ cs₁ vs₁ q rs₂ cs₂ vs₂ → Emitted (xs ++ ys) m rs cs vs q rs₂ cs₂ vs₂
     emitted_then l {ys} f = record {
       arrays = f.arrays;
       size = λ h. omega (arith, f.size h, e.size l, length-append xs ys);
-      is = λ h. f.is h ∙ ap (λ (ts : List Triplet). ts ++ ys) (e.is l) ∙ append_assoc (tripletsOf m rs cs vs) xs ys;
+      is = λ h. f.is h ∙ ap (λ (ts : List Triplet). ts ++ ys) (e.is l) ∙ append_assoc (triplets_of m rs cs vs) xs ys;
       small = λ h. small-append xs ys ∙ rw (e.small l, f.small h);
       past = λ h. later (f.past h);
     }
       where
-        later : (areSmall ys ≡ false) ⊎ (maxEntries < r + length ys) → (areSmall (xs ++ ys) ≡ false) ⊎ (maxEntries < m + length (xs ++ ys))
-        later (inl s) = inl (small-append xs ys ∙ rw s (and-false (areSmall xs)))
+        later : (are_small ys ≡ false) ⊎ (max_entries < r + length ys) → (are_small (xs ++ ys) ≡ false) ⊎ (max_entries < m + length (xs ++ ys))
+        later (inl s) = inl (small-append xs ys ∙ rw s (and_false (are_small xs)))
         later (inr k) = inr (omega (arith, e.size l, length-append xs ys))
 
     -- a limit is broken already
-    pub emitted-stop : maxEntries < r → (ys : List Triplet) → Emitted (xs ++ ys) m rs cs vs r rs₁ cs₁ vs₁
-    emitted-stop l ys = record {
+    pub emitted_stop : max_entries < r → (ys : List Triplet) → Emitted (xs ++ ys) m rs cs vs r rs₁ cs₁ vs₁
+    emitted_stop l ys = record {
       arrays = e.arrays;
       size = λ h. absurd (omega arith);
       is = λ h. absurd (omega arith);
@@ -97,10 +97,10 @@ module _ {m : ℕ} {rs cs : List ℕ} {vs : List ℤ} where
       past = λ h. later (e.past h);
     }
       where
-        later : (areSmall xs ≡ false) ⊎ (maxEntries < m + length xs) → (areSmall (xs ++ ys) ≡ false) ⊎ (maxEntries < m + length (xs ++ ys))
-        later (inl s) = inl (small-append xs ys ∙ false-and (areSmall xs) (areSmall ys) s)
+        later : (are_small xs ≡ false) ⊎ (max_entries < m + length xs) → (are_small (xs ++ ys) ≡ false) ⊎ (max_entries < m + length (xs ++ ys))
+        later (inl s) = inl (small-append xs ys ∙ false_and (are_small xs) (are_small ys) s)
         later (inr k) = inr (omega (arith, length-append xs ys))
 
 -- the same entries by another name
-pub emitted-same : {xs ys : List Triplet} → xs ≡ ys → {m : ℕ} {rs cs : List ℕ} {vs : List ℤ} {r : ℕ} {rs' cs' : List ℕ} {vs' : List ℤ} → Emitted xs m rs cs vs r rs' cs' vs' → Emitted ys m rs cs vs r rs' cs' vs'
-emitted-same e h = rw e at h
+pub emitted_same : {xs ys : List Triplet} → xs ≡ ys → {m : ℕ} {rs cs : List ℕ} {vs : List ℤ} {r : ℕ} {rs' cs' : List ℕ} {vs' : List ℤ} → Emitted xs m rs cs vs r rs' cs' vs' → Emitted ys m rs cs vs r rs' cs' vs'
+emitted_same e h = rw e at h

@@ -9,44 +9,44 @@ use lib.Dec.{eqb, ltb, leb}
 use lib.IntN.{ℤ}
 use lib.ListN.{length}
 use borrow.Author.Tests.{leb-true, leb-false, lt-leb, lt-ltb, ltb-true}
-use Rattle.base.specs.Lists.{filter, all, isIn, range, sumBelow, bit, distinct}
+use Rattle.base.specs.Lists.{filter, all, is_in, range, sum_below, bit, distinct}
 use Rattle.base.specs.Integers.{within}
-use Rattle.base.proofs.Booleans.{and-false, both_ways}
+use Rattle.base.proofs.Booleans.{and_false, both_ways}
 use Rattle.base.proofs.Each.{Each}
-use Rattle.base.proofs.Lists.{all_of, of-all, isIn-range, range-in}
+use Rattle.base.proofs.Lists.{all_of, of-all, is_in-range, range_in}
 use Rattle.base.proofs.Sums.{sum-below-same, sum-below-le}
-use Rattle.matrix.specs.Limits.{maxRows, maxEntries, max_value}
-use Rattle.matrix.specs.Matrix.{Matrix, isMatrix, lowerEntries}
+use Rattle.matrix.specs.Limits.{max_rows, max_entries, max_value}
+use Rattle.matrix.specs.Matrix.{Matrix, is_matrix, lower_entries}
 use Rattle.matrix.specs.Tabulated.{tabulated}
-use Rattle.matrix.proofs.Tabulated.{tab-lower}
+use Rattle.matrix.proofs.Tabulated.{tab_lower}
 use Rattle.market.specs.Parse.{Triplet, triplet, is_at}
-use Rattle.market.specs.FullRows.{cell, ofTriplets}
+use Rattle.market.specs.FullRows.{cell, of_triplets}
 use Rattle.market.proofs.Accepted.{Inner}
-use Rattle.market.proofs.Cells.{moved, Low, cell_below, cell-above}
+use Rattle.market.proofs.Cells.{moved, Low, cell_below, cell_above}
 use Rattle.market.proofs.FullCount.{at, cells_count}
 use Rattle.market.proofs.Table.{text-table}
-use Rattle.joined.specs.Joined.{pastFirst, joinedRows, arePlaces, storedIn, stiffness, joined, inLimits}
+use Rattle.joined.specs.Joined.{past_first, joined_rows, are_places, stored_in, stiffness, joined, in_limits}
 use Rattle.joined.proofs.Gaps.{gapless-low, low-gapless}
 use Rattle.joined.proofs.Entries.{stored-both, values-both}
 
 -- ---- the test of places, as the code makes it
 
-pub places-test : (a b : Matrix) (places : List ℕ) → arePlaces a b places ≡ eqb (length places) b.n && distinct places && all (λ p. ltb p (joinedRows a places)) places
-unfolding arePlaces joinedRows pastFirst
-places-test a b places = go (eqb (length places) b.n) (distinct places) refl
+pub places_test : (a b : Matrix) (places : List ℕ) → are_places a b places ≡ eqb (length places) b.n && distinct places && all (λ p. ltb p (joined_rows a places)) places
+unfolding are_places joined_rows past_first
+places_test a b places = go (eqb (length places) b.n) (distinct places) refl
   where
     n : ℕ
     n = a.n
 
-    go : (x y : Bool) → distinct places ≡ y → x && y && all (isIn places) (range n (pastFirst a places)) ≡ x && y && all (λ p. ltb p (joinedRows a places)) places
+    go : (x y : Bool) → distinct places ≡ y → x && y && all (is_in places) (range n (past_first a places)) ≡ x && y && all (λ p. ltb p (joined_rows a places)) places
     go false y e = refl
     go true false e = refl
     go true true e =
-        both_ways (all (isIn places) (range n (pastFirst a places))) (all (λ p. ltb p (joinedRows a places)) places)
-        (λ h. of-all (λ p. ltb p (joinedRows a places)) places
-        (λ v m. lt-ltb v (joinedRows a places) (gapless-low n places e (λ u l k. all_of (isIn places) (range n (pastFirst a places)) u h (isIn-range n (pastFirst a places) u l k)) v m)))
-        (λ h. of-all (isIn places) (range n (pastFirst a places))
-        (λ v m. let r = range-in v n (pastFirst a places) m in low-gapless n places e (λ u k. ltb-true u (joinedRows a places) (all_of (λ p. ltb p (joinedRows a places)) places u h k)) v r.0 r.1))
+        both_ways (all (is_in places) (range n (past_first a places))) (all (λ p. ltb p (joined_rows a places)) places)
+        (λ h. of-all (λ p. ltb p (joined_rows a places)) places
+        (λ v m. lt-ltb v (joined_rows a places) (gapless-low n places e (λ u l k. all_of (is_in places) (range n (past_first a places)) u h (is_in-range n (past_first a places) u l k)) v m)))
+        (λ h. of-all (is_in places) (range n (past_first a places))
+        (λ v m. let r = range_in v n (past_first a places) m in low-gapless n places e (λ u k. ltb-true u (joined_rows a places) (all_of (λ p. ltb p (joined_rows a places)) places u h k)) v r.0 r.1))
 
 -- ---- entries on and below the diagonal
 
@@ -71,48 +71,48 @@ module _ {n : ℕ} {stored : ℕ → ℕ → Bool} {value : ℕ → ℕ → ℤ}
           cell_below i j l es g.low ∙ ap (map (moved i j)) (g.cells i j l li) ∙ moved-cell i j i j (stored i j) (value i j)
       go false e =
           let l = leb-false j i e in
-          cell-above i j l es g.low ∙ ap (map (moved i j)) (g.cells j i (omega arith) lj) ∙ moved-cell i j j i (stored j i) (value j i)
+          cell_above i j l es g.low ∙ ap (map (moved i j)) (g.cells j i (omega arith) lj) ∙ moved-cell i j j i (stored j i) (value j i)
           ∙ ap₂ (λ (t : Bool) (v : ℤ). cond t (triplet i j v ∷ []) []) (both j i) (equal j i)
 
   -- they make the matrix
-  pub gathered-rows : ofTriplets n es ≡ tabulated n stored value
+  pub gathered-rows : of_triplets n es ≡ tabulated n stored value
   gathered-rows = text-table n es stored value all-cells
 
 -- ---- how many there are
 
 module _ (n : ℕ) (stored : ℕ → ℕ → Bool) (value : ℕ → ℕ → ℤ) (es : List Triplet) (inner : Each (Inner n) es) where
   -- some of them are no more than all
-  pub gathered-few : ((i j : ℕ) → at es i j ≤ bit (stored i j && leb j i)) → length es ≤ lowerEntries (tabulated n stored value)
+  pub gathered-few : ((i j : ℕ) → at es i j ≤ bit (stored i j && leb j i)) → length es ≤ lower_entries (tabulated n stored value)
   gathered-few h =
       omega (
         arith,
         cells_count n es inner,
-        tab-lower n stored value,
-        sum-below-le (λ i. sumBelow (at es i) n) (λ i. sumBelow (λ j. bit (stored i j && leb j i)) n) n (λ i l. sum-below-le (at es i) (λ j. bit (stored i j && leb j i)) n (λ j k. h i j)),
+        tab_lower n stored value,
+        sum-below-le (λ i. sum_below (at es i) n) (λ i. sum_below (λ j. bit (stored i j && leb j i)) n) n (λ i l. sum-below-le (at es i) (λ j. bit (stored i j && leb j i)) n (λ j k. h i j)),
       )
 
   -- all of them are all
-  pub gathered-count : ((i j : ℕ) → i < n → j < n → at es i j ≡ bit (stored i j && leb j i)) → length es ≡ lowerEntries (tabulated n stored value)
+  pub gathered-count : ((i j : ℕ) → i < n → j < n → at es i j ≡ bit (stored i j && leb j i)) → length es ≡ lower_entries (tabulated n stored value)
   gathered-count h =
       sym (cells_count n es inner)
-      ∙ sum-below-same (λ i. sumBelow (at es i) n) (λ i. sumBelow (λ j. bit (stored i j && leb j i)) n) n (λ i l. sum-below-same (at es i) (λ j. bit (stored i j && leb j i)) n (λ j k. h i j l k))
-      ∙ sym (tab-lower n stored value)
+      ∙ sum-below-same (λ i. sum_below (at es i) n) (λ i. sum_below (λ j. bit (stored i j && leb j i)) n) n (λ i l. sum-below-same (at es i) (λ j. bit (stored i j && leb j i)) n (λ j k. h i j l k))
+      ∙ sym (tab_lower n stored value)
 
 -- ---- the limits that the code finds broken
 
-module _ (a b : Matrix) (places : List ℕ) (oka : isMatrix a ≡ true) (okb : isMatrix b ≡ true) (h : arePlaces a b places ≡ true) where
+module _ (a b : Matrix) (places : List ℕ) (oka : is_matrix a ≡ true) (okb : is_matrix b ≡ true) (h : are_places a b places ≡ true) where
   -- too many rows
-  pub many-rows : maxRows < joinedRows a places → inLimits (joined a b places) ≡ false
-  unfolding inLimits joined tabulated
-  many-rows l = rw (lt-leb (joinedRows a places) maxRows l)
+  pub many-rows : max_rows < joined_rows a places → in_limits (joined a b places) ≡ false
+  unfolding in_limits joined tabulated
+  many-rows l = rw (lt-leb (joined_rows a places) max_rows l)
 
   -- one entry more than there may be
-  pub many-entries : maxEntries < lowerEntries (joined a b places) → inLimits (joined a b places) ≡ false
-  unfolding inLimits
-  many-entries l = rw (lt-leb (lowerEntries (joined a b places)) maxEntries l) (and-false (leb (joined a b places).n maxRows && all (within max_value) (joined a b places).values))
+  pub many-entries : max_entries < lower_entries (joined a b places) → in_limits (joined a b places) ≡ false
+  unfolding in_limits
+  many-entries l = rw (lt-leb (lower_entries (joined a b places)) max_entries l) (and_false (leb (joined a b places).n max_rows && all (within max_value) (joined a b places).values))
 
   -- what is gathered is the joined net
-  pub gathered-joined : {es : List Triplet} → Gathered (joinedRows a places) (storedIn a b places) (stiffness a b places) es → ofTriplets (joinedRows a places) es ≡ joined a b places
+  pub gathered-joined : {es : List Triplet} → Gathered (joined_rows a places) (stored_in a b places) (stiffness a b places) es → of_triplets (joined_rows a places) es ≡ joined a b places
   unfolding joined
   gathered-joined g =
-      gathered-rows g (λ i j. both_ways (storedIn a b places i j) (storedIn a b places j i) (stored-both a b places oka okb h i j) (stored-both a b places oka okb h j i)) (values-both a b places oka okb h)
+      gathered-rows g (λ i j. both_ways (stored_in a b places i j) (stored_in a b places j i) (stored-both a b places oka okb h i j) (stored-both a b places oka okb h j i)) (values-both a b places oka okb h)

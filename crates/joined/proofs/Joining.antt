@@ -8,47 +8,47 @@ use lib.Dec.{eqb, ltb, leb}
 use lib.IntN.{ℤ, pos}
 use lib.ListN.{length, get_or}
 use borrow.Author.Tests.{leb-true, leb-false, le-leb, eq-eqb, ne_eqb}
-use Rattle.base.specs.Verdicts.{replyOf}
-use Rattle.base.specs.Lists.{filter, all, concat, isIn, range, bit, distinct}
+use Rattle.base.specs.Verdicts.{reply_of}
+use Rattle.base.specs.Lists.{filter, all, concat, is_in, range, bit, distinct}
 use Rattle.base.specs.Integers.{within}
 use Rattle.base.specs.Refusals as why
 use Rattle.base.specs.Replies.{Reply, refused, in_turn, lent}
 use Rattle.base.specs.declared.Verdict.{Verdict}
 use Rattle.base.proofs.Each.{Each, each_append}
-use Rattle.base.proofs.Lists.{all_append, all_map, of-all, filter-in, filter_passes, range-in}
+use Rattle.base.proofs.Lists.{all_append, all_map, of-all, filter_in, filter_passes, range_in}
 use Rattle.base.proofs.Replies.{lent-refused}
-use Rattle.matrix.specs.Limits.{maxRows, maxEntries, max_value}
-use Rattle.matrix.specs.Matrix.{Matrix, isMatrix, matrixCheck, lowerEntries}
-use Rattle.matrix.specs.Tabulated.{columnsIn, tabulated}
-use Rattle.market.specs.Parse.{Triplet, matrixText, triplet}
+use Rattle.matrix.specs.Limits.{max_rows, max_entries, max_value}
+use Rattle.matrix.specs.Matrix.{Matrix, is_matrix, matrix_check, lower_entries}
+use Rattle.matrix.specs.Tabulated.{columns_in, tabulated}
+use Rattle.market.specs.Parse.{Triplet, matrix_text, triplet}
 use Rattle.market.proofs.Accepted.{Inner}
 use Rattle.market.proofs.Cells.{Low}
-use Rattle.compress.specs.code.Arrays.{Arrays, tripletsOf}
-use Rattle.compress.specs.code.Rows.{Entries, Placed}
-use Rattle.joined.specs.Joined.{pastFirst, joinedRows, arePlaces, storedIn, stiffness, joined, inLimits, joinReply}
-use Rattle.joined.specs.code.Rows.{Collected, Sewing}
+use Rattle.compress.specs.Code.Arrays.{Arrays, triplets_of}
+use Rattle.compress.specs.Code.Rows.{Entries, Placed}
+use Rattle.joined.specs.Joined.{past_first, joined_rows, are_places, stored_in, stiffness, joined, in_limits, join_reply}
+use Rattle.joined.specs.Code.Rows.{Collected, Sewing}
 use Rattle.joined.proofs.Entries.{stored-both, values-both}
-use Rattle.joined.proofs.Gathering.{Gathered, places-test, gathered-count}
+use Rattle.joined.proofs.Gathering.{Gathered, places_test, gathered-count}
 use Rattle.joined.proofs.Replied.{joined-read, joined-reply}
-use Rattle.joined.proofs.Emitting.{length-triplets}
+use Rattle.joined.proofs.Emitting.{length_triplets}
 
 -- the reply and the three lists after the call
 abbrev pub Answers : (a b : Matrix) (places starts₀ columns₀ : List ℕ) (values₀ : List ℤ) → Reply → (starts' columns' : List ℕ) (values' : List ℤ) → Type 0
 Answers a b places starts₀ columns₀ values₀ r starts' columns' values' =
-    let reply = joinReply a b places (length starts₀) (length columns₀) (length values₀) in
+    let reply = join_reply a b places (length starts₀) (length columns₀) (length values₀) in
     (r ≡ reply) × ((starts' ≡ lent reply (joined a b places).starts starts₀) × ((columns' ≡ lent reply (joined a b places).columns columns₀) × (values' ≡ lent reply (joined a b places).values values₀)))
 
 -- ---- what was collected is the net
 
-each-triplets : (P : Triplet → Type 0) (m : ℕ) (rs cs : List ℕ) (vs : List ℤ) → ((k : ℕ) → k < m → P (triplet (get_or rs k 0) (get_or cs k 0) (get_or vs k (pos 0)))) → Each P (tripletsOf m rs cs vs)
-unfolding tripletsOf
-each-triplets P zero rs cs vs h = tt
-each-triplets P (suc m) rs cs vs h = each_append P (tripletsOf m rs cs vs) _ (each-triplets P m rs cs vs (λ k l. h k (omega arith))) (h m (omega arith), tt)
+each_triplets : (P : Triplet → Type 0) (m : ℕ) (rs cs : List ℕ) (vs : List ℤ) → ((k : ℕ) → k < m → P (triplet (get_or rs k 0) (get_or cs k 0) (get_or vs k (pos 0)))) → Each P (triplets_of m rs cs vs)
+unfolding triplets_of
+each_triplets P zero rs cs vs h = tt
+each_triplets P (suc m) rs cs vs h = each_append P (triplets_of m rs cs vs) _ (each_triplets P m rs cs vs (λ k l. h k (omega arith))) (h m (omega arith), tt)
 
-pub collected : {n : ℕ} {stored : ℕ → ℕ → Bool} {value : ℕ → ℕ → ℤ} {m : ℕ} {rs cs : List ℕ} {vs : List ℤ} → Collected n stored value m rs cs vs → Gathered n stored value (tripletsOf m rs cs vs)
+pub collected : {n : ℕ} {stored : ℕ → ℕ → Bool} {value : ℕ → ℕ → ℤ} {m : ℕ} {rs cs : List ℕ} {vs : List ℤ} → Collected n stored value m rs cs vs → Gathered n stored value (triplets_of m rs cs vs)
 collected {n} {stored} {value} {m} {rs} {cs} {vs} c = record {
-  low = each-triplets Low m rs cs vs (λ k l. (c.inside k l).0);
-  inner = each-triplets (Inner n) m rs cs vs (λ k l. ((c.inside k l).1, omega (arith, (c.inside k l).0, (c.inside k l).1)));
+  low = each_triplets Low m rs cs vs (λ k l. (c.inside k l).0);
+  inner = each_triplets (Inner n) m rs cs vs (λ k l. ((c.inside k l).1, omega (arith, (c.inside k l).0, (c.inside k l).1)));
   cells = λ i j l k. c.cells i j k ∙ ap (λ (t : Bool). cond t (triplet i j (value i j) ∷ []) []) (low i j l);
 }
   where
@@ -57,23 +57,23 @@ collected {n} {stored} {value} {m} {rs} {cs} {vs} c = record {
 
 -- ---- the limits hold
 
-pieces-all : {A : Type 0} (p : A → Bool) (f : ℕ → List A) (xs : List ℕ) → ((i : ℕ) → isIn xs i ≡ true → all p (f i) ≡ true) → all p (concat (map f xs)) ≡ true
-pieces-all p f [] h = refl
-pieces-all p f (x ∷ xs) h = all_append p (f x) (concat (map f xs)) ∙ rw (h x here, pieces-all p f xs (λ i m. h i (later i m)))
+pieces_all : {A : Type 0} (p : A → Bool) (f : ℕ → List A) (xs : List ℕ) → ((i : ℕ) → is_in xs i ≡ true → all p (f i) ≡ true) → all p (concat (map f xs)) ≡ true
+pieces_all p f [] h = refl
+pieces_all p f (x ∷ xs) h = all_append p (f x) (concat (map f xs)) ∙ rw (h x here, pieces_all p f xs (λ i m. h i (later i m)))
   where
-    here : isIn (x ∷ xs) x ≡ true
+    here : is_in (x ∷ xs) x ≡ true
     here = rw (eq-eqb x x refl)
 
-    later : (i : ℕ) → isIn xs i ≡ true → isIn (x ∷ xs) i ≡ true
+    later : (i : ℕ) → is_in xs i ≡ true → is_in (x ∷ xs) i ≡ true
     later i m = go (eqb i x)
       where
-        go : (t : Bool) → t || isIn xs i ≡ true
+        go : (t : Bool) → t || is_in xs i ≡ true
         go true = refl
         go false = m
 
-module _ (a b : Matrix) (places : List ℕ) (n : ℕ) (w : Sewing a b places n) {m : ℕ} {rs cs : List ℕ} {vs : List ℤ} (c : Collected n (storedIn a b places) (stiffness a b places) m rs cs vs) where
+module _ (a b : Matrix) (places : List ℕ) (n : ℕ) (w : Sewing a b places n) {m : ℕ} {rs cs : List ℕ} {vs : List ℤ} (c : Collected n (stored_in a b places) (stiffness a b places) m rs cs vs) where
   -- every stored value, on either side of the diagonal
-  small : (i j : ℕ) → i < n → j < n → storedIn a b places i j ≡ true → within max_value (stiffness a b places i j) ≡ true
+  small : (i j : ℕ) → i < n → j < n → stored_in a b places i j ≡ true → within max_value (stiffness a b places i j) ≡ true
   small i j li lj s = go (leb j i) refl
     where
       go : (t : Bool) → leb j i ≡ t → within max_value (stiffness a b places i j) ≡ true
@@ -83,42 +83,42 @@ module _ (a b : Matrix) (places : List ℕ) (n : ℕ) (w : Sewing a b places n) 
           (c.small j i (omega (arith, leb-false j i e)) lj (stored-both a b places w.first w.second w.placed i j s))
 
   values-small : all (within max_value) (joined a b places).values ≡ true
-  unfolding joined tabulated columnsIn
+  unfolding joined tabulated columns_in
   values-small =
       rw (← w.rows)
-      (pieces-all (within max_value) (λ i. map (stiffness a b places i) (filter (storedIn a b places i) (range 0 n))) (range 0 n)
-      (λ i mi. all_map (within max_value) (stiffness a b places i) (filter (storedIn a b places i) (range 0 n))
-      ∙ of-all (λ j. within max_value (stiffness a b places i j)) (filter (storedIn a b places i) (range 0 n))
-      (λ j mj. small i j (omega (arith, (range-in i 0 n mi).1)) (omega (arith, (range-in j 0 n (filter-in (storedIn a b places i) (range 0 n) j mj)).1)) (filter_passes (storedIn a b places i) (range 0 n) j mj))))
+      (pieces_all (within max_value) (λ i. map (stiffness a b places i) (filter (stored_in a b places i) (range 0 n))) (range 0 n)
+      (λ i mi. all_map (within max_value) (stiffness a b places i) (filter (stored_in a b places i) (range 0 n))
+      ∙ of-all (λ j. within max_value (stiffness a b places i j)) (filter (stored_in a b places i) (range 0 n))
+      (λ j mj. small i j (omega (arith, (range_in i 0 n mi).1)) (omega (arith, (range_in j 0 n (filter_in (stored_in a b places i) (range 0 n) j mj)).1)) (filter_passes (stored_in a b places i) (range 0 n) j mj))))
 
-  counted : lowerEntries (joined a b places) ≡ m
+  counted : lower_entries (joined a b places) ≡ m
   unfolding joined
   counted =
       rw (← w.rows)
-      (sym (gathered-count n (storedIn a b places) (stiffness a b places) (tripletsOf m rs cs vs) (collected c).inner (λ i j li lj. rw (c.cells i j li) (one i j (storedIn a b places i j && leb j i)))) ∙ length-triplets m rs cs vs)
+      (sym (gathered-count n (stored_in a b places) (stiffness a b places) (triplets_of m rs cs vs) (collected c).inner (λ i j li lj. rw (c.cells i j li) (one i j (stored_in a b places i j && leb j i)))) ∙ length_triplets m rs cs vs)
     where
       one : (i j : ℕ) (t : Bool) → length (cond t (triplet i j (stiffness a b places i j) ∷ []) []) ≡ bit t
       one i j true = refl
       one i j false = refl
 
-  joined-rows : (joined a b places).n ≡ joinedRows a places
+  joined-rows : (joined a b places).n ≡ joined_rows a places
   unfolding joined tabulated
   joined-rows = refl
 
-  pub in-limits : m ≤ maxEntries → inLimits (joined a b places) ≡ true
-  unfolding inLimits
-  in-limits h = rw (counted, values-small, joined-rows, ← w.rows, le-leb n maxRows w.few, le-leb m maxEntries h)
+  pub in-limits : m ≤ max_entries → in_limits (joined a b places) ≡ true
+  unfolding in_limits
+  in-limits h = rw (counted, values-small, joined-rows, ← w.rows, le-leb n max_rows w.few, le-leb m max_entries h)
 
   -- what the sort into full rows is handed
-  pub entries : m ≤ maxEntries → Arrays rs cs vs → Entries rs cs vs m n
+  pub entries : m ≤ max_entries → Arrays rs cs vs → Entries rs cs vs m n
   entries h t = record {
-    places = record { rows = w.few; count = h; long-rows = omega (arith, t.rows); long-columns = omega (arith, t.columns); inside = λ k l. ((c.inside k l).1, omega (arith, (c.inside k l).0, (c.inside k l).1)) };
-    long-values = omega (arith, t.values);
+    places = record { rows = w.few; count = h; long_rows = omega (arith, t.rows); long_columns = omega (arith, t.columns); inside = λ k l. ((c.inside k l).1, omega (arith, (c.inside k l).0, (c.inside k l).1)) };
+    long_values = omega (arith, t.values);
   }
 
-  module _ (h : m ≤ maxEntries) {starts₀ columns₀ : List ℕ} {values₀ : List ℤ} {r : Verdict} {starts' columns' : List ℕ} {values' : List ℤ} (p : Placed (matrixText n (tripletsOf m rs cs vs)) starts₀ columns₀ values₀ r starts' columns' values') where
-    pub placed-joins : Answers a b places starts₀ columns₀ values₀ (replyOf r) starts' columns' values'
-    placed-joins =
+  module _ (h : m ≤ max_entries) {starts₀ columns₀ : List ℕ} {values₀ : List ℤ} {r : Verdict} {starts' columns' : List ℕ} {values' : List ℤ} (p : Placed (matrix_text n (triplets_of m rs cs vs)) starts₀ columns₀ values₀ r starts' columns' values') where
+    pub placed_joins : Answers a b places starts₀ columns₀ values₀ (reply_of r) starts' columns' values'
+    placed_joins =
         let g = rw w.rows at (collected c) in
         let q = rw w.rows at p in
         let fit = in-limits h in
@@ -141,8 +141,8 @@ abbrev Refused : (a b : Matrix) (places starts₀ columns₀ : List ℕ) (values
 Refused a b places starts₀ columns₀ values₀ q = Answers a b places starts₀ columns₀ values₀ (refused q 0) starts₀ columns₀ values₀
 
 module _ (a b : Matrix) (places starts₀ columns₀ : List ℕ) (values₀ : List ℤ) where
-  refused-joins : (q : ℕ) → joinReply a b places (length starts₀) (length columns₀) (length values₀) ≡ refused q 0 → Refused a b places starts₀ columns₀ values₀ q
-  refused-joins q f = (
+  refused_joins : (q : ℕ) → join_reply a b places (length starts₀) (length columns₀) (length values₀) ≡ refused q 0 → Refused a b places starts₀ columns₀ values₀ q
+  refused_joins q f = (
     sym f,
     (
       sym (lent-refused (joined a b places).starts starts₀ _ q 0 f),
@@ -150,29 +150,29 @@ module _ (a b : Matrix) (places starts₀ columns₀ : List ℕ) (values₀ : Li
     ),
   )
 
-  pub first-unmade : isMatrix a ≡ false → Refused a b places starts₀ columns₀ values₀ why.notMatrix
-  first-unmade h = refused-joins why.notMatrix (unfold joinReply matrixCheck in_turn in rw h)
+  pub first_unmade : is_matrix a ≡ false → Refused a b places starts₀ columns₀ values₀ why.not_matrix
+  first_unmade h = refused_joins why.not_matrix (unfold join_reply matrix_check in_turn in rw h)
 
-  module _ (oka : isMatrix a ≡ true) where
-    pub second-unmade : isMatrix b ≡ false → Refused a b places starts₀ columns₀ values₀ why.notMatrix
-    second-unmade h = refused-joins why.notMatrix (unfold joinReply matrixCheck in_turn in rw (oka, h))
+  module _ (oka : is_matrix a ≡ true) where
+    pub second_unmade : is_matrix b ≡ false → Refused a b places starts₀ columns₀ values₀ why.not_matrix
+    second_unmade h = refused_joins why.not_matrix (unfold join_reply matrix_check in_turn in rw (oka, h))
 
-    module _ (okb : isMatrix b ≡ true) where
-      pub misplaced : arePlaces a b places ≡ false → Refused a b places starts₀ columns₀ values₀ why.badPlaces
-      misplaced h = refused-joins why.badPlaces (unfold joinReply matrixCheck in_turn in rw (oka, okb, h))
+    module _ (okb : is_matrix b ≡ true) where
+      pub misplaced : are_places a b places ≡ false → Refused a b places starts₀ columns₀ values₀ why.bad_places
+      misplaced h = refused_joins why.bad_places (unfold join_reply matrix_check in_turn in rw (oka, okb, h))
 
-      pub unlimited : arePlaces a b places ≡ true → inLimits (joined a b places) ≡ false → Refused a b places starts₀ columns₀ values₀ why.pastLimits
-      unlimited h e = refused-joins why.pastLimits (unfold joinReply matrixCheck in_turn in rw (oka, okb, h, e))
+      pub unlimited : are_places a b places ≡ true → in_limits (joined a b places) ≡ false → Refused a b places starts₀ columns₀ values₀ why.past_limits
+      unlimited h e = refused_joins why.past_limits (unfold join_reply matrix_check in_turn in rw (oka, okb, h, e))
 
 -- ---- the test of places
 
 module _ (a b : Matrix) (places : List ℕ) where
-  pub other_length : (length places ≡ b.n → ⊥) → arePlaces a b places ≡ false
-  other_length d = places-test a b places ∙ rw (ne_eqb (length places) b.n d)
+  pub other_length : (length places ≡ b.n → ⊥) → are_places a b places ≡ false
+  other_length d = places_test a b places ∙ rw (ne_eqb (length places) b.n d)
 
-  pub tested-places : length places ≡ b.n → {n : ℕ} {t : Bool} → n ≡ joinedRows a places → t ≡ distinct places && all (λ p. ltb p n) places → arePlaces a b places ≡ t
-  tested-places l e q = places-test a b places ∙ rw (eq-eqb (length places) b.n l, ← e) (sym q)
+  pub tested_places : length places ≡ b.n → {n : ℕ} {t : Bool} → n ≡ joined_rows a places → t ≡ distinct places && all (λ p. ltb p n) places → are_places a b places ≡ t
+  tested_places l e q = places_test a b places ∙ rw (eq-eqb (length places) b.n l, ← e) (sym q)
 
-  pub rows_are : {count : ℕ} → count ≡ length (filter (leb a.n) places) → a.n + count ≡ joinedRows a places
-  unfolding joinedRows pastFirst
+  pub rows_are : {count : ℕ} → count ≡ length (filter (leb a.n) places) → a.n + count ≡ joined_rows a places
+  unfolding joined_rows past_first
   rows_are e = ap (λ (k : ℕ). a.n + k) e

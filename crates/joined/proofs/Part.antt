@@ -10,7 +10,7 @@ use lib.ListN.{length}
 use Rattle.base.specs.Lists.{filter, bit}
 use Rattle.base.proofs.Each.{Each, each_append}
 use Rattle.base.proofs.Lists.{filter-append}
-use Rattle.matrix.specs.Matrix.{lowerEntries}
+use Rattle.matrix.specs.Matrix.{lower_entries}
 use Rattle.matrix.specs.Tabulated.{tabulated}
 use Rattle.market.specs.Parse.{Triplet, triplet, is_at}
 use Rattle.market.proofs.Accepted.{Inner}
@@ -46,7 +46,7 @@ module _ (n : ℕ) (value : ℕ → ℕ → ℤ) where
 
   module _ {some : ℕ → ℕ → Bool} (stored : ℕ → ℕ → Bool) {es : List Triplet} (p : Part some es) where
     -- only such cells: no more than the net has
-    pub part-few : ((r c : ℕ) → some r c ≡ true → stored r c && leb c r ≡ true) → length es ≤ lowerEntries (tabulated n stored value)
+    pub part-few : ((r c : ℕ) → some r c ≡ true → stored r c && leb c r ≡ true) → length es ≤ lower_entries (tabulated n stored value)
     part-few h = gathered-few n stored value es p.inner (λ r c. rw (p.cells r c) (go r c (some r c) refl))
       where
         go : (r c : ℕ) (b : Bool) → some r c ≡ b → length (cond b (triplet r c (value r c) ∷ []) []) ≤ bit (stored r c && leb c r)

@@ -1,3 +1,3 @@
 pub mod Joined
 pub mod SewnTogether
-pub mod code
+pub mod Code

@@ -1,10 +1,10 @@
 // The entries of the joined net on and below the diagonal.
 ghost use Rattle.std.specs.Prelude.{◌≡◌, [], ℕ, suc, ◌<◌, length, get_or};
-ghost use Rattle.matrix.specs.Matrix.{part_of, columnsOf, matrixOf};
-ghost use Rattle.matrix.specs.code.Checks.{RowIn};
-ghost use Rattle.matrix.specs.code.Pattern.{pattern};
-ghost use Rattle.compress.specs.code.Arrays.{Arrays};
-ghost use Rattle.joined.specs.code.Rows.{tenantOf, Sewing, Gathers};
+ghost use Rattle.matrix.specs.Matrix.{part_of, columns_of, matrix_of};
+ghost use Rattle.matrix.specs.Code.Checks.{RowIn};
+ghost use Rattle.matrix.specs.Code.Pattern.{pattern};
+ghost use Rattle.compress.specs.Code.Arrays.{Arrays};
+ghost use Rattle.joined.specs.Code.Rows.{tenant_of, Sewing, Gathers};
 
 use crate::row::put_row;
 use matrix::limits::{MAX_ENTRIES, MAX_ROWS};
@@ -13,7 +13,7 @@ use matrix::row::{columns_of, values_of};
 // The columns of row i of n; none past the last row.
 fn row_columns<'a>(n: u32, starts: &[u32], columns: &'a [u32], i: usize) -> &'a [u32]
     requires { i < n → RowIn starts.now (length columns.now) i }
-    ensures { result.now ≡ columnsOf (pattern n starts.now columns.now) i }
+    ensures { result.now ≡ columns_of (pattern n starts.now columns.now) i }
 {
     if n as usize <= i {
         return &columns[..0];
@@ -60,8 +60,8 @@ pub(crate) fn gather(
     cs: &mut [u32; MAX_ENTRIES],
     vs: &mut [i32; MAX_ENTRIES],
 ) -> usize
-    requires { Sewing (matrixOf n1 starts1.now columns1.now values1.now) (matrixOf n2 starts2.now columns2.now values2.now) places.now n × ((c : ℕ) → get_or tenants.now c 0 ≡ tenantOf places.now c) × Arrays rs.old cs.old vs.old }
-    ensures { Gathers (matrixOf n1 starts1.now columns1.now values1.now) (matrixOf n2 starts2.now columns2.now values2.now) places.now n result rs.new cs.new vs.new }
+    requires { Sewing (matrix_of n1 starts1.now columns1.now values1.now) (matrix_of n2 starts2.now columns2.now values2.now) places.now n × ((c : ℕ) → get_or tenants.now c 0 ≡ tenant_of places.now c) × Arrays rs.old cs.old vs.old }
+    ensures { Gathers (matrix_of n1 starts1.now columns1.now values1.now) (matrix_of n2 starts2.now columns2.now values2.now) places.now n result rs.new cs.new vs.new }
 {
     let mut marks = [0u32; MAX_ROWS];
     let mut held = [0i32; MAX_ROWS];

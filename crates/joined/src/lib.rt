@@ -1,4 +1,6 @@
 // Two nets sewn together (document 02, Q-11).
+#![tactic(auto)]
+
 mod gather;
 mod puts;
 mod row;
@@ -6,9 +8,9 @@ mod tenants;
 
 ghost use Rattle.std.specs.Prelude.{◌≡◌, length};
 ghost use Rattle.base.specs.Replies.{lent};
-ghost use Rattle.base.specs.Verdicts.{replyOf};
-ghost use Rattle.matrix.specs.Matrix.{matrixOf};
-ghost use Rattle.joined.specs.Joined.{joined, joinReply};
+ghost use Rattle.base.specs.Verdicts.{reply_of};
+ghost use Rattle.matrix.specs.Matrix.{matrix_of};
+ghost use Rattle.joined.specs.Joined.{joined, join_reply};
 
 use base::{LIMITS, MATRIX, PLACES, Verdict};
 use compress::rows::place_rows;
@@ -32,13 +34,13 @@ pub fn join(
     columns: &mut [u32],
     values: &mut [i32],
 ) -> Verdict
-    ensures reply { replyOf result ≡ joinReply (matrixOf n1 starts1.now columns1.now values1.now) (matrixOf n2 starts2.now columns2.now values2.now) places.now (length starts.old) (length columns.old) (length values.old) }
-    ensures lent_starts { starts.new ≡ lent (joinReply (matrixOf n1 starts1.now columns1.now values1.now) (matrixOf n2 starts2.now columns2.now values2.now) places.now (length starts.old) (length columns.old) (length values.old))
-        (joined (matrixOf n1 starts1.now columns1.now values1.now) (matrixOf n2 starts2.now columns2.now values2.now) places.now).starts starts.old }
-    ensures lent_columns { columns.new ≡ lent (joinReply (matrixOf n1 starts1.now columns1.now values1.now) (matrixOf n2 starts2.now columns2.now values2.now) places.now (length starts.old) (length columns.old) (length values.old))
-        (joined (matrixOf n1 starts1.now columns1.now values1.now) (matrixOf n2 starts2.now columns2.now values2.now) places.now).columns columns.old }
-    ensures lent_values { values.new ≡ lent (joinReply (matrixOf n1 starts1.now columns1.now values1.now) (matrixOf n2 starts2.now columns2.now values2.now) places.now (length starts.old) (length columns.old) (length values.old))
-        (joined (matrixOf n1 starts1.now columns1.now values1.now) (matrixOf n2 starts2.now columns2.now values2.now) places.now).values values.old }
+    ensures reply { reply_of result ≡ join_reply (matrix_of n1 starts1.now columns1.now values1.now) (matrix_of n2 starts2.now columns2.now values2.now) places.now (length starts.old) (length columns.old) (length values.old) }
+    ensures lent_starts { starts.new ≡ lent (join_reply (matrix_of n1 starts1.now columns1.now values1.now) (matrix_of n2 starts2.now columns2.now values2.now) places.now (length starts.old) (length columns.old) (length values.old))
+        (joined (matrix_of n1 starts1.now columns1.now values1.now) (matrix_of n2 starts2.now columns2.now values2.now) places.now).starts starts.old }
+    ensures lent_columns { columns.new ≡ lent (join_reply (matrix_of n1 starts1.now columns1.now values1.now) (matrix_of n2 starts2.now columns2.now values2.now) places.now (length starts.old) (length columns.old) (length values.old))
+        (joined (matrix_of n1 starts1.now columns1.now values1.now) (matrix_of n2 starts2.now columns2.now values2.now) places.now).columns columns.old }
+    ensures lent_values { values.new ≡ lent (join_reply (matrix_of n1 starts1.now columns1.now values1.now) (matrix_of n2 starts2.now columns2.now values2.now) places.now (length starts.old) (length columns.old) (length values.old))
+        (joined (matrix_of n1 starts1.now columns1.now values1.now) (matrix_of n2 starts2.now columns2.now values2.now) places.now).values values.old }
 {
     if !is_matrix(n1, starts1, columns1, values1) {
         return Verdict::Refused(MATRIX, 0);

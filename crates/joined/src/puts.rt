@@ -1,10 +1,10 @@
 // One entry into the arrays.
 ghost use Rattle.std.specs.Prelude.{◌≡◌, not, ◌&&◌, cond, [], ◌∷◌, ◌+◌, ◌≤◌, ◌<◌, leb, length};
 ghost use Rattle.base.specs.Integers.{within};
-ghost use Rattle.matrix.specs.Limits.{maxRows, maxEntries, max_value};
+ghost use Rattle.matrix.specs.Limits.{max_rows, max_entries, max_value};
 ghost use Rattle.market.specs.Parse.{triplet};
-ghost use Rattle.compress.specs.code.Arrays.{Arrays};
-ghost use Rattle.joined.specs.code.Rows.{marked, Emitted};
+ghost use Rattle.compress.specs.Code.Arrays.{Arrays};
+ghost use Rattle.joined.specs.Code.Rows.{marked, Emitted};
 
 use matrix::limits::{MAX_ENTRIES, MAX_ROWS, MAX_VALUE};
 
@@ -55,7 +55,7 @@ pub(crate) fn put_low(
     cs: &mut [u32; MAX_ENTRIES],
     vs: &mut [i32; MAX_ENTRIES],
 ) -> usize
-    requires { (m ≤ maxEntries) × Arrays rs.old cs.old vs.old }
+    requires { (m ≤ max_entries) × Arrays rs.old cs.old vs.old }
     ensures { Emitted (cond (leb j i) (triplet i j v ∷ []) []) m rs.old cs.old vs.old result rs.new cs.new vs.new }
 {
     if i < j {
@@ -75,7 +75,7 @@ pub(crate) fn put_new(
     cs: &mut [u32; MAX_ENTRIES],
     vs: &mut [i32; MAX_ENTRIES],
 ) -> usize
-    requires { (i < maxRows) × (j < maxRows) × (length seen.now ≡ maxRows) × (m ≤ maxEntries) × Arrays rs.old cs.old vs.old }
+    requires { (i < max_rows) × (j < max_rows) × (length seen.now ≡ max_rows) × (m ≤ max_entries) × Arrays rs.old cs.old vs.old }
     ensures { Emitted (cond (leb j i && not (marked (i + 1) seen.now j)) (triplet i j v ∷ []) []) m rs.old cs.old vs.old result rs.new cs.new vs.new }
 {
     let c = j as usize;

@@ -1,10 +1,10 @@
 // The entries of one row of the joined net, on and below the diagonal.
 ghost use Rattle.std.specs.Prelude.{◌≡◌, ℕ, ◌+◌, ◌≤◌, ◌<◌, ◌+ℤ◌, length, get_or};
-ghost use Rattle.base.specs.Lists.{isIn, position_of};
-ghost use Rattle.matrix.specs.Limits.{maxRows, maxEntries};
+ghost use Rattle.base.specs.Lists.{is_in, position_of};
+ghost use Rattle.matrix.specs.Limits.{max_rows, max_entries};
 ghost use Rattle.matrix.specs.Matrix.{lookup};
-ghost use Rattle.compress.specs.code.Arrays.{Arrays};
-ghost use Rattle.joined.specs.code.Rows.{fromFirst, fromSecond, rowEntries, marked, held_at, Before, Held, Seen, FirstRow, SecondRow, Emitted};
+ghost use Rattle.compress.specs.Code.Arrays.{Arrays};
+ghost use Rattle.joined.specs.Code.Rows.{from_first, from_second, row_entries, marked, held_at, Before, Held, Seen, FirstRow, SecondRow, Emitted};
 
 use crate::puts::{put_low, put_new};
 use matrix::limits::{MAX_ENTRIES, MAX_ROWS};
@@ -18,7 +18,7 @@ fn hold(
     marks: &mut [u32; MAX_ROWS],
     held: &mut [i32; MAX_ROWS],
 )
-    requires { SecondRow places.now columns.now values.now × Before turn marks.old × (length held.old ≡ maxRows) }
+    requires { SecondRow places.now columns.now values.now × Before turn marks.old × (length held.old ≡ max_rows) }
     ensures { Held turn (λ c. lookup (position_of places.now c) columns.now values.now) marks.new held.new }
 {
     let mut k = 0;
@@ -33,8 +33,8 @@ fn hold(
 
 // The first net's row: its columns.
 fn mark(columns: &[u32], turn: u32, seen: &mut [u32; MAX_ROWS])
-    requires { ((k : ℕ) → k < length columns.now → get_or columns.now k 0 < maxRows) × Before turn seen.old }
-    ensures { Seen turn (isIn columns.now) seen.new }
+    requires { ((k : ℕ) → k < length columns.now → get_or columns.now k 0 < max_rows) × Before turn seen.old }
+    ensures { Seen turn (is_in columns.now) seen.new }
 {
     let mut k = 0;
     while k < columns.len() {
@@ -46,7 +46,7 @@ fn mark(columns: &[u32], turn: u32, seen: &mut [u32; MAX_ROWS])
 
 // What is held for column j in this turn.
 fn held_at(marks: &[u32; MAX_ROWS], held: &[i32; MAX_ROWS], turn: u32, j: u32) -> i32
-    requires { (length marks.now ≡ maxRows) × (length held.now ≡ maxRows) × (j < maxRows) }
+    requires { (length marks.now ≡ max_rows) × (length held.now ≡ max_rows) × (j < max_rows) }
     ensures { result ≡ held_at turn marks.now held.now j }
 {
     let c = j as usize;
@@ -75,8 +75,8 @@ fn put_first(
     cs: &mut [u32; MAX_ENTRIES],
     vs: &mut [i32; MAX_ENTRIES],
 ) -> usize
-    requires { FirstRow columns.now values.now × (length marks.now ≡ maxRows) × (length held.now ≡ maxRows) × (i < maxRows) × (m ≤ maxEntries) × Arrays rs.old cs.old vs.old }
-    ensures { Emitted (fromFirst i columns.now values.now (held_at (i + 1) marks.now held.now) (length columns.now)) m rs.old cs.old vs.old result rs.new cs.new vs.new }
+    requires { FirstRow columns.now values.now × (length marks.now ≡ max_rows) × (length held.now ≡ max_rows) × (i < max_rows) × (m ≤ max_entries) × Arrays rs.old cs.old vs.old }
+    ensures { Emitted (from_first i columns.now values.now (held_at (i + 1) marks.now held.now) (length columns.now)) m rs.old cs.old vs.old result rs.new cs.new vs.new }
 {
     let mut count = m;
     let mut k = 0;
@@ -104,8 +104,8 @@ fn put_second(
     cs: &mut [u32; MAX_ENTRIES],
     vs: &mut [i32; MAX_ENTRIES],
 ) -> usize
-    requires { SecondRow places.now columns.now values.now × (length seen.now ≡ maxRows) × (i < maxRows) × (m ≤ maxEntries) × Arrays rs.old cs.old vs.old }
-    ensures { Emitted (fromSecond i places.now columns.now values.now (marked (i + 1) seen.now) (length columns.now)) m rs.old cs.old vs.old result rs.new cs.new vs.new }
+    requires { SecondRow places.now columns.now values.now × (length seen.now ≡ max_rows) × (i < max_rows) × (m ≤ max_entries) × Arrays rs.old cs.old vs.old }
+    ensures { Emitted (from_second i places.now columns.now values.now (marked (i + 1) seen.now) (length columns.now)) m rs.old cs.old vs.old result rs.new cs.new vs.new }
 {
     let mut count = m;
     let mut k = 0;
@@ -138,9 +138,9 @@ pub(crate) fn put_row(
     cs: &mut [u32; MAX_ENTRIES],
     vs: &mut [i32; MAX_ENTRIES],
 ) -> usize
-    requires { FirstRow columns1.now values1.now × SecondRow places.now columns2.now values2.now × (i < maxRows) × Before (i + 1) marks.old × (length held.old ≡ maxRows) × Before (i + 1) seen.old × (m ≤ maxEntries) × Arrays rs.old cs.old vs.old }
-    ensures { Emitted (rowEntries i places.now columns1.now values1.now columns2.now values2.now) m rs.old cs.old vs.old result rs.new cs.new vs.new
-        × Before (i + 1 + 1) marks.new × (length held.new ≡ maxRows) × Before (i + 1 + 1) seen.new }
+    requires { FirstRow columns1.now values1.now × SecondRow places.now columns2.now values2.now × (i < max_rows) × Before (i + 1) marks.old × (length held.old ≡ max_rows) × Before (i + 1) seen.old × (m ≤ max_entries) × Arrays rs.old cs.old vs.old }
+    ensures { Emitted (row_entries i places.now columns1.now values1.now columns2.now values2.now) m rs.old cs.old vs.old result rs.new cs.new vs.new
+        × Before (i + 1 + 1) marks.new × (length held.new ≡ max_rows) × Before (i + 1 + 1) seen.new }
 {
     hold(columns2, values2, places, i + 1, marks, held);
     mark(columns1, i + 1, seen);

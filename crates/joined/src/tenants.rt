@@ -1,8 +1,8 @@
 // The places of the second net's rows in the joined net.
 ghost use Rattle.std.specs.Prelude.{◌≡◌, true, ◌&&◌, ℕ, ◌*◌, ◌≤◌, ◌<◌, ltb, leb, length, get_or};
 ghost use Rattle.base.specs.Lists.{filter, all, distinct};
-ghost use Rattle.matrix.specs.Limits.{maxRows};
-ghost use Rattle.joined.specs.code.Rows.{tenantOf};
+ghost use Rattle.matrix.specs.Limits.{max_rows};
+ghost use Rattle.joined.specs.Code.Rows.{tenant_of};
 
 use matrix::limits::MAX_ROWS;
 
@@ -23,9 +23,9 @@ pub(crate) fn count_from(list: &[u32], n: u32) -> usize
 
 // Whether the numbers of a list are distinct and below n; if so, the tenant of each.
 pub(crate) fn put_tenants(list: &[u32], n: usize, tenants: &mut [u32; 2 * MAX_ROWS]) -> bool
-    requires { (n ≤ 2 * maxRows) × (length list.now ≤ maxRows) × (length tenants.old ≡ 2 * maxRows) × ((c : ℕ) → get_or tenants.old c 0 ≡ 0) }
+    requires { (n ≤ 2 * max_rows) × (length list.now ≤ max_rows) × (length tenants.old ≡ 2 * max_rows) × ((c : ℕ) → get_or tenants.old c 0 ≡ 0) }
     ensures test { result ≡ distinct list.now && all (λ p. ltb p n) list.now }
-    ensures tenants { result ≡ true → (c : ℕ) → get_or tenants.new c 0 ≡ tenantOf list.now c }
+    ensures tenants { result ≡ true → (c : ℕ) → get_or tenants.new c 0 ≡ tenant_of list.now c }
 {
     let mut k: usize = 0;
     while k < list.len() {

@@ -11,29 +11,29 @@ use lib.ListN.{length, get_or, set, replicate, length-set}
 use lib.Seq.{get_or-set_same, get_or-set_other}
 use borrow.Author.Tests.{ltb-true, ltb-false}
 use Rattle.base.proofs.Booleans.{same_or, clash}
-use Rattle.base.proofs.Lists.{set-each, getD-zeros}
-use Rattle.matrix.specs.Limits.{maxRows}
-use Rattle.matrix.proofs.Matrix.{matrix-facts}
-use Rattle.plan.specs.Sound.{maxWorkers, maxGroups}
-use Rattle.plan.specs.code.Checks.{recordAt, belowWhole}
+use Rattle.base.proofs.Lists.{set-each, get_d_zeros}
+use Rattle.matrix.specs.Limits.{max_rows}
+use Rattle.matrix.proofs.Matrix.{matrix_facts}
+use Rattle.plan.specs.Sound.{max_workers, max_groups}
+use Rattle.plan.specs.Code.Checks.{record_at, below_whole}
 use Rattle.plan.specs.declared.fields.Record.{Record}
 use Rattle.run.specs.Job.{Job}
-use Rattle.run.specs.Updates.{rowUpdates, up_to}
-use Rattle.tables.specs.code.Laid.{hasChild, Leaf, LeafOf, end_of, maxUpdates, next_of, beginOf, Counted, Laid, Bounded}
-use Rattle.layout.specs.code.UpdateTable.{Sized, Planned, Stretch, Put, Filled, Walked, Blank, reached}
+use Rattle.run.specs.Updates.{row_updates, up_to}
+use Rattle.tables.specs.Code.Laid.{has_child, Leaf, LeafOf, end_of, max_updates, next_of, begin_of, Counted, Laid, Bounded}
+use Rattle.layout.specs.Code.UpdateTable.{Sized, Planned, Stretch, Put, Filled, Walked, Blank, reached}
 use Rattle.layout.proofs.UpdateRoom.{spans_apart, rising-of}
-use Rattle.layout.proofs.LeafRows.{leaf-inside, all-reached, reached-group, of-leaf, stretch-of, Read, leaf-end, leaf_first}
-use Rattle.layout.proofs.CountRows.{RowFits, row_fits, stretch-other, grown-at}
+use Rattle.layout.proofs.LeafRows.{leaf-inside, all-reached, reached_group, of-leaf, stretch-of, Read, leaf_end, leaf_first}
+use Rattle.layout.proofs.CountRows.{RowFits, row_fits, stretch_other, grown_at}
 
 -- tables of zeros
-pub blank-zeros : (n : ℕ) → 1 ≤ n → Blank n (replicate maxUpdates 0) (replicate maxRows 0) (replicate maxRows 0) (replicate maxGroups 0)
+pub blank-zeros : (n : ℕ) → 1 ≤ n → Blank n (replicate max_updates 0) (replicate max_rows 0) (replicate max_rows 0) (replicate max_groups 0)
 blank-zeros n some = record {
-  row-long = refl;
-  begins-long = refl;
-  leaves-long = refl;
-  ends-long = refl;
-  row_low = λ k. omega (arith, getD-zeros maxUpdates k);
-  leaf-low = λ q. omega (arith, getD-zeros maxRows q);
+  row_long = refl;
+  begins_long = refl;
+  leaves_long = refl;
+  ends_long = refl;
+  row_low = λ k. omega (arith, get_d_zeros max_updates k);
+  leaf_low = λ q. omega (arith, get_d_zeros max_rows q);
 }
 
 -- ---- one row more
@@ -46,24 +46,24 @@ module _ {j : Job} {sizes : List ℕ} (t : Sized j sizes) {i w s e : ℕ} (h : S
   fits = row_fits t h p a b
 
   module _ {place end : ℕ} (is : place ≡ next_of j w p) {row' : List ℕ} (put : (end + 1 ≡ place + 2 * get_or sizes p 0) × Put p place end row row') where
-    begins-here : place ≡ beginOf j p
+    begins-here : place ≡ begin_of j p
     begins-here = is ∙ sym fits.begins
 
-    ends-here : end ≡ beginOf j p + length (rowUpdates j p)
+    ends-here : end ≡ begin_of j p + length (row_updates j p)
     ends-here = omega (arith, begins-here, put.0, fits.updates-are)
 
-    rows : (q c : ℕ) → q < p + 1 → c < length (rowUpdates j q) → (q ≡ p) ⊎ (q ≢ p) → get_or row' (beginOf j q + c) 0 ≡ q
+    rows : (q c : ℕ) → q < p + 1 → c < length (row_updates j q) → (q ≡ p) ⊎ (q ≢ p) → get_or row' (begin_of j q + c) 0 ≡ q
     rows q c l k (inl y) =
-        let k' : c < length (rowUpdates j p) = rw y at k in
-        rw y (put.1.here (beginOf j p + c) (omega (arith, begins-here)) (omega (arith, ends-here)))
+        let k' : c < length (row_updates j p) = rw y at k in
+        rw y (put.1.here (begin_of j p + c) (omega (arith, begins-here)) (omega (arith, ends-here)))
     rows q c l k (inr d) = go (spans_apart j q p (omega arith) low d)
       where
-        had : get_or row (beginOf j q + c) 0 ≡ q
+        had : get_or row (begin_of j q + c) 0 ≡ q
         had = f.rows q c (omega (arith, d)) k
 
-        go : (beginOf j q + length (rowUpdates j q) ≤ beginOf j p) ⊎ (beginOf j p + length (rowUpdates j p) ≤ beginOf j q) → get_or row' (beginOf j q + c) 0 ≡ q
-        go (inl y) = put.1.before (beginOf j q + c) (omega (arith, begins-here)) ∙ had
-        go (inr y) = put.1.after (beginOf j q + c) (omega (arith, ends-here)) ∙ had
+        go : (begin_of j q + length (row_updates j q) ≤ begin_of j p) ⊎ (begin_of j p + length (row_updates j p) ≤ begin_of j q) → get_or row' (begin_of j q + c) 0 ≡ q
+        go (inl y) = put.1.before (begin_of j q + c) (omega (arith, begins-here)) ∙ had
+        go (inr y) = put.1.after (begin_of j q + c) (omega (arith, ends-here)) ∙ had
 
     row_low : (k : ℕ) → (x : Bool) → ltb k place ≡ x → (y : Bool) → ltb k end ≡ y → get_or row' k 0 < j.matrix.n
     row_low k true x y z = omega (arith, put.1.before k (ltb-true k place x), f.row_low k)
@@ -74,23 +74,23 @@ module _ {j : Job} {sizes : List ℕ} (t : Sized j sizes) {i w s e : ℕ} (h : S
     filled_row = (
       rw (add-one p) (omega (arith, put.0, is, fits.one_more)),
       record {
-        row-long = put.1.long ∙ f.row-long;
-        begins-long = length-set begins p place ∙ f.begins-long;
-        leaves-long = length-set leaves p i ∙ f.leaves-long;
+        row_long = put.1.long ∙ f.row_long;
+        begins_long = length-set begins p place ∙ f.begins_long;
+        leaves_long = length-set leaves p i ∙ f.leaves_long;
         begun = λ q l. begun q l (same_or q p);
         rows = λ q c l k. rows q c l k (same_or q p);
         leaf = λ q l. leaf q l (same_or q p);
         row_low = λ k. row_low k (ltb k place) refl (ltb k end) refl;
-        leaf-low = set-each (λ q v. v < maxGroups) leaves p i (omega (arith, f.leaves-long, fits.few)) h.record-low (λ q d. f.leaf-low q);
+        leaf_low = set-each (λ q v. v < max_groups) leaves p i (omega (arith, f.leaves_long, fits.few)) h.record_low (λ q d. f.leaf_low q);
       },
     )
       where
-        begun : (q : ℕ) → q < p + 1 → (q ≡ p) ⊎ (q ≢ p) → get_or (set begins p place) q 0 ≡ beginOf j q
-        begun q l (inl y) = rw y (get_or-set_same begins p place 0 (omega (arith, f.begins-long, fits.few)) ∙ begins-here)
+        begun : (q : ℕ) → q < p + 1 → (q ≡ p) ⊎ (q ≢ p) → get_or (set begins p place) q 0 ≡ begin_of j q
+        begun q l (inl y) = rw y (get_or-set_same begins p place 0 (omega (arith, f.begins_long, fits.few)) ∙ begins-here)
         begun q l (inr d) = get_or-set_other begins p q place 0 d ∙ f.begun q (omega (arith, d))
 
         leaf : (q : ℕ) → q < p + 1 → (q ≡ p) ⊎ (q ≢ p) → LeafOf j (get_or (set leaves p i) q 0) q
-        leaf q l (inl y) = rw (y, get_or-set_same leaves p i 0 (omega (arith, f.leaves-long, fits.few))) (h.of p a b)
+        leaf q l (inl y) = rw (y, get_or-set_same leaves p i 0 (omega (arith, f.leaves_long, fits.few))) (h.of p a b)
         leaf q l (inr d) = rw (get_or-set_other leaves p q i 0 d) (f.leaf q (omega (arith, d)))
 
 -- ---- leaf by leaf
@@ -101,29 +101,29 @@ module _ {j : Job} {groups : List ℕ} {count : ℕ} {sizes : List ℕ} (g : Pla
   unfolding up_to reached
   walked_none b = record {
     filled = record {
-      row-long = b.row-long;
-      begins-long = b.begins-long;
-      leaves-long = b.leaves-long;
+      row_long = b.row_long;
+      begins_long = b.begins_long;
+      leaves_long = b.leaves_long;
       begun = λ p l. absurd (omega arith);
       rows = λ p k l. absurd (omega arith);
       leaf = λ p l. absurd (omega arith);
       row_low = b.row_low;
-      leaf-low = b.leaf-low;
+      leaf_low = b.leaf_low;
     };
-    next-long = c.long;
+    next_long = c.long;
     nexts = λ w l. omega (arith, c.is w (omega arith));
-    ends-long = b.ends-long;
+    ends_long = b.ends_long;
     ended = λ k h l. absurd (omega arith);
   }
 
   module _ {i : ℕ} (l : i < count) {next row begins leaves ends : List ℕ} (t : Walked j (reached count groups i) i next row begins leaves ends) where
     -- a group with groups inside has no rows of its own
-    pub walked-group : hasChild i (belowWhole count groups) ≡ true → Walked j (reached count groups (i + 1)) (i + 1) next row begins leaves ends
-    walked-group h = subst (λ (e : ℕ). Walked j e (i + 1) next row begins leaves ends) (sym (ap (reached count groups) (add-one i) ∙ reached-group g i l h)) (record {
+    pub walked_group : has_child i (below_whole count groups) ≡ true → Walked j (reached count groups (i + 1)) (i + 1) next row begins leaves ends
+    walked_group h = subst (λ (e : ℕ). Walked j e (i + 1) next row begins leaves ends) (sym (ap (reached count groups) (add-one i) ∙ reached_group g i l h)) (record {
       filled = t.filled;
-      next-long = t.next-long;
+      next_long = t.next_long;
       nexts = t.nexts;
-      ends-long = t.ends-long;
+      ends_long = t.ends_long;
       ended = λ k x y. go k x y (same_or k i);
     })
       where
@@ -131,9 +131,9 @@ module _ {j : Job} {groups : List ℕ} {count : ℕ} {sizes : List ℕ} (g : Pla
         go k x y (inl e) = absurd (clash h (of-leaf g i l (subst (Leaf j) e x)))
         go k x y (inr d) = t.ended k x (omega (arith, d))
 
-    module _ (childless : hasChild i (belowWhole count groups) ≡ false) where
+    module _ (childless : has_child i (below_whole count groups) ≡ false) where
       abbrev w : ℕ
-      w = (recordAt groups i).first
+      w = (record_at groups i).first
 
       abbrev stop : ℕ
       stop = reached count groups (suc i)
@@ -146,18 +146,18 @@ module _ {j : Job} {groups : List ℕ} {count : ℕ} {sizes : List ℕ} (g : Pla
           → Walked j (reached count groups (i + 1)) (i + 1) (set next w end) row' begins' leaves' (set ends i (2 * (end - get_or first w 0)))
       walked-leaf {end} {row'} {begins'} {leaves'} f = rw (add-one i) (record {
         filled = f.1;
-        next-long = length-set next w end ∙ t.next-long;
-        nexts = grown-at next (λ v. v) (λ v u y. y) end (λ v. next_of j v (reached count groups i)) (λ v. next_of j v stop) maxWorkers w (omega (arith, here.worker, t.next-long)) f.0
-            (λ v d. omega (arith, stretch-other here v d)) t.nexts;
-        ends-long = length-set ends i (2 * (end - get_or first w 0)) ∙ t.ends-long;
+        next_long = length-set next w end ∙ t.next_long;
+        nexts = grown_at next (λ v. v) (λ v u y. y) end (λ v. next_of j v (reached count groups i)) (λ v. next_of j v stop) max_workers w (omega (arith, here.worker, t.next_long)) f.0
+            (λ v d. omega (arith, stretch_other here v d)) t.nexts;
+        ends_long = length-set ends i (2 * (end - get_or first w 0)) ∙ t.ends_long;
         ended = λ k x y. go k x y (same_or k i);
       })
         where
           is : Leaf j i → 2 * (end - get_or first w 0) ≡ end_of j i
-          is x = rw (leaf-end g i l x, leaf_first g i l) (omega (arith, f.0, c.is w (omega (arith, here.worker))))
+          is x = rw (leaf_end g i l x, leaf_first g i l) (omega (arith, f.0, c.is w (omega (arith, here.worker))))
 
           go : (k : ℕ) → Leaf j k → k < suc i → (k ≡ i) ⊎ (k ≢ i) → get_or (set ends i (2 * (end - get_or first w 0))) k 0 ≡ end_of j k
-          go k x y (inl e) = rw e (get_or-set_same ends i (2 * (end - get_or first w 0)) 0 (omega (arith, t.ends-long, here.record-low)) ∙ is (subst (Leaf j) e x))
+          go k x y (inl e) = rw e (get_or-set_same ends i (2 * (end - get_or first w 0)) 0 (omega (arith, t.ends_long, here.record_low)) ∙ is (subst (Leaf j) e x))
           go k x y (inr d) = get_or-set_other ends i k (2 * (end - get_or first w 0)) 0 d ∙ t.ended k x (omega (arith, d))
 
       -- .. by the record that the code reads
@@ -171,11 +171,11 @@ module _ {j : Job} {groups : List ℕ} {count : ℕ} {sizes : List ℕ} (g : Pla
       → Laid j first row begins leaves ends × Bounded j.matrix.n first row leaves
   all_laid {i} {next} {row} {begins} {leaves} {ends} e t =
       let f : Filled j j.matrix.n row begins leaves = subst (λ (p : ℕ). Filled j p row begins leaves) (ap (reached count groups) e ∙ all-reached g) t.filled in (
-        record { counted = c; begins-long = f.begins-long; begun = f.begun; rows = f.rows; leaf = f.leaf; ended = λ k h. t.ended k h (omega (arith, e, leaf-inside g k h)) },
+        record { counted = c; begins_long = f.begins_long; begun = f.begun; rows = f.rows; leaf = f.leaf; ended = λ k h. t.ended k h (omega (arith, e, leaf-inside g k h)) },
         record {
           rising = rising-of j g.sized.accepted c;
-          rows_few = (matrix-facts j.matrix g.sized.accepted.matrix).few;
+          rows_few = (matrix_facts j.matrix g.sized.accepted.matrix).few;
           row_low = f.row_low;
-          leaf-low = f.leaf-low;
+          leaf_low = f.leaf_low;
         },
       )

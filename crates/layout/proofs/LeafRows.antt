@@ -7,85 +7,85 @@ use native.Mathlib.Omega.{arith}
 use lib.ListN.{length, get_or, drop}
 use Rattle.matrix.specs.Matrix.{neighbours}
 use Rattle.plan.specs.Groups.{Group, records, of_fields}
-use Rattle.plan.specs.Sound.{apart, maxWorkers, maxGroups, depthFirst, sound, isSound}
-use Rattle.plan.specs.code.Checks.{recordAt, belowWhole, standsDepthFirst, Reads}
+use Rattle.plan.specs.Sound.{apart, max_workers, max_groups, depth_first, sound, is_sound}
+use Rattle.plan.specs.Code.Checks.{record_at, below_whole, stands_depth_first, Reads}
 use Rattle.plan.specs.declared.fields.Record.{Record}
 use Rattle.plan.proofs.FlatRecords.{length-records}
-use Rattle.plan.proofs.Sound.{sound-facts}
+use Rattle.plan.proofs.Sound.{sound_facts}
 use Rattle.run.specs.Job.{Job}
-use Rattle.run.proofs.Holds.{in-holds}
-use Rattle.tables.specs.code.Laid.{hasChild, groupAt, Leaf, LeafOf}
+use Rattle.run.proofs.Holds.{in_holds}
+use Rattle.tables.specs.Code.Laid.{has_child, group_at, Leaf, LeafOf}
 use Rattle.tables.proofs.LeafOwner.{leaf-rows}
-use Rattle.layout.specs.code.UpdateTable.{Planned, Stretch, reached}
-use Rattle.layout.proofs.Reached.{record-get, start-reached, reached-end}
+use Rattle.layout.specs.Code.UpdateTable.{Planned, Stretch, reached}
+use Rattle.layout.proofs.Reached.{record_get, start-reached, reached_end}
 
 module _ {j : Job} {groups : List ℕ} {count : ℕ} {sizes : List ℕ} (g : Planned j groups count sizes) where
   abbrev n : ℕ
   n = j.matrix.n
 
   is-sound : sound (apart (neighbours j.matrix)) n j.plan.order (records count groups) ≡ true
-  unfolding isSound
-  is-sound = subst (λ (gs : List Group). sound (apart (neighbours j.matrix)) n j.plan.order gs ≡ true) g.groups-are g.sized.accepted.plan
+  unfolding is_sound
+  is-sound = subst (λ (gs : List Group). sound (apart (neighbours j.matrix)) n j.plan.order gs ≡ true) g.groups_are g.sized.accepted.plan
 
   -- they stand depth first, and are not too many
-  pub in_order : (standsDepthFirst count groups ≡ true) × (count ≤ maxGroups)
+  pub in_order_lem : (stands_depth_first count groups ≡ true) × (count ≤ max_groups)
   unfolding sound
-  in_order = let h = go (records count groups) is-sound in (h.0, omega (arith, h.1, length-records count groups))
+  in_order_lem = let h = go (records count groups) is-sound in (h.0, omega (arith, h.1, length-records count groups))
     where
-      go : (gs : List Group) → sound (apart (neighbours j.matrix)) n j.plan.order gs ≡ true → (depthFirst (0 ∷ []) 1 (drop 1 gs) ≡ true) × (length gs ≤ maxGroups)
+      go : (gs : List Group) → sound (apart (neighbours j.matrix)) n j.plan.order gs ≡ true → (depth_first (0 ∷ []) 1 (drop 1 gs) ≡ true) × (length gs ≤ max_groups)
       go [] h = absurd (true≢false (sym h))
-      go (k ∷ ks) h = let f = sound-facts (apart (neighbours j.matrix)) n j.plan.order k ks h in (f.inOrder, f.short)
+      go (k ∷ ks) h = let f = sound_facts (apart (neighbours j.matrix)) n j.plan.order k ks h in (f.in_order, f.short)
 
   -- a leaf is one of them
   pub leaf-inside : (i : ℕ) → Leaf j i → i < count
-  leaf-inside i h = omega (arith, h.inside, ap length g.groups-are, length-records count groups)
+  leaf-inside i h = omega (arith, h.inside, ap length g.groups_are, length-records count groups)
 
   -- all leaves together reach n
   pub all-reached : reached count groups count ≡ n
-  all-reached = reached-end (neighbours j.matrix) n j.plan.order count groups is-sound
+  all-reached = reached_end (neighbours j.matrix) n j.plan.order count groups is-sound
 
   module _ (i : ℕ) (l : i < count) where
     -- record i of the job
-    group-is : groupAt j i ≡ recordAt groups i
-    group-is = ap (λ (gs : List Group). get_or gs i (of_fields [])) g.groups-are ∙ record-get count groups i (of_fields []) l
+    group_is : group_at j i ≡ record_at groups i
+    group_is = ap (λ (gs : List Group). get_or gs i (of_fields [])) g.groups_are ∙ record_get count groups i (of_fields []) l
 
-    pub start_is : (recordAt groups i).start ≡ reached count groups i
+    pub start_is : (record_at groups i).start ≡ reached count groups i
     start_is = (start-reached (neighbours j.matrix) n j.plan.order count groups is-sound i l).0
 
-    first-low : (recordAt groups i).first < maxWorkers
+    first-low : (record_at groups i).first < max_workers
     first-low = (start-reached (neighbours j.matrix) n j.plan.order count groups is-sound i l).1
 
-    leaf-of : hasChild i (belowWhole count groups) ≡ false → Leaf j i
+    leaf-of : has_child i (below_whole count groups) ≡ false → Leaf j i
     leaf-of h = record {
-      inside = omega (arith, ap length g.groups-are, length-records count groups);
-      childless = ap (λ (gs : List Group). hasChild i (drop 1 gs)) g.groups-are ∙ h;
+      inside = omega (arith, ap length g.groups_are, length-records count groups);
+      childless = ap (λ (gs : List Group). has_child i (drop 1 gs)) g.groups_are ∙ h;
     }
 
-    pub of-leaf : Leaf j i → hasChild i (belowWhole count groups) ≡ false
-    of-leaf h = ap (λ (gs : List Group). hasChild i (drop 1 gs)) (sym g.groups-are) ∙ h.childless
+    pub of-leaf : Leaf j i → has_child i (below_whole count groups) ≡ false
+    of-leaf h = ap (λ (gs : List Group). has_child i (drop 1 gs)) (sym g.groups_are) ∙ h.childless
 
     -- the leaves reach its end, if it is one
-    pub reached-leaf : hasChild i (belowWhole count groups) ≡ false → reached count groups (suc i) ≡ reached count groups i + (recordAt groups i).length
+    pub reached-leaf : has_child i (below_whole count groups) ≡ false → reached count groups (suc i) ≡ reached count groups i + (record_at groups i).length
     unfolding reached
     reached-leaf h = rw h refl
 
-    pub reached-group : hasChild i (belowWhole count groups) ≡ true → reached count groups (suc i) ≡ reached count groups i
+    pub reached_group : has_child i (below_whole count groups) ≡ true → reached count groups (suc i) ≡ reached count groups i
     unfolding reached
-    reached-group h = rw h refl
+    reached_group h = rw h refl
 
     reached-rises : reached count groups i ≤ reached count groups (suc i)
-    reached-rises = go (hasChild i (belowWhole count groups)) refl
+    reached-rises = go (has_child i (below_whole count groups)) refl
       where
-        go : (b : Bool) → hasChild i (belowWhole count groups) ≡ b → reached count groups i ≤ reached count groups (suc i)
-        go true e = omega (arith, reached-group e)
+        go : (b : Bool) → has_child i (below_whole count groups) ≡ b → reached count groups i ≤ reached count groups (suc i)
+        go true e = omega (arith, reached_group e)
         go false e = omega (arith, reached-leaf e)
 
     -- its end, by the record and by the job
-    pub leaf-end : Leaf j i → (groupAt j i).start + (groupAt j i).length ≡ reached count groups (suc i)
-    leaf-end h = rw group-is (omega (arith, start_is, reached-leaf (of-leaf h)))
+    pub leaf_end : Leaf j i → (group_at j i).start + (group_at j i).length ≡ reached count groups (suc i)
+    leaf_end h = rw group_is (omega (arith, start_is, reached-leaf (of-leaf h)))
 
-    pub leaf_first : (groupAt j i).first ≡ (recordAt groups i).first
-    leaf_first = ap (λ (r : Group). r.first) group-is
+    pub leaf_first : (group_at j i).first ≡ (record_at groups i).first
+    leaf_first = ap (λ (r : Group). r.first) group_is
 
   reached-up : (i k : ℕ) → i + k ≤ count → reached count groups i ≤ reached count groups (i + k)
   reached-up i zero l = let e : i + 0 ≡ i = omega arith in rw e (omega arith)
@@ -98,21 +98,21 @@ module _ {j : Job} {groups : List ℕ} {count : ℕ} {sizes : List ℕ} (g : Pla
       omega (arith, rw e at (reached-up i (count - i) (omega arith)), all-reached)
 
   -- the rows of a leaf
-  module _ (i : ℕ) (l : i < count) (childless : hasChild i (belowWhole count groups) ≡ false) where
+  module _ (i : ℕ) (l : i < count) (childless : has_child i (below_whole count groups) ≡ false) where
     row_of : (p : ℕ) → reached count groups i ≤ p → p < reached count groups (suc i) → LeafOf j i p
     row_of p a b = record {
       leaf = leaf-of i l childless;
-      held = rw (group-is i l) (in-holds (recordAt groups i) p (omega (arith, start_is i l)) (omega (arith, start_is i l, reached-leaf i l childless)));
+      held = rw (group_is i l) (in_holds (record_at groups i) p (omega (arith, start_is i l)) (omega (arith, start_is i l, reached-leaf i l childless)));
     }
 
-    pub stretch-of : Stretch j i (recordAt groups i).first (reached count groups i) (reached count groups (suc i))
+    pub stretch-of : Stretch j i (record_at groups i).first (reached count groups i) (reached count groups (suc i))
     stretch-of = record {
       rises = reached-rises i l;
       inside = reached-low (suc i) l;
       worker = first-low i l;
-      record-low = omega (arith, in_order.1);
+      record_low = omega (arith, in_order_lem.1);
       mine = λ p a b. leaf-rows j g.sized.accepted.plan (of_fields []) i (leaf-of i l childless) p (omega (arith, reached-low (suc i) l)) (row_of p a b).held
-          ∙ ap (λ (h : Group). h.first) (group-is i l);
+          ∙ ap (λ (h : Group). h.first) (group_is i l);
       of = row_of;
     }
 
@@ -121,11 +121,11 @@ module _ {j : Job} {groups : List ℕ} {count : ℕ} {sizes : List ℕ} (g : Pla
       pub stretch : Stretch j i r.first r.start (r.start + r.length)
       pub starts : r.start ≡ reached count groups i
       pub ends : r.start + r.length ≡ reached count groups (suc i)
-      pub firsts : r.first ≡ (recordAt groups i).first
+      pub firsts : r.first ≡ (record_at groups i).first
 
-    pub read : (r : Record) → Reads r (recordAt groups i) → Read r
+    pub read : (r : Record) → Reads r (record_at groups i) → Read r
     read r h =
         let s : r.start ≡ reached count groups i = ap (λ (g : Group). g.start) h.is ∙ start_is i l in
-        let f : r.first ≡ (recordAt groups i).first = ap (λ (g : Group). g.first) h.is in
+        let f : r.first ≡ (record_at groups i).first = ap (λ (g : Group). g.first) h.is in
         let e : r.start + r.length ≡ reached count groups (suc i) = omega (arith, s, ap (λ (g : Group). g.length) h.is, reached-leaf i l childless) in
         record { stretch = rw (f, e, s) stretch-of; starts = s; ends = e; firsts = f }

@@ -7,10 +7,10 @@ use native.Mathlib.Omega.{arith}
 use lib.ListN.{length, get_or, set, length-set}
 use lib.Seq.{get_or-set_same, get_or-set_other}
 use Rattle.base.proofs.Booleans.{same_or}
-use Rattle.layout.specs.code.UpdateTable.{Put}
+use Rattle.layout.specs.Code.UpdateTable.{Put}
 
-pub put-none : (p a : ℕ) (row : List ℕ) → Put p a a row row
-put-none p a row = record { long = refl; before = λ k l. refl; here = λ k l h. absurd (omega arith); after = λ k l. refl }
+pub put_none : (p a : ℕ) (row : List ℕ) → Put p a a row row
+put_none p a row = record { long = refl; before = λ k l. refl; here = λ k l h. absurd (omega arith); after = λ k l. refl }
 
 pub put_next : {p a b : ℕ} {row row' : List ℕ} → a ≤ b → b < length row → Put p a b row row' → Put p a (b + 1) row (set row' b p)
 put_next {p} {a} {b} {row} {row'} rises l t = record {

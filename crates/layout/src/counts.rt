@@ -1,12 +1,12 @@
 // How many updates each worker has: where they begin and end, if each worker's stand after those of the workers before
 // it.
 ghost use Rattle.std.specs.Prelude.{◌≡◌, ℕ, suc, ◌+◌, ◌≤◌, length, get_or};
-ghost use Rattle.base.specs.Lists.{sumBelow};
-ghost use Rattle.plan.specs.Sound.{maxWorkers};
+ghost use Rattle.base.specs.Lists.{sum_below};
+ghost use Rattle.plan.specs.Sound.{max_workers};
 ghost use Rattle.run.specs.Job.{Job};
 ghost use Rattle.run.specs.Updates.{up_to};
-ghost use Rattle.tables.specs.code.Laid.{maxUpdates, Counted};
-ghost use Rattle.layout.specs.code.UpdateTable.{Sized, Planned, Stretch, Numbers};
+ghost use Rattle.tables.specs.Code.Laid.{max_updates, Counted};
+ghost use Rattle.layout.specs.Code.UpdateTable.{Sized, Planned, Stretch, Numbers};
 
 use crate::leaf::is_leaf;
 use matrix::limits::MAX_ROWS;
@@ -50,8 +50,8 @@ fn count_updates(groups: &[u32], count: usize, sizes: &[u32; MAX_ROWS]) -> [u32;
 
 // Each number becomes the sum of those up to it.
 fn cumulate(mut first: [u32; FIRSTS]) -> [u32; FIRSTS]
-    requires { (length first ≡ suc maxWorkers) × (get_or first 0 0 ≡ 0) × (sumBelow (λ w. get_or first (w + 1) 0) maxWorkers ≤ maxUpdates) }
-    ensures { (length result ≡ suc maxWorkers) × ((w : ℕ) → w ≤ maxWorkers → get_or result w 0 ≡ sumBelow (λ v. get_or first (v + 1) 0) w) }
+    requires { (length first ≡ suc max_workers) × (get_or first 0 0 ≡ 0) × (sum_below (λ w. get_or first (w + 1) 0) max_workers ≤ max_updates) }
+    ensures { (length result ≡ suc max_workers) × ((w : ℕ) → w ≤ max_workers → get_or result w 0 ≡ sum_below (λ v. get_or first (v + 1) 0) w) }
 {
     let mut w = 0;
     while w < MAX_WORKERS {

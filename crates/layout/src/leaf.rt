@@ -1,15 +1,15 @@
 // Which groups of a plan are its leaves.
 ghost use Rattle.std.specs.Prelude.{◌≡◌, true, not, ◌*◌, ◌≤◌, ◌<◌, length};
 ghost use Rattle.plan.specs.Groups.{width};
-ghost use Rattle.plan.specs.code.Checks.{belowWhole, standsDepthFirst};
-ghost use Rattle.tables.specs.code.Laid.{hasChild};
+ghost use Rattle.plan.specs.Code.Checks.{below_whole, stands_depth_first};
+ghost use Rattle.tables.specs.Code.Laid.{has_child};
 
 use plan::fields::record_at;
 
 // The record at i has no child: the next record would be one.
 pub(crate) fn is_leaf(groups: &[u32], count: usize, i: usize) -> bool
-    requires { (width * count ≤ length groups.now) × (standsDepthFirst count groups.now ≡ true) × (i < count) }
-    ensures { result ≡ not (hasChild i (belowWhole count groups.now)) }
+    requires { (width * count ≤ length groups.now) × (stands_depth_first count groups.now ≡ true) × (i < count) }
+    ensures { result ≡ not (has_child i (below_whole count groups.now)) }
 {
     let next = i + 1;
     if count <= next {

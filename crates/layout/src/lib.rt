@@ -1,13 +1,15 @@
 // The row of every worker's updates in one table: each worker's after those of the workers before it, leaf by leaf, row
 // by row.
+#![tactic(auto)]
+
 pub mod counts;
 mod leaf;
 
 ghost use Rattle.std.specs.Prelude.{◌≡◌, ℕ, ◌+◌, ◌*◌, ◌≤◌, ◌<◌, length};
-ghost use Rattle.matrix.specs.Limits.{maxRows};
+ghost use Rattle.matrix.specs.Limits.{max_rows};
 ghost use Rattle.run.specs.Job.{Job};
-ghost use Rattle.tables.specs.code.Laid.{maxUpdates, next_of, Counted, Laid, Bounded};
-ghost use Rattle.layout.specs.code.UpdateTable.{Sized, Planned, Stretch, Put, Filled, Blank};
+ghost use Rattle.tables.specs.Code.Laid.{max_updates, next_of, Counted, Laid, Bounded};
+ghost use Rattle.layout.specs.Code.UpdateTable.{Sized, Planned, Stretch, Put, Filled, Blank};
 
 use leaf::is_leaf;
 use matrix::limits::MAX_ROWS;
@@ -18,7 +20,7 @@ use tables::{FIRSTS, MAX_UPDATES};
 // Position p at the places of its row's updates, from a place on: one for the diagonal, two for each other entry of the
 // row in the upper triangle. The place after them.
 fn put_row(p: usize, size: usize, place: usize, row: &mut [u16; MAX_UPDATES]) -> usize
-    requires { (p < maxRows) × (1 ≤ size) × (place + 2 * size ≤ maxUpdates + 1) × (length row.old ≡ maxUpdates) }
+    requires { (p < max_rows) × (1 ≤ size) × (place + 2 * size ≤ max_updates + 1) × (length row.old ≡ max_updates) }
     ensures { (result + 1 ≡ place + 2 * size) × Put p place result row.old row.new }
 {
     let end = place + 2 * size - 1;

@@ -31,8 +31,8 @@ begins {A} {reply} {k} ok answer old is rest {size} long =
 
 module _ {A : Type 0} {array answer : List A} {size : ℕ} (b : Begins array answer size) where
   -- the size by another name
-  pub begins-at : {count : ℕ} → count ≡ size → Begins array answer count
-  begins-at e = rw e b
+  pub begins_at : {count : ℕ} → count ≡ size → Begins array answer count
+  begins_at e = rw e b
 
   pub begins-fits : size ≤ length array
   begins-fits = omega (arith, b.long, ap length b.is, length-take size array)

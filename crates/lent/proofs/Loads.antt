@@ -7,15 +7,15 @@ use native.Mathlib.Omega.{arith}
 use lib.IntN.{ℤ}
 use lib.ListN.{length, take, drop, length-append, length-drop}
 use lib.Seq.{take_at, take_all, length-take-le, drop-length}
-use Rattle.matrix.specs.code.Room.{maxStarts, maxCells}
-use Rattle.matrix.specs.Matrix.{Matrix, isMatrix, matrixOf}
+use Rattle.matrix.specs.Code.Room.{max_starts, max_cells}
+use Rattle.matrix.specs.Matrix.{Matrix, is_matrix, matrix_of}
 use Rattle.matrix.proofs.Cut.{cut}
 use Rattle.plan.specs.Groups.{plan_of}
-use Rattle.plan.specs.Sound.{isPlan}
+use Rattle.plan.specs.Sound.{is_plan}
 use Rattle.plan.proofs.Cut.{cut-sound}
 use Rattle.words.specs.LittleEndian.{stored}
 use Rattle.words.proofs.Copies.{take_min}
-use Rattle.words.proofs.Blocks.{decoded, length-decoded}
+use Rattle.words.proofs.Blocks.{decoded, length_decoded}
 
 -- what a load from bytes leaves in an array; f reads one number of a width
 module _ {A : Type 0} (f : List ℕ → A) (width : ℕ) (bytes : List ℕ) (old : List A) {array : List A} {count : ℕ}
@@ -24,33 +24,33 @@ module _ {A : Type 0} (f : List ℕ → A) (width : ℕ) (bytes : List ℕ) (old
   list = decoded f width bytes
 
   taken : length (take count list) ≡ count
-  taken = length-take-le count list (omega (arith, length-decoded f width bytes))
+  taken = length-take-le count list (omega (arith, length_decoded f width bytes))
 
   -- the numbers that were loaded are there
-  pub loaded-fits : count ≤ length array
-  loaded-fits = rw (h, length-append (take count list) (drop (length (take count list)) old), length-drop, taken) (omega arith)
+  pub loaded_fits : count ≤ length array
+  loaded_fits = rw (h, length-append (take count list) (drop (length (take count list)) old), length-drop, taken) (omega arith)
 
-  pub loaded-size : count ≡ length (take count array)
-  loaded-size = sym (length-take-le count array loaded-fits)
+  pub loaded_size : count ≡ length (take count array)
+  loaded_size = sym (length-take-le count array loaded_fits)
 
   -- they are those of the list, as far as the array reaches
-  pub loaded-is : take count array ≡ take (length old) list
-  loaded-is =
-      let least : count ≡ min (length list) (length old) = omega (arith, length-decoded f width bytes) in
+  pub loaded_is : take count array ≡ take (length old) list
+  loaded_is =
+      let least : count ≡ min (length list) (length old) = omega (arith, length_decoded f width bytes) in
       rw (h, take_at (take count list) (drop (length (take count list)) old) count taken) (ap (λ (k : ℕ). take k list) least ∙ take_min (length old) list)
 
   -- all of them, where there are as many as the array has
-  pub loaded-whole : length bytes / width ≡ length old → array ≡ list
-  loaded-whole many =
-      let same : length list ≡ length old = length-decoded f width bytes ∙ many in
+  pub loaded_whole : length bytes / width ≡ length old → array ≡ list
+  loaded_whole many =
+      let same : length list ≡ length old = length_decoded f width bytes ∙ many in
       h ∙ rw (take_all count list (omega arith), same, drop-length, append-nil)
 
 -- the matrix of loaded lists: that of the whole lists, cut
-pub loaded-matrix : (m : Matrix) {starts columns : List ℕ} {values : List ℤ} → starts ≡ take maxStarts m.starts → columns ≡ take maxCells m.columns → values ≡ take maxCells m.values
-    → matrixOf m.n starts columns values ≡ cut m
-loaded-matrix m es ec ev = rw (es, ec, ev)
+pub loaded_matrix : (m : Matrix) {starts columns : List ℕ} {values : List ℤ} → starts ≡ take max_starts m.starts → columns ≡ take max_cells m.columns → values ≡ take max_cells m.values
+    → matrix_of m.n starts columns values ≡ cut m
+loaded_matrix m es ec ev = rw (es, ec, ev)
 
 -- a plan of a matrix whose lists are cut
-pub plan-of-cut : (m : Matrix) (order groups : List ℕ) (count : ℕ) → isMatrix m ≡ true → isPlan (cut m) order groups count ≡ isPlan m order groups count
-unfolding isPlan
+pub plan-of-cut : (m : Matrix) (order groups : List ℕ) (count : ℕ) → is_matrix m ≡ true → is_plan (cut m) order groups count ≡ is_plan m order groups count
+unfolding is_plan
 plan-of-cut m order groups count ok = rw (cut-sound m (plan_of m.n order groups count) ok)

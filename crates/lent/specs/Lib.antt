@@ -1,3 +1,3 @@
 pub mod Word
 pub mod Bytes
-pub mod code
+pub mod Code

@@ -1,6 +1,6 @@
 // Columns and values that fit smaller arrays: an array is filled with zeros first, whatever it is to hold.
 ghost use Rattle.std.specs.Prelude.{◌≡◌, true};
-ghost use Rattle.lent.specs.code.Few.{IsFew};
+ghost use Rattle.lent.specs.Code.Few.{IsFew};
 
 // The size of such arrays.
 pub const FEW_CELLS: usize = 16384;

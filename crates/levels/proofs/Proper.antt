@@ -3,12 +3,12 @@ use mathlib.Core.List.{List, ◌++◌}
 use Prim.Native.Nat.{ℕ}
 use native.Mathlib.Omega.{arith}
 use Rattle.base.specs.Lists.{range}
-use Rattle.base.proofs.Lists.{range-in}
+use Rattle.base.proofs.Lists.{range_in}
 use Rattle.base.proofs.Counts.{Same, count-append, count-in, in_count, count-range}
-pub use Rattle.levels.specs.code.Group.{Proper}
+pub use Rattle.levels.specs.Code.Group.{Proper}
 
 pub proper-range : (n : ℕ) → Proper n (range 0 n)
-proper-range n = record { once = λ v. count-range v 0 n; inside = λ v h. omega (arith, (range-in v 0 n h).1) }
+proper-range n = record { once = λ v. count-range v 0 n; inside = λ v h. omega (arith, (range_in v 0 n h).1) }
 
 -- what holds the same as a proper list is one
 pub proper-same : (n : ℕ) (xs ys : List ℕ) → Same xs ys → Proper n ys → Proper n xs

@@ -8,11 +8,11 @@ use Prim.Native.Nat.{ℕ, zero, suc, ◌+◌, ◌*◌, ◌≤◌}
 use native.Mathlib.Omega.{arith}
 use lib.ListN.{length, get_or}
 use borrow.Author.Tests.{eq-eqb}
-use Rattle.base.specs.Lists.{filter, isIn, concat}
+use Rattle.base.specs.Lists.{filter, is_in, concat}
 use Rattle.base.proofs.Booleans.{not-both}
-use Rattle.base.proofs.Lists.{filter-in, filter_passes, filter-of, any_of, length-split, in_pos}
+use Rattle.base.proofs.Lists.{filter_in, filter_passes, filter-of, any_of, length-split, in_pos}
 use Rattle.base.proofs.Counts.{count, count-append, count-split}
-use Rattle.levels.specs.Levels.{isNext, levelsFrom}
+use Rattle.levels.specs.Levels.{is_next, levels_from}
 use Rattle.levels.proofs.Root.{root_in, root-some}
 
 -- 0 for an empty level, else 1
@@ -27,88 +27,88 @@ some-le (x ∷ xs) = omega arith
 module _ (adj : ℕ → List ℕ) (T : List ℕ) where
   -- a path leads from v to T or to the last level, through rows not yet reached
   pub data Path (last rest : List ℕ) : ℕ → Type 0 where
-    own : {v : ℕ} → isIn T v ≡ true → Path last rest v
-    ended : {v : ℕ} (u : ℕ) → isIn (adj v) u ≡ true → isIn last u ≡ true → Path last rest v
-    through : {v : ℕ} (u : ℕ) → isIn (adj v) u ≡ true → isIn rest u ≡ true → Path last rest u → Path last rest v
+    own : {v : ℕ} → is_in T v ≡ true → Path last rest v
+    ended : {v : ℕ} (u : ℕ) → is_in (adj v) u ≡ true → is_in last u ≡ true → Path last rest v
+    through : {v : ℕ} (u : ℕ) → is_in (adj v) u ≡ true → is_in rest u ≡ true → Path last rest u → Path last rest v
 
   -- so it does from every row not yet reached
   abbrev pub Fed : (last rest : List ℕ) → Type 0
-  Fed last rest = (v : ℕ) → isIn rest v ≡ true → Path last rest v
+  Fed last rest = (v : ℕ) → is_in rest v ≡ true → Path last rest v
 
   -- the next level, and who is left then
   abbrev new : (last rest : List ℕ) → List ℕ
-  new last rest = filter (isNext adj T last rest) rest
+  new last rest = filter (is_next adj T last rest) rest
 
   abbrev left : (last rest : List ℕ) → List ℕ
-  left last rest = filter (λ v. not (isNext adj T last rest v)) rest
+  left last rest = filter (λ v. not (is_next adj T last rest v)) rest
 
-  new-or-left : (last rest : List ℕ) (v : ℕ) → isIn rest v ≡ true → (isIn (new last rest) v ≡ true) ⊎ (isIn (left last rest) v ≡ true)
-  new-or-left last rest v h = go (isNext adj T last rest v) refl
+  new_or-left : (last rest : List ℕ) (v : ℕ) → is_in rest v ≡ true → (is_in (new last rest) v ≡ true) ⊎ (is_in (left last rest) v ≡ true)
+  new_or-left last rest v h = go (is_next adj T last rest v) refl
     where
-      go : (b : Bool) → isNext adj T last rest v ≡ b → (isIn (new last rest) v ≡ true) ⊎ (isIn (left last rest) v ≡ true)
-      go true e = inl (filter-of (isNext adj T last rest) rest v h e)
-      go false e = inr (filter-of (λ u. not (isNext adj T last rest u)) rest v h (ap not e))
+      go : (b : Bool) → is_next adj T last rest v ≡ b → (is_in (new last rest) v ≡ true) ⊎ (is_in (left last rest) v ≡ true)
+      go true e = inl (filter-of (is_next adj T last rest) rest v h e)
+      go false e = inr (filter-of (λ u. not (is_next adj T last rest u)) rest v h (ap not e))
 
   -- who is adjacent to the last level is on the next
-  next_of : (last rest : List ℕ) (v t : ℕ) → isIn last t ≡ true → isIn (adj v) t ≡ true → isNext adj T last rest v ≡ true
-  unfolding isNext
+  next_of : (last rest : List ℕ) (v t : ℕ) → is_in last t ≡ true → is_in (adj v) t ≡ true → is_next adj T last rest v ≡ true
+  unfolding is_next
   next_of [] rest v t h c = absurd (true≢false (sym h))
-  next_of (x ∷ xs) rest v t h c = any_of (isIn (x ∷ xs)) (adj v) t c h
+  next_of (x ∷ xs) rest v t h c = any_of (is_in (x ∷ xs)) (adj v) t c h
 
-  onward : (last rest : List ℕ) (v : ℕ) → isIn (left last rest) v ≡ true → Path last rest v → Path (new last rest) (left last rest) v
+  onward : (last rest : List ℕ) (v : ℕ) → is_in (left last rest) v ≡ true → Path last rest v → Path (new last rest) (left last rest) v
   onward last rest v h (own a) = own a
-  onward last rest v h (ended u c l) = absurd (not-both _ (next_of last rest v u l c) (filter_passes (λ u. not (isNext adj T last rest u)) rest v h))
-  onward last rest v h (through u c r p) = go (new-or-left last rest u r) (λ k. onward last rest u k p)
+  onward last rest v h (ended u c l) = absurd (not-both _ (next_of last rest v u l c) (filter_passes (λ u. not (is_next adj T last rest u)) rest v h))
+  onward last rest v h (through u c r p) = go (new_or-left last rest u r) (λ k. onward last rest u k p)
     where
-      go : (isIn (new last rest) u ≡ true) ⊎ (isIn (left last rest) u ≡ true) → (isIn (left last rest) u ≡ true → Path (new last rest) (left last rest) u) → Path (new last rest) (left last rest) v
+      go : (is_in (new last rest) u ≡ true) ⊎ (is_in (left last rest) u ≡ true) → (is_in (left last rest) u ≡ true → Path (new last rest) (left last rest) u) → Path (new last rest) (left last rest) v
       go (inl a) ih = ended u c a
       go (inr a) ih = through u c a (ih a)
 
   fed : (last rest : List ℕ) → Fed last rest → Fed (new last rest) (left last rest)
-  fed last rest f v h = onward last rest v h (f v (filter-in (λ u. not (isNext adj T last rest u)) rest v h))
+  fed last rest f v h = onward last rest v h (f v (filter_in (λ u. not (is_next adj T last rest u)) rest v h))
 
   -- after an empty level a root is found
-  root-at : (rest : List ℕ) (v : ℕ) → isIn rest v ≡ true → Path [] rest v → 1 ≤ length (new [] rest)
-  unfolding isNext
-  root-at rest v h (own a) =
+  root_at : (rest : List ℕ) (v : ℕ) → is_in rest v ≡ true → Path [] rest v → 1 ≤ length (new [] rest)
+  unfolding is_next
+  root_at rest v h (own a) =
       let (r, q) = root-some adj T rest v a h in
-      in_pos (new [] rest) r (filter-of (isNext adj T [] rest) rest r (root_in adj T rest r q) q)
-  root-at rest v h (ended u c l) = absurd (true≢false (sym l))
-  root-at rest v h (through u c r p) = root-at rest u r p
+      in_pos (new [] rest) r (filter-of (is_next adj T [] rest) rest r (root_in adj T rest r q) q)
+  root_at rest v h (ended u c l) = absurd (true≢false (sym l))
+  root_at rest v h (through u c r p) = root_at rest u r p
 
-  root-new : (rest : List ℕ) (v : ℕ) → Fed [] rest → isIn rest v ≡ true → 1 ≤ length (new [] rest)
-  root-new rest v f h = root-at rest v h (f v h)
+  root_new : (rest : List ℕ) (v : ℕ) → Fed [] rest → is_in rest v ≡ true → 1 ≤ length (new [] rest)
+  root_new rest v f h = root_at rest v h (f v h)
 
   -- while some are left, each level brings the end nearer
-  less : (k : ℕ) (last rest : List ℕ) (v : ℕ) → Fed last rest → isIn rest v ≡ true → 2 * length rest + some last ≤ suc k
+  less : (k : ℕ) (last rest : List ℕ) (v : ℕ) → Fed last rest → is_in rest v ≡ true → 2 * length rest + some last ≤ suc k
       → 2 * length (left last rest) + some (new last rest) ≤ k
-  less k [] rest v f h b = omega (arith, length-split (isNext adj T [] rest) rest, some-le (new [] rest), root-new rest v f h)
-  less k (x ∷ xs) rest v f h b = omega (arith, length-split (isNext adj T (x ∷ xs) rest) rest, some-le (new (x ∷ xs) rest))
+  less k [] rest v f h b = omega (arith, length-split (is_next adj T [] rest) rest, some-le (new [] rest), root_new rest v f h)
+  less k (x ∷ xs) rest v f h b = omega (arith, length-split (is_next adj T (x ∷ xs) rest) rest, some-le (new (x ∷ xs) rest))
 
   -- with enough levels, whoever is not yet reached will be
-  pub reached : (k : ℕ) (last rest : List ℕ) → Fed last rest → 2 * length rest + some last ≤ k → (v : ℕ) → isIn rest v ≡ true
-      → (j : ℕ) × (isIn (get_or (levelsFrom adj k T last rest) j []) v ≡ true)
-  unfolding levelsFrom
+  pub reached : (k : ℕ) (last rest : List ℕ) → Fed last rest → 2 * length rest + some last ≤ k → (v : ℕ) → is_in rest v ≡ true
+      → (j : ℕ) × (is_in (get_or (levels_from adj k T last rest) j []) v ≡ true)
+  unfolding levels_from
   reached zero last rest f b v h = let q : 1 ≤ length rest = in_pos rest v h in absurd (omega arith)
   reached (suc k) last rest f b v h =
-      go (new-or-left last rest v h)
+      go (new_or-left last rest v h)
       (λ h'. reached k (new last rest) (left last rest) (fed last rest f) (less k last rest v f h b) v h')
     where
-      go : (isIn (new last rest) v ≡ true) ⊎ (isIn (left last rest) v ≡ true)
-          → (isIn (left last rest) v ≡ true → (j : ℕ) × (isIn (get_or (levelsFrom adj k T (new last rest) (left last rest)) j []) v ≡ true))
-          → (j : ℕ) × (isIn (get_or (levelsFrom adj (suc k) T last rest) j []) v ≡ true)
+      go : (is_in (new last rest) v ≡ true) ⊎ (is_in (left last rest) v ≡ true)
+          → (is_in (left last rest) v ≡ true → (j : ℕ) × (is_in (get_or (levels_from adj k T (new last rest) (left last rest)) j []) v ≡ true))
+          → (j : ℕ) × (is_in (get_or (levels_from adj (suc k) T last rest) j []) v ≡ true)
       go (inl a) ih = (0, a)
       go (inr a) ih = let (j, m) = ih a in (suc j, m)
 
   -- .. and the levels hold each as often as it is there
   pub levels-count : (k : ℕ) (last rest : List ℕ) → Fed last rest → 2 * length rest + some last ≤ k
-      → (v : ℕ) → count v (concat (levelsFrom adj k T last rest)) ≡ count v rest
-  unfolding levelsFrom
+      → (v : ℕ) → count v (concat (levels_from adj k T last rest)) ≡ count v rest
+  unfolding levels_from
   levels-count zero last [] f b v = refl
   levels-count zero last (x ∷ xs) f b v = absurd (omega arith)
   levels-count (suc k) last [] f b v = levels-count k [] [] (λ u h. absurd (true≢false (sym h))) (omega arith) v
   levels-count (suc k) last (x ∷ xs) f b v =
-      let me : isIn (x ∷ xs) x ≡ true = rw (eq-eqb x x refl) refl in
+      let me : is_in (x ∷ xs) x ≡ true = rw (eq-eqb x x refl) refl in
       count-append v (new last (x ∷ xs)) _
       ∙ ap (λ (m : ℕ). count v (new last (x ∷ xs)) + m) (levels-count k (new last (x ∷ xs)) (left last (x ∷ xs)) (fed last (x ∷ xs) f) (less k last (x ∷ xs) x f me b) v)
-      ∙ count-split v (isNext adj T last (x ∷ xs)) (x ∷ xs)
+      ∙ count-split v (is_next adj T last (x ∷ xs)) (x ∷ xs)

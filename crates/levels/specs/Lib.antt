@@ -1,3 +1,3 @@
 pub mod Levels
 pub mod Roots
-pub mod code
+pub mod Code

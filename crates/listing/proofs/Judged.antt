@@ -13,19 +13,19 @@ use borrow.Author.Tests.{ltb-false, lt-ltb, le-ltb, le-leb}
 use Rattle.base.specs.Lists.{filter}
 use Rattle.base.specs.Replies.{Reply, accepted, refused, in_turn, lent}
 use Rattle.base.proofs.Booleans.{is_false}
-use Rattle.matrix.specs.Matrix.{Matrix, isMatrix, neighbours, matrixOf}
-use Rattle.matrix.specs.code.Room.{maxStarts, maxCells}
-use Rattle.market.specs.Parse.{Triplet, triplet, Parsed, matrixText, rejected, parse}
-use Rattle.market.specs.FullRows.{full, ofTriplets, readMatrix, readReply}
-use Rattle.market.specs.AcceptedText.{leftIn}
+use Rattle.matrix.specs.Matrix.{Matrix, is_matrix, neighbours, matrix_of}
+use Rattle.matrix.specs.Code.Room.{max_starts, max_cells}
+use Rattle.market.specs.Parse.{Triplet, triplet, Parsed, matrix_text, rejected, parse}
+use Rattle.market.specs.FullRows.{full, of_triplets, read_matrix, read_reply}
+use Rattle.market.specs.AcceptedText.{left_in}
 use Rattle.matrix.specs.SameRows.{SameRows}
 use Rattle.market.proofs.Accepted.{parse-accepted}
 use Rattle.market.proofs.AcceptedText.{accepted-text}
-use Rattle.race.specs.Planner.{plan, areParameters}
+use Rattle.race.specs.Planner.{plan, are_parameters}
 use Rattle.race.proofs.PlannedSound.{limits}
 use Rattle.listing.specs.declared.first_line.Parameters.TheVariants.{Given, Missing}
-use Rattle.listing.specs.Listing.{netDistance, maxInput, firstLine, rest_of, Parameters, parameters, missing, parametersOf, refusedLine, planned, judged, listing}
-use Rattle.listing.specs.code.FirstLine.{in_word, given}
+use Rattle.listing.specs.Listing.{net_distance, max_input, first_line, rest_of, Parameters, parameters, missing, parameters_of, refused_line, planned, judged, listing}
+use Rattle.listing.specs.Code.FirstLine.{in_word, given}
 use Rattle.listing.proofs.FirstLine.{first_taken}
 
 -- at most two entries for each stored one
@@ -47,7 +47,7 @@ planned-same {m} {other} e s (parameters w p) =
 planned-same e s missing = refl
 
 -- a number past 32 bits is past every limit
-large : (w p : ℕ) → (areParameters w p netDistance ≡ true → ⊥) → (m : Matrix) → planned m (parameters w p) ≡ planned m missing
+large : (w p : ℕ) → (are_parameters w p net_distance ≡ true → ⊥) → (m : Matrix) → planned m (parameters w p) ≡ planned m missing
 unfolding planned
 large w p h m = rw (is_false h)
 
@@ -55,62 +55,62 @@ pub planned-given : (m : Matrix) (ps : Parameters) (a b : ℕ) → Given a b ≡
 planned-given m missing a b e = let z : ◌≡◌ {A = ℕ} 0 1 = cc in absurd (omega arith)
 planned-given m (parameters w p) a b e = go (ltb w 4294967296) refl (ltb p 4294967296) refl
   where
-    w-is : a ≡ in_word w
-    w-is = cc
+    w_is : a ≡ in_word w
+    w_is = cc
 
     p-is : b ≡ in_word p
     p-is = cc
 
     go : (s : Bool) → ltb w 4294967296 ≡ s → (t : Bool) → ltb p 4294967296 ≡ t → planned m (parameters w p) ≡ planned m (parameters a b)
-    go true hs true ht = rw (w-is, p-is, hs, ht)
+    go true hs true ht = rw (w_is, p-is, hs, ht)
     go true hs false ht =
         let b-is : b ≡ 4294967295 = p-is ∙ rw ht in
-        large w p (λ h. omega (arith, (limits w p netDistance h).share, ltb-false p 4294967296 ht)) m ∙ sym (large a b (λ h. omega (arith, (limits a b netDistance h).share)) m)
+        large w p (λ h. omega (arith, (limits w p net_distance h).share, ltb-false p 4294967296 ht)) m ∙ sym (large a b (λ h. omega (arith, (limits a b net_distance h).share)) m)
     go false hs t ht =
-        let a-is : a ≡ 4294967295 = w-is ∙ rw hs in
-        large w p (λ h. omega (arith, (limits w p netDistance h).workers, ltb-false w 4294967296 hs)) m ∙ sym (large a b (λ h. omega (arith, (limits a b netDistance h).workers)) m)
+        let a-is : a ≡ 4294967295 = w_is ∙ rw hs in
+        large w p (λ h. omega (arith, (limits w p net_distance h).workers, ltb-false w 4294967296 hs)) m ∙ sym (large a b (λ h. omega (arith, (limits a b net_distance h).workers)) m)
 
-pub planned-missing : (m : Matrix) (ps : Parameters) → Missing ≡ given ps → planned m ps ≡ refusedLine 7 0
+pub planned-missing : (m : Matrix) (ps : Parameters) → Missing ≡ given ps → planned m ps ≡ refused_line 7 0
 unfolding planned
 planned-missing m missing e = refl
 planned-missing m (parameters w p) e = let z : ◌≡◌ {A = ℕ} 0 1 = cc in absurd (omega arith)
 
 -- m is the matrix of the text, as far as it is planned
 pub record Held (text : List ℕ) (m : Matrix) : Type 0 where
-  pub matrix : isMatrix m ≡ true
+  pub matrix : is_matrix m ≡ true
   pub planned-is : (ps : Parameters) → judged (parse text) ps ≡ planned m ps
 
-module _ (text : List ℕ) (ss cs : List ℕ) (vs : List ℤ) (rows : length ss ≡ maxStarts) (columns : length cs ≡ maxCells) (values : length vs ≡ maxCells) where
+module _ (text : List ℕ) (ss cs : List ℕ) (vs : List ℤ) (rows : length ss ≡ max_starts) (columns : length cs ≡ max_cells) (values : length vs ≡ max_cells) where
   abbrev reply : Reply
-  reply = readReply (parse text) (length ss) (length cs) (length vs)
+  reply = read_reply (parse text) (length ss) (length cs) (length vs)
 
   -- the lists have room for every text that is accepted
-  reads : (n : ℕ) (es : List Triplet) → parse text ≡ matrixText n es → reply ≡ accepted n
-  unfolding readReply in_turn
+  reads : (n : ℕ) (es : List Triplet) → parse text ≡ matrix_text n es → reply ≡ accepted n
+  unfolding read_reply in_turn
   reads n es e =
       let a = parse-accepted text n es e in
-      let f : length (full es) ≤ maxCells = omega (arith, a.count, full-few es) in
-      rw (e, rows, columns, values, le-leb (n + 1) maxStarts (omega (arith, a.rows)), le-leb (length (full es)) maxCells f)
+      let f : length (full es) ≤ max_cells = omega (arith, a.count, full-few es) in
+      rw (e, rows, columns, values, le-leb (n + 1) max_starts (omega (arith, a.rows)), le-leb (length (full es)) max_cells f)
 
-  pub judged-refused : (q k : ℕ) → refused q k ≡ reply → (ps : Parameters) → judged (parse text) ps ≡ refusedLine q k
-  unfolding judged readReply
+  pub judged-refused : (q k : ℕ) → refused q k ≡ reply → (ps : Parameters) → judged (parse text) ps ≡ refused_line q k
+  unfolding judged read_reply
   judged-refused q k r ps = go (parse text) refl r
     where
-      go : (t : Parsed) → parse text ≡ t → refused q k ≡ readReply t (length ss) (length cs) (length vs) → judged t ps ≡ refusedLine q k
+      go : (t : Parsed) → parse text ≡ t → refused q k ≡ read_reply t (length ss) (length cs) (length vs) → judged t ps ≡ refused_line q k
       go (rejected q' k') e r' = cc
-      go (matrixText n es) e r' = let z = r ∙ reads n es e in let y : ◌≡◌ {A = ℕ} 0 1 = cc in absurd (omega arith)
+      go (matrix_text n es) e r' = let z = r ∙ reads n es e in let y : ◌≡◌ {A = ℕ} 0 1 = cc in absurd (omega arith)
 
-  pub judged-accepted : (k : ℕ) → accepted k ≡ reply → {starts' columns' : List ℕ} {values' : List ℤ} → starts' ≡ lent reply (readMatrix (parse text)).starts ss → columns' ≡ lent reply (readMatrix (parse text)).columns cs
-      → values' ≡ lent reply (readMatrix (parse text)).values vs → Held text (matrixOf k starts' columns' values')
-  unfolding judged readReply leftIn ofTriplets
+  pub judged-accepted : (k : ℕ) → accepted k ≡ reply → {starts' columns' : List ℕ} {values' : List ℤ} → starts' ≡ lent reply (read_matrix (parse text)).starts ss → columns' ≡ lent reply (read_matrix (parse text)).columns cs
+      → values' ≡ lent reply (read_matrix (parse text)).values vs → Held text (matrix_of k starts' columns' values')
+  unfolding judged read_reply left_in of_triplets
   judged-accepted k r hs hc hv = rw (hs, hc, hv) (go (parse text) refl)
     where
-      go : (t : Parsed) → parse text ≡ t → Held text (leftIn k (parse text) ss cs vs)
+      go : (t : Parsed) → parse text ≡ t → Held text (left_in k (parse text) ss cs vs)
       go (rejected q p) e =
-          let z : accepted k ≡ refused q p = r ∙ ap (λ (t : Parsed). readReply t (length ss) (length cs) (length vs)) e in
+          let z : accepted k ≡ refused q p = r ∙ ap (λ (t : Parsed). read_reply t (length ss) (length cs) (length vs)) e in
           let y : ◌≡◌ {A = ℕ} 0 1 = cc in
           absurd (omega arith)
-      go (matrixText n es) e =
+      go (matrix_text n es) e =
           let same = accepted-text.left text n k es ss cs vs e (sym r) in
           let count : k ≡ n = let z = r ∙ reads n es e in cc in
           record { matrix = same.matrix; planned-is = λ ps. ap (λ (t : Parsed). judged t ps) e ∙ sym (planned-same count same ps) }
@@ -118,19 +118,19 @@ module _ (text : List ℕ) (ss cs : List ℕ) (vs : List ℤ) (rows : length ss 
 -- ---- the whole listing
 
 -- too long
-pub listing-long : (input : List ℕ) → maxInput < length input → listing input ≡ refusedLine 2 0
+pub listing-long : (input : List ℕ) → max_input < length input → listing input ≡ refused_line 2 0
 unfolding listing
-listing-long input h = rw (lt-ltb maxInput (length input) h)
+listing-long input h = rw (lt-ltb max_input (length input) h)
 
 -- all that follows a place
 pub rest-taken : (xs : List ℕ) (i : ℕ) → take (length xs - i) (drop i xs) ≡ drop i xs
 rest-taken xs i = take_all (length xs - i) (drop i xs) (rw length-drop (omega arith))
 
 -- the first line and the text after it
-pub listing-short : (input : List ℕ) → length input ≤ maxInput → (end : ℕ) → end ≡ length (firstLine input) → listing input ≡ judged (parse (drop (end + 1) input)) (parametersOf (take end input))
+pub listing-short : (input : List ℕ) → length input ≤ max_input → (end : ℕ) → end ≡ length (first_line input) → listing input ≡ judged (parse (drop (end + 1) input)) (parameters_of (take end input))
 unfolding listing rest_of
-listing-short input h end e = rw (le-ltb maxInput (length input) h, add-one, e, first_taken)
+listing-short input h end e = rw (le-ltb max_input (length input) h, add-one, e, first_taken)
 
 -- the first line alone
-pub listing-alone : (input : List ℕ) → length input ≤ maxInput → (end : ℕ) → end ≡ length (firstLine input) → length input ≤ end → listing input ≡ judged (parse []) (parametersOf input)
+pub listing-alone : (input : List ℕ) → length input ≤ max_input → (end : ℕ) → end ≡ length (first_line input) → length input ≤ end → listing input ≡ judged (parse []) (parameters_of input)
 listing-alone input h end e l = listing-short input h end e ∙ rw (drop_of_length-le input {i = end + 1} (omega arith), take_all end input l)

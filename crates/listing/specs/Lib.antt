@@ -1,2 +1,2 @@
 pub mod Listing
-pub mod code
+pub mod Code

@@ -1,14 +1,14 @@
 // The first line: where it ends, and its two numbers.
 
 ghost use Rattle.std.specs.Prelude.{◌≡◌, length};
-ghost use Rattle.listing.specs.Listing.{firstLine, parametersOf};
-ghost use Rattle.listing.specs.code.FirstLine.{in_word, given};
+ghost use Rattle.listing.specs.Listing.{first_line, parameters_of};
+ghost use Rattle.listing.specs.Code.FirstLine.{in_word, given};
 
 use scan::numbers::{Number, read_number};
 
 // How many bytes the first line has, without its line feed.
 pub(crate) fn line_length(input: &[u8]) -> usize
-    ensures { result ≡ length (firstLine input.now) }
+    ensures { result ≡ length (first_line input.now) }
 {
     let mut i: usize = 0;
     while i < input.len() {
@@ -39,7 +39,7 @@ fn narrow(v: u64) -> u32
 
 // The two numbers of the first line.
 pub(crate) fn read_parameters(line: &[u8]) -> Parameters
-    ensures { result ≡ given (parametersOf line.now) }
+    ensures { result ≡ given (parameters_of line.now) }
 {
     let first = read_number(line, 0);
     let Number::At(workers, gap) = first else {

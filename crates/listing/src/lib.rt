@@ -1,14 +1,15 @@
 // netplan's whole answer: from the bytes that it reads to the bytes that it writes.
+#![tactic(auto)]
 
 mod first_line;
 mod lines;
 
 ghost use Rattle.std.specs.Prelude.{◌≡◌, true, ◌++◌, ◌≤◌, length, drop};
-ghost use Rattle.matrix.specs.Matrix.{isMatrix, matrixOf};
+ghost use Rattle.matrix.specs.Matrix.{is_matrix, matrix_of};
 ghost use Rattle.market.specs.Parse.{parse};
-ghost use Rattle.writer.specs.code.Puts.{Put};
-ghost use Rattle.listing.specs.Listing.{parameters, parametersOf, planned, judged, listing};
-ghost use Rattle.listing.specs.code.Room.{maxOutput};
+ghost use Rattle.writer.specs.Code.Puts.{Put};
+ghost use Rattle.listing.specs.Listing.{parameters, parameters_of, planned, judged, listing};
+ghost use Rattle.listing.specs.Code.Room.{max_output};
 
 use crate::first_line::{Parameters, line_length, read_parameters};
 use crate::lines::{put_plan, put_refusal};
@@ -45,8 +46,8 @@ fn put_planned(
     workers: u32,
     p: u32,
 ) -> usize
-    requires { (isMatrix (matrixOf n starts.now columns.now values.now) ≡ true) × (maxOutput ≤ length output.old) }
-    ensures { Put (planned (matrixOf n starts.now columns.now values.now) (parameters workers p)) 0 result output.old output.new }
+    requires { (is_matrix (matrix_of n starts.now columns.now values.now) ≡ true) × (max_output ≤ length output.old) }
+    ensures { Put (planned (matrix_of n starts.now columns.now values.now) (parameters workers p)) 0 result output.old output.new }
 {
     let mut order = [0u32; MAX_ROWS];
     let mut groups = [0u32; MAX_FIELDS];
@@ -69,8 +70,8 @@ fn put_planned(
 
 // What is written for a first line and a matrix text, and the place after it.
 fn put_judged(output: &mut [u8], line: &[u8], text: &[u8]) -> usize
-    requires { maxOutput ≤ length output.old }
-    ensures { Put (judged (parse text.now) (parametersOf line.now)) 0 result output.old output.new }
+    requires { max_output ≤ length output.old }
+    ensures { Put (judged (parse text.now) (parameters_of line.now)) 0 result output.old output.new }
 {
     let mut starts = [0u32; MAX_STARTS];
     let mut columns = [0u32; MAX_CELLS];

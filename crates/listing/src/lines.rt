@@ -1,11 +1,11 @@
 // The lines that netplan writes, put into a lent output.
 
 ghost use Rattle.std.specs.Prelude.{[], ◌∷◌, ◌++◌, ◌+◌, ◌*◌, ◌≤◌, length};
-ghost use Rattle.market.specs.Bytes.{lineFeed};
-ghost use Rattle.writer.specs.code.Puts.{Put};
+ghost use Rattle.market.specs.Bytes.{line_feed};
+ghost use Rattle.writer.specs.Code.Puts.{Put};
 ghost use Rattle.plan.specs.Groups.{width, records, plan_of};
-ghost use Rattle.listing.specs.Listing.{spaced, refusedLine, orderLine, titleLine, groupLines, planListing};
-ghost use Rattle.listing.specs.code.Room.{maxNumber, maxRefusal, maxLine, titles};
+ghost use Rattle.listing.specs.Listing.{spaced, refused_line, order_line, title_line, group_lines, plan_listing};
+ghost use Rattle.listing.specs.Code.Room.{max_number, max_refusal, max_line, titles};
 
 use plan::fields::WIDTH;
 use writer::puts::{put_byte, put_number};
@@ -26,8 +26,8 @@ fn put_bytes(output: &mut [u8], at: usize, bytes: &[u8]) -> usize
 
 // Numbers, each after a space, and the line feed; and the place after them.
 fn put_fields(output: &mut [u8], at: usize, numbers: &[u32]) -> usize
-    requires { at + length (spaced numbers.now ++ lineFeed ∷ []) ≤ length output.old }
-    ensures { Put (spaced numbers.now ++ lineFeed ∷ []) at result output.old output.new }
+    requires { at + length (spaced numbers.now ++ line_feed ∷ []) ≤ length output.old }
+    ensures { Put (spaced numbers.now ++ line_feed ∷ []) at result output.old output.new }
 {
     let mut p = at;
     let mut i: usize = 0;
@@ -41,8 +41,8 @@ fn put_fields(output: &mut [u8], at: usize, numbers: &[u32]) -> usize
 
 // The line of a refusal, and the place after it.
 pub(crate) fn put_refusal(output: &mut [u8], number: u32, place: u32) -> usize
-    requires { maxRefusal ≤ length output.old }
-    ensures { Put (refusedLine number place) 0 result output.old output.new }
+    requires { max_refusal ≤ length output.old }
+    ensures { Put (refused_line number place) 0 result output.old output.new }
 {
     let word = put_bytes(output, 0, b"refused");
     put_fields(output, word, &[number, place])
@@ -50,8 +50,8 @@ pub(crate) fn put_refusal(output: &mut [u8], number: u32, place: u32) -> usize
 
 // The order's line and the title line, and the place after them.
 fn put_order(output: &mut [u8], order: &[u32]) -> usize
-    requires { titles + maxNumber * length order.now ≤ length output.old }
-    ensures { Put (orderLine order.now ++ titleLine) 0 result output.old output.new }
+    requires { titles + max_number * length order.now ≤ length output.old }
+    ensures { Put (order_line order.now ++ title_line) 0 result output.old output.new }
 {
     let word = put_bytes(output, 0, b"order");
     let title = put_fields(output, word, order);
@@ -64,8 +64,8 @@ fn put_order(output: &mut [u8], order: &[u32]) -> usize
 
 // The lines of the first records of a flat list, and the place after them.
 fn put_groups(output: &mut [u8], at: usize, groups: &[u32], count: u32) -> usize
-    requires { (width * count ≤ length groups.now) × (at + maxLine * count ≤ length output.old) }
-    ensures { Put (groupLines 0 (records count groups.now)) at result output.old output.new }
+    requires { (width * count ≤ length groups.now) × (at + max_line * count ≤ length output.old) }
+    ensures { Put (group_lines 0 (records count groups.now)) at result output.old output.new }
 {
     let mut p = at;
     let mut from: usize = 0;
@@ -88,8 +88,8 @@ pub(crate) fn put_plan(
     groups: &[u32],
     count: u32,
 ) -> usize
-    requires { (n ≤ length order.now) × (width * count ≤ length groups.now) × (titles + maxNumber * n + maxLine * count ≤ length output.old) }
-    ensures { Put (planListing (plan_of n order.now groups.now count)) 0 result output.old output.new }
+    requires { (n ≤ length order.now) × (width * count ≤ length groups.now) × (titles + max_number * n + max_line * count ≤ length output.old) }
+    ensures { Put (plan_listing (plan_of n order.now groups.now count)) 0 result output.old output.new }
 {
     let rows = put_order(output, &order[..n]);
     put_groups(output, rows, groups, count)

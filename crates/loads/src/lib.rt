@@ -1,8 +1,10 @@
 // What rows and levels add to their group's load, by the keys of the rows.
+#![tactic(auto)]
+
 ghost use Rattle.std.specs.Prelude.{◌≡◌, ◌<◌, ◌≤◌, length, get_or};
-ghost use Rattle.matrix.specs.Limits.{maxRows};
-ghost use Rattle.sort.specs.code.Sort.{maxLevels};
-ghost use Rattle.loads.specs.code.Stretches.{levelsIn, keyWeight, keyLoad, Weighed, Levelled, Loaded};
+ghost use Rattle.matrix.specs.Limits.{max_rows};
+ghost use Rattle.sort.specs.Code.Sort.{max_levels};
+ghost use Rattle.loads.specs.Code.Stretches.{levels_in, key_weight, key_load, Weighed, Levelled, Loaded};
 
 use base::numbers::wide;
 use matrix::limits::MAX_ROWS;
@@ -10,8 +12,8 @@ use sort::MAX_LEVELS;
 
 // What row v adds to its group's load: 1, and 1 for each row adjacent to it. Its key is its degree and 3 more.
 fn weight(keys: &[u32; MAX_ROWS], v: u32) -> u32
-    requires { (v < maxRows) × (3 ≤ get_or keys.now v 0) }
-    ensures { result ≡ keyWeight keys.now v }
+    requires { (v < max_rows) × (3 ≤ get_or keys.now v 0) }
+    ensures { result ≡ key_weight keys.now v }
 {
     keys[wide(v)] - 2
 }
@@ -19,7 +21,7 @@ fn weight(keys: &[u32; MAX_ROWS], v: u32) -> u32
 // The load of some rows.
 fn load(keys: &[u32; MAX_ROWS], rows: &[u32]) -> u32
     requires { Weighed keys.now rows.now }
-    ensures { result ≡ keyLoad keys.now rows.now }
+    ensures { result ≡ key_load keys.now rows.now }
 {
     let mut sum = 0;
     let mut i = 0;
@@ -37,9 +39,9 @@ pub fn level_loads(
     ends: &[u32],
     loads: &mut [u32; MAX_LEVELS],
 ) -> u32
-    requires { Weighed keys.now stretch.now × Levelled 0 ends.now stretch.now (levelsIn 0 ends.now stretch.now)
-        × (length ends.now ≤ maxLevels) × (length loads.old ≡ maxLevels) }
-    ensures { Loaded (keyLoad keys.now) stretch.now (levelsIn 0 ends.now stretch.now) result loads.new }
+    requires { Weighed keys.now stretch.now × Levelled 0 ends.now stretch.now (levels_in 0 ends.now stretch.now)
+        × (length ends.now ≤ max_levels) × (length loads.old ≡ max_levels) }
+    ensures { Loaded (key_load keys.now) stretch.now (levels_in 0 ends.now stretch.now) result loads.new }
 {
     let mut sum = 0;
     let mut from = 0;

@@ -3,7 +3,7 @@ use mathlib.Core.Path.{◌≡◌, subst}
 use mathlib.Core.Bool.{Bool, true, false}
 use Prim.Native.Nat.{ℕ, suc, ◌-◌, ◌<◌}
 use native.Mathlib.Omega.{arith}
-use Rattle.machine.specs.code.Tests.{all_below}
+use Rattle.machine.specs.Code.Tests.{all_below}
 
 module _ (f : ℕ → Bool) (k : ℕ) (l : 0 < k) where
   is-suc : suc (k - 1) ≡ k
@@ -15,9 +15,9 @@ module _ (f : ℕ → Bool) (k : ℕ) (l : 0 < k) where
   below-pass e = subst (λ (y : ℕ). all_below f (k - 1) ≡ all_below f y) is-suc (rw e)
 
   -- it fails
-  pub below-fail : f (k - 1) ≡ false → false ≡ all_below f k
+  pub below_fail : f (k - 1) ≡ false → false ≡ all_below f k
   unfolding all_below
-  below-fail e = subst (λ (y : ℕ). false ≡ all_below f y) is-suc (rw e)
+  below_fail e = subst (λ (y : ℕ). false ≡ all_below f y) is-suc (rw e)
 
 -- none are left
 pub below_none : (f : ℕ → Bool) (k : ℕ) → k ≡ 0 → true ≡ all_below f k

@@ -13,9 +13,9 @@ use lib.Bits.{bit_or, or_shifted_r}
 use lib.Count.{ones, ones_cat}
 use mir.Val.{bool_byte}
 use Rattle.run.specs.Job.{Job, workers}
-use Rattle.run.specs.Machine.{refusal, readyBelow, ready, bits}
-use Rattle.run.specs.Calls.{readyOf}
-use Rattle.run.specs.Answers.{isReady}
+use Rattle.run.specs.Machine.{refusal, ready_below, ready, bits}
+use Rattle.run.specs.Calls.{ready_of}
+use Rattle.run.specs.Answers.{is_ready}
 
 -- a worker above those of a set joins it, if it is ready
 joined : (b : Bool) (w : ℕ) (ws : List ℕ) → bits (cond b (w ∷ ws) ws) ≡ bool_byte b * 2 ^ w + bits ws
@@ -39,15 +39,15 @@ passing test zero = []
 passing test (suc w) = cond (test w) (w ∷ passing test w) (passing test w)
 
 module _ (test : ℕ → Bool) where
-  one_more : (w : ℕ) → bits (passing test (suc w)) ≡ bool_byte (test w) * 2 ^ w + bits (passing test w)
+  one_more_lem : (w : ℕ) → bits (passing test (suc w)) ≡ bool_byte (test w) * 2 ^ w + bits (passing test w)
   unfolding passing
-  one_more w = joined (test w) w (passing test w)
+  one_more_lem w = joined (test w) w (passing test w)
 
   -- they have bits below 2 ^ k
   pub bits_below : (k : ℕ) → bits (passing test k) < 2 ^ k
   unfolding passing bits
   bits_below zero = lit< tt
-  bits_below (suc w) = rw (one_more w, pow-suc) (go (test w) (2 ^ w) (bits (passing test w)) (bits_below w))
+  bits_below (suc w) = rw (one_more_lem w, pow-suc) (go (test w) (2 ^ w) (bits (passing test w)) (bits_below w))
     where
       go : (b : Bool) (p s : ℕ) → s < p → bool_byte b * p + s < p * 2
       go true p s h = omega arith
@@ -58,7 +58,7 @@ module _ (test : ℕ → Bool) where
   bits-turn w b l e =
       let S : ℕ = bits (passing test w) in
       ap (bit_or S) (shl_exact {a = bool_byte b} 1 w 16 (byte_low b) (omega arith)) ∙ or_shifted_r (bool_byte b) w S (bits_below w)
-      ∙ ap (λ (t : Bool). bool_byte t * 2 ^ w + S) e ∙ sym (one_more w) ∙ ap (λ (k : ℕ). bits (passing test k)) (sym (add-one w))
+      ∙ ap (λ (t : Bool). bool_byte t * 2 ^ w + S) e ∙ sym (one_more_lem w) ∙ ap (λ (k : ℕ). bits (passing test k)) (sym (add-one w))
 
   -- as many bits as workers
   pub bits-count : (k : ℕ) → ones (bits (passing test k)) ≡ length (passing test k)
@@ -67,15 +67,15 @@ module _ (test : ℕ → Bool) where
   bits-count (suc w) = counted (test w) w (passing test w) (bits_below w) (bits-count w)
 
 -- the ready workers are those whose step is not refused
-pub ready-passing : (j : Job) (made : List ℕ) (k : ℕ) → passing (λ w. eqb (refusal j made w) 0) k ≡ readyBelow j made k
-unfolding passing readyBelow
-ready-passing j made zero = refl
-ready-passing j made (suc w) = rw (ready-passing j made w)
+pub ready_passing : (j : Job) (made : List ℕ) (k : ℕ) → passing (λ w. eqb (refusal j made w) 0) k ≡ ready_below j made k
+unfolding passing ready_below
+ready_passing j made zero = refl
+ready_passing j made (suc w) = rw (ready_passing j made w)
 
-pub low_bits : (j : Job) (made : List ℕ) (k : ℕ) → bits (readyBelow j made k) < 2 ^ k
-low_bits j made k = subst (λ (ws : List ℕ). bits ws < 2 ^ k) (ready-passing j made k) (bits_below (λ w. eqb (refusal j made w) 0) k)
+pub low_bits : (j : Job) (made : List ℕ) (k : ℕ) → bits (ready_below j made k) < 2 ^ k
+low_bits j made k = subst (λ (ws : List ℕ). bits ws < 2 ^ k) (ready_passing j made k) (bits_below (λ w. eqb (refusal j made w) 0) k)
 
 -- the answer of the bits, and the count of those set
-pub ready-bits : (j : Job) (made : List ℕ) (b : ℕ) → b ≡ bits (ready j made) → isReady b (ones b) ≡ readyOf j made
-unfolding readyOf ready
-ready-bits j made b e = rw (e, ← ready-passing j made (workers j), bits-count (λ w. eqb (refusal j made w) 0) (workers j))
+pub ready-bits : (j : Job) (made : List ℕ) (b : ℕ) → b ≡ bits (ready j made) → is_ready b (ones b) ≡ ready_of j made
+unfolding ready_of ready
+ready-bits j made b e = rw (e, ← ready_passing j made (workers j), bits-count (λ w. eqb (refusal j made w) 0) (workers j))

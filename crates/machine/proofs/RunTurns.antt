@@ -11,50 +11,50 @@ use lib.IntN.{ℤ}
 use lib.ListN.{length, get_or, replicate}
 use lib.Seq.{get_or-set_same, get_or-set_other}
 use Rattle.base.proofs.Booleans.{same_or}
-use Rattle.matrix.specs.Limits.{maxRows}
-use Rattle.plan.specs.Sound.{maxWorkers}
+use Rattle.matrix.specs.Limits.{max_rows}
+use Rattle.plan.specs.Sound.{max_workers}
 use Rattle.plan.specs.Groups.{records}
-use Rattle.plan.specs.code.Checks.{recordAt}
+use Rattle.plan.specs.Code.Checks.{record_at}
 use Rattle.run.specs.Job.{Job, Accepted, workers}
 use Rattle.run.specs.Updates.{Update, count, accesses, next}
-use Rattle.run.specs.Machine.{refusal, halted, onward, stepIf, step}
+use Rattle.run.specs.Machine.{refusal, halted, onward, step_if, step}
 use Rattle.run.specs.State.{State}
-use Rattle.tables.specs.code.Laid.{maxUpdates, updatesIn, Laid, Waits}
-use Rattle.waits.specs.code.Waits.{Recorded, Current}
-use Rattle.steps.specs.code.Steps.{updateNext, reasonAt, outcomeOf, StepTables, UpdatesAhead, PickMade}
-use Rattle.steps.specs.code.AtHand.{AtHand, Entered, AccessMade}
-use Rattle.machine.specs.code.Stepped.{passesOver, walk}
+use Rattle.tables.specs.Code.Laid.{max_updates, updates_in, Laid, Waits}
+use Rattle.waits.specs.Code.Waits.{Recorded, Current}
+use Rattle.steps.specs.Code.Steps.{update_next, reason_at, outcome_of, StepTables, UpdatesAhead, PickMade}
+use Rattle.steps.specs.Code.AtHand.{AtHand, Entered, AccessMade}
+use Rattle.machine.specs.Code.Stepped.{passes_over, walk}
 use Rattle.machine.specs.declared.state.Rule.{Rule}
 use Rattle.run.proofs.Able.{able}
 use Rattle.machine.proofs.TableWaits.{table-reason}
-use Rattle.steps.proofs.TableSteps.{reason-none, pick-worker, pick-refused}
-use Rattle.steps.proofs.UpdatesAtHand.{none-at-hand, access-ready, access-picks, access-keeps, steps-steady}
+use Rattle.steps.proofs.TableSteps.{reason-none, pick_worker, pick_refused}
+use Rattle.steps.proofs.UpdatesAtHand.{none_at_hand, access-ready, access-picks, access-keeps, steps_steady}
 use Rattle.machine.proofs.BlockedLeaves.{whole-crew, waits-of}
-use Rattle.run.proofs.Passes.{Left, left-start, left_step, left-skip, left-halt, left-none}
+use Rattle.run.proofs.Passes.{Left, left-start, left_step, left_skip, left_halt, left-none}
 
 -- ---- a step is the machine's
 
 module _ (j : Job) {first row begins leaves ends : List ℕ} (laid : Laid j first row begins leaves ends) where
   -- .. with an update that is its worker's next, if nothing refuses it
-  table_step : (crew : ℕ) → crew ≡ workers j → crew ≤ maxWorkers → (s : State) (blocks : List ℕ) → Waits j s.made blocks → (w : ℕ) (u : Update)
-      → (w < maxWorkers → count s.made w < accesses j w → u ≡ next j s.made w) → stepIf (reasonAt crew first row leaves blocks s.made w) s w u ≡ step j s w
-  unfolding step stepIf
+  table_step : (crew : ℕ) → crew ≡ workers j → crew ≤ max_workers → (s : State) (blocks : List ℕ) → Waits j s.made blocks → (w : ℕ) (u : Update)
+      → (w < max_workers → count s.made w < accesses j w → u ≡ next j s.made w) → step_if (reason_at crew first row leaves blocks s.made w) s w u ≡ step j s w
+  unfolding step step_if
   table_step crew e few s blocks waiting w u is = rw (table-reason j laid s.made blocks waiting crew e few w) (go (refusal j s.made w) refl)
     where
-      go : (why : ℕ) → refusal j s.made w ≡ why → stepIf why s w u ≡ stepIf why s w (next j s.made w)
+      go : (why : ℕ) → refusal j s.made w ≡ why → step_if why s w u ≡ step_if why s w (next j s.made w)
       go (suc k) y = refl
-      go zero y = let a = able j s.made w y in ap (λ (v : Update). stepIf 0 s w v) (is (omega (arith, a.inPlan)) a.left)
+      go zero y = let a = able j s.made w y in ap (λ (v : Update). step_if 0 s w v) (is (omega (arith, a.in_plan)) a.left)
 
   -- what the code answers and leaves is the machine's outcome
-  step-answer : {crew : ℕ} → crew ≡ workers j → crew ≤ maxWorkers → {s : State} {blocks : List ℕ} → Waits j s.made blocks → {w number : ℕ} {u : Update} {t : State}
-      → (w < maxWorkers → count s.made w < accesses j w → u ≡ next j s.made w) → PickMade (reasonAt crew first row leaves blocks s.made w) s w u number t → step j s w ≡ outcomeOf number t
+  step-answer : {crew : ℕ} → crew ≡ workers j → crew ≤ max_workers → {s : State} {blocks : List ℕ} → Waits j s.made blocks → {w number : ℕ} {u : Update} {t : State}
+      → (w < max_workers → count s.made w < accesses j w → u ≡ next j s.made w) → PickMade (reason_at crew first row leaves blocks s.made w) s w u number t → step j s w ≡ outcome_of number t
   step-answer {crew} e few {s} {blocks} waiting {w} {number} {u} is h = sym (table_step crew e few s blocks waiting w u is) ∙ sym h.is
 
 -- a pick that is refused
-outcome-halted : (number : ℕ) (t : State) → number ≢ 0 → outcomeOf number t ≡ halted number
-unfolding outcomeOf
-outcome-halted zero t d = absurd (d refl)
-outcome-halted (suc k) t d = refl
+outcome_halted : (number : ℕ) (t : State) → number ≢ 0 → outcome_of number t ≡ halted number
+unfolding outcome_of
+outcome_halted zero t d = absurd (d refl)
+outcome_halted (suc k) t d = refl
 
 -- ---- the loop
 
@@ -75,17 +75,17 @@ pub record Tables : Type 0 where
 
 module _ (T : Tables) where
   -- the update of worker w's next access
-  abbrev updateOf : (made : List ℕ) → ℕ → Update
-  updateOf = updateNext T.first T.row T.begins T.parts T.displaced T.at T.beside
+  abbrev update_of : (made : List ℕ) → ℕ → Update
+  update_of = update_next T.first T.row T.begins T.parts T.displaced T.at T.beside
 
   -- why its next step is refused
-  abbrev causeOf : (blocks made : List ℕ) → ℕ → ℕ
-  causeOf blocks = reasonAt T.crew T.first T.row T.leaves blocks
+  abbrev cause_of : (blocks made : List ℕ) → ℕ → ℕ
+  cause_of blocks = reason_at T.crew T.first T.row T.leaves blocks
 
   -- a pick of worker w in this state: its answer, and what it leaves
   pub record Picked (blocks : List ℕ) (s : State) (w number : ℕ) (new : State) (targets : List ℕ) (adds : List ℤ) : Type 0 where
-    pub made : PickMade (causeOf blocks s.made w) s w (updateOf s.made w) number new
-    pub hand : AtHand (causeOf blocks) updateOf new.made targets adds
+    pub made : PickMade (cause_of blocks s.made w) s w (update_of s.made w) number new
+    pub hand : AtHand (cause_of blocks) update_of new.made targets adds
 
   -- of every job that they stand for, as far as the picks of a schedule reach
   abbrev EachJob : (s₀ : State) (schedule : List ℕ) → (Job → Type 0) → Type 0
@@ -96,83 +96,83 @@ module _ (T : Tables) where
   -- k picks of the schedule, n of them taken, led from s₀ to s; these groups are blocked now, and until a count reaches
   -- its stop; these updates are at hand
   pub record Running (rule : Rule) (s₀ : State) (schedule : List ℕ) (n k : ℕ) (s : State) (blocks stops targets : List ℕ) (adds : List ℤ) : Type 0 where
-    pub crew : T.crew ≡ (recordAt T.groups 0).workers
+    pub crew : T.crew ≡ (record_at T.groups 0).workers
     pub current : Current T.count T.groups T.ends s.made blocks stops
-    pub hand : AtHand (causeOf blocks) updateOf s.made targets adds
+    pub hand : AtHand (cause_of blocks) update_of s.made targets adds
     pub grown : (w : ℕ) → (count s₀.made w ≤ count s.made w) × (count s.made w ≤ count s₀.made w + k)
-    pub left : EachJob s₀ schedule (λ j. Left (passesOver rule) (step j) s₀ schedule k n s)
+    pub left : EachJob s₀ schedule (λ j. Left (passes_over rule) (step j) s₀ schedule k n s)
 
 module _ {T : Tables} {rule : Rule} {s₀ : State} {schedule : List ℕ} where
   -- at first
-  pub running-start : {blocks stops : List ℕ} → T.crew ≡ (recordAt T.groups 0).workers → Current T.count T.groups T.ends s₀.made blocks stops
-      → {adds : List ℤ} → length adds ≡ maxWorkers → Running T rule s₀ schedule 0 0 s₀ blocks stops (replicate maxWorkers maxRows) adds
-  running-start c h f = record {
+  pub running_start : {blocks stops : List ℕ} → T.crew ≡ (record_at T.groups 0).workers → Current T.count T.groups T.ends s₀.made blocks stops
+      → {adds : List ℤ} → length adds ≡ max_workers → Running T rule s₀ schedule 0 0 s₀ blocks stops (replicate max_workers max_rows) adds
+  running_start c h f = record {
     crew = c;
     current = h;
-    hand = none-at-hand h.long f;
+    hand = none_at_hand h.long f;
     grown = λ w. (omega arith, omega arith);
-    left = λ j ok is laid t. left-start (passesOver rule) (step j) s₀ schedule;
+    left = λ j ok is laid t. left-start (passes_over rule) (step j) s₀ schedule;
   }
 
   module _ {n k : ℕ} {s : State} {blocks stops targets : List ℕ} {adds : List ℤ} (r : Running T rule s₀ schedule n k s blocks stops targets adds) where
     -- all picks are gone through
     pub running_none : k ≡ length schedule → EachJob T s₀ schedule (λ j. record { state = s; taken = n; met = length schedule; number = 0 } ≡ walk rule j s₀ schedule)
-    running_none l j ok is laid t = ap (λ (y : ℕ). record { state = s; taken = n; met = y; number = 0 }) (sym l) ∙ left-none (passesOver rule) (step j) s₀ schedule k n s (r.left j ok is laid t) l
+    running_none l j ok is laid t = ap (λ (y : ℕ). record { state = s; taken = n; met = y; number = 0 }) (sym l) ∙ left-none (passes_over rule) (step j) s₀ schedule k n s (r.left j ok is laid t) l
 
     -- worker w's step is looked at
-    module _ (few : T.crew ≤ maxWorkers) {w number : ℕ} {targets' : List ℕ} {adds' : List ℤ} (e : Entered (causeOf T blocks) (updateOf T) s.made w number targets' adds') where
+    module _ (few : T.crew ≤ max_workers) {w number : ℕ} {targets' : List ℕ} {adds' : List ℤ} (e : Entered (cause_of T blocks) (update_of T) s.made w number targets' adds') where
       -- the counts refuse it
       pub entered-refused : number ≢ 0 → Picked T blocks s w number s targets' adds'
-      entered-refused d = record { made = pick-refused _ number _ _ _ e.told d; hand = e.hand }
+      entered-refused d = record { made = pick_refused _ number _ _ _ e.told d; hand = e.hand }
 
       -- .. or do not
       module _ (z : number ≡ 0) where
-        free : causeOf T blocks s.made w ≡ 0
+        free : cause_of T blocks s.made w ≡ 0
         free = sym e.told ∙ z
 
-        pub entered-worker : w < maxWorkers
-        entered-worker = omega (arith, few, (reason-none w T.crew (count s.made w) (2 * updatesIn T.first w) _ free).0)
+        pub entered-worker : w < max_workers
+        entered-worker = omega (arith, few, (reason-none w T.crew (count s.made w) (2 * updates_in T.first w) _ free).0)
 
         -- what its access needs
-        pub entered-ready : {m : ℕ} → StepTables m T.first T.row T.begins T.parts T.leaves T.at T.beside → (count s.made w < 2 * maxUpdates) × (get_or targets' w 0 < m)
+        pub entered-ready : {m : ℕ} → StepTables m T.first T.row T.begins T.parts T.leaves T.at T.beside → (count s.made w < 2 * max_updates) × (get_or targets' w 0 < m)
         entered-ready t =
             access-ready T.crew T.first T.row T.begins T.parts T.leaves blocks T.displaced T.at T.beside t s.made w entered-worker free
             (e.hand.is w entered-worker (e.known z)).target_is
 
         pub entered-made : {number' : ℕ} {new : State} {targets'' : List ℕ} → AccessMade s w targets' adds' number' new targets'' → Picked T blocks s w number' new targets'' adds'
         entered-made a =
-            let steady = steps-steady T.crew T.first T.row T.begins T.parts T.leaves blocks T.displaced T.at T.beside in
+            let steady = steps_steady T.crew T.first T.row T.begins T.parts T.leaves blocks T.displaced T.at T.beside in
             record { made = access-picks steady entered-worker (e.known z) e.hand a; hand = access-keeps steady entered-worker (e.known z) e.hand a }
 
     -- the next pick
-    module _ (few : T.crew ≤ maxWorkers) (R : Recorded T.count T.groups) (l : k < length schedule) {number : ℕ} {new : State} {targets' : List ℕ} {adds' : List ℤ}
+    module _ (few : T.crew ≤ max_workers) (R : Recorded T.count T.groups) (l : k < length schedule) {number : ℕ} {new : State} {targets' : List ℕ} {adds' : List ℤ}
         (p : Picked T blocks s (get_or schedule k 0) number new targets' adds') where
       abbrev w : ℕ
       w = get_or schedule k 0
 
-      is-step : EachJob T s₀ schedule (λ j. step j s w ≡ outcomeOf number new)
+      is-step : EachJob T s₀ schedule (λ j. step j s w ≡ outcome_of number new)
       is-step j ok is laid t =
           step-answer j laid (r.crew ∙ whole-crew j T.count T.groups R.some is) few (waits-of j ok T.count T.groups is laid s.made blocks r.current.blocked R)
           (λ low left. t.is s.made w low (r.grown w).0 (omega (arith, l, (r.grown w).1)) left) p.made
 
       module _ (q : number ≢ 0) where
         halts : EachJob T s₀ schedule (λ j. step j s w ≡ halted number)
-        halts j ok is laid t = is-step j ok is laid t ∙ outcome-halted number new q
+        halts j ok is laid t = is-step j ok is laid t ∙ outcome_halted number new q
 
         -- it is refused, and ends the schedule
-        pub running-halt : passesOver rule number ≡ false → EachJob T s₀ schedule (λ j. record { state = new; taken = n; met = k; number = number } ≡ walk rule j s₀ schedule)
-        running-halt f j ok is laid t =
+        pub running_halt : passes_over rule number ≡ false → EachJob T s₀ schedule (λ j. record { state = new; taken = n; met = k; number = number } ≡ walk rule j s₀ schedule)
+        running_halt f j ok is laid t =
             ap (λ (y : State). record { state = y; taken = n; met = k; number = number }) (p.made.kept q)
-            ∙ left-halt (passesOver rule) (step j) s₀ schedule k n s (r.left j ok is laid t) l number (halts j ok is laid t) f
+            ∙ left_halt (passes_over rule) (step j) s₀ schedule k n s (r.left j ok is laid t) l number (halts j ok is laid t) f
 
         -- .. or is passed over
-        pub running-past : passesOver rule number ≡ true → Running T rule s₀ schedule n (k + 1) new blocks stops targets' adds'
-        running-past f = subst (λ (y : State). Running T rule s₀ schedule n (k + 1) y blocks stops targets' adds') (sym (p.made.kept q)) (record {
+        pub running_past : passes_over rule number ≡ true → Running T rule s₀ schedule n (k + 1) new blocks stops targets' adds'
+        running_past f = subst (λ (y : State). Running T rule s₀ schedule n (k + 1) y blocks stops targets' adds') (sym (p.made.kept q)) (record {
           crew = r.crew;
           current = r.current;
           hand = rw (p.made.kept q) at p.hand;
           grown = λ v. ((r.grown v).0, omega (arith, (r.grown v).1));
-          left = λ j ok is laid t. subst (λ (y : ℕ). Left (passesOver rule) (step j) s₀ schedule y n s) (sym (add-one k)) (left-skip (passesOver rule) (step j) s₀ schedule k n s (r.left j ok is laid t) l number (halts j ok is laid t) f);
+          left = λ j ok is laid t. subst (λ (y : ℕ). Left (passes_over rule) (step j) s₀ schedule y n s) (sym (add-one k)) (left_skip (passes_over rule) (step j) s₀ schedule k n s (r.left j ok is laid t) l number (halts j ok is laid t) f);
         })
 
       -- it is taken
@@ -182,27 +182,27 @@ module _ {T : Tables} {rule : Rule} {s₀ : State} {schedule : List ℕ} where
         next-current = renew s.made (p.made.counted q) r.current
 
         -- one count has risen by one
-        next-grown : (v : ℕ) → (count s₀.made v ≤ count new.made v) × (count new.made v ≤ count s₀.made v + (k + 1))
+        next_grown : (v : ℕ) → (count s₀.made v ≤ count new.made v) × (count new.made v ≤ count s₀.made v + (k + 1))
         unfolding onward
-        next-grown v = go (same_or v w)
+        next_grown v = go (same_or v w)
           where
             go : (v ≡ w) ⊎ (v ≢ w) → (count s₀.made v ≤ count new.made v) × (count new.made v ≤ count s₀.made v + (k + 1))
             go (inl e) =
-                let x : count new.made w ≡ suc (count s.made w) = ap (λ (xs : List ℕ). get_or xs w 0) (p.made.counted q) ∙ get_or-set_same s.made w (suc (get_or s.made w 0)) 0 (omega (arith, r.hand.made-long, pick-worker T.first T.row T.leaves blocks few p.made q)) in
+                let x : count new.made w ≡ suc (count s.made w) = ap (λ (xs : List ℕ). get_or xs w 0) (p.made.counted q) ∙ get_or-set_same s.made w (suc (get_or s.made w 0)) 0 (omega (arith, r.hand.made_long, pick_worker T.first T.row T.leaves blocks few p.made q)) in
                 rw e (omega (arith, x, (r.grown w).0), omega (arith, x, (r.grown w).1))
             go (inr d) =
                 let x : count new.made v ≡ count s.made v = ap (λ (xs : List ℕ). get_or xs v 0) (p.made.counted q) ∙ get_or-set_other s.made w v (suc (get_or s.made w 0)) 0 d in
                 (omega (arith, x, (r.grown v).0), omega (arith, x, (r.grown v).1))
 
-        next-left : EachJob T s₀ schedule (λ j. Left (passesOver rule) (step j) s₀ schedule (k + 1) (n + 1) new)
-        unfolding outcomeOf
+        next-left : EachJob T s₀ schedule (λ j. Left (passes_over rule) (step j) s₀ schedule (k + 1) (n + 1) new)
+        unfolding outcome_of
         next-left j ok is laid t =
-            rw (add-one k, add-one n) (left_step (passesOver rule) (step j) s₀ schedule k n s (r.left j ok is laid t) l new (is-step j ok is laid t ∙ ap (λ (y : ℕ). outcomeOf y new) q))
+            rw (add-one k, add-one n) (left_step (passes_over rule) (step j) s₀ schedule k n s (r.left j ok is laid t) l new (is-step j ok is laid t ∙ ap (λ (y : ℕ). outcome_of y new) q))
 
         -- the blocked groups are found anew
-        pub running-renewed : Running T rule s₀ schedule (n + 1) (k + 1) new blocks' stops' (replicate maxWorkers maxRows) adds'
-        running-renewed = record { crew = r.crew; current = next-current; hand = none-at-hand next-current.long p.hand.adds-long; grown = next-grown; left = next-left }
+        pub running_renewed : Running T rule s₀ schedule (n + 1) (k + 1) new blocks' stops' (replicate max_workers max_rows) adds'
+        running_renewed = record { crew = r.crew; current = next-current; hand = none_at_hand next-current.long p.hand.adds_long; grown = next_grown; left = next-left }
 
         -- .. or are as they were
-        pub running-on : blocks' ≡ blocks → Running T rule s₀ schedule (n + 1) (k + 1) new blocks' stops' targets' adds'
-        running-on e = record { crew = r.crew; current = next-current; hand = rw e p.hand; grown = next-grown; left = next-left }
+        pub running_on : blocks' ≡ blocks → Running T rule s₀ schedule (n + 1) (k + 1) new blocks' stops' targets' adds'
+        running_on e = record { crew = r.crew; current = next-current; hand = rw e p.hand; grown = next_grown; left = next-left }

@@ -1,2 +1,2 @@
 pub mod Record
-pub mod code
+pub mod Code

@@ -1,13 +1,13 @@
 // The ready set: the workers whose next step would be taken, by the tables of the job.
 ghost use Rattle.std.specs.Prelude.{◌≡◌, List, ℕ, ◌/◌, ◌≤◌, length};
-ghost use Rattle.plan.specs.Sound.{maxWorkers};
+ghost use Rattle.plan.specs.Sound.{max_workers};
 ghost use Rattle.plan.specs.Groups.{width, records};
-ghost use Rattle.plan.specs.code.Checks.{recordAt};
+ghost use Rattle.plan.specs.Code.Checks.{record_at};
 ghost use Rattle.run.specs.Job.{Job, Accepted};
 ghost use Rattle.run.specs.Job as job;
 ghost use Rattle.run.specs.Machine.{ready, bits};
-ghost use Rattle.tables.specs.code.Laid.{Laid, Bounded, Waits};
-ghost use Rattle.waits.specs.code.Waits.{Recorded};
+ghost use Rattle.tables.specs.Code.Laid.{Laid, Bounded, Waits};
+ghost use Rattle.waits.specs.Code.Waits.{Recorded};
 
 use matrix::limits::MAX_ROWS;
 use plan::fields::{WIDTH, record_at};
@@ -25,7 +25,7 @@ fn ready_bits(
     leaves: &[u16; MAX_ROWS],
     blocks: &[u8; MAX_GROUPS],
 ) -> u16
-    requires { (workers ≤ maxWorkers) × ((n : ℕ) × Bounded n first.now row.now leaves.now) }
+    requires { (workers ≤ max_workers) × ((n : ℕ) × Bounded n first.now row.now leaves.now) }
     ensures { (j : Job) (begins ends : List ℕ) → workers ≡ job.workers j → Laid j first.now row.now begins leaves.now ends
         → Waits j made.now blocks.now → result ≡ bits (ready j made.now) }
 {
@@ -48,7 +48,7 @@ pub fn ready_workers(
     row: &[u16; MAX_UPDATES],
     leaves: &[u16; MAX_ROWS],
 ) -> u16
-    requires { ((recordAt groups.now 0).workers ≤ maxWorkers) × Recorded (length groups.now / width) groups.now × ((n : ℕ) × Bounded n first.now row.now leaves.now) }
+    requires { ((record_at groups.now 0).workers ≤ max_workers) × Recorded (length groups.now / width) groups.now × ((n : ℕ) × Bounded n first.now row.now leaves.now) }
     ensures { (j : Job) (begins : List ℕ) → Accepted j → j.plan.groups ≡ records (length groups.now / width) groups.now
         → Laid j first.now row.now begins leaves.now ends.now → result ≡ bits (ready j made.now) }
 {

@@ -1,17 +1,17 @@
 // A run's state: one record, handed in and handed back.
 ghost use Rattle.std.specs.Prelude.{◌≡◌, ℕ, ◌/◌, ◌≤◌, ◌<◌, pos, length, replicate};
-ghost use Rattle.plan.specs.Sound.{maxWorkers};
+ghost use Rattle.plan.specs.Sound.{max_workers};
 ghost use Rattle.plan.specs.Groups.{width, records};
-ghost use Rattle.plan.specs.code.Checks.{recordAt};
+ghost use Rattle.plan.specs.Code.Checks.{record_at};
 ghost use Rattle.run.specs.Job.{Job, Accepted};
 ghost use Rattle.run.specs.Updates.{count};
 ghost use Rattle.run.specs.State as run;
 ghost use Rattle.machine.specs.Record.{state_of};
-ghost use Rattle.machine.specs.code.Tests.{all_below, fine, done};
-ghost use Rattle.tables.specs.code.Laid.{Rising, Laid};
-ghost use Rattle.waits.specs.code.Waits.{Recorded};
-ghost use Rattle.steps.specs.code.Steps.{StepTables, UpdatesAhead};
-ghost use Rattle.machine.specs.code.Stepped.{passesOver, walk, endedWith, walkedOf};
+ghost use Rattle.machine.specs.Code.Tests.{all_below, fine, done};
+ghost use Rattle.tables.specs.Code.Laid.{Rising, Laid};
+ghost use Rattle.waits.specs.Code.Waits.{Recorded};
+ghost use Rattle.steps.specs.Code.Steps.{StepTables, UpdatesAhead};
+ghost use Rattle.machine.specs.Code.Stepped.{passes_over, walk, ended_with, walked_of};
 
 use base::{DONE, WAITING};
 use matrix::limits::MAX_ROWS;
@@ -38,7 +38,7 @@ pub enum Rule {
 
 // Whether a pick that is refused with this number is passed over.
 pub fn passes(rule: Rule, number: u32) -> bool
-    ensures { result ≡ passesOver rule number }
+    ensures { result ≡ passes_over rule number }
 {
     match rule {
         Rule::Stop => false,
@@ -64,7 +64,7 @@ pub fn ended(
     past: usize,
     number: u32,
 ) -> Walked
-    ensures { result ≡ endedWith (record { made = made; held = held }) taken past number }
+    ensures { result ≡ ended_with (record { made = made; held = held }) taken past number }
 {
     Walked {
         state: State {
@@ -106,12 +106,12 @@ impl State {
         at: &[u16],
         beside: &[i32],
     ) -> Walked
-        requires { ((recordAt groups.now 0).workers ≤ maxWorkers) × Recorded (length groups.now / width) groups.now
+        requires { ((record_at groups.now 0).workers ≤ max_workers) × Recorded (length groups.now / width) groups.now
             × StepTables (length sums.old) first.now row.now begins.now parts.now leaves.now at.now beside.now }
         ensures { (j : Job) → Accepted j → j.plan.groups ≡ records (length groups.now / width) groups.now
             → Laid j first.now row.now begins.now leaves.now ends.now
             → UpdatesAhead j self.made (length schedule.now) first.now row.now begins.now parts.now displaced.now at.now beside.now
-            → walkedOf result sums.new ≡ walk rule j (state_of self sums.old) schedule.now }
+            → walked_of result sums.new ≡ walk rule j (state_of self sums.old) schedule.now }
     {
         let mut made = self.made;
         let mut held = self.held;
@@ -157,7 +157,7 @@ impl State {
 
     // How many accesses worker w has made.
     pub fn moves(self, w: usize) -> u32
-        requires { w < maxWorkers }
+        requires { w < max_workers }
         ensures { result ≡ count self.made w }
     {
         self.made[w]
@@ -166,7 +166,7 @@ impl State {
     // No worker has made more than its accesses.
     pub fn is_fine(self, first: [u32; FIRSTS]) -> bool
         requires { Rising first }
-        ensures { result ≡ all_below (fine first self.made) maxWorkers }
+        ensures { result ≡ all_below (fine first self.made) max_workers }
     {
         let mut w = MAX_WORKERS;
         while 0 < w {
@@ -180,7 +180,7 @@ impl State {
 
     // Every worker of the plan has made all its accesses.
     pub fn is_finished(self, first: [u32; FIRSTS], workers: usize) -> bool
-        requires { (workers ≤ maxWorkers) × Rising first }
+        requires { (workers ≤ max_workers) × Rising first }
         ensures { result ≡ all_below (done first self.made) workers }
     {
         let mut w = workers;

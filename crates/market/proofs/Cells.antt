@@ -45,8 +45,8 @@ module _ (i j : ℕ) (e : Triplet) (low : Low e) where
       own false t = refl
 
   -- above it: its mirror image
-  both-above : i < j → filter (is_at i j) (both e) ≡ map (moved i j) (keep (is_at j i e) e [])
-  both-above h =
+  both_above : i < j → filter (is_at i j) (both e) ≡ map (moved i j) (keep (is_at j i e) e [])
+  both_above h =
       let off : is_at i j e ≡ false = is_false (λ t. let (a, b) = at_place i j e t in omega arith) in
       rw (off, and_comm (eqb e.row j) (eqb e.column i)) (other (eqb e.row e.column) refl (is_at i j mirror) refl)
     where
@@ -60,10 +60,10 @@ module _ (i j : ℕ) (e : Triplet) (low : Low e) where
 
 module _ (i j : ℕ) where
   -- one entry more
-  cell-more : (r c : ℕ) (e : Triplet) (es : List Triplet) → filter (is_at i j) (both e) ≡ map (moved i j) (keep (is_at r c e) e []) → cell es i j ≡ map (moved i j) (filter (is_at r c) es)
+  cell_more : (r c : ℕ) (e : Triplet) (es : List Triplet) → filter (is_at i j) (both e) ≡ map (moved i j) (keep (is_at r c e) e []) → cell es i j ≡ map (moved i j) (filter (is_at r c) es)
       → cell (e ∷ es) i j ≡ map (moved i j) (filter (is_at r c) (e ∷ es))
   unfolding cell full
-  cell-more r c e es one rest = filter-append (is_at i j) (both e) (concat (map both es)) ∙ rw (one, rest) (go (is_at r c e))
+  cell_more r c e es one rest = filter-append (is_at i j) (both e) (concat (map both es)) ∙ rw (one, rest) (go (is_at r c e))
     where
       go : (b : Bool) → map (moved i j) (keep b e []) ++ map (moved i j) (filter (is_at r c) es) ≡ map (moved i j) (keep b e (filter (is_at r c) es))
       go true = refl
@@ -75,11 +75,11 @@ module _ (i j : ℕ) where
 
   pub cell_below : j ≤ i → (es : List Triplet) → Each Low es → cell es i j ≡ map (moved i j) (filter (is_at i j) es)
   cell_below h [] l = cell-none
-  cell_below h (e ∷ es) l = cell-more i j e es (both_below i j e l.0 h) (cell_below h es l.1)
+  cell_below h (e ∷ es) l = cell_more i j e es (both_below i j e l.0 h) (cell_below h es l.1)
 
-  pub cell-above : i < j → (es : List Triplet) → Each Low es → cell es i j ≡ map (moved i j) (filter (is_at j i) es)
-  cell-above h [] l = cell-none
-  cell-above h (e ∷ es) l = cell-more j i e es (both-above i j e l.0 h) (cell-above h es l.1)
+  pub cell_above : i < j → (es : List Triplet) → Each Low es → cell es i j ≡ map (moved i j) (filter (is_at j i) es)
+  cell_above h [] l = cell-none
+  cell_above h (e ∷ es) l = cell_more j i e es (both_above i j e l.0 h) (cell_above h es l.1)
 
 -- what is stored for (i, j): its own entry on and below the diagonal, above it that of (j, i)
 unfoldable pub stored_at : List Triplet → (i j : ℕ) → List Triplet
@@ -136,7 +136,7 @@ module _ {n : ℕ} {es : List Triplet} (s : Stored n es) (i j : ℕ) (li : i < n
 
       go : (b : Bool) → leb j i ≡ b → cell es i j ≡ map (moved i j) (cond b (filter (is_at i j) es) (filter (is_at j i) es))
       go true t = cell_below i j (leb-true j i t) es low
-      go false t = cell-above i j (leb-false j i t) es low
+      go false t = cell_above i j (leb-false j i t) es low
 
   stored-once : length (stored_at es i j) ≤ 1
   unfolding stored_at

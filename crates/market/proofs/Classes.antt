@@ -5,7 +5,7 @@ use Prim.Native.Nat.{ℕ, zero, suc, ◌≤◌}
 use lib.Dec.{leb, eqb}
 use borrow.Author.Tests.{eqb-true, leb-true}
 use Rattle.base.proofs.Booleans.{and_left, and_right}
-use Rattle.market.specs.Bytes.{classOf}
+use Rattle.market.specs.Bytes.{class_of}
 
 -- digit 1, sign 2, space 3, line end 4
 abbrev pub Means : (b class : ℕ) → Type 0
@@ -16,9 +16,9 @@ Means b (suc (suc (suc zero))) = b ≡ 32
 Means b (suc (suc (suc (suc zero)))) = b ≡ 10
 Means b (suc (suc (suc (suc (suc k))))) = Unit {0}
 
-pub class-means : (b k : ℕ) → classOf b ≡ k → Means b k
-unfolding classOf
-class-means b k e = subst (Means b) e (go (leb 48 b && leb b 57) refl (eqb b 45) refl (eqb b 32) refl (eqb b 10) refl)
+pub class_means : (b k : ℕ) → class_of b ≡ k → Means b k
+unfolding class_of
+class_means b k e = subst (Means b) e (go (leb 48 b && leb b 57) refl (eqb b 45) refl (eqb b 32) refl (eqb b 10) refl)
   where
     go : (d : Bool) → leb 48 b && leb b 57 ≡ d → (s : Bool) → eqb b 45 ≡ s → (p : Bool) → eqb b 32 ≡ p → (l : Bool) → eqb b 10 ≡ l
         → Means b (cond d 1 (cond s 2 (cond p 3 (cond l 4 0))))
@@ -29,5 +29,5 @@ class-means b k e = subst (Means b) e (go (leb 48 b && leb b 57) refl (eqb b 45)
     go false h false hs false hp false hl = tt
 
 -- .. where the class is tested
-pub is-means : (b k : ℕ) → eqb (classOf b) k ≡ true → Means b k
-is-means b k e = class-means b k (eqb-true (classOf b) k e)
+pub is_means : (b k : ℕ) → eqb (class_of b) k ≡ true → Means b k
+is_means b k e = class_means b k (eqb-true (class_of b) k e)

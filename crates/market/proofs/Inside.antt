@@ -12,16 +12,16 @@ use Rattle.base.specs.Integers.{within}
 use Rattle.base.proofs.Booleans.{and_left, and_right}
 use Rattle.base.proofs.Integers.{fits-abs}
 use Rattle.matrix.specs.Limits.{max_value}
-use Rattle.market.specs.Parse.{isEntry}
+use Rattle.market.specs.Parse.{is_entry}
 
--- what `isEntry` says
+-- what `is_entry` says
 pub record Inside (n r c : ℕ) (v : ℤ) : Type 0 where
   pub first : 1 ≤ c
   pub below : c ≤ r
   pub last : r ≤ n
   pub small : nat_abs v ≤ max_value
 
-pub inside : (n r c : ℕ) (v : ℤ) → isEntry n r c v ≡ true → Inside n r c v
+pub inside : (n r c : ℕ) (v : ℤ) → is_entry n r c v ≡ true → Inside n r c v
 unfolding within
 inside n r c v h =
     let p = and_left (leb 1 c && leb c r && leb r n) (within max_value v) h in

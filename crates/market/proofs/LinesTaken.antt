@@ -9,18 +9,18 @@ use lib.Dec.{leb, ltb, eqb}
 use lib.IntN.{pos, negsuc}
 use lib.ListN.{length, drop, length-map}
 use borrow.Author.Tests.{ltb-false, eqb-true, eq-eqb, ne_eqb}
-use Rattle.base.specs.Lists.{isIn, is_empty, begins, concat}
+use Rattle.base.specs.Lists.{is_in, is_empty, begins, concat}
 use Rattle.base.specs.Refusals as why
 use Rattle.base.proofs.Booleans.{clash}
 use Rattle.base.proofs.Begins.{begins-split}
 use Rattle.base.proofs.Each.{Each, each_all}
-use Rattle.matrix.specs.Limits.{maxRows, maxEntries, maxText}
-use Rattle.market.specs.Bytes.{classOf, header, isEnd}
+use Rattle.matrix.specs.Limits.{max_rows, max_entries, max_text}
+use Rattle.market.specs.Bytes.{class_of, header, is_end}
 use Rattle.market.specs.Fields.{Line, line, broken, digits, is_number, numeral, fields}
-use Rattle.market.specs.Parse.{Triplet, triplet, matrixText, rejected, is_at, isAmong, isEntry, onLine, entries, sizeLine, sized, Place, place, comments, body, parse}
-use Rattle.market.specs.Texts.{Gaps, spacedLine, Spaced, spacedEntry, commentLine, Lines, entriesOf, textOfLines, entryOn, Allowed}
+use Rattle.market.specs.Parse.{Triplet, triplet, matrix_text, rejected, is_at, is_among, is_entry, on_line, entries, size_line, sized, Place, place, comments, body, parse}
+use Rattle.market.specs.Texts.{Gaps, spaced_line, Spaced, spaced_entry, comment_line, Lines, entries_of, text_of_lines, entry_on, Allowed}
 use Rattle.market.proofs.Accepted.{Accepted, parse-accepted, never}
-use Rattle.market.proofs.Classes.{is-means}
+use Rattle.market.proofs.Classes.{is_means}
 use Rattle.market.proofs.Inside.{Inside, inside}
 use Rattle.market.proofs.Spaced.{Clean}
 use Rattle.market.proofs.Stored.{Fits, fits-inside}
@@ -34,7 +34,7 @@ use Rattle.market.proofs.Cells.{first}
 record CommentsTaken (xs ys : List ℕ) : Type 0 where
   lines : List (List ℕ)
   clean : Each Clean lines
-  is : xs ≡ concat (map commentLine lines) ++ ys
+  is : xs ≡ concat (map comment_line lines) ++ ys
 
 -- the rest of such a line, and those after it
 record CommentTaken (xs ys : List ℕ) : Type 0 where
@@ -49,19 +49,19 @@ abbrev Passed : Bool → (xs ys : List ℕ) → Type 0
 Passed true xs ys = (ys ≡ []) ⊎ CommentTaken xs ys
 Passed false xs ys = (ys ≡ []) ⊎ CommentsTaken xs ys
 
-not_end : (b : ℕ) → isEnd b ≡ false → eqb 10 b ≡ false
-unfolding classOf
-not_end b h = ne_eqb 10 b (λ e. clash (subst (λ (x : ℕ). isEnd x ≡ true) e refl) h)
+not_end : (b : ℕ) → is_end b ≡ false → eqb 10 b ≡ false
+unfolding class_of
+not_end b h = ne_eqb 10 b (λ e. clash (subst (λ (x : ℕ). is_end x ≡ true) e refl) h)
 
 passed : (b : Bool) (k : ℕ) (xs : List ℕ) → Passed b xs (comments b k xs).text
 unfolding comments
 passed true k [] = inl refl
 passed false k [] = inl refl
-passed true k (b ∷ bs) = go (isEnd b) refl (passed (not (isEnd b)) (cond (isEnd b) (suc k) k) bs)
+passed true k (b ∷ bs) = go (is_end b) refl (passed (not (is_end b)) (cond (is_end b) (suc k) k) bs)
   where
-    go : (t : Bool) → isEnd b ≡ t → Passed (not t) bs (comments (not t) (cond t (suc k) k) bs).text → Passed true (b ∷ bs) (comments (not t) (cond t (suc k) k) bs).text
+    go : (t : Bool) → is_end b ≡ t → Passed (not t) bs (comments (not t) (cond t (suc k) k) bs).text → Passed true (b ∷ bs) (comments (not t) (cond t (suc k) k) bs).text
     go true h (inl e) = inl e
-    go true h (inr c) = inr (record { rest = []; clean = refl; after = bs; is = ap (λ (x : ℕ). x ∷ bs) (is-means b 4 h); more = c })
+    go true h (inr c) = inr (record { rest = []; clean = refl; after = bs; is = ap (λ (x : ℕ). x ∷ bs) (is_means b 4 h); more = c })
     go false h (inl e) = inl e
     go false h (inr c) = inr (record { rest = b ∷ c.rest; clean = rw (not_end b h) c.clean; after = c.after; is = ap (λ (l : List ℕ). b ∷ l) c.is; more = c.more })
 passed false k (b ∷ bs) = go (eqb b 37) refl (passed true k bs)
@@ -83,14 +83,14 @@ record EntriesTaken (n m : ℕ) (done : List Triplet) (xs : List ℕ) (n' : ℕ)
   lines : List Spaced
   same : n' ≡ n
   size : length lines ≡ m
-  is : xs ≡ concat (map spacedEntry lines)
+  is : xs ≡ concat (map spaced_entry lines)
   all : es ≡ done ++ map only lines
 
-entries-taken : (n m k : ℕ) (done : List Triplet) (xs : List ℕ) (n' : ℕ) (es : List Triplet) → entries n m k done xs ≡ matrixText n' es → EntriesTaken n m done xs n' es
+entries-taken : (n m k : ℕ) (done : List Triplet) (xs : List ℕ) (n' : ℕ) (es : List Triplet) → entries n m k done xs ≡ matrix_text n' es → EntriesTaken n m done xs n' es
 unfolding entries
 entries-taken n zero k done xs n' es e = go xs e
   where
-    go : (ys : List ℕ) → cond (is_empty ys) (matrixText n done) (rejected why.badForm k) ≡ matrixText n' es → EntriesTaken n 0 done ys n' es
+    go : (ys : List ℕ) → cond (is_empty ys) (matrix_text n done) (rejected why.bad_form k) ≡ matrix_text n' es → EntriesTaken n 0 done ys n' es
     go [] e =
         let f : n ≡ n' = cc in
         let g : done ≡ es = cc in
@@ -98,15 +98,15 @@ entries-taken n zero k done xs n' es e = go xs e
     go (y ∷ ys) e = never e
 entries-taken n (suc m) k done xs n' es e = on (fields xs) refl e (λ k' d x e'. entries-taken n m k' d x n' es e')
   where
-    on : (l : Line) → fields xs ≡ l → onLine l (rejected why.badForm k) (λ r c v a.
-        cond (isEntry n r c v && not (isAmong done (r - 1) (c - 1)))
+    on : (l : Line) → fields xs ≡ l → on_line l (rejected why.bad_form k) (λ r c v a.
+        cond (is_entry n r c v && not (is_among done (r - 1) (c - 1)))
         (entries n m (suc k) (done ++ triplet (r - 1) (c - 1) v ∷ []) (drop a xs))
-        (rejected why.badEntry k)) ≡ matrixText n' es
-        → ((k' : ℕ) (d : List Triplet) (x : List ℕ) → entries n m k' d x ≡ matrixText n' es → EntriesTaken n m d x n' es) → EntriesTaken n (suc m) done xs n' es
+        (rejected why.bad_entry k)) ≡ matrix_text n' es
+        → ((k' : ℕ) (d : List Triplet) (x : List ℕ) → entries n m k' d x ≡ matrix_text n' es → EntriesTaken n m d x n' es) → EntriesTaken n (suc m) done xs n' es
     on broken f e ih = never e
-    on (line r c v a) f e ih = go (isEntry n r c v) refl (isAmong done (r - 1) (c - 1)) e
+    on (line r c v a) f e ih = go (is_entry n r c v) refl (is_among done (r - 1) (c - 1)) e
       where
-        go : (b : Bool) → isEntry n r c v ≡ b → (t : Bool) → cond (b && not t) (entries n m (suc k) (done ++ triplet (r - 1) (c - 1) v ∷ []) (drop a xs)) (rejected why.badEntry k) ≡ matrixText n' es → EntriesTaken n (suc m) done xs n' es
+        go : (b : Bool) → is_entry n r c v ≡ b → (t : Bool) → cond (b && not t) (entries n m (suc k) (done ++ triplet (r - 1) (c - 1) v ∷ []) (drop a xs)) (rejected why.bad_entry k) ≡ matrix_text n' es → EntriesTaken n (suc m) done xs n' es
         go true h false e =
             let l = line_taken xs r c v a f in
             let i = inside n r c v h in
@@ -117,7 +117,7 @@ entries-taken n (suc m) k done xs n' es e = on (fields xs) refl e (λ k' d x e'.
               lines = record { entry = triplet (r - 1) (c - 1) v; gaps = l.gaps } ∷ x.lines;
               same = x.same;
               size = ap suc x.size;
-              is = rw (er, ec) (l.is ∙ ap (λ (ys : List ℕ). spacedLine l.gaps r c v ++ ys) x.is);
+              is = rw (er, ec) (l.is ∙ ap (λ (ys : List ℕ). spaced_line l.gaps r c v ++ ys) x.is);
               all = x.all ∙ append_assoc done (triplet (r - 1) (c - 1) v ∷ []) (map only x.lines);
             }
         go true h true e = never e
@@ -127,19 +127,19 @@ entries-taken n (suc m) k done xs n' es e = on (fields xs) refl e (λ k' d x e'.
 record SizeTaken (xs : List ℕ) (n : ℕ) (es : List Triplet) : Type 0 where
   gaps : Gaps
   lines : List Spaced
-  is : xs ≡ spacedLine gaps n n (pos (length lines)) ++ concat (map spacedEntry lines)
+  is : xs ≡ spaced_line gaps n n (pos (length lines)) ++ concat (map spaced_entry lines)
   all : es ≡ map only lines
 
-size-taken : (k : ℕ) (xs : List ℕ) (n : ℕ) (es : List Triplet) → sizeLine k xs ≡ matrixText n es → SizeTaken xs n es
-unfolding sizeLine
+size-taken : (k : ℕ) (xs : List ℕ) (n : ℕ) (es : List Triplet) → size_line k xs ≡ matrix_text n es → SizeTaken xs n es
+unfolding size_line
 size-taken k xs n es e = on (fields xs) refl e
   where
-    on : (l : Line) → fields xs ≡ l → onLine l (rejected why.badForm k) (λ r c v a. sized k r c v (drop a xs)) ≡ matrixText n es → SizeTaken xs n es
+    on : (l : Line) → fields xs ≡ l → on_line l (rejected why.bad_form k) (λ r c v a. sized k r c v (drop a xs)) ≡ matrix_text n es → SizeTaken xs n es
     on broken f e = never e
     on (line r c (negsuc m) a) f e = never e
-    on (line r c (pos m) a) f e = go (eqb r c) refl (leb 1 r) (leb r maxRows) (leb m maxEntries) e
+    on (line r c (pos m) a) f e = go (eqb r c) refl (leb 1 r) (leb r max_rows) (leb m max_entries) e
       where
-        go : (w : Bool) → eqb r c ≡ w → (x y z : Bool) → cond (w && x && y && z) (entries r m (suc k) [] (drop a xs)) (rejected why.badSize k) ≡ matrixText n es → SizeTaken xs n es
+        go : (w : Bool) → eqb r c ≡ w → (x y z : Bool) → cond (w && x && y && z) (entries r m (suc k) [] (drop a xs)) (rejected why.bad_size k) ≡ matrix_text n es → SizeTaken xs n es
         go true h true true true e =
             let l = line_taken xs r c (pos m) a f in
             let x = entries-taken r m (suc k) [] (drop a xs) n es e in
@@ -147,9 +147,9 @@ size-taken k xs n es e = on (fields xs) refl e
             record {
               gaps = l.gaps;
               lines = x.lines;
-              is = l.is ∙ ap (λ (y : ℕ). spacedLine l.gaps r y (pos m) ++ drop a xs) same ∙ ap (λ (ys : List ℕ). spacedLine l.gaps r r (pos m) ++ ys) x.is
-                  ∙ ap (λ (y : ℕ). spacedLine l.gaps r r (pos y) ++ concat (map spacedEntry x.lines)) (sym x.size)
-                  ∙ ap (λ (y : ℕ). spacedLine l.gaps y y (pos (length x.lines)) ++ concat (map spacedEntry x.lines)) (sym x.same);
+              is = l.is ∙ ap (λ (y : ℕ). spaced_line l.gaps r y (pos m) ++ drop a xs) same ∙ ap (λ (ys : List ℕ). spaced_line l.gaps r r (pos m) ++ ys) x.is
+                  ∙ ap (λ (y : ℕ). spaced_line l.gaps r r (pos y) ++ concat (map spaced_entry x.lines)) (sym x.size)
+                  ∙ ap (λ (y : ℕ). spaced_line l.gaps y y (pos (length x.lines)) ++ concat (map spaced_entry x.lines)) (sym x.same);
               all = x.all;
             }
         go true h true true false e = never e
@@ -159,37 +159,37 @@ size-taken k xs n es e = on (fields xs) refl e
 
 -- ---- lines of an accepted text
 
-entries-count : (t : Lines) → length (entriesOf t) ≡ length t.entries
-unfolding entriesOf
+entries-count : (t : Lines) → length (entries_of t) ≡ length t.entries
+unfolding entries_of
 entries-count t = length-map t.entries only
 
 -- an empty text has no size line
-size_none : {X : Type 0} (k n : ℕ) (es : List Triplet) → sizeLine k [] ≡ matrixText n es → X
-unfolding sizeLine fields numeral digits is_number
+size_none : {X : Type 0} (k n : ℕ) (es : List Triplet) → size_line k [] ≡ matrix_text n es → X
+unfolding size_line fields numeral digits is_number
 size_none k n es e = never e
 
 -- the lines are as a text may have them
-module _ (t : Lines) (a : Accepted t.n (entriesOf t)) where
-  inside-at : (i : ℕ) → i < length (entriesOf t) → Inside t.n (suc (entryOn (entriesOf t) i).row) (suc (entryOn (entriesOf t) i).column) (entryOn (entriesOf t) i).value
-  unfolding entryOn
-  inside-at i l = fits-inside t.n _ (each-get (Fits t.n) (entriesOf t) (triplet 0 0 (pos 0)) a.stored.fits i l)
+module _ (t : Lines) (a : Accepted t.n (entries_of t)) where
+  inside-at : (i : ℕ) → i < length (entries_of t) → Inside t.n (suc (entry_on (entries_of t) i).row) (suc (entry_on (entries_of t) i).column) (entry_on (entries_of t) i).value
+  unfolding entry_on
+  inside-at i l = fits-inside t.n _ (each-get (Fits t.n) (entries_of t) (triplet 0 0 (pos 0)) a.stored.fits i l)
 
-  twice : (i k : ℕ) → i < k → k < length (entriesOf t) → (entryOn (entriesOf t) i).row ≡ (entryOn (entriesOf t) k).row → (entryOn (entriesOf t) i).column ≡ (entryOn (entriesOf t) k).column → ⊥
-  unfolding entryOn
+  twice : (i k : ℕ) → i < k → k < length (entries_of t) → (entry_on (entries_of t) i).row ≡ (entry_on (entries_of t) k).row → (entry_on (entries_of t) i).column ≡ (entry_on (entries_of t) k).column → ⊥
+  unfolding entry_on
   twice i k m l er ec =
-      let e = entryOn (entriesOf t) k in
+      let e = entry_on (entries_of t) k in
       let b = inside-at k l in
       let own : is_at e.row e.column e ≡ true = rw (eq-eqb e.row e.row refl, eq-eqb e.column e.column refl) in
-      let other : is_at e.row e.column (entryOn (entriesOf t) i) ≡ true = rw (eq-eqb _ e.row er, eq-eqb _ e.column ec) in
+      let other : is_at e.row e.column (entry_on (entries_of t) i) ≡ true = rw (eq-eqb _ e.row er, eq-eqb _ e.column ec) in
       omega (
         arith,
-        filter-two (is_at e.row e.column) (triplet 0 0 (pos 0)) (entriesOf t) i k m l other own,
+        filter-two (is_at e.row e.column) (triplet 0 0 (pos 0)) (entries_of t) i k m l other own,
         a.stored.once e.row e.column (omega (arith, b.last)) (omega (arith, b.below, b.last)),
       )
 
-  allowed : Each Clean t.comments → length (textOfLines t) ≤ maxText → Allowed t
+  allowed : Each Clean t.comments → length (text_of_lines t) ≤ max_text → Allowed t
   allowed clean short = record {
-    comments = each_all Clean (λ (c : List ℕ). not (isIn c 10)) (λ c h. rw h refl) t.comments clean;
+    comments = each_all Clean (λ (c : List ℕ). not (is_in c 10)) (λ c h. rw h refl) t.comments clean;
     some = a.some;
     rows = a.rows;
     count = omega (arith, a.count, entries-count t);
@@ -204,40 +204,40 @@ module _ (t : Lines) (a : Accepted t.n (entriesOf t)) where
 record Made (text : List ℕ) (n : ℕ) (es : List Triplet) : Type 0 where
   lines : Lines
   clean : Each Clean lines.comments
-  is : text ≡ textOfLines lines
+  is : text ≡ text_of_lines lines
   rows : n ≡ lines.n
-  all : es ≡ entriesOf lines
-  short : length text ≤ maxText
+  all : es ≡ entries_of lines
+  short : length text ≤ max_text
 
-made : (text : List ℕ) (n : ℕ) (es : List Triplet) → parse text ≡ matrixText n es → Made text n es
-unfolding parse textOfLines entriesOf
-made text n es e = go (ltb maxText (length text)) refl (begins text header) refl e
+made : (text : List ℕ) (n : ℕ) (es : List Triplet) → parse text ≡ matrix_text n es → Made text n es
+unfolding parse text_of_lines entries_of
+made text n es e = go (ltb max_text (length text)) refl (begins text header) refl e
   where
     rest : List ℕ
     rest = drop (length header) text
 
-    with-lines : length text ≤ maxText → text ≡ header ++ rest → (p : Place) → (p.text ≡ []) ⊎ CommentsTaken rest p.text → body p ≡ matrixText n es → Made text n es
-    with-lines short h p (inl z) e = size_none p.number n es (rw z at e)
-    with-lines short h p (inr c) e =
+    with_lines : length text ≤ max_text → text ≡ header ++ rest → (p : Place) → (p.text ≡ []) ⊎ CommentsTaken rest p.text → body p ≡ matrix_text n es → Made text n es
+    with_lines short h p (inl z) e = size_none p.number n es (rw z at e)
+    with_lines short h p (inr c) e =
         let s = size-taken p.number p.text n es e in
         record {
           lines = record { comments = c.lines; n = n; gaps = s.gaps; entries = s.lines };
           clean = c.clean;
-          is = h ∙ ap (λ (ys : List ℕ). header ++ ys) (c.is ∙ ap (λ (ys : List ℕ). concat (map commentLine c.lines) ++ ys) s.is);
+          is = h ∙ ap (λ (ys : List ℕ). header ++ ys) (c.is ∙ ap (λ (ys : List ℕ). concat (map comment_line c.lines) ++ ys) s.is);
           rows = refl;
           all = s.all;
           short = short;
         }
 
-    go : (a : Bool) → ltb maxText (length text) ≡ a → (b : Bool) → begins text header ≡ b
-        → cond a (rejected why.badForm 0) (cond b (body (comments false 2 rest)) (rejected why.badHeader 1)) ≡ matrixText n es → Made text n es
+    go : (a : Bool) → ltb max_text (length text) ≡ a → (b : Bool) → begins text header ≡ b
+        → cond a (rejected why.bad_form 0) (cond b (body (comments false 2 rest)) (rejected why.bad_header 1)) ≡ matrix_text n es → Made text n es
     go true l b h e = never e
-    go false l true h e = with-lines (ltb-false maxText (length text) l) (begins-split text header h) (comments false 2 rest) (passed false 2 rest) e
+    go false l true h e = with_lines (ltb-false max_text (length text) l) (begins-split text header h) (comments false 2 rest) (passed false 2 rest) e
     go false l false h e = never e
 
-pub only-lines : (text : List ℕ) (n : ℕ) (es : List Triplet) → parse text ≡ matrixText n es → (t : Lines) × Allowed t × (text ≡ textOfLines t) × (n ≡ t.n) × (es ≡ entriesOf t)
+pub only-lines : (text : List ℕ) (n : ℕ) (es : List Triplet) → parse text ≡ matrix_text n es → (t : Lines) × Allowed t × (text ≡ text_of_lines t) × (n ≡ t.n) × (es ≡ entries_of t)
 only-lines text n es e =
     let m = made text n es e in
     let t = m.lines in
-    let a : Accepted t.n (entriesOf t) = subst (λ (x : ℕ). Accepted x (entriesOf t)) m.rows (subst (Accepted n) m.all (parse-accepted text n es e)) in
-    (t, allowed t a m.clean (subst (λ (xs : List ℕ). length xs ≤ maxText) m.is m.short), m.is, m.rows, m.all)
+    let a : Accepted t.n (entries_of t) = subst (λ (x : ℕ). Accepted x (entries_of t)) m.rows (subst (Accepted n) m.all (parse-accepted text n es e)) in
+    (t, allowed t a m.clean (subst (λ (xs : List ℕ). length xs ≤ max_text) m.is m.short), m.is, m.rows, m.all)

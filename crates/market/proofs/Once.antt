@@ -48,9 +48,9 @@ module _ {A : Type 0} (p : A → Bool) (d : A) where
       go true f s ih = absurd (omega arith)
       go false f s ih = ih f
 
-  pub filter-where : (xs : List A) → 1 ≤ length (filter p xs) → (k : ℕ) × (k < length xs) × (p (get_or xs k d) ≡ true)
-  filter-where [] h = absurd (omega arith)
-  filter-where (x ∷ xs) h = go (p x) refl h (filter-where xs)
+  pub filter_where : (xs : List A) → 1 ≤ length (filter p xs) → (k : ℕ) × (k < length xs) × (p (get_or xs k d) ≡ true)
+  filter_where [] h = absurd (omega arith)
+  filter_where (x ∷ xs) h = go (p x) refl h (filter_where xs)
     where
       go : (b : Bool) → p x ≡ b → 1 ≤ length (keep b x (filter p xs)) → (1 ≤ length (filter p xs) → (k : ℕ) × (k < length xs) × (p (get_or xs k d) ≡ true))
           → (k : ℕ) × (k < suc (length xs)) × (p (get_or (x ∷ xs) k d) ≡ true)

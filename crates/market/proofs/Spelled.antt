@@ -11,19 +11,19 @@ use lib.ListN.{length}
 use lib.Seq.{append_snoc}
 use borrow.Author.Tests.{lt-leb, eqb-false}
 use Rattle.base.proofs.Booleans.{clash}
-use Rattle.market.specs.Bytes.{isDigit}
-use Rattle.market.specs.Fields.{digits, isNeeded, value_of}
+use Rattle.market.specs.Bytes.{is_digit}
+use Rattle.market.specs.Fields.{digits, is_needed, value_of}
 use Rattle.market.specs.Text.{decimal}
-use Rattle.market.proofs.Classes.{is-means}
-use Rattle.market.proofs.Decimal.{AllDigits, decimal-one, decimal-more, decimal-same}
+use Rattle.market.proofs.Classes.{is_means}
+use Rattle.market.proofs.Decimal.{AllDigits, decimal-one, decimal_more, decimal-same}
 
 -- the digits that a text begins with
 pub all_digits : (xs : List ℕ) → AllDigits (digits xs)
 unfolding digits
 all_digits [] = tt
-all_digits (b ∷ bs) = go (isDigit b) refl (all_digits bs)
+all_digits (b ∷ bs) = go (is_digit b) refl (all_digits bs)
   where
-    go : (t : Bool) → isDigit b ≡ t → AllDigits (digits bs) → AllDigits (cond t (b ∷ digits bs) [])
+    go : (t : Bool) → is_digit b ≡ t → AllDigits (digits bs) → AllDigits (cond t (b ∷ digits bs) [])
     go true e a = (e, a)
     go false e a = tt
 
@@ -36,14 +36,14 @@ after : (g v : ℕ) (ds : List ℕ) → AllDigits ds → 1 ≤ v → v < 10 ^ su
 unfolding value_of
 after g v [] a k h = let e : suc g + 0 ≡ suc g = omega arith in record { small = rw e h; spelled = rw (e, append-nil) }
 after g v (d ∷ ds) a k h =
-    let r = is-means d 1 a.0 in
+    let r = is_means d 1 a.0 in
     let w = v * 10 + (d - 48) in
     let i = after (suc g) w ds a.1 (omega arith) (rw pow-suc (omega arith)) in
     let e : suc g + suc (length ds) ≡ suc (suc g) + length ds = omega arith in
     let q : w / 10 ≡ v = omega arith in
     let m : 48 + w % 10 ≡ d = omega arith in
     let t : decimal (suc (suc g)) w ≡ decimal (suc g) v ++ d ∷ [] =
-    decimal-more (suc g) w (omega arith) (rw pow-suc (omega arith)) ∙ rw (q, m, decimal-same (suc (suc g)) (suc g) v (omega arith) (omega arith) (rw pow-suc (omega arith)) h) in
+    decimal_more (suc g) w (omega arith) (rw pow-suc (omega arith)) ∙ rw (q, m, decimal-same (suc (suc g)) (suc g) v (omega arith) (omega arith) (rw pow-suc (omega arith)) h) in
     record { small = rw e i.small; spelled = rw e (i.spelled ∙ rw t (append_snoc (decimal (suc g) v) d ds)) }
 
 -- digits with "no needless leading zero"
@@ -51,11 +51,11 @@ pub record Spelled (ds : List ℕ) : Type 0 where
   pub small : value_of 0 ds < 10 ^ length ds
   pub is : decimal (length ds) (value_of 0 ds) ≡ ds
 
-pub spelled : (ds : List ℕ) → AllDigits ds → 1 ≤ length ds → isNeeded ds ≡ true → Spelled ds
+pub spelled : (ds : List ℕ) → AllDigits ds → 1 ≤ length ds → is_needed ds ≡ true → Spelled ds
 unfolding value_of
 spelled [] a l w = absurd (omega arith)
 spelled (d ∷ []) a l w =
-    let r = is-means d 1 a.0 in
+    let r = is_means d 1 a.0 in
     let e : 48 + (0 * 10 + (d - 48)) ≡ d = omega arith in
     record { small = omega arith; is = decimal-one 0 (0 * 10 + (d - 48)) (omega arith) ∙ rw e }
 spelled (d ∷ x ∷ ds) a l w = go (eqb d 48) refl (rw (lt-leb (length (d ∷ x ∷ ds)) 1 (omega arith)) at w)
@@ -66,7 +66,7 @@ spelled (d ∷ x ∷ ds) a l w = go (eqb d 48) refl (rw (lt-leb (length (d ∷ x
     go : (t : Bool) → eqb d 48 ≡ t → not t ≡ true → Spelled (d ∷ x ∷ ds)
     go true e n = absurd (clash n refl)
     go false e n =
-        let r = is-means d 1 a.0 in
+        let r = is_means d 1 a.0 in
         let ne = eqb-false d 48 e in
         let i = after 0 v (x ∷ ds) a.1 (omega arith) (omega arith) in
         let s : 48 + v ≡ d = omega arith in

@@ -8,17 +8,17 @@ use lib.Dec.{leb}
 use lib.IntN.{ℤ, nat_abs}
 use lib.ListN.{length}
 use borrow.Author.Tests.{le-leb}
-use Rattle.base.specs.Lists.{filter, is_empty, sumBelow, bit}
+use Rattle.base.specs.Lists.{filter, is_empty, sum_below, bit}
 use Rattle.base.specs.Integers.{within}
-use Rattle.base.proofs.Booleans.{and-false}
+use Rattle.base.proofs.Booleans.{and_false}
 use Rattle.base.proofs.Each.{each_map}
 use Rattle.base.proofs.Sums.{sum-below-le}
-use Rattle.matrix.specs.Limits.{maxEntries, max_value}
-use Rattle.matrix.specs.Matrix.{lowerEntries, isMatrix}
+use Rattle.matrix.specs.Limits.{max_entries, max_value}
+use Rattle.matrix.specs.Matrix.{lower_entries, is_matrix}
 use Rattle.matrix.specs.Tabulated.{tabulated}
-use Rattle.matrix.proofs.Tabulated.{tab-lower, tab-matrix}
+use Rattle.matrix.proofs.Tabulated.{tab_lower, tab_matrix}
 use Rattle.market.specs.Parse.{Triplet, is_at}
-use Rattle.market.specs.FullRows.{ofTriplets}
+use Rattle.market.specs.FullRows.{of_triplets}
 use Rattle.market.proofs.Accepted.{Accepted}
 use Rattle.market.proofs.FullCount.{at, cells_count}
 use Rattle.market.proofs.Stored.{fits-inside}
@@ -26,7 +26,7 @@ use Rattle.market.proofs.Cells.{stored_at, stored-both, has, value_at, first, fi
 use Rattle.market.proofs.Table.{text-table}
 
 module _ {n : ℕ} {es : List Triplet} (a : Accepted n es) where
-  pub text-is : ofTriplets n es ≡ tabulated n (has es) (value_at es)
+  pub text-is : of_triplets n es ≡ tabulated n (has es) (value_at es)
   text-is = text-table n es (has es) (value_at es) (λ i j l k. cell-is a.stored i j l k)
 
   small-value : (i j : ℕ) → within max_value (value_at es i j) ≡ true
@@ -42,24 +42,24 @@ module _ {n : ℕ} {es : List Triplet} (a : Accepted n es) where
       go : (b : Bool) (xs : List Triplet) → bit (not (is_empty (cond b xs (filter (is_at j i) es))) && b) ≤ length xs
       go true [] = omega arith
       go true (x ∷ xs) = omega arith
-      go false xs = rw (and-false (not (is_empty (filter (is_at j i) es)))) (omega arith)
+      go false xs = rw (and_false (not (is_empty (filter (is_at j i) es)))) (omega arith)
 
-  few-low : lowerEntries (tabulated n (has es) (value_at es)) ≤ maxEntries
+  few-low : lower_entries (tabulated n (has es) (value_at es)) ≤ max_entries
   few-low =
       omega (
         arith,
         a.count,
         cells_count n es a.inner,
-        tab-lower n (has es) (value_at es),
-        sum-below-le (λ i. sumBelow (λ j. bit (has es i j && leb j i)) n) (λ i. sumBelow (at es i) n) n
+        tab_lower n (has es) (value_at es),
+        sum-below-le (λ i. sum_below (λ j. bit (has es i j && leb j i)) n) (λ i. sum_below (at es i) n) n
             (λ i l. sum-below-le (λ j. bit (has es i j && leb j i)) (at es i) n (λ j k. low-cell i j)),
       )
 
   -- the full rows are a matrix
-  pub text-matrix : isMatrix (ofTriplets n es) ≡ true
+  pub text-matrix : is_matrix (of_triplets n es) ≡ true
   text-matrix =
       rw text-is
-      (tab-matrix (record {
+      (tab_matrix (record {
         some = a.some;
         few = a.rows;
         both = λ i j l k s. ap (λ (xs : List Triplet). not (is_empty xs)) (stored-both es j i) ∙ s;

@@ -12,25 +12,25 @@ use Rattle.base.proofs.Fill.{length-made}
 use Rattle.base.proofs.Lists.{map-range-zero}
 use Rattle.base.proofs.Sums.{sum-zero}
 use Rattle.matrix.specs.Matrix.{Matrix, entry, displacement}
-use Rattle.matrix.specs.Product.{forceAt, product}
+use Rattle.matrix.specs.Product.{force_at, product}
 use Rattle.matrix.proofs.Rows.{entry_past}
 
 module _ (m : Matrix) (x : List ℤ) where
   -- there is a force for each row
   pub length-product : length (product m x) ≡ m.n
   unfolding product
-  length-product = length-made (forceAt m x) (product m x) m.n
+  length-product = length-made (force_at m x) (product m x) m.n
 
   -- past the last row there is none
-  force-past : (i : ℕ) → m.n ≤ i → forceAt m x i ≡ pos 0
-  unfolding forceAt
-  force-past i l = sum-zero (λ j. entry m i j *ℤ displacement x j) m.n (λ j. rw (entry_past m i j l) (zero-*ℤ (displacement x j)))
+  force_past : (i : ℕ) → m.n ≤ i → force_at m x i ≡ pos 0
+  unfolding force_at
+  force_past i l = sum-zero (λ j. entry m i j *ℤ displacement x j) m.n (λ j. rw (entry_past m i j l) (zero-*ℤ (displacement x j)))
 
   -- the force at a number, past the last row too
-  pub product_at : (i : ℕ) → get_or (product m x) i (pos 0) ≡ forceAt m x i
+  pub product_at : (i : ℕ) → get_or (product m x) i (pos 0) ≡ force_at m x i
   unfolding product
   product_at i = go (ltb i m.n) refl
     where
-      go : (b : Bool) → ltb i m.n ≡ b → get_or (product m x) i (pos 0) ≡ forceAt m x i
-      go true e = map-range-zero (forceAt m x) m.n i (pos 0) (ltb-true i m.n e)
-      go false e = let l = ltb-false i m.n e in get_or-eq_default (product m x) (pos 0) (omega (arith, length-product)) ∙ sym (force-past i l)
+      go : (b : Bool) → ltb i m.n ≡ b → get_or (product m x) i (pos 0) ≡ force_at m x i
+      go true e = map-range-zero (force_at m x) m.n i (pos 0) (ltb-true i m.n e)
+      go false e = let l = ltb-false i m.n e in get_or-eq_default (product m x) (pos 0) (omega (arith, length-product)) ∙ sym (force_past i l)

@@ -12,7 +12,7 @@ use lib.Seq.{drop-cons, drop-length}
 use borrow.Author.Tests.{ltb-true}
 use Rattle.base.specs.Integers.{within}
 use Rattle.base.proofs.Integers.{never}
-use Rattle.matrix.specs.Matrix.{firstPast}
+use Rattle.matrix.specs.Matrix.{first_past}
 
 -- ---- one number
 
@@ -40,26 +40,26 @@ within_both z limit = ap (λ (least : ℤ). le_z least z && le_z z (pos limit)) 
 -- ---- the first of a list
 
 -- the number at place k passes the limit
-pub past-here : (limit : ℕ) (zs : List ℤ) (k : ℕ) → k < length zs → within limit (get_or zs k (pos 0)) ≡ false → firstPast limit (drop k zs) ≡ 0
-unfolding firstPast
+pub past-here : (limit : ℕ) (zs : List ℤ) (k : ℕ) → k < length zs → within limit (get_or zs k (pos 0)) ≡ false → first_past limit (drop k zs) ≡ 0
+unfolding first_past
 past-here limit zs k l h = rw (drop-cons zs k (pos 0) l, h)
 
 -- it does not
 pub past-later : (limit : ℕ) (zs : List ℤ) (k : ℕ) → k < length zs → within limit (get_or zs k (pos 0)) ≡ true
-    → firstPast limit (drop k zs) ≡ suc (firstPast limit (drop (suc k) zs))
-unfolding firstPast
+    → first_past limit (drop k zs) ≡ suc (first_past limit (drop (suc k) zs))
+unfolding first_past
 past-later limit zs k l h = rw (drop-cons zs k (pos 0) l, h)
 
-pub past_end : (limit : ℕ) (zs : List ℤ) → firstPast limit (drop (length zs) zs) ≡ 0
-unfolding firstPast
+pub past_end : (limit : ℕ) (zs : List ℤ) → first_past limit (drop (length zs) zs) ≡ 0
+unfolding first_past
 past_end limit zs = rw (drop-length zs)
 
 -- it is no place past the list
-pub past-low : (limit : ℕ) (zs : List ℤ) → firstPast limit zs ≤ length zs
-unfolding firstPast
+pub past-low : (limit : ℕ) (zs : List ℤ) → first_past limit zs ≤ length zs
+unfolding first_past
 past-low limit [] = omega arith
 past-low limit (z ∷ zs) = go (within limit z) (past-low limit zs)
   where
-    go : (b : Bool) → firstPast limit zs ≤ length zs → cond b (suc (firstPast limit zs)) 0 ≤ suc (length zs)
+    go : (b : Bool) → first_past limit zs ≤ length zs → cond b (suc (first_past limit zs)) 0 ≤ suc (length zs)
     go true ih = omega arith
     go false ih = omega arith

@@ -1,8 +1,8 @@
 -- A matrix in the lent lists that a call leaves.
 use Rattle.std.specs.Prelude.{List, ℕ, ℤ}
 use Rattle.base.specs.Replies.{Reply, lent}
-use Rattle.matrix.specs.Matrix.{Matrix, matrixOf}
+use Rattle.matrix.specs.Matrix.{Matrix, matrix_of}
 
 -- what a call whose answer is m leaves in lent lists
-unfoldable pub matrixLeft : Reply → Matrix → (starts columns : List ℕ) (values : List ℤ) → Matrix
-matrixLeft reply m starts columns values = matrixOf m.n (lent reply m.starts starts) (lent reply m.columns columns) (lent reply m.values values)
+unfoldable pub matrix_left : Reply → Matrix → (starts columns : List ℕ) (values : List ℤ) → Matrix
+matrix_left reply m starts columns values = matrix_of m.n (lent reply m.starts starts) (lent reply m.columns columns) (lent reply m.values values)

@@ -5,4 +5,4 @@ pub mod SmallForces
 pub mod Tabulated
 pub mod SameRows
 pub mod Left
-pub mod code
+pub mod Code

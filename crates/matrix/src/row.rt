@@ -1,7 +1,7 @@
 // One row of a matrix: its columns and the values beside them.
 ghost use Rattle.std.specs.Prelude.{◌≡◌, ◌+◌, length, get_or};
 ghost use Rattle.std.proofs.Math.Seq.{slice};
-ghost use Rattle.matrix.specs.code.Checks.{RowIn};
+ghost use Rattle.matrix.specs.Code.Checks.{RowIn};
 
 // Row i's columns.
 pub fn columns_of<'a>(starts: &[u32], columns: &'a [u32], i: usize) -> &'a [u32]

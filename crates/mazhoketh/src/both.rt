@@ -1,10 +1,10 @@
 // The calls for two crews on one set of cores.
 ghost use Rattle.std.specs.Prelude.{◌≡◌};
-ghost use Rattle.crews.specs.Calls.{picksBoth, readySets, afterBothLent};
+ghost use Rattle.crews.specs.Calls.{picks_both, ready_sets, after_both_lent};
 ghost use Rattle.words.specs.LittleEndian.{unsigned, signed};
-ghost use Rattle.lent.specs.Bytes.{matrixIn};
+ghost use Rattle.lent.specs.Bytes.{matrix_in};
 ghost use Rattle.lent.specs.Word.{word};
-ghost use Rattle.quarters.specs.Both.{statesIn, answerBothIn, replyToBoth, PicksBothAnswered};
+ghost use Rattle.quarters.specs.Both.{states_in, answer_both_in, reply_to_both, PicksBothAnswered};
 
 use answers::state::sums_of;
 use quarters::bytes::load_crews;
@@ -29,10 +29,10 @@ pub extern "C" fn mzk_picks_both(
     picks: &[u8],
 ) -> u64
     ensures { PicksBothAnswered
-        (answerBothIn (matrixIn n row_starts.now columns.now values.now) (record { of0 = signed 4 movements0.now; of1 = signed 4 movements1.now }) (unsigned 4 order.now) (unsigned 4 groups.now) group_count
-        (record { of0 = record { state = state0.old; sums = sums0.old }; of1 = record { state = state1.old; sums = sums1.old } }) (picksBoth picks.now))
-        (afterBothLent (matrixIn n row_starts.now columns.now values.now) (record { of0 = signed 4 movements0.now; of1 = signed 4 movements1.now }) (unsigned 4 order.now) (unsigned 4 groups.now) group_count
-        (statesIn (record { of0 = record { state = state0.old; sums = sums0.old }; of1 = record { state = state1.old; sums = sums1.old } })) (picksBoth picks.now))
+        (answer_both_in (matrix_in n row_starts.now columns.now values.now) (record { of0 = signed 4 movements0.now; of1 = signed 4 movements1.now }) (unsigned 4 order.now) (unsigned 4 groups.now) group_count
+        (record { of0 = record { state = state0.old; sums = sums0.old }; of1 = record { state = state1.old; sums = sums1.old } }) (picks_both picks.now))
+        (after_both_lent (matrix_in n row_starts.now columns.now values.now) (record { of0 = signed 4 movements0.now; of1 = signed 4 movements1.now }) (unsigned 4 order.now) (unsigned 4 groups.now) group_count
+        (states_in (record { of0 = record { state = state0.old; sums = sums0.old }; of1 = record { state = state1.old; sums = sums1.old } })) (picks_both picks.now))
         (record { of0 = record { state = state0.old; sums = sums0.old }; of1 = record { state = state1.old; sums = sums1.old } }) result
         (record { of0 = record { state = state0.new; sums = sums0.new }; of1 = record { state = state1.new; sums = sums1.new } }) }
 {
@@ -71,8 +71,8 @@ pub extern "C" fn mzk_ready_both(
     state1: &[u8],
     sums1: &[u8],
 ) -> u64
-    ensures { result ≡ word (replyToBoth (answerBothIn (matrixIn n row_starts.now columns.now values.now) (record { of0 = signed 4 movements0.now; of1 = signed 4 movements1.now }) (unsigned 4 order.now) (unsigned 4 groups.now) group_count
-        (record { of0 = record { state = state0.now; sums = sums0.now }; of1 = record { state = state1.now; sums = sums1.now } }) readySets)) }
+    ensures { result ≡ word (reply_to_both (answer_both_in (matrix_in n row_starts.now columns.now values.now) (record { of0 = signed 4 movements0.now; of1 = signed 4 movements1.now }) (unsigned 4 order.now) (unsigned 4 groups.now) group_count
+        (record { of0 = record { state = state0.now; sums = sums0.now }; of1 = record { state = state1.now; sums = sums1.now } }) ready_sets)) }
 {
     ready_both_in(
         n,

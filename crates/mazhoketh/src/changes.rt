@@ -1,6 +1,6 @@
 // Forces kept current while joints creep.
-ghost use Rattle.lent.specs.Bytes.{matrixIn};
-ghost use Rattle.upkeep.specs.Upkeep.{newDisplacement, newValue};
+ghost use Rattle.lent.specs.Bytes.{matrix_in};
+ghost use Rattle.upkeep.specs.Upkeep.{new_displacement, new_value};
 ghost use Rattle.site.specs.Lent.{MovementAnswered, EntryAnswered};
 
 use site::entry::set_entry_in;
@@ -18,7 +18,7 @@ pub extern "C" fn mzk_set_movement(
     row: u32,
     value: i32,
 ) -> u64
-    ensures { MovementAnswered (matrixIn n row_starts.now columns.now values.now) (newDisplacement row value) movements.old forces.old result movements.new forces.new }
+    ensures { MovementAnswered (matrix_in n row_starts.now columns.now values.now) (new_displacement row value) movements.old forces.old result movements.new forces.new }
 {
     set_movement_in(
         n, row_starts, columns, values, movements, forces, row, value,
@@ -38,7 +38,7 @@ pub extern "C" fn mzk_set_entry(
     column: u32,
     value: i32,
 ) -> u64
-    ensures { EntryAnswered (matrixIn n row_starts.now columns.now values.old) (newValue row column value) values.old movements.now forces.old result values.new forces.new }
+    ensures { EntryAnswered (matrix_in n row_starts.now columns.now values.old) (new_value row column value) values.old movements.now forces.old result values.new forces.new }
 {
     set_entry_in(
         n, row_starts, columns, values, movements, forces, row, column, value,

@@ -1,6 +1,6 @@
 // Two nets sewn together.
 ghost use Rattle.words.specs.LittleEndian.{unsigned};
-ghost use Rattle.lent.specs.Bytes.{matrixIn};
+ghost use Rattle.lent.specs.Bytes.{matrix_in};
 ghost use Rattle.shop.specs.Lent.{JoinAnswered};
 
 use shop::sew::join_in;
@@ -21,7 +21,7 @@ pub extern "C" fn mzk_join(
     columns: &mut [u8],
     values: &mut [u8],
 ) -> u64
-    ensures { JoinAnswered (matrixIn n1 row_starts1.now columns1.now values1.now) (matrixIn n2 row_starts2.now columns2.now values2.now) (unsigned 4 places.now) row_starts.old columns.old values.old result row_starts.new columns.new values.new }
+    ensures { JoinAnswered (matrix_in n1 row_starts1.now columns1.now values1.now) (matrix_in n2 row_starts2.now columns2.now values2.now) (unsigned 4 places.now) row_starts.old columns.old values.old result row_starts.new columns.new values.new }
 {
     join_in(
         n1,

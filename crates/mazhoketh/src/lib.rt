@@ -1,4 +1,6 @@
 // The C interface: exported functions on numbers and byte lists.
+#![tactic(auto)]
+
 pub mod barrier_unit;
 pub mod both;
 pub mod changes;

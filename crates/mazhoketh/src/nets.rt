@@ -1,10 +1,10 @@
 // The calls that make or check a matrix, a plan or a product.
 ghost use Rattle.std.specs.Prelude.{◌≡◌, ◌/◌, length};
-ghost use Rattle.matrix.specs.Product.{product, productReply};
-ghost use Rattle.market.specs.Text.{written, writeReply};
-ghost use Rattle.plan.specs.Sound.{checkReply};
-ghost use Rattle.words.specs.LittleEndian.{unsigned, signed, signedBytes};
-ghost use Rattle.lent.specs.Bytes.{matrixIn};
+ghost use Rattle.matrix.specs.Product.{product, product_reply};
+ghost use Rattle.market.specs.Text.{written, write_reply};
+ghost use Rattle.plan.specs.Sound.{check_reply};
+ghost use Rattle.words.specs.LittleEndian.{unsigned, signed, signed_bytes};
+ghost use Rattle.lent.specs.Bytes.{matrix_in};
 ghost use Rattle.lent.specs.Word.{word, Answered};
 ghost use Rattle.texts.specs.Lent.{ReadAnswered};
 ghost use Rattle.office.specs.Lent.{PlanAnswered};
@@ -37,7 +37,7 @@ pub extern "C" fn mzk_write(
     values: &[u8],
     text: &mut [u8],
 ) -> u64
-    ensures { Answered (writeReply (matrixIn n row_starts.now columns.now values.now) (length text.old)) (written (matrixIn n row_starts.now columns.now values.now)) text.old result text.new }
+    ensures { Answered (write_reply (matrix_in n row_starts.now columns.now values.now) (length text.old)) (written (matrix_in n row_starts.now columns.now values.now)) text.old result text.new }
 {
     write_in(n, row_starts, columns, values, text)
 }
@@ -52,7 +52,7 @@ pub extern "C" fn mzk_product(
     movements: &[u8],
     forces: &mut [u8],
 ) -> u64
-    ensures { Answered (productReply (matrixIn n row_starts.now columns.now values.now) (signed 4 movements.now) (length forces.old / 8)) (signedBytes 8 (product (matrixIn n row_starts.now columns.now values.now) (signed 4 movements.now))) forces.old result forces.new }
+    ensures { Answered (product_reply (matrix_in n row_starts.now columns.now values.now) (signed 4 movements.now) (length forces.old / 8)) (signed_bytes 8 (product (matrix_in n row_starts.now columns.now values.now) (signed 4 movements.now))) forces.old result forces.new }
 {
     product_in(n, row_starts, columns, values, movements, forces)
 }
@@ -70,7 +70,7 @@ pub extern "C" fn mzk_plan(
     order: &mut [u8],
     groups: &mut [u8],
 ) -> u64
-    ensures { PlanAnswered (matrixIn n row_starts.now columns.now values.now) workers p k order.old groups.old result order.new groups.new }
+    ensures { PlanAnswered (matrix_in n row_starts.now columns.now values.now) workers p k order.old groups.old result order.new groups.new }
 {
     plan_in(n, row_starts, columns, values, workers, p, k, order, groups)
 }
@@ -87,7 +87,7 @@ pub extern "C" fn mzk_check(
     group_count: u32,
     k: u32,
 ) -> u64
-    ensures { result ≡ word (checkReply (matrixIn n row_starts.now columns.now values.now) (unsigned 4 order.now) (unsigned 4 groups.now) group_count k) }
+    ensures { result ≡ word (check_reply (matrix_in n row_starts.now columns.now values.now) (unsigned 4 order.now) (unsigned 4 groups.now) group_count k) }
 {
     check_in(
         n,

@@ -2,8 +2,8 @@
 ghost use Rattle.std.specs.Prelude.{◌≡◌};
 ghost use Rattle.run.specs.Answers as calls;
 ghost use Rattle.words.specs.LittleEndian.{unsigned, signed};
-ghost use Rattle.lent.specs.Bytes.{matrixIn};
-ghost use Rattle.answers.specs.Runs.{answer_in, previewWord, LentPicks, LentRounds};
+ghost use Rattle.lent.specs.Bytes.{matrix_in};
+ghost use Rattle.answers.specs.Runs.{answer_in, preview_word, LentPicks, LentRounds};
 
 use answers::word::{word_of, word_of_preview, word_of_round};
 use cabinet::{look_in, take_in};
@@ -24,7 +24,7 @@ pub extern "C" fn mzk_preview(
     sums: &[u8],
     picks: &[u8],
 ) -> u64
-    ensures { result ≡ previewWord (answer_in (matrixIn n row_starts.now columns.now values.now) (signed 4 movements.now) (unsigned 4 order.now) (unsigned 4 groups.now) group_count state.now sums.now (calls.preview picks.now)) }
+    ensures { result ≡ preview_word (answer_in (matrix_in n row_starts.now columns.now values.now) (signed 4 movements.now) (unsigned 4 order.now) (unsigned 4 groups.now) group_count state.now sums.now (calls.preview picks.now)) }
 {
     let mut none = [0u8; 0];
     let answer = look_in(
@@ -60,7 +60,7 @@ pub extern "C" fn mzk_picks(
     sums: &mut [u8],
     picks: &[u8],
 ) -> u64
-    ensures { LentPicks (matrixIn n row_starts.now columns.now values.now) (signed 4 movements.now) (unsigned 4 order.now) (unsigned 4 groups.now) group_count
+    ensures { LentPicks (matrix_in n row_starts.now columns.now values.now) (signed 4 movements.now) (unsigned 4 order.now) (unsigned 4 groups.now) group_count
         state.old sums.old (calls.picks picks.now) result state.new sums.new }
 {
     let answer = take_in(
@@ -95,7 +95,7 @@ pub extern "C" fn mzk_rounds(
     sums: &mut [u8],
     picks: &[u8],
 ) -> u64
-    ensures { LentRounds (matrixIn n row_starts.now columns.now values.now) (signed 4 movements.now) (unsigned 4 order.now) (unsigned 4 groups.now) group_count
+    ensures { LentRounds (matrix_in n row_starts.now columns.now values.now) (signed 4 movements.now) (unsigned 4 order.now) (unsigned 4 groups.now) group_count
         state.old sums.old (calls.rounds picks.now) result state.new sums.new }
 {
     let answer = take_in(

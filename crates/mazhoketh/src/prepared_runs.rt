@@ -1,12 +1,12 @@
 // A job prepared once, and the calls on its list.
 ghost use Rattle.std.specs.Prelude.{◌≡◌, ◌/◌, length};
-ghost use Rattle.run.specs.Answers.{readySet, forceList, rounds};
+ghost use Rattle.run.specs.Answers.{ready_set, force_list, rounds};
 ghost use Rattle.run.specs.Answers as calls;
 ghost use Rattle.words.specs.LittleEndian.{unsigned, signed};
-ghost use Rattle.lent.specs.Bytes.{matrixIn};
+ghost use Rattle.lent.specs.Bytes.{matrix_in};
 ghost use Rattle.lent.specs.Word.{word};
-ghost use Rattle.answers.specs.Runs.{replyTo, ForcesAnswered};
-ghost use Rattle.rack.specs.Kept.{PrepareAnswered, answerKept, KeptPicks, KeptRounds};
+ghost use Rattle.answers.specs.Runs.{reply_to, ForcesAnswered};
+ghost use Rattle.rack.specs.Kept.{PrepareAnswered, answer_kept, KeptPicks, KeptRounds};
 
 use answers::word::{word_of, word_of_round};
 use machine::state::Rule;
@@ -26,7 +26,7 @@ pub extern "C" fn mzk_prepare(
     group_count: u32,
     prepared: &mut [u8],
 ) -> u64
-    ensures { PrepareAnswered (matrixIn n row_starts.now columns.now values.now) (signed 4 movements.now) (unsigned 4 order.now) (unsigned 4 groups.now) group_count
+    ensures { PrepareAnswered (matrix_in n row_starts.now columns.now values.now) (signed 4 movements.now) (unsigned 4 order.now) (unsigned 4 groups.now) group_count
         prepared.old result prepared.new }
 {
     prepare_in(
@@ -73,7 +73,7 @@ pub extern "C" fn mzk_prepared_rounds(
 // The workers whose next pick would be taken.
 #[unsafe(no_mangle)]
 pub extern "C" fn mzk_prepared_ready(prepared: &[u8], state: &[u8], sums: &[u8]) -> u64
-    ensures { result ≡ word (replyTo (answerKept prepared.now state.now sums.now readySet)) }
+    ensures { result ≡ word (reply_to (answer_kept prepared.now state.now sums.now ready_set)) }
 {
     let answer = ready(prepared, state, sums);
     word_of(answer)
@@ -87,7 +87,7 @@ pub extern "C" fn mzk_prepared_forces(
     sums: &[u8],
     forces: &mut [u8],
 ) -> u64
-    ensures { ForcesAnswered (answerKept prepared.now state.now sums.now (forceList (length forces.old / 8))) forces.old result forces.new }
+    ensures { ForcesAnswered (answer_kept prepared.now state.now sums.now (force_list (length forces.old / 8))) forces.old result forces.new }
 {
     let answer = rack::forces(prepared, state, sums, forces);
     word_of(answer)

@@ -1,10 +1,10 @@
 // What a run tells: who is ready, its forces.
 ghost use Rattle.std.specs.Prelude.{◌≡◌, ◌/◌, length};
-ghost use Rattle.run.specs.Answers.{readySet, forceList};
+ghost use Rattle.run.specs.Answers.{ready_set, force_list};
 ghost use Rattle.words.specs.LittleEndian.{unsigned, signed};
-ghost use Rattle.lent.specs.Bytes.{matrixIn};
+ghost use Rattle.lent.specs.Bytes.{matrix_in};
 ghost use Rattle.lent.specs.Word.{word};
-ghost use Rattle.answers.specs.Runs.{answer_in, replyTo, ForcesAnswered};
+ghost use Rattle.answers.specs.Runs.{answer_in, reply_to, ForcesAnswered};
 
 use answers::word::word_of;
 use cabinet::look_in;
@@ -24,7 +24,7 @@ pub extern "C" fn mzk_ready(
     state: &[u8],
     sums: &[u8],
 ) -> u64
-    ensures { result ≡ word (replyTo (answer_in (matrixIn n row_starts.now columns.now values.now) (signed 4 movements.now) (unsigned 4 order.now) (unsigned 4 groups.now) group_count state.now sums.now readySet)) }
+    ensures { result ≡ word (reply_to (answer_in (matrix_in n row_starts.now columns.now values.now) (signed 4 movements.now) (unsigned 4 order.now) (unsigned 4 groups.now) group_count state.now sums.now ready_set)) }
 {
     let mut none = [0u8; 0];
     let answer = look_in(
@@ -60,8 +60,8 @@ pub extern "C" fn mzk_forces(
     sums: &[u8],
     forces: &mut [u8],
 ) -> u64
-    ensures { ForcesAnswered (answer_in (matrixIn n row_starts.now columns.now values.now) (signed 4 movements.now) (unsigned 4 order.now) (unsigned 4 groups.now) group_count
-        state.now sums.now (forceList (length forces.old / 8))) forces.old result forces.new }
+    ensures { ForcesAnswered (answer_in (matrix_in n row_starts.now columns.now values.now) (signed 4 movements.now) (unsigned 4 order.now) (unsigned 4 groups.now) group_count
+        state.now sums.now (force_list (length forces.old / 8))) forces.old result forces.new }
 {
     let answer = look_in(
         n,

@@ -1,6 +1,6 @@
 // How far a survey error reaches.
 ghost use Rattle.words.specs.LittleEndian.{signed};
-ghost use Rattle.lent.specs.Bytes.{matrixIn};
+ghost use Rattle.lent.specs.Bytes.{matrix_in};
 ghost use Rattle.desk.specs.Lent.{SurveyAnswered};
 
 use desk::reach::survey_in;
@@ -18,7 +18,7 @@ pub extern "C" fn mzk_survey(
     amounts: &mut [u8],
     shift: &mut [u8],
 ) -> u64
-    ensures { SurveyAnswered (matrixIn n row_starts.now columns.now values.now) (signed 4 movements.now) t row amounts.old shift.old result amounts.new shift.new }
+    ensures { SurveyAnswered (matrix_in n row_starts.now columns.now values.now) (signed 4 movements.now) t row amounts.old shift.old result amounts.new shift.new }
 {
     survey_in(
         n, row_starts, columns, values, movements, t, row, amounts, shift,

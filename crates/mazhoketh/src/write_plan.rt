@@ -1,8 +1,8 @@
 // mzk_write_plan: a plan as a file.
 ghost use Rattle.std.specs.Prelude.{length};
 ghost use Rattle.lent.specs.Word.{Answered};
-ghost use Rattle.planfile.specs.Calls.{lentPlan, writePlanReply};
-ghost use Rattle.planfile.specs.File.{fileOf};
+ghost use Rattle.planfile.specs.Calls.{lent_plan, write_plan_reply};
+ghost use Rattle.planfile.specs.File.{file_of};
 
 use lent::word::word_of;
 use planfile::write::write;
@@ -15,7 +15,7 @@ pub extern "C" fn mzk_write_plan(
     group_count: u32,
     file: &mut [u8],
 ) -> u64
-    ensures { Answered (writePlanReply n order.now groups.now group_count (length file.old)) (fileOf (lentPlan n order.now groups.now group_count)) file.old result file.new }
+    ensures { Answered (write_plan_reply n order.now groups.now group_count (length file.old)) (file_of (lent_plan n order.now groups.now group_count)) file.old result file.new }
 {
     let answer = write(n, order, groups, group_count, file);
     word_of(answer)

@@ -25,9 +25,9 @@ module _ {A : Type 0} (P : A → Type 0) where
   each-range f h k (suc n) = each_append P (f k) (concat (map f (range (suc k) n))) (h k) (each-range f h (suc k) n)
 
 -- the elements that a function gives
-pub each-mapped : {A B : Type 0} (P : A → Type 0) (Q : B → Type 0) (f : A → B) → ((a : A) → P a → Q (f a)) → (xs : List A) → Each P xs → Each Q (map f xs)
-each-mapped P Q f h [] k = tt
-each-mapped P Q f h (x ∷ xs) k = (h x k.0, each-mapped P Q f h xs k.1)
+pub each_mapped : {A B : Type 0} (P : A → Type 0) (Q : B → Type 0) (f : A → B) → ((a : A) → P a → Q (f a)) → (xs : List A) → Each P xs → Each Q (map f xs)
+each_mapped P Q f h [] k = tt
+each_mapped P Q f h (x ∷ xs) k = (h x k.0, each_mapped P Q f h xs k.1)
 
 pub each-made : {A : Type 0} (P : A → Type 0) (f : ℕ → A) → ((i : ℕ) → P (f i)) → (k n : ℕ) → Each P (map f (range k n))
 each-made P f h k zero = tt

@@ -9,22 +9,22 @@ use lib.Dec.{eqb, leb}
 use lib.ListN.{length}
 use borrow.Author.Tests.{eqb-true, eqb-false, leb-true}
 use Rattle.base.specs.Lists.{keep}
-use Rattle.base.proofs.Booleans.{and_left, and_right, conj-at}
+use Rattle.base.proofs.Booleans.{and_left, and_right, conj_at}
 use Rattle.base.proofs.Each.{Each, each_map}
-use Rattle.matrix.specs.Limits.{maxRows}
+use Rattle.matrix.specs.Limits.{max_rows}
 use Rattle.plan.specs.Groups.{Group, fields_of, flat}
-use Rattle.plan.specs.Sound.{maxWorkers, maxDepth, maxGroups, depthFirst, children, tiled, likeApart, childrenSound, sound}
+use Rattle.plan.specs.Sound.{max_workers, max_depth, max_groups, depth_first, children, tiled, like_apart, children_sound, sound}
 use Rattle.plan.proofs.Once.{Low, once}
 use Rattle.plan.proofs.Pair.{pair_of, tiled-le}
 use Rattle.plan.proofs.Records.{Down, Sounds, ancestors, step_of}
-use Rattle.plan.proofs.Sound.{sound-facts}
+use Rattle.plan.proofs.Sound.{sound_facts}
 use Rattle.words.proofs.Codes.{Holds}
 use Rattle.meaning.proofs.EachIn.{each-concat}
 
 -- a group in n rows, of the sixteen workers
 record Inside (n : ℕ) (g : Group) : Type 0 where
   rows : g.start + g.length ≤ n
-  crew : g.first + g.workers ≤ maxWorkers
+  crew : g.first + g.workers ≤ max_workers
   coloured : g.colour ≤ 2
 
 -- the children from worker f on end where their parent's workers end
@@ -43,15 +43,15 @@ tiled-inside n g i s f (r ∷ b ∷ ks) h =
     let p = pair_of g s f r b ks h in
     let rows = tiled-le g (s + r.length + b.length) (f + r.workers) ks p.rest in
     let crew = tiled-crew g (s + r.length + b.length) (f + r.workers) ks p.rest in
-    let red : Inside n r = record { rows = omega (arith, p.here, i.rows); crew = omega (arith, p.firstR, i.crew); coloured = omega (arith, p.isRed) } in
-    let blue : Inside n b = record { rows = omega (arith, p.then, i.rows); crew = omega (arith, p.firstB, p.alike, i.crew); coloured = omega (arith, p.isBlue) } in
+    let red : Inside n r = record { rows = omega (arith, p.here, i.rows); crew = omega (arith, p.first_r, i.crew); coloured = omega (arith, p.is_red) } in
+    let blue : Inside n b = record { rows = omega (arith, p.then, i.rows); crew = omega (arith, p.first_b, p.alike, i.crew); coloured = omega (arith, p.is_blue) } in
     (red, (blue, tiled-inside n g i (s + r.length + b.length) (f + r.workers) ks p.rest))
 
-children-inside : (far : List ℕ → List ℕ → Bool) (order : List ℕ) (n : ℕ) (g : Group) → Inside n g → (ks : List Group) → childrenSound far order g ks ≡ true → Each (Inside n) ks
-unfolding childrenSound
+children-inside : (far : List ℕ → List ℕ → Bool) (order : List ℕ) (n : ℕ) (g : Group) → Inside n g → (ks : List Group) → children_sound far order g ks ≡ true → Each (Inside n) ks
+unfolding children_sound
 children-inside far order n g i [] h = tt
 children-inside far order n g i (k ∷ ks) h =
-    tiled-inside n g i g.start g.first (k ∷ ks) (and_left (tiled g g.start g.first (k ∷ ks)) (likeApart far order (k ∷ ks)) h)
+    tiled-inside n g i g.start g.first (k ∷ ks) (and_left (tiled g g.start g.first (k ∷ ks)) (like_apart far order (k ∷ ks)) h)
 
 -- those of the records whose parent stands before index i lie inside
 abbrev Known : (n i : ℕ) → List Group → Type 0
@@ -84,22 +84,22 @@ parents-low i (g ∷ gs) d =
     (omega (arith, d.0), each_map (λ h. h.parent < suc i + length gs) (λ h. h.parent < i + suc (length gs)) (λ h l. omega arith) gs (parents-low (suc i) gs d.1))
 
 -- no record is deeper than 4
-depths-low : (path : List ℕ) (i : ℕ) (gs : List Group) → depthFirst path i gs ≡ true → Each (λ g. g.depth ≤ maxDepth) gs
-unfolding depthFirst
-depths-low path i [] h = tt
-depths-low path i (g ∷ gs) h =
+depths_low : (path : List ℕ) (i : ℕ) (gs : List Group) → depth_first path i gs ≡ true → Each (λ g. g.depth ≤ max_depth) gs
+unfolding depth_first
+depths_low path i [] h = tt
+depths_low path i (g ∷ gs) h =
     let s = step_of path i g gs h in
     let up : List ℕ = ancestors path g in
-    let bs : List Bool = leb (length up) maxDepth ∷ eqb g.depth (length up) ∷ depthFirst (i ∷ up) (i + 1) gs ∷ [] in
-    let low = leb-true (length up) maxDepth (conj-at (leb 1 (length up)) bs h 0) in
-    (omega (arith, s.depth), depths-low (i ∷ up) (suc i) gs s.rest)
+    let bs : List Bool = leb (length up) max_depth ∷ eqb g.depth (length up) ∷ depth_first (i ∷ up) (i + 1) gs ∷ [] in
+    let low = leb-true (length up) max_depth (conj_at (leb 1 (length up)) bs h 0) in
+    (omega (arith, s.depth), depths_low (i ∷ up) (suc i) gs s.rest)
 
 -- ---- all numbers
 
 abbrev Fine : ℕ → Group → Type 0
-Fine n g = Inside n g × ((g.parent < maxGroups) × (g.depth ≤ maxDepth))
+Fine n g = Inside n g × ((g.parent < max_groups) × (g.depth ≤ max_depth))
 
-fields-small : (n : ℕ) → n ≤ maxRows → (g : Group) → Fine n g → Each (Holds 4) (fields_of g)
+fields-small : (n : ℕ) → n ≤ max_rows → (g : Group) → Fine n g → Each (Holds 4) (fields_of g)
 unfolding fields_of
 fields-small n few g (i, (p, d)) =
     (omega (arith, i.rows), (omega (arith, i.rows), (omega (arith, i.crew), (omega (arith, i.crew), (omega (arith, i.coloured), (omega arith, (omega arith, tt)))))))
@@ -108,7 +108,7 @@ both-each : (P Q : Group → Type 0) (gs : List Group) → Each P gs → Each Q 
 both-each P Q [] a b = tt
 both-each P Q (g ∷ gs) a b = ((a.0, b.0), both-each P Q gs a.1 b.1)
 
-low_small : (n : ℕ) (xs : List ℕ) → n ≤ maxRows → Low n xs → Each (Holds 4) xs
+low_small : (n : ℕ) (xs : List ℕ) → n ≤ max_rows → Low n xs → Each (Holds 4) xs
 low_small n [] few l = tt
 low_small n (x ∷ xs) few l = (omega (arith, l.0), low_small n xs few l.1)
 
@@ -118,17 +118,17 @@ pub record Small (order : List ℕ) (gs : List Group) : Type 0 where
   pub numbers : Each (Holds 4) (flat gs)
 
 -- those of a sound plan
-pub sound-small : (far : List ℕ → List ℕ → Bool) (n : ℕ) (order : List ℕ) (gs : List Group) → n ≤ maxRows → sound far n order gs ≡ true → Small order gs
+pub sound-small : (far : List ℕ → List ℕ → Bool) (n : ℕ) (order : List ℕ) (gs : List Group) → n ≤ max_rows → sound far n order gs ≡ true → Small order gs
 unfolding sound flat
 sound-small far n order [] few h = absurd (true≢false (sym h))
 sound-small far n order (g ∷ gs) few h =
-    let f = sound-facts far n order g gs h in
+    let f = sound_facts far n order g gs h in
     let top : Inside n g = record { rows = omega (arith, f.start, f.covers); crew = omega (arith, f.first, f.few); coloured = omega (arith, f.colour) } in
     let first = known_more n 0 gs (known-none n gs) (children-inside far order n g top (children 0 gs) f.under.0) in
     let below : Each (Inside n) gs = all-inside far order n 1 gs f.down f.under.1 first in
-    let parents : Each (λ h. h.parent < maxGroups) gs = each_map (λ h. h.parent < 1 + length gs) (λ h. h.parent < maxGroups) (λ h l. omega (arith, f.short)) gs (parents-low 1 gs f.down) in
-    let depths : Each (λ h. h.depth ≤ maxDepth) gs = depths-low (0 ∷ []) 1 gs f.inOrder in
-    let places : Each (λ h. (h.parent < maxGroups) × (h.depth ≤ maxDepth)) gs = both-each (λ h. h.parent < maxGroups) (λ h. h.depth ≤ maxDepth) gs parents depths in
+    let parents : Each (λ h. h.parent < max_groups) gs = each_map (λ h. h.parent < 1 + length gs) (λ h. h.parent < max_groups) (λ h l. omega (arith, f.short)) gs (parents-low 1 gs f.down) in
+    let depths : Each (λ h. h.depth ≤ max_depth) gs = depths_low (0 ∷ []) 1 gs f.in_order in
+    let places : Each (λ h. (h.parent < max_groups) × (h.depth ≤ max_depth)) gs = both-each (λ h. h.parent < max_groups) (λ h. h.depth ≤ max_depth) gs parents depths in
     let fine : Each (Fine n) (g ∷ gs)
-    = ((top, (omega (arith, f.parent), omega (arith, f.depth))), both-each (Inside n) (λ h. (h.parent < maxGroups) × (h.depth ≤ maxDepth)) gs below places) in
+    = ((top, (omega (arith, f.parent), omega (arith, f.depth))), both-each (Inside n) (λ h. (h.parent < max_groups) × (h.depth ≤ max_depth)) gs below places) in
     record { rows = low_small n order few (once n order f.once).low; numbers = each-concat (Holds 4) (Fine n) fields_of (fields-small n few) (g ∷ gs) fine }

@@ -1,9 +1,9 @@
 -- A kept force list whose lists stand in bytes from call to call, as a caller of the exported functions keeps them (Q-10).
 use Rattle.std.specs.Prelude.{◌≡◌, List, [], ◌∷◌, ℕ}
-use Rattle.upkeep.specs.Upkeep.{KeptForces, Change, newDisplacement, newValue}
+use Rattle.upkeep.specs.Upkeep.{KeptForces, Change, new_displacement, new_value}
 use Rattle.upkeep.specs.KeptCurrent.{Current}
-use Rattle.lent.specs.Bytes.{matrixIn}
-use Rattle.site.specs.Lent.{keptBytes, MovementAnswered, EntryAnswered}
+use Rattle.lent.specs.Bytes.{matrix_in}
+use Rattle.site.specs.Lent.{kept_bytes, MovementAnswered, EntryAnswered}
 
 -- the lists that its calls write
 pub record Held : Type 0 where
@@ -15,13 +15,13 @@ pub record Held : Type 0 where
 module _ (n : ℕ) (starts columns : List ℕ) where
   -- what they stand for
   abbrev pub stands_for : Held → KeptForces
-  stands_for b = keptBytes (matrixIn n starts columns b.values) b.movements b.forces
+  stands_for b = kept_bytes (matrix_in n starts columns b.values) b.movements b.forces
 
   -- a call for a change, accepted or refused, and what it leaves: as mzk_set_movement and mzk_set_entry promise, each of
   -- which writes two of the lists
   unfoldable pub Leaves : Held → Change → (returned : ℕ) → Held → Type 0
-  Leaves b (newDisplacement i v) returned e = MovementAnswered (stands_for b).matrix (newDisplacement i v) b.movements b.forces returned e.movements e.forces × (e.values ≡ b.values)
-  Leaves b (newValue i j v) returned e = EntryAnswered (stands_for b).matrix (newValue i j v) b.values b.movements b.forces returned e.values e.forces × (e.movements ≡ b.movements)
+  Leaves b (new_displacement i v) returned e = MovementAnswered (stands_for b).matrix (new_displacement i v) b.movements b.forces returned e.movements e.forces × (e.values ≡ b.values)
+  Leaves b (new_value i j v) returned e = EntryAnswered (stands_for b).matrix (new_value i j v) b.values b.movements b.forces returned e.values e.forces × (e.movements ≡ b.movements)
 
   -- a sequence of calls, each handed the lists as the last one left them
   pub data Leads : Held → List Change → Held → Type 0 where

@@ -9,28 +9,28 @@ use lib.ListN.{length}
 use Rattle.base.specs.Lists.{all}
 use Rattle.base.specs.Integers.{within, sumℤ}
 use Rattle.base.proofs.Booleans.{and_right}
-use Rattle.matrix.specs.Limits.{maxDisplacement}
-use Rattle.matrix.specs.Matrix.{Matrix, columnsOf, valuesOf, lookup, entry, displacement, areDisplacements}
-use Rattle.multiply.specs.code.Loaded.{RowOk, Loaded}
-use Rattle.matrix.specs.Product.{forceAt}
+use Rattle.matrix.specs.Limits.{max_displacement}
+use Rattle.matrix.specs.Matrix.{Matrix, columns_of, values_of, lookup, entry, displacement, are_displacements}
+use Rattle.multiply.specs.Code.Loaded.{RowOk, Loaded}
+use Rattle.matrix.specs.Product.{force_at}
 use Rattle.matrix.proofs.Matrix.{displacements-many}
-use Rattle.matrix.proofs.Checks.{shape, matrix-tidy}
-use Rattle.matrix.proofs.Symmetry.{row-ordered, row-lengths}
+use Rattle.matrix.proofs.Checks.{shape, matrix_tidy}
+use Rattle.matrix.proofs.Symmetry.{row-ordered, row_lengths}
 
 -- cs and vs are the columns and values of row i
-module _ (m : Matrix) (x : List ℤ) {room : ℕ} (g : Loaded m x room) (i : ℕ) (l : i < m.n) {cs : List ℕ} {vs : List ℤ} (e : cs ≡ columnsOf m i) (f : vs ≡ valuesOf m i) where
+module _ (m : Matrix) (x : List ℤ) {room : ℕ} (g : Loaded m x room) (i : ℕ) (l : i < m.n) {cs : List ℕ} {vs : List ℤ} (e : cs ≡ columns_of m i) (f : vs ≡ values_of m i) where
   counted : length x ≡ m.n
   counted = displacements-many m.n x g.moved
 
   pub row_ok : RowOk cs vs x
-  unfolding areDisplacements
+  unfolding are_displacements
   row_ok = record {
-    order = rw (e, f, counted) (row-ordered m (matrix-tidy m g.matrix).order i l);
-    beside = row-lengths m (matrix-tidy m g.matrix).shape i l e f;
-    few = omega (arith, counted, (shape m (matrix-tidy m g.matrix).shape).few);
-    small = and_right (eqb (length x) m.n) (all (within maxDisplacement) x) g.moved;
+    order = rw (e, f, counted) (row-ordered m (matrix_tidy m g.matrix).order i l);
+    beside = row_lengths m (matrix_tidy m g.matrix).shape i l e f;
+    few = omega (arith, counted, (shape m (matrix_tidy m g.matrix).shape).few);
+    small = and_right (eqb (length x) m.n) (all (within max_displacement) x) g.moved;
   }
 
-  pub force-row : sumℤ (λ j. lookup j cs vs *ℤ displacement x j) (length x) ≡ forceAt m x i
-  unfolding forceAt entry
-  force-row = rw (e, f, counted)
+  pub force_row : sumℤ (λ j. lookup j cs vs *ℤ displacement x j) (length x) ≡ force_at m x i
+  unfolding force_at entry
+  force_row = rw (e, f, counted)

@@ -12,21 +12,21 @@ use Rattle.base.specs.Integers.{within}
 use Rattle.base.specs.Refusals as why
 use Rattle.base.specs.Replies.{accepted, refused, in_turn}
 use Rattle.base.proofs.Replies.{checked}
-use Rattle.matrix.specs.Limits.{maxDisplacement}
-use Rattle.matrix.specs.Matrix.{firstPast, areDisplacements, displacementCheck}
+use Rattle.matrix.specs.Limits.{max_displacement}
+use Rattle.matrix.specs.Matrix.{first_past, are_displacements, displacement_check}
 
 module _ (n : ℕ) (x : List ℤ) where
   -- they are not n
-  pub displacements-other : length x ≢ n → checked (displacementCheck n x) ≡ refused why.badDisplacement 0
-  unfolding in_turn displacementCheck areDisplacements
+  pub displacements-other : length x ≢ n → checked (displacement_check n x) ≡ refused why.bad_displacement 0
+  unfolding in_turn displacement_check are_displacements
   displacements-other d = rw (ne_eqb (length x) n d)
 
   -- they are n, and one passes its limit
-  pub displacements-past : length x ≡ n → all (within maxDisplacement) x ≡ false → checked (displacementCheck n x) ≡ refused why.badDisplacement (firstPast maxDisplacement x)
-  unfolding in_turn displacementCheck areDisplacements
+  pub displacements-past : length x ≡ n → all (within max_displacement) x ≡ false → checked (displacement_check n x) ≡ refused why.bad_displacement (first_past max_displacement x)
+  unfolding in_turn displacement_check are_displacements
   displacements-past e a = rw (eq-eqb (length x) n e, a)
 
   -- they are n, and none does
-  pub displacements-fine : length x ≡ n → all (within maxDisplacement) x ≡ true → checked (displacementCheck n x) ≡ accepted 0
-  unfolding in_turn displacementCheck areDisplacements
+  pub displacements-fine : length x ≡ n → all (within max_displacement) x ≡ true → checked (displacement_check n x) ≡ accepted 0
+  unfolding in_turn displacement_check are_displacements
   displacements-fine e a = rw (eq-eqb (length x) n e, a)

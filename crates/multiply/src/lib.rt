@@ -1,13 +1,15 @@
 // The check of displacements, and the product of a matrix and displacements on one core.
+#![tactic(auto)]
+
 pub mod limits;
 mod row;
 
 ghost use Rattle.std.specs.Prelude.{◌≡◌, [], ◌∷◌, ◌++◌, length, drop};
 ghost use Rattle.base.specs.Replies.{accepted, refused, in_turn, lent};
-ghost use Rattle.base.specs.Verdicts.{replyOf};
-ghost use Rattle.matrix.specs.Matrix.{entry, displacementCheck, matrixOf};
-ghost use Rattle.matrix.specs.Product.{product, productReply};
-ghost use Rattle.multiply.specs.code.Loaded.{Loaded};
+ghost use Rattle.base.specs.Verdicts.{reply_of};
+ghost use Rattle.matrix.specs.Matrix.{entry, displacement_check, matrix_of};
+ghost use Rattle.matrix.specs.Product.{product, product_reply};
+ghost use Rattle.multiply.specs.Code.Loaded.{Loaded};
 
 use base::{DISPLACEMENT, MATRIX, SHORT, Verdict};
 use limits::first_past;
@@ -17,7 +19,7 @@ use symmetric::is_matrix;
 
 // Whether there are n displacements, each within its limit.
 pub fn check_displacements(n: u32, displacements: &[i32]) -> Verdict
-    ensures { replyOf result ≡ in_turn refused (displacementCheck n displacements.now ∷ []) (accepted 0) }
+    ensures { reply_of result ≡ in_turn refused (displacement_check n displacements.now ∷ []) (accepted 0) }
 {
     if displacements.len() != n as usize {
         return Verdict::Refused(DISPLACEMENT, 0);
@@ -38,8 +40,8 @@ fn fill(
     displacements: &[i32],
     forces: &mut [i64],
 )
-    requires { Loaded (matrixOf n starts.now columns.now values.now) displacements.now (length forces.old) }
-    ensures { forces.new ≡ product (matrixOf n starts.now columns.now values.now) displacements.now ++ drop n forces.old }
+    requires { Loaded (matrix_of n starts.now columns.now values.now) displacements.now (length forces.old) }
+    ensures { forces.new ≡ product (matrix_of n starts.now columns.now values.now) displacements.now ++ drop n forces.old }
 {
     let mut i = 0;
     while i < n {
@@ -60,8 +62,8 @@ pub fn product(
     displacements: &[i32],
     forces: &mut [i64],
 ) -> Verdict
-    ensures reply { replyOf result ≡ productReply (matrixOf n starts.now columns.now values.now) displacements.now (length forces.old) }
-    ensures lent_forces { forces.new ≡ lent (productReply (matrixOf n starts.now columns.now values.now) displacements.now (length forces.old)) (product (matrixOf n starts.now columns.now values.now) displacements.now) forces.old }
+    ensures reply { reply_of result ≡ product_reply (matrix_of n starts.now columns.now values.now) displacements.now (length forces.old) }
+    ensures lent_forces { forces.new ≡ lent (product_reply (matrix_of n starts.now columns.now values.now) displacements.now (length forces.old)) (product (matrix_of n starts.now columns.now values.now) displacements.now) forces.old }
 {
     if !is_matrix(n, starts, columns, values) {
         return Verdict::Refused(MATRIX, 0);

@@ -1,7 +1,7 @@
 // Whole numbers against a limit.
 ghost use Rattle.std.specs.Prelude.{◌≡◌};
 ghost use Rattle.base.specs.Integers.{within};
-ghost use Rattle.matrix.specs.Matrix.{firstPast};
+ghost use Rattle.matrix.specs.Matrix.{first_past};
 
 // Whether z is at most the limit either side of 0.
 pub fn is_within(z: i32, limit: u32) -> bool
@@ -17,7 +17,7 @@ pub fn is_within(z: i32, limit: u32) -> bool
 
 // The first place whose number passes the limit; the length if none does.
 pub(crate) fn first_past(numbers: &[i32], limit: u32) -> usize
-    ensures { result ≡ firstPast limit numbers.now }
+    ensures { result ≡ first_past limit numbers.now }
 {
     let mut k = 0;
     while k < numbers.len() {

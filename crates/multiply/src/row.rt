@@ -2,7 +2,7 @@
 ghost use Rattle.std.specs.Prelude.{◌≡◌, ◌*ℤ◌, length};
 ghost use Rattle.base.specs.Integers.{sumℤ};
 ghost use Rattle.matrix.specs.Matrix.{lookup, displacement};
-ghost use Rattle.multiply.specs.code.Loaded.{RowOk};
+ghost use Rattle.multiply.specs.Code.Loaded.{RowOk};
 
 // The values times the displacements of their columns, summed.
 pub(crate) fn force(columns: &[u32], values: &[i32], displacements: &[i32]) -> i64

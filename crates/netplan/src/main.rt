@@ -1,5 +1,7 @@
 // netplan: reads workers, p and a matrix text from standard input, and writes the plan or the refusal to standard
 // output.
+#![tactic(auto)]
+
 use libc::{STDERR_FILENO, STDIN_FILENO, STDOUT_FILENO};
 use listing::{MAX_INPUT, MAX_OUTPUT, listing};
 

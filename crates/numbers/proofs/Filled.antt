@@ -7,7 +7,7 @@ use Rattle.numbers.specs.Calls.{in32, filled}
 
 -- there is no room, or there is
 module _ (needed room low : ℕ) (is : low ≡ needed % 2 ^ 32) where
-  pub filled-short : room < needed → refused why.tooShort low ≡ filled needed room
+  pub filled-short : room < needed → refused why.too_short low ≡ filled needed room
   unfolding in32 in_turn
   filled-short h = rw (lt-leb needed room h, is)
 

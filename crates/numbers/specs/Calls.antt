@@ -1,7 +1,7 @@
 -- What the two calls reply.
 use Rattle.std.specs.Prelude.{ℕ, ◌%◌, ◌^◌, List, [], ◌∷◌, length, ℤ}
 use Rattle.base.specs.Replies.{Reply, accepted, refused, in_turn, room_for}
-use Rattle.numbers.specs.Lines.{Listed, numbers, faulty, numbersText}
+use Rattle.numbers.specs.Lines.{Listed, numbers, faulty, numbers_text}
 
 -- what 32 bits keep of a count or a place: a text has any number of lines
 unfoldable pub in32 : Reply → Reply
@@ -13,15 +13,15 @@ abbrev pub filled : (needed room : ℕ) → Reply
 filled needed room = in32 (in_turn refused (room_for needed room ∷ []) (accepted needed))
 
 -- the list that a text holds; of a text that is refused there is none
-unfoldable pub numbersIn : Listed → List ℤ
-numbersIn (numbers zs) = zs
-numbersIn (faulty q p) = []
+unfoldable pub numbers_in : Listed → List ℤ
+numbers_in (numbers zs) = zs
+numbers_in (faulty q p) = []
 
--- The reader's reply: 2 and 4 line by line, then 9, in numbers. Its list is then `lent` of the reply and `numbersIn`
-unfoldable pub readNumbersReply : Listed → (room : ℕ) → Reply
-readNumbersReply (numbers zs) room = filled (length zs) room
-readNumbersReply (faulty q p) room = in32 (refused q p)
+-- The reader's reply: 2 and 4 line by line, then 9, in numbers. Its list is then `lent` of the reply and `numbers_in`
+unfoldable pub read_numbers_reply : Listed → (room : ℕ) → Reply
+read_numbers_reply (numbers zs) room = filled (length zs) room
+read_numbers_reply (faulty q p) room = in32 (refused q p)
 
--- The writer's reply: 9, in bytes. Its text is then `lent` of the reply and `numbersText`
-unfoldable pub writeNumbersReply : List ℤ → (room : ℕ) → Reply
-writeNumbersReply zs room = filled (length (numbersText zs)) room
+-- The writer's reply: 9, in bytes. Its text is then `lent` of the reply and `numbers_text`
+unfoldable pub write_numbers_reply : List ℤ → (room : ℕ) → Reply
+write_numbers_reply zs room = filled (length (numbers_text zs)) room

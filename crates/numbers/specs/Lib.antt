@@ -1,4 +1,4 @@
 pub mod Lines
 pub mod Calls
 pub mod NumberLists
-pub mod code
+pub mod Code

@@ -2,7 +2,7 @@
 
 ghost use Rattle.std.specs.Prelude.{◌≡◌, ◌+◌, ◌*◌, ◌<◌, min, length, drop};
 ghost use Rattle.market.specs.Fields.{digits, value_of};
-ghost use Rattle.numbers.specs.code.Lines.{many};
+ghost use Rattle.numbers.specs.Code.Lines.{many};
 
 use base::bytes::wide64;
 use scan::classes::{DIGIT, class_of};

@@ -2,8 +2,8 @@
 
 ghost use Rattle.std.specs.Prelude.{◌≡◌, ◌+◌, ◌<◌, length, drop};
 ghost use Rattle.market.specs.Fields.{digits};
-ghost use Rattle.numbers.specs.Lines.{isSpelled, numberOn};
-ghost use Rattle.numbers.specs.code.Lines.{plain_of, negativeOf, line_at};
+ghost use Rattle.numbers.specs.Lines.{is_spelled, number_on};
+ghost use Rattle.numbers.specs.Code.Lines.{plain_of, negative_of, line_at};
 
 use crate::digits::read_digits;
 use scan::classes::{LINE_END, SIGN, class_at};
@@ -26,7 +26,7 @@ pub(crate) enum Line {
 // Whether the digits from a position up to the next are a number: one at least, and no needless zero.
 fn is_whole(text: &[u8], at: usize, next: usize) -> bool
     requires { next ≡ at + length (digits (drop at text.now)) }
-    ensures { result ≡ isSpelled (digits (drop at text.now)) }
+    ensures { result ≡ is_spelled (digits (drop at text.now)) }
 {
     if next <= at {
         return false;
@@ -49,7 +49,7 @@ fn plain(value: u64, next: usize) -> Line
 
 // One that carries `-`.
 fn negated(value: u64, next: usize) -> Line
-    ensures { result ≡ negativeOf value next }
+    ensures { result ≡ negative_of value next }
 {
     if value == 0 {
         return Line::Broken;
@@ -61,7 +61,7 @@ fn negated(value: u64, next: usize) -> Line
 }
 
 pub(crate) fn read_line(text: &[u8], at: usize) -> Line
-    ensures { result ≡ line_at at (numberOn (drop at text.now)) }
+    ensures { result ≡ line_at at (number_on (drop at text.now)) }
 {
     let signed = class_at(text, at) == SIGN;
     let first = at + signed as usize;

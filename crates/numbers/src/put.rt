@@ -3,8 +3,8 @@
 ghost use Rattle.std.specs.Prelude.{◌^◌, ◌<◌, ◌≤◌, length};
 ghost use Rattle.market.specs.Text.{decimal};
 ghost use Rattle.words.specs.LittleEndian.{to_signed};
-ghost use Rattle.numbers.specs.Lines.{numberLine};
-ghost use Rattle.numbers.specs.code.Puts.{PutBefore};
+ghost use Rattle.numbers.specs.Lines.{number_line};
+ghost use Rattle.numbers.specs.Code.Puts.{PutBefore};
 
 use crate::line::LEAST;
 use crate::width::magnitude;
@@ -28,8 +28,8 @@ fn put_digits(text: &mut [u8], end: usize, v: u64) -> usize
 
 // A number's line before a place, and where it begins.
 pub(crate) fn put_line(text: &mut [u8], end: usize, bits: u64) -> usize
-    requires { (length (numberLine (to_signed 8 bits)) ≤ end) × (end ≤ length text.old) }
-    ensures { PutBefore (numberLine (to_signed 8 bits)) end result text.old text.new }
+    requires { (length (number_line (to_signed 8 bits)) ≤ end) × (end ≤ length text.old) }
+    ensures { PutBefore (number_line (to_signed 8 bits)) end result text.old text.new }
 {
     let feed = end - 1;
     text[feed] = b'\n';

@@ -1,12 +1,12 @@
 // A list read from its text.
 
 ghost use Rattle.std.specs.Prelude.{◌≡◌, ◌*◌, ◌/◌, ◌≤◌, length};
-ghost use Rattle.base.specs.Verdicts.{replyOf};
+ghost use Rattle.base.specs.Verdicts.{reply_of};
 ghost use Rattle.base.specs.Replies.{lent};
-ghost use Rattle.words.specs.LittleEndian.{signedBytes, stored};
+ghost use Rattle.words.specs.LittleEndian.{signed_bytes, stored};
 ghost use Rattle.numbers.specs.Lines.{numbers, listed};
-ghost use Rattle.numbers.specs.Calls.{numbersIn, readNumbersReply};
-ghost use Rattle.numbers.specs.code.Lines.{judgedOf};
+ghost use Rattle.numbers.specs.Calls.{numbers_in, read_numbers_reply};
+ghost use Rattle.numbers.specs.Code.Lines.{judged_of};
 
 use crate::line::{Line, read_line};
 use crate::low::low;
@@ -24,7 +24,7 @@ enum Judged {
 }
 
 fn judge(text: &[u8]) -> Judged
-    ensures { result ≡ judgedOf (listed text.now) }
+    ensures { result ≡ judged_of (listed text.now) }
 {
     let mut count: usize = 0;
     let mut at = 0;
@@ -48,8 +48,8 @@ fn judge(text: &[u8]) -> Judged
 
 // The numbers of a text that has no others than they, stored one after the other.
 fn fill(text: &[u8], list: &mut [u8])
-    requires { (listed text.now ≡ numbers (numbersIn (listed text.now))) × (length (numbersIn (listed text.now)) * 8 ≤ length list.old) }
-    ensures { list.new ≡ stored (signedBytes 8 (numbersIn (listed text.now))) list.old }
+    requires { (listed text.now ≡ numbers (numbers_in (listed text.now))) × (length (numbers_in (listed text.now)) * 8 ≤ length list.old) }
+    ensures { list.new ≡ stored (signed_bytes 8 (numbers_in (listed text.now))) list.old }
 {
     let mut k: usize = 0;
     let mut at = 0;
@@ -65,8 +65,8 @@ fn fill(text: &[u8], list: &mut [u8])
 }
 
 pub fn read(text: &[u8], list: &mut [u8]) -> Verdict
-    ensures replies { replyOf result ≡ readNumbersReply (listed text.now) (length list.old / 8) }
-    ensures list { list.new ≡ lent (replyOf result) (signedBytes 8 (numbersIn (listed text.now))) list.old }
+    ensures replies { reply_of result ≡ read_numbers_reply (listed text.now) (length list.old / 8) }
+    ensures list { list.new ≡ lent (reply_of result) (signed_bytes 8 (numbers_in (listed text.now))) list.old }
 {
     let judged = judge(text);
     match judged {

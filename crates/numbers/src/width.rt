@@ -3,7 +3,7 @@
 ghost use Rattle.std.specs.Prelude.{◌≡◌, ◌^◌, ◌<◌, length, unsigned_abs};
 ghost use Rattle.market.specs.Text.{decimal};
 ghost use Rattle.words.specs.LittleEndian.{to_signed};
-ghost use Rattle.numbers.specs.Lines.{numberLine};
+ghost use Rattle.numbers.specs.Lines.{number_line};
 
 use crate::line::{LARGEST, LEAST};
 
@@ -32,7 +32,7 @@ pub(crate) fn magnitude(bits: u64) -> u64
 }
 
 pub(crate) fn line_width(bits: u64) -> usize
-    ensures { result ≡ length (numberLine (to_signed 8 bits)) }
+    ensures { result ≡ length (number_line (to_signed 8 bits)) }
 {
     width(magnitude(bits)) + (LEAST <= bits) as usize + 1
 }

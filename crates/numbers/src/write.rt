@@ -1,12 +1,12 @@
 // A list written as text.
 
 ghost use Rattle.std.specs.Prelude.{◌≡◌, ◌≤◌, length};
-ghost use Rattle.base.specs.Verdicts.{replyOf};
+ghost use Rattle.base.specs.Verdicts.{reply_of};
 ghost use Rattle.base.specs.Replies.{lent};
 ghost use Rattle.words.specs.LittleEndian.{signed, stored};
-ghost use Rattle.numbers.specs.Lines.{numbersText};
-ghost use Rattle.numbers.specs.Calls.{writeNumbersReply};
-ghost use Rattle.numbers.specs.code.Puts.{size_of};
+ghost use Rattle.numbers.specs.Lines.{numbers_text};
+ghost use Rattle.numbers.specs.Calls.{write_numbers_reply};
+ghost use Rattle.numbers.specs.Code.Puts.{size_of};
 
 use crate::low::low;
 use crate::put::put_line;
@@ -27,7 +27,7 @@ enum Size {
 // The text may take more bytes than 64 bits count, so lines are taken from the room, and those that find none left are
 // counted.
 fn measure(numbers: &[u8], room: usize) -> Size
-    ensures { result ≡ size_of (length (numbersText (signed 8 numbers.now))) room }
+    ensures { result ≡ size_of (length (numbers_text (signed 8 numbers.now))) room }
 {
     let count = numbers.len() / NUMBER;
     let mut needed: u32 = 0;
@@ -49,8 +49,8 @@ fn measure(numbers: &[u8], room: usize) -> Size
 
 // The text of so many bytes, from the last number to the first.
 fn fill(numbers: &[u8], text: &mut [u8], size: usize)
-    requires { (size ≡ length (numbersText (signed 8 numbers.now))) × (size ≤ length text.old) }
-    ensures { text.new ≡ stored (numbersText (signed 8 numbers.now)) text.old }
+    requires { (size ≡ length (numbers_text (signed 8 numbers.now))) × (size ≤ length text.old) }
+    ensures { text.new ≡ stored (numbers_text (signed 8 numbers.now)) text.old }
 {
     let mut k = numbers.len() / NUMBER;
     let mut at = size;
@@ -61,8 +61,8 @@ fn fill(numbers: &[u8], text: &mut [u8], size: usize)
 }
 
 pub fn write(numbers: &[u8], text: &mut [u8]) -> Verdict
-    ensures replies { replyOf result ≡ writeNumbersReply (signed 8 numbers.now) (length text.old) }
-    ensures text { text.new ≡ lent (replyOf result) (numbersText (signed 8 numbers.now)) text.old }
+    ensures replies { reply_of result ≡ write_numbers_reply (signed 8 numbers.now) (length text.old) }
+    ensures text { text.new ≡ lent (reply_of result) (numbers_text (signed 8 numbers.now)) text.old }
 {
     let size = measure(numbers, text.len());
     match size {

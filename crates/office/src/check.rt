@@ -1,8 +1,8 @@
 // check: whether a plan is sound at a distance for a matrix.
 ghost use Rattle.std.specs.Prelude.{◌≡◌};
-ghost use Rattle.plan.specs.Sound.{checkReply};
+ghost use Rattle.plan.specs.Sound.{check_reply};
 ghost use Rattle.words.specs.LittleEndian.{unsigned};
-ghost use Rattle.lent.specs.Bytes.{matrixIn};
+ghost use Rattle.lent.specs.Bytes.{matrix_in};
 ghost use Rattle.lent.specs.Word.{word};
 
 use lent::few::{FEW_CELLS, are_few};
@@ -21,7 +21,7 @@ pub fn check_in(
     group_count: u32,
     k: u32,
 ) -> u64
-    ensures { result ≡ word (checkReply (matrixIn n row_starts.now columns.now values.now) (unsigned 4 order.now) (unsigned 4 groups.now) group_count k) }
+    ensures { result ≡ word (check_reply (matrix_in n row_starts.now columns.now values.now) (unsigned 4 order.now) (unsigned 4 groups.now) group_count k) }
 {
     let mut starts = [0u32; MAX_STARTS];
     let mut order_list = [0u32; MAX_ROWS];

@@ -1,9 +1,9 @@
 // plan: the plan of a matrix.
 ghost use Rattle.std.specs.Prelude.{◌≤◌, length};
-ghost use Rattle.matrix.specs.Matrix.{matrixOf};
-ghost use Rattle.matrix.specs.Limits.{maxRows};
-ghost use Rattle.plan.specs.code.Room.{maxFields};
-ghost use Rattle.lent.specs.Bytes.{matrixIn};
+ghost use Rattle.matrix.specs.Matrix.{matrix_of};
+ghost use Rattle.matrix.specs.Limits.{max_rows};
+ghost use Rattle.plan.specs.Code.Room.{max_fields};
+ghost use Rattle.lent.specs.Bytes.{matrix_in};
 ghost use Rattle.office.specs.Lent.{PlanAnswered};
 
 use base::Verdict;
@@ -29,8 +29,8 @@ fn plan_of(
     order_bytes: &mut [u8],
     group_bytes: &mut [u8],
 ) -> u64
-    requires { (maxRows ≤ length order.old) × (maxFields ≤ length groups.old) }
-    ensures { PlanAnswered (matrixOf n starts.now columns.now values.now) workers p k order_bytes.old group_bytes.old result order_bytes.new group_bytes.new }
+    requires { (max_rows ≤ length order.old) × (max_fields ≤ length groups.old) }
+    ensures { PlanAnswered (matrix_of n starts.now columns.now values.now) workers p k order_bytes.old group_bytes.old result order_bytes.new group_bytes.new }
 {
     let order_room = least(order_bytes.len() / 4, order.len());
     let groups_room = least(group_bytes.len() / 4, groups.len());
@@ -66,7 +66,7 @@ pub fn plan_in(
     order: &mut [u8],
     groups: &mut [u8],
 ) -> u64
-    ensures { PlanAnswered (matrixIn n row_starts.now columns.now values.now) workers p k order.old groups.old result order.new groups.new }
+    ensures { PlanAnswered (matrix_in n row_starts.now columns.now values.now) workers p k order.old groups.old result order.new groups.new }
 {
     let mut starts = [0u32; MAX_STARTS];
     let mut order_list = [0u32; MAX_ROWS];

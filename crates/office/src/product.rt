@@ -1,10 +1,10 @@
 // product: the forces of a matrix and movements.
 ghost use Rattle.std.specs.Prelude.{◌/◌, ◌≤◌, length};
-ghost use Rattle.matrix.specs.Matrix.{matrixOf};
-ghost use Rattle.matrix.specs.Limits.{maxRows};
-ghost use Rattle.matrix.specs.Product.{product, productReply};
-ghost use Rattle.words.specs.LittleEndian.{signed, signedBytes};
-ghost use Rattle.lent.specs.Bytes.{matrixIn};
+ghost use Rattle.matrix.specs.Matrix.{matrix_of};
+ghost use Rattle.matrix.specs.Limits.{max_rows};
+ghost use Rattle.matrix.specs.Product.{product, product_reply};
+ghost use Rattle.words.specs.LittleEndian.{signed, signed_bytes};
+ghost use Rattle.lent.specs.Bytes.{matrix_in};
 ghost use Rattle.lent.specs.Word.{Answered};
 
 use base::Verdict;
@@ -25,8 +25,8 @@ fn product_of(
     sums: &mut [i64],
     forces: &mut [u8],
 ) -> u64
-    requires { maxRows ≤ length sums.old }
-    ensures { Answered (productReply (matrixOf n starts.now columns.now values.now) displacements.now (length forces.old / 8)) (signedBytes 8 (product (matrixOf n starts.now columns.now values.now) displacements.now)) forces.old result forces.new }
+    requires { max_rows ≤ length sums.old }
+    ensures { Answered (product_reply (matrix_of n starts.now columns.now values.now) displacements.now (length forces.old / 8)) (signed_bytes 8 (product (matrix_of n starts.now columns.now values.now) displacements.now)) forces.old result forces.new }
 {
     let room = least(forces.len() / 8, sums.len());
     let answer = multiply::product(n, starts, columns, values, displacements, &mut sums[..room]);
@@ -46,7 +46,7 @@ pub fn product_in(
     movements: &[u8],
     forces: &mut [u8],
 ) -> u64
-    ensures { Answered (productReply (matrixIn n row_starts.now columns.now values.now) (signed 4 movements.now) (length forces.old / 8)) (signedBytes 8 (product (matrixIn n row_starts.now columns.now values.now) (signed 4 movements.now))) forces.old result forces.new }
+    ensures { Answered (product_reply (matrix_in n row_starts.now columns.now values.now) (signed 4 movements.now) (length forces.old / 8)) (signed_bytes 8 (product (matrix_in n row_starts.now columns.now values.now) (signed 4 movements.now))) forces.old result forces.new }
 {
     let mut starts = [0u32; MAX_STARTS];
     let mut displacements = [0i32; MAX_STARTS];

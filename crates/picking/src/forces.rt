@@ -1,9 +1,9 @@
 // The sums of a finished run, from plan order into original order.
 ghost use Rattle.std.specs.Prelude.{◌≡◌, ◌*◌, ◌/◌, ◌≤◌, length};
-ghost use Rattle.words.specs.LittleEndian.{signed, signedBytes, stored};
-ghost use Rattle.prepared.specs.Tables.{originalBy};
-ghost use Rattle.picking.specs.code.Reads.{Head};
-ghost use Rattle.picking.specs.code.Picks.{tablesIn};
+ghost use Rattle.words.specs.LittleEndian.{signed, signed_bytes, stored};
+ghost use Rattle.prepared.specs.Tables.{original_by};
+ghost use Rattle.picking.specs.Code.Reads.{Head};
+ghost use Rattle.picking.specs.Code.Picks.{tables_in};
 
 use crate::places::{load_at, number_at, store_at};
 use prepared::{GATE, HEAD, UPDATE};
@@ -18,7 +18,7 @@ pub fn store_forces(
     forces: &mut [u8],
 )
     requires { Head list.now rows crew count × (rows ≡ length sums.now / 8) × (rows * 8 ≤ length forces.old) }
-    ensures { forces.new ≡ stored (signedBytes 8 (originalBy (tablesIn list.now) (signed 8 sums.now))) forces.old }
+    ensures { forces.new ≡ stored (signed_bytes 8 (original_by (tables_in list.now) (signed 8 sums.now))) forces.old }
 {
     let places = HEAD + count * UPDATE + rows * GATE;
     let mut i = 0;

@@ -1,7 +1,7 @@
 // The gates of a prepared list: whether a row may be worked at these counts.
 ghost use Rattle.std.specs.Prelude.{◌≡◌, ◌+◌, ◌*◌, ◌≤◌, length};
 ghost use Rattle.prepared.specs.Gates.{behind};
-ghost use Rattle.picking.specs.code.Reads.{gateAt, shutAt};
+ghost use Rattle.picking.specs.Code.Reads.{gate_at, shut_at};
 
 use plan::MAX_WORKERS;
 use prepared::GATE;
@@ -10,7 +10,7 @@ use words::number::read_u32;
 // Some worker has made fewer accesses than its number, which stand from a place on.
 fn is_behind(list: &[u8], at: usize, made: &[u32; MAX_WORKERS]) -> bool
     requires { at + 64 ≤ length list.now }
-    ensures { result ≡ behind made.now (gateAt list.now at) 16 }
+    ensures { result ≡ behind made.now (gate_at list.now at) 16 }
 {
     let mut late = false;
     let mut v = 0;
@@ -30,7 +30,7 @@ pub fn is_shut(
     made: &[u32; MAX_WORKERS],
 ) -> bool
     requires { gates + rows * 64 ≤ length list.now }
-    ensures { result ≡ shutAt list.now gates rows row made.now }
+    ensures { result ≡ shut_at list.now gates rows row made.now }
 {
     if rows <= row {
         return false;

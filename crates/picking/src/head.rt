@@ -1,10 +1,10 @@
 // The head of a prepared list, and what it says of counts.
 ghost use Rattle.std.specs.Prelude.{◌≡◌, true, ◌≤◌};
-ghost use Rattle.plan.specs.Sound.{maxWorkers};
-ghost use Rattle.prepared.specs.Format.{isPrepared};
-ghost use Rattle.prepared.specs.Tables.{countsFineBy, allMadeBy};
-ghost use Rattle.picking.specs.code.Picks.{tablesIn};
-ghost use Rattle.picking.specs.code.Reads.{Head};
+ghost use Rattle.plan.specs.Sound.{max_workers};
+ghost use Rattle.prepared.specs.Format.{is_prepared};
+ghost use Rattle.prepared.specs.Tables.{counts_fine_by, all_made_by};
+ghost use Rattle.picking.specs.Code.Picks.{tables_in};
+ghost use Rattle.picking.specs.Code.Reads.{Head};
 
 use crate::places::number_at;
 use plan::MAX_WORKERS;
@@ -21,7 +21,7 @@ pub struct Sizes {
 
 // 26: whether the bytes are a prepared list.
 pub fn is_prepared(list: &[u8]) -> bool
-    ensures { result ≡ isPrepared list.now }
+    ensures { result ≡ is_prepared list.now }
 {
     if list.len() < HEAD {
         return false;
@@ -39,7 +39,7 @@ pub fn is_prepared(list: &[u8]) -> bool
 
 // What its head says.
 pub fn sizes_of(list: &[u8]) -> Sizes
-    requires { isPrepared list.now ≡ true }
+    requires { is_prepared list.now ≡ true }
     ensures { Head list.now result.rows result.crew result.count }
 {
     let rows = number_at(list, 4);
@@ -54,8 +54,8 @@ pub fn sizes_of(list: &[u8]) -> Sizes
 
 // No worker has made more than its accesses.
 pub fn is_fine(list: &[u8], made: &[u32; MAX_WORKERS]) -> bool
-    requires { isPrepared list.now ≡ true }
-    ensures { result ≡ countsFineBy (tablesIn list.now) made.now maxWorkers }
+    requires { is_prepared list.now ≡ true }
+    ensures { result ≡ counts_fine_by (tables_in list.now) made.now max_workers }
 {
     let mut w = MAX_WORKERS;
     while 0 < w {
@@ -69,8 +69,8 @@ pub fn is_fine(list: &[u8], made: &[u32; MAX_WORKERS]) -> bool
 
 // Every worker of the plan has made all its accesses.
 pub fn is_over(list: &[u8], crew: usize, made: &[u32; MAX_WORKERS]) -> bool
-    requires { (isPrepared list.now ≡ true) × (crew ≤ maxWorkers) }
-    ensures { result ≡ allMadeBy (tablesIn list.now) made.now crew }
+    requires { (is_prepared list.now ≡ true) × (crew ≤ max_workers) }
+    ensures { result ≡ all_made_by (tables_in list.now) made.now crew }
 {
     let mut w = crew;
     while 0 < w {

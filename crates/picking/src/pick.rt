@@ -1,13 +1,13 @@
 // One pick by a prepared list, any whatever, on the bytes of the sums.
 ghost use Rattle.std.specs.Prelude.{◌≡◌, cond, suc, ◌/◌, ◌^◌, ◌≤◌, ◌<◌, length};
-ghost use Rattle.plan.specs.Sound.{maxWorkers};
+ghost use Rattle.plan.specs.Sound.{max_workers};
 ghost use Rattle.run.specs.Updates.{count};
-ghost use Rattle.steps.specs.code.Steps.{stateWith, PickMade};
+ghost use Rattle.steps.specs.Code.Steps.{state_with, PickMade};
 ghost use Rattle.words.specs.LittleEndian.{signed};
-ghost use Rattle.prepared.specs.Format.{gatesFrom};
-ghost use Rattle.prepared.specs.Tables.{nextBy, refusalBy};
-ghost use Rattle.picking.specs.code.Reads.{updateOf, updateAt, numberNext, Head};
-ghost use Rattle.picking.specs.code.Picks.{tablesIn, Opened, Seen, SumsKept};
+ghost use Rattle.prepared.specs.Format.{gates_from};
+ghost use Rattle.prepared.specs.Tables.{next_by, refusal_by};
+ghost use Rattle.picking.specs.Code.Reads.{update_of, update_at, number_next, Head};
+ghost use Rattle.picking.specs.Code.Picks.{tables_in, Opened, Seen, SumsKept};
 
 use crate::gates::is_shut;
 use crate::places::{Entry, load_at, number_at, store_at, update_at};
@@ -26,8 +26,8 @@ fn update_number(accesses: u32) -> usize
 
 // The update of worker w's next access.
 fn next_update(list: &[u8], count: usize, made: &[u32; MAX_WORKERS], w: usize) -> Entry
-    requires { (w < maxWorkers) × (gatesFrom count ≤ length list.now) }
-    ensures { updateOf result ≡ updateAt list.now count (numberNext list.now made.now w) }
+    requires { (w < max_workers) × (gates_from count ≤ length list.now) }
+    ensures { update_of result ≡ update_at list.now count (number_next list.now made.now w) }
 {
     let first = number_at(list, FIRST + w * 4);
     update_at(list, count, first + update_number(made[w]))
@@ -45,7 +45,7 @@ pub fn refusal(
     w: usize,
 ) -> u32
     requires { Head list.now rows crew count × Opened list.now rows count made.now seen.now }
-    ensures { result ≡ refusalBy (tablesIn list.now) made.now w }
+    ensures { result ≡ refusal_by (tables_in list.now) made.now w }
 {
     if crew <= w {
         return STRANGER;
@@ -83,9 +83,9 @@ fn access(
     w: usize,
     e: Entry,
 ) -> u32
-    requires { (w < maxWorkers) × (suc (count made.old w) < 2 ^ 32) × (rows ≡ length sums.old / 8) }
-    ensures { PickMade 0 (stateWith made.old held.old (signed 8 sums.old)) w (updateOf e) result
-        (stateWith made.new held.new (signed 8 sums.new))
+    requires { (w < max_workers) × (suc (count made.old w) < 2 ^ 32) × (rows ≡ length sums.old / 8) }
+    ensures { PickMade 0 (state_with made.old held.old (signed 8 sums.old)) w (update_of e) result
+        (state_with made.new held.new (signed 8 sums.new))
         × SumsKept rows sums.old sums.new }
 {
     let target = e.target;
@@ -115,9 +115,9 @@ pub fn pick(
     w: usize,
 ) -> u32
     requires { Head list.now rows crew count × (rows ≡ length sums.old / 8) × Seen list.now rows count made.old seen.old }
-    ensures { PickMade (refusalBy (tablesIn list.now) made.old w)
-        (stateWith made.old held.old (signed 8 sums.old)) w (nextBy (tablesIn list.now) made.old w)
-        result (stateWith made.new held.new (signed 8 sums.new))
+    ensures { PickMade (refusal_by (tables_in list.now) made.old w)
+        (state_with made.old held.old (signed 8 sums.old)) w (next_by (tables_in list.now) made.old w)
+        result (state_with made.new held.new (signed 8 sums.new))
         × SumsKept rows sums.old sums.new × Seen list.now rows count made.new seen.new }
 {
     let why = refusal(list, rows, crew, count, made, seen, w);

@@ -1,7 +1,7 @@
 // Numbers at their places: in a prepared list, and in the bytes of the sums.
 ghost use Rattle.std.specs.Prelude.{◌≡◌, ◌+◌, ◌*◌, ◌^◌, ◌≤◌, ◌<◌, length};
-ghost use Rattle.words.specs.code.Places.{fourAt};
-ghost use Rattle.picking.specs.code.Reads.{loaded_at, stored_at, updateOf, updateAt};
+ghost use Rattle.words.specs.Code.Places.{four_at};
+ghost use Rattle.picking.specs.Code.Reads.{loaded_at, stored_at, update_of, update_at};
 
 use prepared::{HEAD, UPDATE};
 use words::number::{read_u32, read_u64, write_u64};
@@ -18,7 +18,7 @@ pub struct Entry {
 // The number of the four bytes from a place on.
 pub fn number_at(list: &[u8], at: usize) -> usize
     requires { at + 4 ≤ length list.now }
-    ensures { (result ≡ fourAt list.now at) × (result < 2 ^ 32) }
+    ensures { (result ≡ four_at list.now at) × (result < 2 ^ 32) }
 {
     read_u32(list, at) as usize
 }
@@ -47,7 +47,7 @@ pub fn store_at(sums: &mut [u8], rows: usize, t: usize, z: i64)
 // Update number k, or one that does nothing.
 pub fn update_at(list: &[u8], count: usize, k: usize) -> Entry
     requires { 144 + count * 16 ≤ length list.now }
-    ensures { updateOf result ≡ updateAt list.now count k }
+    ensures { update_of result ≡ update_at list.now count k }
 {
     if count <= k {
         return Entry {

@@ -3,10 +3,10 @@ ghost use Rattle.std.specs.Prelude.{◌≡◌, ◌/◌, ◌^◌, ◌<◌, length
 ghost use Rattle.run.specs.Machine.{bits};
 ghost use Rattle.words.specs.LittleEndian.{signed};
 ghost use Rattle.machine.specs.Record.{state_of};
-ghost use Rattle.machine.specs.code.Stepped.{passesOver, walkedOf};
-ghost use Rattle.prepared.specs.Tables.{passBy, readyBelowBy};
-ghost use Rattle.picking.specs.code.Reads.{Head};
-ghost use Rattle.picking.specs.code.Picks.{tablesIn, SumsKept};
+ghost use Rattle.machine.specs.Code.Stepped.{passes_over, walked_of};
+ghost use Rattle.prepared.specs.Tables.{pass_by, ready_below_by};
+ghost use Rattle.picking.specs.Code.Reads.{Head};
+ghost use Rattle.picking.specs.Code.Picks.{tables_in, SumsKept};
 
 use crate::pick::{pick, refusal};
 use machine::state::{Rule, State, Walked, ended, passes};
@@ -28,7 +28,7 @@ pub fn walk(
     rule: Rule,
 ) -> Walked
     requires { Head list.now rows crew count × (rows ≡ length sums.old / 8) }
-    ensures { (walkedOf result (signed 8 sums.new) ≡ passBy (tablesIn list.now) (passesOver rule) (state_of state (signed 8 sums.old)) schedule.now)
+    ensures { (walked_of result (signed 8 sums.new) ≡ pass_by (tables_in list.now) (passes_over rule) (state_of state (signed 8 sums.old)) schedule.now)
         × SumsKept rows sums.old sums.new × (result.number < 2 ^ 8) }
 {
     let mut made = state.made;
@@ -63,7 +63,7 @@ pub fn ready_bits(
     made: &[u32; MAX_WORKERS],
 ) -> u16
     requires { Head list.now rows crew count }
-    ensures { result ≡ bits (readyBelowBy (tablesIn list.now) made.now crew) }
+    ensures { result ≡ bits (ready_below_by (tables_in list.now) made.now crew) }
 {
     let seen = [NOWHERE; MAX_WORKERS];
     let mut set: u16 = 0;

@@ -16,9 +16,9 @@ unfolding children
 children-append i gs hs = filter-append (λ g. eqb g.parent i) gs hs
 
 -- of a list whose first record has another parent
-pub children-skip : (i : ℕ) (g : Group) (gs : List Group) → g.parent ≢ i → children i (g ∷ gs) ≡ children i gs
+pub children_skip : (i : ℕ) (g : Group) (gs : List Group) → g.parent ≢ i → children i (g ∷ gs) ≡ children i gs
 unfolding children
-children-skip i g gs d = rw (ne_eqb g.parent i d) refl
+children_skip i g gs d = rw (ne_eqb g.parent i d) refl
 
 -- .. or this one
 pub children-keep : (i : ℕ) (g : Group) (gs : List Group) → g.parent ≡ i → children i (g ∷ gs) ≡ g ∷ children i gs

@@ -8,32 +8,32 @@ use native.Mathlib.Omega.{arith}
 use lib.Dec.{eqb}
 use borrow.Author.Tests.{eqb-false, eq-eqb, ne_eqb}
 use Rattle.base.specs.Lists.{keep, any}
-use Rattle.base.proofs.Booleans.{and-false}
+use Rattle.base.proofs.Booleans.{and_false}
 use Rattle.base.proofs.Each.{Each}
 use Rattle.plan.specs.Groups.{Group, red, blue}
-use Rattle.plan.specs.Sound.{stretchOf, likeApart}
-use Rattle.plan.specs.code.Checks.{ofColour}
+use Rattle.plan.specs.Sound.{stretch_of, like_apart}
+use Rattle.plan.specs.Code.Checks.{of_colour}
 
 module _ (far : List ℕ → List ℕ → Bool) (order : List ℕ) where
   -- a child that is like g and not far from it
   abbrev pub like : Group → Group → Bool
-  like g h = eqb g.colour h.colour && not (far (stretchOf order g) (stretchOf order h))
+  like g h = eqb g.colour h.colour && not (far (stretch_of order g) (stretch_of order h))
 
   -- who is like g has its colour
-  like-colour : (g : Group) (c : ℕ) (hs : List Group) → g.colour ≡ c → any (like g) (ofColour c hs) ≡ any (like g) hs
-  like-colour g c [] e = refl
-  like-colour g c (h ∷ hs) e = go (eqb h.colour c) refl (like-colour g c hs e)
+  like_colour : (g : Group) (c : ℕ) (hs : List Group) → g.colour ≡ c → any (like g) (of_colour c hs) ≡ any (like g) hs
+  like_colour g c [] e = refl
+  like_colour g c (h ∷ hs) e = go (eqb h.colour c) refl (like_colour g c hs e)
     where
-      go : (b : Bool) → eqb h.colour c ≡ b → any (like g) (ofColour c hs) ≡ any (like g) hs → any (like g) (keep (eqb h.colour c) h (ofColour c hs)) ≡ like g h || any (like g) hs
+      go : (b : Bool) → eqb h.colour c ≡ b → any (like g) (of_colour c hs) ≡ any (like g) hs → any (like g) (keep (eqb h.colour c) h (of_colour c hs)) ≡ like g h || any (like g) hs
       go true f ih = rw (f, ih)
       go false f ih = rw (f, ne_eqb g.colour h.colour (λ (q : g.colour ≡ h.colour). eqb-false h.colour c f (sym q ∙ e))) ih
 
   -- the children compared colour by colour
-  pub colour-by-colour : (gs : List Group) → Each (λ g. (g.colour ≡ red) ⊎ (g.colour ≡ blue)) gs
-      → likeApart far order gs ≡ likeApart far order (ofColour red gs) && likeApart far order (ofColour blue gs)
-  unfolding likeApart
-  colour-by-colour [] each = refl
-  colour-by-colour (g ∷ gs) each = go each.0 (colour-by-colour gs each.1)
+  pub colour_by_colour : (gs : List Group) → Each (λ g. (g.colour ≡ red) ⊎ (g.colour ≡ blue)) gs
+      → like_apart far order gs ≡ like_apart far order (of_colour red gs) && like_apart far order (of_colour blue gs)
+  unfolding like_apart
+  colour_by_colour [] each = refl
+  colour_by_colour (g ∷ gs) each = go each.0 (colour_by_colour gs each.1)
     where
       assoc : (a b c : Bool) → a && (b && c) ≡ (a && b) && c
       assoc true b c = refl
@@ -41,14 +41,14 @@ module _ (far : List ℕ → List ℕ → Bool) (order : List ℕ) where
 
       swap : (a b c : Bool) → a && (b && c) ≡ b && (a && c)
       swap true b c = refl
-      swap false b c = sym (and-false b)
+      swap false b c = sym (and_false b)
 
-      go : (g.colour ≡ red) ⊎ (g.colour ≡ blue) → likeApart far order gs ≡ likeApart far order (ofColour red gs) && likeApart far order (ofColour blue gs)
-          → not (any (like g) gs) && likeApart far order gs
-          ≡ likeApart far order (keep (eqb g.colour red) g (ofColour red gs)) && likeApart far order (keep (eqb g.colour blue) g (ofColour blue gs))
+      go : (g.colour ≡ red) ⊎ (g.colour ≡ blue) → like_apart far order gs ≡ like_apart far order (of_colour red gs) && like_apart far order (of_colour blue gs)
+          → not (any (like g) gs) && like_apart far order gs
+          ≡ like_apart far order (keep (eqb g.colour red) g (of_colour red gs)) && like_apart far order (keep (eqb g.colour blue) g (of_colour blue gs))
       go (inl e) ih =
-          rw (eq-eqb g.colour red e, ne_eqb g.colour blue (λ (q : g.colour ≡ blue). omega arith), like-colour g red gs e, ih)
-          (assoc (not (any (like g) gs)) (likeApart far order (ofColour red gs)) (likeApart far order (ofColour blue gs)))
+          rw (eq-eqb g.colour red e, ne_eqb g.colour blue (λ (q : g.colour ≡ blue). omega arith), like_colour g red gs e, ih)
+          (assoc (not (any (like g) gs)) (like_apart far order (of_colour red gs)) (like_apart far order (of_colour blue gs)))
       go (inr e) ih =
-          rw (ne_eqb g.colour red (λ (q : g.colour ≡ red). omega arith), eq-eqb g.colour blue e, like-colour g blue gs e, ih)
-          (swap (not (any (like g) gs)) (likeApart far order (ofColour red gs)) (likeApart far order (ofColour blue gs)))
+          rw (ne_eqb g.colour red (λ (q : g.colour ≡ red). omega arith), eq-eqb g.colour blue e, like_colour g blue gs e, ih)
+          (swap (not (any (like g) gs)) (like_apart far order (of_colour red gs)) (like_apart far order (of_colour blue gs)))

@@ -9,14 +9,14 @@ use lib.Dec.{leb}
 use lib.ListN.{length, take, drop, length-take}
 use lib.Seq.{get_or-take, take-take}
 use borrow.Author.Tests.{leb-true}
-use Rattle.base.proofs.Booleans.{and-false, leb-min}
+use Rattle.base.proofs.Booleans.{and_false, leb-min}
 use Rattle.base.proofs.Lists.{take-drop}
-use Rattle.matrix.specs.Limits.{maxRows}
-use Rattle.matrix.specs.Matrix.{Matrix, isMatrix}
+use Rattle.matrix.specs.Limits.{max_rows}
+use Rattle.matrix.specs.Matrix.{Matrix, is_matrix}
 use Rattle.matrix.proofs.Cut.{cut, cut-neighbours}
 use Rattle.plan.specs.Groups.{Plan, width, of_fields, records, plan_of}
-use Rattle.plan.specs.Sound.{maxGroups, apart, beyond, sound, isSound, isSoundAt, planLent}
-use Rattle.plan.specs.code.Room.{maxFields}
+use Rattle.plan.specs.Sound.{max_groups, apart, beyond, sound, is_sound, is_sound_at, plan_lent}
+use Rattle.plan.specs.Code.Room.{max_fields}
 
 -- ---- records
 
@@ -38,32 +38,32 @@ records-cut (suc k) most ns h =
 
 -- ---- the test
 
-module _ (m : Matrix) (order groups : List ℕ) (count : ℕ) (few : m.n ≤ maxRows) where
+module _ (m : Matrix) (order groups : List ℕ) (count : ℕ) (few : m.n ≤ max_rows) where
   -- cut, the lists hold the same plan if its records fit
-  pub plan-kept : width * count ≤ maxFields → plan_of m.n (take maxRows order) (take maxFields groups) count ≡ plan_of m.n order groups count
+  pub plan-kept : width * count ≤ max_fields → plan_of m.n (take max_rows order) (take max_fields groups) count ≡ plan_of m.n order groups count
   unfolding plan_of
-  plan-kept h = rw (take-take m.n maxRows order few, records-cut count maxFields groups h)
+  plan-kept h = rw (take-take m.n max_rows order few, records-cut count max_fields groups h)
 
   -- cut, the lists are a plan that passes a test if and only if they were
-  pub cut-lent : (test : Plan → Bool) → planLent test m (take maxRows order) (take maxFields groups) count ≡ planLent test m order groups count
-  cut-lent test = rw (length-take maxRows order, length-take maxFields groups, leb-min m.n maxRows (length order) few) (go (leb count maxGroups) refl)
+  pub cut-lent : (test : Plan → Bool) → plan_lent test m (take max_rows order) (take max_fields groups) count ≡ plan_lent test m order groups count
+  cut-lent test = rw (length-take max_rows order, length-take max_fields groups, leb-min m.n max_rows (length order) few) (go (leb count max_groups) refl)
     where
       before : Bool
       before = leb m.n (length order)
 
-      go : (b : Bool) → leb count maxGroups ≡ b
-          → before && leb count maxGroups && leb (width * count) (min maxFields (length groups)) && test (plan_of m.n (take maxRows order) (take maxFields groups) count)
-          ≡ before && leb count maxGroups && leb (width * count) (length groups) && test (plan_of m.n order groups count)
+      go : (b : Bool) → leb count max_groups ≡ b
+          → before && leb count max_groups && leb (width * count) (min max_fields (length groups)) && test (plan_of m.n (take max_rows order) (take max_fields groups) count)
+          ≡ before && leb count max_groups && leb (width * count) (length groups) && test (plan_of m.n order groups count)
       go true e =
-          let fits : width * count ≤ maxFields = omega (arith, leb-true count maxGroups e) in
-          rw (leb-min (width * count) maxFields (length groups) fits, plan-kept fits)
-      go false e = rw (e, and-false before)
+          let fits : width * count ≤ max_fields = omega (arith, leb-true count max_groups e) in
+          rw (leb-min (width * count) max_fields (length groups) fits, plan-kept fits)
+      go false e = rw (e, and_false before)
 
 -- a matrix whose lists are cut has the same sound plans, at every distance
-pub cut-sound : (m : Matrix) (p : Plan) → isMatrix m ≡ true → isSound (cut m) p ≡ isSound m p
-unfolding isSound
+pub cut-sound : (m : Matrix) (p : Plan) → is_matrix m ≡ true → is_sound (cut m) p ≡ is_sound m p
+unfolding is_sound
 cut-sound m p ok = ap (λ (adj : ℕ → List ℕ). sound (apart adj) m.n p.order p.groups) (cut-neighbours m ok)
 
-pub cut-sound-at : (k : ℕ) (m : Matrix) (p : Plan) → isMatrix m ≡ true → isSoundAt k (cut m) p ≡ isSoundAt k m p
-unfolding isSoundAt
-cut-sound-at k m p ok = ap (λ (adj : ℕ → List ℕ). sound (beyond adj k) m.n p.order p.groups) (cut-neighbours m ok)
+pub cut-sound_at : (k : ℕ) (m : Matrix) (p : Plan) → is_matrix m ≡ true → is_sound_at k (cut m) p ≡ is_sound_at k m p
+unfolding is_sound_at
+cut-sound_at k m p ok = ap (λ (adj : ℕ → List ℕ). sound (beyond adj k) m.n p.order p.groups) (cut-neighbours m ok)

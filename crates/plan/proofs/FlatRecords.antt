@@ -6,7 +6,7 @@ use native.Mathlib.Omega.{arith}
 use lib.ListN.{length, get_or, take, drop, length-drop, drop_of_length-le}
 use lib.Seq.{drop-drop, drop-cons, get_or-drop, take-add, take_at}
 use Rattle.plan.specs.Groups.{Group, Plan, width, fields_of, of_fields, flat, records, plan_of}
-use Rattle.plan.specs.code.Checks.{recordAt}
+use Rattle.plan.specs.Code.Checks.{record_at}
 
 pub length-records : (count : ℕ) (ns : List ℕ) → length (records count ns) ≡ count
 unfolding records
@@ -14,20 +14,20 @@ length-records zero ns = refl
 length-records (suc k) ns = ap suc (length-records k (drop width ns))
 
 -- the record at an index is the first of those that are left
-pub records-at : (count i : ℕ) (ns : List ℕ) → i < count → drop i (records count ns) ≡ recordAt ns i ∷ drop (suc i) (records count ns)
-unfolding records recordAt
-records-at zero i ns l = absurd (omega arith)
-records-at (suc k) zero ns l = refl
-records-at (suc k) (suc i) ns l =
+pub records_at : (count i : ℕ) (ns : List ℕ) → i < count → drop i (records count ns) ≡ record_at ns i ∷ drop (suc i) (records count ns)
+unfolding records record_at
+records_at zero i ns l = absurd (omega arith)
+records_at (suc k) zero ns l = refl
+records_at (suc k) (suc i) ns l =
     let e : width + width * i ≡ width * suc i = omega arith in
-    records-at k i (drop width ns) (omega arith)
+    records_at k i (drop width ns) (omega arith)
     ∙ ap (λ (r : List ℕ). of_fields r ∷ drop (suc i) (records k (drop width ns))) (drop-drop (width * i) width ns ∙ ap (λ (d : ℕ). drop d ns) e)
 
 pub records-none : (count i : ℕ) (ns : List ℕ) → count ≤ i → drop i (records count ns) ≡ []
 records-none count i ns l = drop_of_length-le (records count ns) {i = i} (omega (arith, length-records count ns))
 
 -- the numbers of the list from a record's place on
-pub record-fields : (ns : List ℕ) (i : ℕ) →
+pub record_fields : (ns : List ℕ) (i : ℕ) →
     record {
       start = get_or ns (width * i) 0;
       length = get_or ns (width * i + 1) 0;
@@ -37,9 +37,9 @@ pub record-fields : (ns : List ℕ) (i : ℕ) →
       parent = get_or ns (width * i + 5) 0;
       depth = get_or ns (width * i + 6) 0;
     }
-    ≡ recordAt ns i
-unfolding recordAt of_fields
-record-fields ns i = rw (field 0 ∙ ap (λ (k : ℕ). get_or ns k 0) none, field 1, field 2, field 3, field 4, field 5, field 6)
+    ≡ record_at ns i
+unfolding record_at of_fields
+record_fields ns i = rw (field 0 ∙ ap (λ (k : ℕ). get_or ns k 0) none, field 1, field 2, field 3, field 4, field 5, field 6)
   where
     none : width * i + 0 ≡ width * i
     none = omega arith

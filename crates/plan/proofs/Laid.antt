@@ -8,10 +8,10 @@ use native.Mathlib.Omega.{arith}
 use lib.Dec.{eqb, leb}
 use lib.ListN.{get_or}
 use borrow.Author.Tests.{eqb-true, eq-eqb, ne_eqb, leb-true, le-leb}
-use Rattle.base.proofs.Booleans.{and_left, and_right, conj-first, conj-at, same_or, is_false, both_ways}
+use Rattle.base.proofs.Booleans.{and_left, and_right, conj_first, conj_at, same_or, is_false, both_ways}
 use Rattle.plan.specs.Groups.{Group, red, blue}
 use Rattle.plan.specs.Sound.{tiled}
-use Rattle.plan.specs.code.Checks.{fitting, pending, complete, laid}
+use Rattle.plan.specs.Code.Checks.{fitting, pending, complete, laid}
 use Rattle.plan.proofs.Pair.{pair_of}
 
 -- ---- one child
@@ -41,10 +41,10 @@ blue-fits s f w h d b =
 fits-red : (s f : ℕ) (h : Group) → fitting s f 0 h ≡ true → Red s f h
 unfolding fitting
 fits-red s f h e =
-    let t = conj-at (eqb h.start s) (eqb h.first f ∷ (eqb h.colour red && leb 1 h.workers) ∷ []) e in
+    let t = conj_at (eqb h.start s) (eqb h.first f ∷ (eqb h.colour red && leb 1 h.workers) ∷ []) e in
     record {
       colour = eqb-true h.colour red (and_left (eqb h.colour red) (leb 1 h.workers) (t 1));
-      start = eqb-true h.start s (conj-first (eqb h.start s) (eqb h.first f ∷ (eqb h.colour red && leb 1 h.workers) ∷ []) e);
+      start = eqb-true h.start s (conj_first (eqb h.start s) (eqb h.first f ∷ (eqb h.colour red && leb 1 h.workers) ∷ []) e);
       first = eqb-true h.first f (t 0);
       workers = leb-true 1 h.workers (and_right (eqb h.colour red) (leb 1 h.workers) (t 1));
     }
@@ -54,10 +54,10 @@ unfolding fitting
 fits-blue s f w h d e₀ =
     let e : eqb h.start s && eqb h.first f && (eqb h.colour blue && eqb h.workers w) ≡ true = rw (ne_eqb w 0 d) at e₀ in
     let bs : List Bool = eqb h.first f ∷ (eqb h.colour blue && eqb h.workers w) ∷ [] in
-    let t : (k : ℕ) → get_or bs k true ≡ true = conj-at (eqb h.start s) bs e in
+    let t : (k : ℕ) → get_or bs k true ≡ true = conj_at (eqb h.start s) bs e in
     record {
       colour = eqb-true h.colour blue (and_left (eqb h.colour blue) (eqb h.workers w) (t 1));
-      start = eqb-true h.start s (conj-first (eqb h.start s) bs e);
+      start = eqb-true h.start s (conj_first (eqb h.start s) bs e);
       first = eqb-true h.first f (t 0);
       workers = eqb-true h.workers w (and_right (eqb h.colour blue) (eqb h.workers w) (t 1));
     }
@@ -72,10 +72,10 @@ unfolding laid pending
 two g s f r b ks d = let e : f + 0 ≡ f = omega arith in rw (e, ne_eqb r.workers 0 d)
 
 -- `tiled` from its tests
-pair-tiled : (g : Group) (s f : ℕ) (r b : Group) (ks : List Group) → Red s f r → Blue (s + r.length) f r.workers b
+pair_tiled : (g : Group) (s f : ℕ) (r b : Group) (ks : List Group) → Red s f r → Blue (s + r.length) f r.workers b
     → tiled g (s + r.length + b.length) (f + r.workers) ks ≡ true → tiled g s f (r ∷ b ∷ ks) ≡ true
 unfolding tiled
-pair-tiled g s f r b ks x y t =
+pair_tiled g s f r b ks x y t =
     rw (
       eq-eqb r.colour red x.colour,
       eq-eqb b.colour blue y.colour,
@@ -95,7 +95,7 @@ tiled-laid g s f (r ∷ []) = sym (is_false never)
     never : laid g s f 0 (r ∷ []) ≡ true → ⊥
     never h =
         let x = fits-red s f r (and_left (fitting s f 0 r) _ h) in
-        let e : r.workers ≡ 0 = eqb-true r.workers 0 (conj-first (eqb r.workers 0) (eqb (s + r.length) (g.start + g.length) ∷ eqb (f + 0) (g.first + g.workers) ∷ []) (and_right (fitting s f 0 r) _ h)) in
+        let e : r.workers ≡ 0 = eqb-true r.workers 0 (conj_first (eqb r.workers 0) (eqb (s + r.length) (g.start + g.length) ∷ eqb (f + 0) (g.first + g.workers) ∷ []) (and_right (fitting s f 0 r) _ h)) in
         omega (arith, x.workers)
 tiled-laid g s f (r ∷ b ∷ ks) =
     let rest = tiled-laid g (s + r.length + b.length) (f + r.workers) ks in
@@ -110,8 +110,8 @@ tiled-laid g s f (r ∷ b ∷ ks) =
         let d : r.workers ≢ 0 = λ (e : r.workers ≡ 0). omega (arith, p.some) in
         two g s f r b ks d
         ∙ rw (
-          red-fits s f r (record { colour = p.isRed; start = p.here; first = p.firstR; workers = p.some }),
-          blue-fits (s + r.length) f r.workers b d (record { colour = p.isBlue; start = p.then; first = p.firstB; workers = p.alike }),
+          red-fits s f r (record { colour = p.is_red; start = p.here; first = p.first_r; workers = p.some }),
+          blue-fits (s + r.length) f r.workers b d (record { colour = p.is_blue; start = p.then; first = p.first_b; workers = p.alike }),
         ) (sym rest ∙ p.rest)
 
     fro : Rest → laid g s f 0 (r ∷ b ∷ ks) ≡ true → tiled g s f (r ∷ b ∷ ks) ≡ true
@@ -120,7 +120,7 @@ tiled-laid g s f (r ∷ b ∷ ks) =
         let d : r.workers ≢ 0 = λ (e : r.workers ≡ 0). omega (arith, x.workers) in
         let h' = sym (two g s f r b ks d) ∙ h in
         let more = and_right (fitting s f 0 r) _ h' in
-        pair-tiled g s f r b ks x (fits-blue (s + r.length) f r.workers b d (and_left (fitting (s + r.length) f r.workers b) _ more)) (rest ∙ and_right (fitting (s + r.length) f r.workers b) _ more)
+        pair_tiled g s f r b ks x (fits-blue (s + r.length) f r.workers b d (and_left (fitting (s + r.length) f r.workers b) _ more)) (rest ∙ and_right (fitting (s + r.length) f r.workers b) _ more)
 
 -- ---- what a child's test says
 

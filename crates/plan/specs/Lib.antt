@@ -2,4 +2,4 @@ pub mod Groups
 pub mod Sound
 pub mod Depths
 pub mod Distances
-pub mod code
+pub mod Code

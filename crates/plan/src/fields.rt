@@ -1,7 +1,7 @@
 // A plan's groups are records in a flat list: what a record is, and how it is read and written.
 ghost use Rattle.std.specs.Prelude.{◌≡◌, ◌++◌, ◌+◌, ◌*◌, ◌≤◌, length, take};
 ghost use Rattle.plan.specs.Groups.{width, fields_of, group_of};
-ghost use Rattle.plan.specs.code.Checks.{recordAt, Reads};
+ghost use Rattle.plan.specs.Code.Checks.{record_at, Reads};
 
 use crate::MAX_GROUPS;
 use base::numbers::wide;
@@ -45,7 +45,7 @@ pub struct Record {
 // Reads the record at an index.
 pub fn get(numbers: &[u32], i: usize) -> Group
     requires { width * (i + 1) ≤ length numbers.now }
-    ensures { group_of result ≡ recordAt numbers.now i }
+    ensures { group_of result ≡ record_at numbers.now i }
 {
     let at = WIDTH * i;
     Group {
@@ -77,7 +77,7 @@ pub fn put(numbers: &mut [u32], i: usize, g: Group)
 // Reads the record at an index, and widens it.
 pub fn record_at(groups: &[u32], i: usize) -> Record
     requires { width * (i + 1) ≤ length groups.now }
-    ensures { Reads result (recordAt groups.now i) }
+    ensures { Reads result (record_at groups.now i) }
 {
     let g = get(groups, i);
     Record {

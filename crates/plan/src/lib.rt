@@ -1,8 +1,10 @@
 // Plans: an order and records of groups; and the distances that they keep.
+#![tactic(auto)]
+
 pub mod fields;
 
 ghost use Rattle.std.specs.Prelude.{◌≡◌};
-ghost use Rattle.plan.specs.Sound.{isDistance};
+ghost use Rattle.plan.specs.Sound.{is_distance};
 
 // "all workers, 1 to 16"
 pub const MAX_WORKERS: usize = 16;
@@ -18,7 +20,7 @@ const MAX_DISTANCE: u32 = 4;
 
 // Whether k is a distance that plans are made and checked for.
 pub fn is_distance(k: u32) -> bool
-    ensures { result ≡ isDistance k }
+    ensures { result ≡ is_distance k }
 {
     if k < 1 {
         return false;

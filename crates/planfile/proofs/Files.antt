@@ -10,17 +10,17 @@ use lib.Seq.{drop_at, drop-drop, take_all, length-take-le}
 use borrow.Author.Tests.{eqb-true, eq-eqb, le-leb, ltb-true, lt-ltb}
 use Rattle.base.specs.Lists.{begins}
 use Rattle.base.specs.Replies.{accepted, in_turn}
-use Rattle.base.proofs.Booleans.{and_left, and_right, conj-first, conj-at}
+use Rattle.base.proofs.Booleans.{and_left, and_right, conj_first, conj_at}
 use Rattle.base.proofs.Begins.{begins-append, begins-split}
 use Rattle.base.proofs.Each.{Each, each_append, each_take, each-drop, all-each, each_all}
 use Rattle.plan.specs.Groups.{Plan, width, flat, records, plan_of}
 use Rattle.plan.proofs.FlatRecords.{length-records, length-flat, flat-records, plan-flat}
-use Rattle.words.specs.LittleEndian.{number, unsigned, unsignedBytes}
-use Rattle.words.proofs.Blocks.{length-decoded}
-use Rattle.words.proofs.Bytes.{IsByte, length-bytes, bytes-part, numbers-small}
+use Rattle.words.specs.LittleEndian.{number, unsigned, unsigned_bytes}
+use Rattle.words.proofs.Blocks.{length_decoded}
+use Rattle.words.proofs.Bytes.{IsByte, length_bytes, bytes_part, numbers-small}
 use Rattle.words.proofs.Codes.{unsigned_back}
-use Rattle.planfile.specs.File.{contents, fileSize, isSized, isCarried, fileOf, freedomsIn, groupsIn, isFile, planFrom}
-use Rattle.planfile.specs.Calls.{readPlanReply}
+use Rattle.planfile.specs.File.{contents, file_size, is_sized, is_carried, file_of, freedoms_in, groups_in, is_file, plan_from}
+use Rattle.planfile.specs.Calls.{read_plan_reply}
 use Rattle.planfile.proofs.Sized.{Sized, sized, length-contents, contents-small}
 
 -- a number of 32 bits
@@ -29,7 +29,7 @@ Small v = v < 2 ^ 32
 
 -- ---- from a plan
 
-module _ (p : Plan) (ok : isCarried p ≡ true) where
+module _ (p : Plan) (ok : is_carried p ≡ true) where
   abbrev n : ℕ
   n = length p.order
 
@@ -39,57 +39,57 @@ module _ (p : Plan) (ok : isCarried p ≡ true) where
   abbrev body : List ℕ
   body = p.order ++ flat p.groups
 
-  size_ok : isSized n count ≡ true
-  unfolding isCarried
-  size_ok = and_left (isSized n count) _ ok
+  size_ok : is_sized n count ≡ true
+  unfolding is_carried
+  size_ok = and_left (is_sized n count) _ ok
 
   small : Each Small body
-  unfolding isCarried
-  small = all-each Small (λ v. ltb v (2 ^ 32)) (λ v h. ltb-true v (2 ^ 32) h) body (and_right (isSized n count) _ ok)
+  unfolding is_carried
+  small = all-each Small (λ v. ltb v (2 ^ 32)) (λ v h. ltb-true v (2 ^ 32) h) body (and_right (is_sized n count) _ ok)
 
   -- the file's numbers
-  numbers-are : unsigned 4 (fileOf p) ≡ contents n count ++ body
-  unfolding fileOf
+  numbers-are : unsigned 4 (file_of p) ≡ contents n count ++ body
+  unfolding file_of
   numbers-are = unsigned_back 4 (omega arith) (contents n count ++ body) (each_append Small (contents n count) body (contents-small n count size_ok) small)
 
-  freedoms-back : freedomsIn (fileOf p) ≡ n
-  unfolding freedomsIn contents
-  freedoms-back = let told : get_or (contents n count ++ body) 3 0 ≡ 4 * n = refl in rw (numbers-are, told) (omega arith)
+  freedoms_back : freedoms_in (file_of p) ≡ n
+  unfolding freedoms_in contents
+  freedoms_back = let told : get_or (contents n count ++ body) 3 0 ≡ 4 * n = refl in rw (numbers-are, told) (omega arith)
 
-  groups-back : groupsIn (fileOf p) ≡ count
-  unfolding groupsIn contents
+  groups-back : groups_in (file_of p) ≡ count
+  unfolding groups_in contents
   groups-back = let told : get_or (contents n count ++ body) 6 0 ≡ 4 * (width * count) = refl in rw (numbers-are, told) (omega arith)
 
-  pub file-size : length (fileOf p) ≡ fileSize n count
-  unfolding fileOf fileSize
+  pub file-size : length (file_of p) ≡ file_size n count
+  unfolding file_of file_size
   file-size =
-      rw (length-bytes (contents n count ++ body), length-append (contents n count) body, length-contents n count, length-append p.order (flat p.groups), length-flat p.groups) (omega arith)
+      rw (length_bytes (contents n count ++ body), length-append (contents n count) body, length-contents n count, length-append p.order (flat p.groups), length-flat p.groups) (omega arith)
 
-  pub file-made : isFile (fileOf p) ≡ true
-  unfolding isFile
-  file-made =
-      rw (freedoms-back, groups-back, size_ok, eq-eqb (length (fileOf p)) (fileSize n count) file-size, numbers-are) (begins-append (contents n count) body)
+  pub file_made : is_file (file_of p) ≡ true
+  unfolding is_file
+  file_made =
+      rw (freedoms_back, groups-back, size_ok, eq-eqb (length (file_of p)) (file_size n count) file-size, numbers-are) (begins-append (contents n count) body)
 
-  pub plan-back : planFrom (fileOf p) ≡ p
-  unfolding planFrom
+  pub plan-back : plan_from (file_of p) ≡ p
+  unfolding plan_from
   plan-back =
       let first : drop 7 (contents n count ++ body) ≡ body = drop_at (contents n count) body 7 (length-contents n count) in
       let second : drop (7 + n) (contents n count ++ body) ≡ flat p.groups =
       sym (drop-drop n 7 (contents n count ++ body)) ∙ ap (drop n) first ∙ drop_at p.order (flat p.groups) n refl in
-      rw (freedoms-back, groups-back, numbers-are, first, second) (rw (append-nil (flat p.groups)) at (plan-flat p n (flat p.groups) [] refl))
+      rw (freedoms_back, groups-back, numbers-are, first, second) (rw (append-nil (flat p.groups)) at (plan-flat p n (flat p.groups) [] refl))
 
-  pub file-read : (order groups : List ℕ) → n ≤ length order / 4 → width * count ≤ length groups / 4 → readPlanReply (fileOf p) order groups ≡ accepted (n + 65536 * count)
-  unfolding readPlanReply in_turn
-  file-read order groups g h = rw (file-made, freedoms-back, groups-back, le-leb n (length order / 4) g, le-leb count (length groups / 4 / width) (omega arith))
+  pub file_read : (order groups : List ℕ) → n ≤ length order / 4 → width * count ≤ length groups / 4 → read_plan_reply (file_of p) order groups ≡ accepted (n + 65536 * count)
+  unfolding read_plan_reply in_turn
+  file_read order groups g h = rw (file_made, freedoms_back, groups-back, le-leb n (length order / 4) g, le-leb count (length groups / 4 / width) (omega arith))
 
 -- ---- from a file
 
-module _ (file : List ℕ) (ok : isFile file ≡ true) where
+module _ (file : List ℕ) (ok : is_file file ≡ true) where
   abbrev rows : ℕ
-  rows = freedomsIn file
+  rows = freedoms_in file
 
   abbrev many : ℕ
-  many = groupsIn file
+  many = groups_in file
 
   abbrev numbers : List ℕ
   numbers = unsigned 4 file
@@ -101,28 +101,28 @@ module _ (file : List ℕ) (ok : isFile file ≡ true) where
   last = drop (7 + rows) numbers
 
   tests : List Bool
-  tests = eqb (length file) (fileSize rows many) ∷ begins numbers (contents rows many) ∷ []
+  tests = eqb (length file) (file_size rows many) ∷ begins numbers (contents rows many) ∷ []
 
-  sized-ok : isSized rows many ≡ true
-  unfolding isFile tests
-  sized-ok = conj-first (isSized rows many) tests ok
+  sized_ok : is_sized rows many ≡ true
+  unfolding is_file tests
+  sized_ok = conj_first (is_sized rows many) tests ok
 
-  pub file-sized : Sized rows many
-  file-sized = sized rows many sized-ok
+  pub file_sized : Sized rows many
+  file_sized = sized rows many sized_ok
 
-  pub file-long : length file ≡ 4 * (7 + rows + width * many)
-  unfolding isFile tests fileSize
-  file-long = eqb-true (length file) (fileSize rows many) (conj-at (isSized rows many) tests ok 0)
+  pub file_long : length file ≡ 4 * (7 + rows + width * many)
+  unfolding is_file tests file_size
+  file_long = eqb-true (length file) (file_size rows many) (conj_at (is_sized rows many) tests ok 0)
 
   table-split : numbers ≡ contents rows many ++ rest
-  unfolding isFile tests
-  table-split = rw (length-contents rows many) at (begins-split numbers (contents rows many) (conj-at (isSized rows many) tests ok 1))
+  unfolding is_file tests
+  table-split = rw (length-contents rows many) at (begins-split numbers (contents rows many) (conj_at (is_sized rows many) tests ok 1))
 
   numbers-long : length numbers ≡ 7 + rows + width * many
-  numbers-long = length-decoded number 4 file ∙ omega (arith, file-long)
+  numbers-long = length_decoded number 4 file ∙ omega (arith, file_long)
 
-  order-long : length (take rows rest) ≡ rows
-  order-long = length-take-le rows rest (rw (length-drop 7 numbers) (omega (arith, numbers-long)))
+  order_long : length (take rows rest) ≡ rows
+  order_long = length-take-le rows rest (rw (length-drop 7 numbers) (omega (arith, numbers-long)))
 
   last-long : length last ≡ width * many
   last-long = length-drop (7 + rows) numbers ∙ omega (arith, numbers-long)
@@ -136,18 +136,18 @@ module _ (file : List ℕ) (ok : isFile file ≡ true) where
       rw (last-at, take-append-drop rows rest) (sym table-split)
 
   module _ (bytes : Each IsByte file) where
-    pub file-back : fileOf (planFrom file) ≡ file
-    unfolding fileOf planFrom plan_of
-    file-back =
+    pub file_back : file_of (plan_from file) ≡ file
+    unfolding file_of plan_from plan_of
+    file_back =
         let k : ℕ = 7 + rows + width * many in
-        let all : unsignedBytes 4 (take k (drop 0 numbers)) ≡ take (4 * k) (drop (4 * 0) file) = bytes-part 0 k file (omega (arith, file-long)) bytes in
-        rw (order-long, length-records many last, flat-last, numbers-back)
-        (ap (unsignedBytes 4) (sym (take_all k numbers (omega (arith, numbers-long)))) ∙ all ∙ take_all (4 * k) file (omega (arith, file-long)))
+        let all : unsigned_bytes 4 (take k (drop 0 numbers)) ≡ take (4 * k) (drop (4 * 0) file) = bytes_part 0 k file (omega (arith, file_long)) bytes in
+        rw (order_long, length-records many last, flat-last, numbers-back)
+        (ap (unsigned_bytes 4) (sym (take_all k numbers (omega (arith, numbers-long)))) ∙ all ∙ take_all (4 * k) file (omega (arith, file_long)))
 
-    pub plan-carried : isCarried (planFrom file) ≡ true
-    unfolding isCarried planFrom plan_of
+    pub plan-carried : is_carried (plan_from file) ≡ true
+    unfolding is_carried plan_from plan_of
     plan-carried =
         let fits : Each Small numbers = numbers-small file bytes in
-        rw (order-long, length-records many last, sized-ok, flat-last)
+        rw (order_long, length-records many last, sized_ok, flat-last)
         (each_all Small (λ v. ltb v (2 ^ 32)) (λ v h. lt-ltb v (2 ^ 32) h) (take rows rest ++ last)
         (each_append Small (take rows rest) last (each_take Small rows rest (each-drop Small 7 numbers fits)) (each-drop Small (7 + rows) numbers fits)))

@@ -7,28 +7,28 @@ use native.Mathlib.Omega.{arith}
 use lib.ListN.{length}
 use borrow.Author.Tests.{eq-eqb, ne_eqb}
 use Rattle.base.specs.Lists.{begins}
-use Rattle.base.proofs.Booleans.{and-false}
+use Rattle.base.proofs.Booleans.{and_false}
 use Rattle.words.specs.LittleEndian.{unsigned}
-use Rattle.planfile.specs.File.{contents, fileSize, isSized, freedomsIn, groupsIn, isFile}
+use Rattle.planfile.specs.File.{contents, file_size, is_sized, freedoms_in, groups_in, is_file}
 
 module _ (file : List ℕ) where
   -- it has not the length that its counts call for
-  other_length : (length file ≡ fileSize (freedomsIn file) (groupsIn file) → ⊥) → isFile file ≡ false
-  unfolding isFile
-  other_length h = rw (ne_eqb (length file) (fileSize (freedomsIn file) (groupsIn file)) h, and-false (isSized (freedomsIn file) (groupsIn file)))
+  other_length : (length file ≡ file_size (freedoms_in file) (groups_in file) → ⊥) → is_file file ≡ false
+  unfolding is_file
+  other_length h = rw (ne_eqb (length file) (file_size (freedoms_in file) (groups_in file)) h, and_false (is_sized (freedoms_in file) (groups_in file)))
 
-  pub no_table : length file < 28 → isFile file ≡ false
-  unfolding fileSize
+  pub no_table : length file < 28 → is_file file ≡ false
+  unfolding file_size
   no_table h = other_length (λ e. omega arith)
 
-  module _ {n count : ℕ} (en : n ≡ freedomsIn file) (ec : count ≡ groupsIn file) where
-    pub no-counts : isSized n count ≡ false → isFile file ≡ false
-    unfolding isFile
+  module _ {n count : ℕ} (en : n ≡ freedoms_in file) (ec : count ≡ groups_in file) where
+    pub no-counts : is_sized n count ≡ false → is_file file ≡ false
+    unfolding is_file
     no-counts h = rw (rw (en, ec) at h)
 
-    pub no_length : (length file ≡ fileSize n count → ⊥) → isFile file ≡ false
+    pub no_length : (length file ≡ file_size n count → ⊥) → is_file file ≡ false
     no_length h = other_length (rw (en, ec) at h)
 
-    pub by-table : isSized n count ≡ true → length file ≡ fileSize n count → begins (unsigned 4 file) (contents n count) ≡ isFile file
-    unfolding isFile
-    by-table s l = rw (en, ec, rw (en, ec) at s, eq-eqb (length file) (fileSize (freedomsIn file) (groupsIn file)) (rw (en, ec) at l))
+    pub by_table : is_sized n count ≡ true → length file ≡ file_size n count → begins (unsigned 4 file) (contents n count) ≡ is_file file
+    unfolding is_file
+    by_table s l = rw (en, ec, rw (en, ec) at s, eq-eqb (length file) (file_size (freedoms_in file) (groups_in file)) (rw (en, ec) at l))

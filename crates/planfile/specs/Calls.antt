@@ -5,35 +5,35 @@ use Rattle.base.specs.Refusals as why
 use Rattle.base.specs.Replies.{Reply, accepted, refused, check, room_for, in_turn}
 use Rattle.plan.specs.Groups.{Plan, width, plan_of}
 use Rattle.words.specs.LittleEndian.{unsigned}
-use Rattle.planfile.specs.File.{numberSize, fileSize, isSized, freedomsIn, groupsIn, isFile}
+use Rattle.planfile.specs.File.{number_size, file_size, is_sized, freedoms_in, groups_in, is_file}
 
 -- the plan of n freedoms and `count` groups in lent bytes
-abbrev pub lentPlan : (n : ℕ) (order groups : List ℕ) (count : ℕ) → Plan
-lentPlan n order groups count = plan_of n (unsigned numberSize order) (unsigned numberSize groups) count
+abbrev pub lent_plan : (n : ℕ) (order groups : List ℕ) (count : ℕ) → Plan
+lent_plan n order groups count = plan_of n (unsigned number_size order) (unsigned number_size groups) count
 
 -- a plan is written: 16, then 8 where "lists .. fall short" of the counts, then 9; accepted with the bytes written
-unfoldable pub writePlanReply : (n : ℕ) (order groups : List ℕ) (count room : ℕ) → Reply
-writePlanReply n order groups count room =
+unfoldable pub write_plan_reply : (n : ℕ) (order groups : List ℕ) (count room : ℕ) → Reply
+write_plan_reply n order groups count room =
     in_turn
     refused
     (
-    check why.badLayout (isSized n count)
-    ∷ check why.unsound (leb n (length order / numberSize) && leb (width * count) (length groups / numberSize))
-    ∷ room_for (fileSize n count) room
+    check why.bad_layout (is_sized n count)
+    ∷ check why.unsound (leb n (length order / number_size) && leb (width * count) (length groups / number_size))
+    ∷ room_for (file_size n count) room
     ∷ []
     )
-    (accepted (fileSize n count))
+    (accepted (file_size n count))
 
 -- a file is read: 16, then 9 "of order, groups, counted in records"; accepted with both counts, the groups' times
 -- 65,536. Nothing else is judged: "A file read is not yet sound; the run still checks"
-unfoldable pub readPlanReply : (file order groups : List ℕ) → Reply
-readPlanReply file order groups =
+unfoldable pub read_plan_reply : (file order groups : List ℕ) → Reply
+read_plan_reply file order groups =
     in_turn
     refused
     (
-    check why.badLayout (isFile file)
-    ∷ room_for (freedomsIn file) (length order / numberSize)
-    ∷ room_for (groupsIn file) (length groups / numberSize / width)
+    check why.bad_layout (is_file file)
+    ∷ room_for (freedoms_in file) (length order / number_size)
+    ∷ room_for (groups_in file) (length groups / number_size / width)
     ∷ []
     )
-    (accepted (freedomsIn file + 65536 * groupsIn file))
+    (accepted (freedoms_in file + 65536 * groups_in file))

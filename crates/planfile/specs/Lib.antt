@@ -1,4 +1,4 @@
 pub mod File
 pub mod Calls
 pub mod PlanFiles
-pub mod code
+pub mod Code

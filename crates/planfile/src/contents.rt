@@ -1,8 +1,8 @@
 // The layout: the table of contents, and the length of a file.
 ghost use Rattle.std.specs.Prelude.{◌≡◌, ◌≤◌, ◌<◌, ◌^◌};
-ghost use Rattle.matrix.specs.Limits.{maxRows};
-ghost use Rattle.plan.specs.Sound.{maxGroups};
-ghost use Rattle.planfile.specs.File.{contents, fileSize, isSized};
+ghost use Rattle.matrix.specs.Limits.{max_rows};
+ghost use Rattle.plan.specs.Sound.{max_groups};
+ghost use Rattle.planfile.specs.File.{contents, file_size, is_sized};
 
 use matrix::limits::MAX_ROWS;
 use plan::MAX_GROUPS;
@@ -20,7 +20,7 @@ const GROUPS: u32 = 3;
 
 // Whether a file can carry so many freedoms and groups.
 pub(crate) fn is_sized(n: usize, count: usize) -> bool
-    ensures { result ≡ isSized n count }
+    ensures { result ≡ is_sized n count }
 {
     if n < 1 {
         return false;
@@ -36,15 +36,15 @@ pub(crate) fn is_sized(n: usize, count: usize) -> bool
 
 // The bytes of a file.
 pub(crate) fn file_size(n: usize, count: usize) -> usize
-    requires { (n ≤ maxRows) × (count ≤ maxGroups) }
-    ensures { (result ≡ fileSize n count) × (result < 2 ^ 32) }
+    requires { (n ≤ max_rows) × (count ≤ max_groups) }
+    ensures { (result ≡ file_size n count) × (result < 2 ^ 32) }
 {
     NUMBER * (TABLE + n + WIDTH * count)
 }
 
 // The numbers of the table.
 pub(crate) fn contents_of(n: usize, count: usize) -> [u32; TABLE]
-    requires { (n ≤ maxRows) × (count ≤ maxGroups) }
+    requires { (n ≤ max_rows) × (count ≤ max_groups) }
     ensures { result ≡ contents n count }
 {
     [

@@ -2,7 +2,7 @@
 ghost use Rattle.std.specs.Prelude.{◌≡◌, ◌*◌, ◌≤◌, ◌<◌, ◌/◌, length, get_or};
 ghost use Rattle.base.specs.Lists.{begins};
 ghost use Rattle.words.specs.LittleEndian.{unsigned};
-ghost use Rattle.planfile.specs.File.{numberSize, tableLength, freedomsIn, groupsIn, isFile};
+ghost use Rattle.planfile.specs.File.{number_size, table_length, freedoms_in, groups_in, is_file};
 
 use crate::contents::{NUMBER, TABLE, contents_of, file_size, is_sized};
 use plan::fields::WIDTH;
@@ -10,32 +10,32 @@ use words::number::read_u32;
 
 // A number of the file.
 fn number_at(file: &[u8], k: usize) -> u32
-    requires { k < length file.now / numberSize }
-    ensures { result ≡ get_or (unsigned numberSize file.now) k 0 }
+    requires { k < length file.now / number_size }
+    ensures { result ≡ get_or (unsigned number_size file.now) k 0 }
 {
     read_u32(file, k * NUMBER)
 }
 
 // How many freedoms the table tells.
 pub(crate) fn freedoms_in(file: &[u8]) -> usize
-    requires { numberSize * tableLength ≤ length file.now }
-    ensures { result ≡ freedomsIn file.now }
+    requires { number_size * table_length ≤ length file.now }
+    ensures { result ≡ freedoms_in file.now }
 {
     number_at(file, 3) as usize / NUMBER
 }
 
 // How many groups the table tells.
 pub(crate) fn groups_in(file: &[u8]) -> usize
-    requires { numberSize * tableLength ≤ length file.now }
-    ensures { result ≡ groupsIn file.now }
+    requires { number_size * table_length ≤ length file.now }
+    ensures { result ≡ groups_in file.now }
 {
     number_at(file, 6) as usize / (NUMBER * WIDTH)
 }
 
 // Whether the file's numbers begin with those of a table.
 fn has_table(file: &[u8], table: &[u32]) -> bool
-    requires { length table.now ≤ length file.now / numberSize }
-    ensures { result ≡ begins (unsigned numberSize file.now) table.now }
+    requires { length table.now ≤ length file.now / number_size }
+    ensures { result ≡ begins (unsigned number_size file.now) table.now }
 {
     let mut k = 0;
     while k < table.len() {
@@ -48,7 +48,7 @@ fn has_table(file: &[u8], table: &[u32]) -> bool
 }
 
 pub(crate) fn is_file(file: &[u8]) -> bool
-    ensures { result ≡ isFile file.now }
+    ensures { result ≡ is_file file.now }
 {
     if file.len() < NUMBER * TABLE {
         return false;

@@ -1,11 +1,11 @@
 // A plan read from a file, into lists of bytes.
 ghost use Rattle.std.specs.Prelude.{◌≡◌};
-ghost use Rattle.base.specs.Verdicts.{replyOf};
+ghost use Rattle.base.specs.Verdicts.{reply_of};
 ghost use Rattle.base.specs.Replies.{lent};
 ghost use Rattle.plan.specs.Groups.{flat};
-ghost use Rattle.words.specs.LittleEndian.{unsignedBytes};
-ghost use Rattle.planfile.specs.Calls.{readPlanReply};
-ghost use Rattle.planfile.specs.File.{numberSize, planFrom};
+ghost use Rattle.words.specs.LittleEndian.{unsigned_bytes};
+ghost use Rattle.planfile.specs.Calls.{read_plan_reply};
+ghost use Rattle.planfile.specs.File.{number_size, plan_from};
 
 use crate::contents::{NUMBER, TABLE};
 use crate::judge::{freedoms_in, groups_in, is_file};
@@ -15,7 +15,7 @@ use words::copy::copy;
 
 // What the call replies.
 fn reply(file: &[u8], order: &[u8], groups: &[u8]) -> Verdict
-    ensures { replyOf result ≡ readPlanReply file.now order.now groups.now }
+    ensures { reply_of result ≡ read_plan_reply file.now order.now groups.now }
 {
     if !is_file(file) {
         return Verdict::Refused(LAYOUT, 0);
@@ -33,9 +33,9 @@ fn reply(file: &[u8], order: &[u8], groups: &[u8]) -> Verdict
 
 // Both bodies are copied as they are.
 pub fn read(file: &[u8], order: &mut [u8], groups: &mut [u8]) -> Verdict
-    ensures replies { replyOf result ≡ readPlanReply file.now order.old groups.old }
-    ensures order { order.new ≡ lent (replyOf result) (unsignedBytes numberSize (planFrom file.now).order) order.old }
-    ensures groups { groups.new ≡ lent (replyOf result) (unsignedBytes numberSize (flat (planFrom file.now).groups)) groups.old }
+    ensures replies { reply_of result ≡ read_plan_reply file.now order.old groups.old }
+    ensures order { order.new ≡ lent (reply_of result) (unsigned_bytes number_size (plan_from file.now).order) order.old }
+    ensures groups { groups.new ≡ lent (reply_of result) (unsigned_bytes number_size (flat (plan_from file.now).groups)) groups.old }
 {
     let answer = reply(file, order, groups);
     let Verdict::Accepted(_) = answer else {

@@ -8,12 +8,12 @@ use lib.ListN.{length, take, drop}
 use borrow.Author.Tests.{le-leb, lt-leb}
 use Rattle.base.specs.Replies.{Reply, accepted, refused, in_turn, lent}
 use Rattle.base.proofs.Replies.{lent-refused, lent-accepted}
-use Rattle.matrix.specs.Matrix.{Matrix, isMatrix, matrixCheck}
-use Rattle.levels.specs.code.Rows.{Rows, adjOf}
+use Rattle.matrix.specs.Matrix.{Matrix, is_matrix, matrix_check}
+use Rattle.levels.specs.Code.Rows.{Rows, adj_of}
 use Rattle.levels.proofs.Rows.{pattern-neighbours, rows-of}
 use Rattle.plan.specs.Groups.{Plan, width, flat}
-use Rattle.race.specs.Planner.{planRows, plan, areParameters, planReply}
-use Rattle.cycle.specs.code.Records.{Holds}
+use Rattle.race.specs.Planner.{plan_rows, plan, are_parameters, plan_reply}
+use Rattle.cycle.specs.Code.Records.{Holds}
 use Rattle.race.proofs.PlannedSound.{planned-sound}
 
 module _ (m : Matrix) (w p k : ℕ) (order groups : List ℕ) where
@@ -22,7 +22,7 @@ module _ (m : Matrix) (w p k : ℕ) (order groups : List ℕ) where
   made = plan m w p k
 
   abbrev reply : Reply
-  reply = planReply m w p k (length order) (length groups)
+  reply = plan_reply m w p k (length order) (length groups)
 
   -- a reply, and the lists after it
   abbrev pub Replied : Reply → (order' groups' : List ℕ) → Type 0
@@ -31,19 +31,19 @@ module _ (m : Matrix) (w p k : ℕ) (order groups : List ℕ) where
   refuses : (number place : ℕ) → reply ≡ refused number place → Replied (refused number place) order groups
   refuses number place e = (sym e, (sym (lent-refused made.order order reply number place e), sym (lent-refused (flat made.groups) groups reply number place e)))
 
-  pub refuses-matrix : isMatrix m ≡ false → Replied (refused 5 0) order groups
-  unfolding planReply matrixCheck in_turn
-  refuses-matrix e = refuses 5 0 (rw e)
+  pub refuses_matrix : is_matrix m ≡ false → Replied (refused 5 0) order groups
+  unfolding plan_reply matrix_check in_turn
+  refuses_matrix e = refuses 5 0 (rw e)
 
-  module _ (is : isMatrix m ≡ true) where
-    pub refuses-parameters : areParameters w p k ≡ false → Replied (refused 7 0) order groups
-    unfolding planReply matrixCheck in_turn
-    refuses-parameters e = refuses 7 0 (rw (is, e))
+  module _ (is : is_matrix m ≡ true) where
+    pub refuses_parameters : are_parameters w p k ≡ false → Replied (refused 7 0) order groups
+    unfolding plan_reply matrix_check in_turn
+    refuses_parameters e = refuses 7 0 (rw (is, e))
 
-    module _ (are : areParameters w p k ≡ true) where
-      pub refuses-order : length order < m.n → Replied (refused 9 m.n) order groups
-      unfolding planReply matrixCheck in_turn
-      refuses-order l = refuses 9 m.n (rw (is, are, lt-leb m.n (length order) l))
+    module _ (are : are_parameters w p k ≡ true) where
+      pub refuses_order : length order < m.n → Replied (refused 9 m.n) order groups
+      unfolding plan_reply matrix_check in_turn
+      refuses_order l = refuses 9 m.n (rw (is, are, lt-leb m.n (length order) l))
 
       -- what the planner needs
       pub rows : Rows m.n m.starts m.columns
@@ -51,27 +51,27 @@ module _ (m : Matrix) (w p k : ℕ) (order groups : List ℕ) where
 
       -- once all is planned
       module _ (long : m.n ≤ length order) {before list records : List ℕ} {count : ℕ}
-          (held : Holds (planRows (adjOf m.n m.starts m.columns) m.n (record { reach = k; p = p }) w) 0 before list records count) where
+          (held : Holds (plan_rows (adj_of m.n m.starts m.columns) m.n (record { reach = k; p = p }) w) 0 before list records count) where
         held' : Holds made 0 before list records count
         unfolding plan
         held' = rw (pattern-neighbours m) at held
 
-        count-is : count ≡ length made.groups
-        count-is = held'.count-is ∙ omega arith
+        count_is : count ≡ length made.groups
+        count_is = held'.count_is ∙ omega arith
 
         pub count-few : count ≤ 481
-        count-few = omega (arith, count-is, planned-sound.few m w p k is are)
+        count-few = omega (arith, count_is, planned-sound.few m w p k is are)
 
-        pub refuses-groups : length groups / width < count → Replied (refused 9 count) order groups
-        unfolding planReply matrixCheck in_turn
-        refuses-groups l =
-            refuses 9 count (rw (is, are, le-leb m.n (length order) long, ← count-is, lt-leb count (length groups / width) l))
+        pub refuses_groups : length groups / width < count → Replied (refused 9 count) order groups
+        unfolding plan_reply matrix_check in_turn
+        refuses_groups l =
+            refuses 9 count (rw (is, are, le-leb m.n (length order) long, ← count_is, lt-leb count (length groups / width) l))
 
         pub accepts : count ≤ length groups / width → (order' groups' xs ys : List ℕ) → xs ≡ list → ys ≡ take (width * count) records
             → order' ≡ xs ++ drop (length xs) order → groups' ≡ ys ++ drop (length ys) groups → Replied (accepted count) order' groups'
-        unfolding planReply matrixCheck in_turn
+        unfolding plan_reply matrix_check in_turn
         accepts l order' groups' xs ys xs-is ys-is o g =
-            let e : reply ≡ accepted count = rw (is, are, le-leb m.n (length order) long, ← count-is, le-leb count (length groups / width) l) in
+            let e : reply ≡ accepted count = rw (is, are, le-leb m.n (length order) long, ← count_is, le-leb count (length groups / width) l) in
             let order_is : xs ≡ made.order = xs-is ∙ held'.order_is in
-            let groups-are : ys ≡ flat made.groups = ys-is ∙ held'.records-are in
-            (sym e, (rw (order_is) at o ∙ sym (lent-accepted made.order order reply count e), rw groups-are at g ∙ sym (lent-accepted (flat made.groups) groups reply count e)))
+            let groups_are : ys ≡ flat made.groups = ys-is ∙ held'.records_are in
+            (sym e, (rw (order_is) at o ∙ sym (lent-accepted made.order order reply count e), rw groups_are at g ∙ sym (lent-accepted (flat made.groups) groups reply count e)))

@@ -10,21 +10,21 @@ use borrow.Author.Tests.{le-leb}
 use Rattle.base.specs.Lists.{concat, range}
 use Rattle.base.proofs.Lists.{length-range}
 use Rattle.base.proofs.Fill.{filled}
-use Rattle.levels.specs.Levels.{ownLevels}
-use Rattle.levels.specs.code.Rows.{Rows, adjOf}
-use Rattle.sort.specs.code.Sorted.{Sorted}
+use Rattle.levels.specs.Levels.{own_levels}
+use Rattle.levels.specs.Code.Rows.{Rows, adj_of}
+use Rattle.sort.specs.Code.Sorted.{Sorted}
 use Rattle.levels.proofs.Proper.{proper-range}
-use Rattle.levels.proofs.Own.{sorted-levels}
-use Rattle.levels.proofs.Rows.{rows-graph}
+use Rattle.levels.proofs.Own.{sorted_levels}
+use Rattle.levels.proofs.Rows.{rows_graph}
 use Rattle.plan.specs.Groups.{Plan, width, whole, flat, group_of}
-use Rattle.plan.specs.Sound.{maxWorkers, maxDepth, maxGroups, maxDistance}
+use Rattle.plan.specs.Sound.{max_workers, max_depth, max_groups, max_distance}
 use Rattle.extents.specs.Extents.{Policy}
-use Rattle.race.specs.Planner.{leaf, planGroup, planRows}
-use Rattle.cycle.specs.code.Records.{Holds}
-use Rattle.cycle.specs.code.Cycle.{GroupTask}
+use Rattle.race.specs.Planner.{leaf, plan_group, plan_rows}
+use Rattle.cycle.specs.Code.Records.{Holds}
+use Rattle.cycle.specs.Code.Cycle.{GroupTask}
 use Rattle.plan.specs.declared.fields.Group.{Group}
 use Rattle.race.proofs.Planned.{rows_few}
-use Rattle.cycle.proofs.GroupPlans.{two-orders}
+use Rattle.cycle.proofs.GroupPlans.{two_orders}
 
 map_same : (xs : List ℕ) → map (λ x. x) xs ≡ xs
 map_same [] = refl
@@ -36,37 +36,37 @@ numbered old = rw (drop-length old, append-nil) (map_same (range 0 (length old))
 
 module _ (n : ℕ) (starts columns : List ℕ) (rows : Rows n starts columns) where
   abbrev adj : ℕ → List ℕ
-  adj = adjOf n starts columns
+  adj = adj_of n starts columns
 
   -- all rows by their levels
   abbrev sorted : (reach : ℕ) → List ℕ
-  sorted reach = concat (ownLevels adj reach n (range 0 n))
+  sorted reach = concat (own_levels adj reach n (range 0 n))
 
-  pub sorted-is : {reach m : ℕ} {order ends : List ℕ} → Sorted adj reach n 0 (range 0 n) m order ends → order ≡ sorted reach
-  sorted-is {m = m} s = s.order_is ∙ rw (le-leb 0 m (omega arith))
+  pub sorted_is : {reach m : ℕ} {order ends : List ℕ} → Sorted adj reach n 0 (range 0 n) m order ends → order ≡ sorted reach
+  sorted_is {m = m} s = s.order_is ∙ rw (le-leb 0 m (omega arith))
 
   -- the whole's record
-  abbrev pub wholeGroup : (workers : ℕ) → Group
-  wholeGroup workers = record { start = 0; length = n; first = 0; workers = workers; colour = whole; parent = 0; depth = 0 }
+  abbrev pub whole_group : (workers : ℕ) → Group
+  whole_group workers = record { start = 0; length = n; first = 0; workers = workers; colour = whole; parent = 0; depth = 0 }
 
-  module _ (policy : Policy) (far : (1 ≤ policy.reach) × (policy.reach ≤ maxDistance)) (workers : ℕ) where
+  module _ (policy : Policy) (far : (1 ≤ policy.reach) × (policy.reach ≤ max_distance)) (workers : ℕ) where
     -- its plan by the group planner, its rows by their numbers
-    abbrev pub numberedPlan : Plan
-    numberedPlan = planGroup adj n policy maxDepth 0 (group_of (wholeGroup workers)) (range 0 n)
+    abbrev pub numbered_plan : Plan
+    numbered_plan = plan_group adj n policy max_depth 0 (group_of (whole_group workers)) (range 0 n)
 
     -- a leaf, or the plan of all rows
     abbrev Cases : Type 0
     Cases =
-        ((numberedPlan ≡ leaf (group_of (wholeGroup workers)) (range 0 n)) × (planRows adj n policy workers ≡ leaf (group_of (wholeGroup workers)) (sorted policy.reach)))
-        ⊎ ((numberedPlan ≡ planRows adj n policy workers) × (2 ≤ length numberedPlan.groups))
+        ((numbered_plan ≡ leaf (group_of (whole_group workers)) (range 0 n)) × (plan_rows adj n policy workers ≡ leaf (group_of (whole_group workers)) (sorted policy.reach)))
+        ⊎ ((numbered_plan ≡ plan_rows adj n policy workers) × (2 ≤ length numbered_plan.groups))
 
     cases : Cases
-    unfolding planRows
-    cases = two-orders adj n policy far.0 3 0 (group_of (wholeGroup workers)) (range 0 n) (sorted policy.reach) (sym (sorted-levels adj policy.reach n (rows-graph rows) (range 0 n) (proper-range n)))
+    unfolding plan_rows
+    cases = two_orders adj n policy far.0 3 0 (group_of (whole_group workers)) (range 0 n) (sorted policy.reach) (sym (sorted_levels adj policy.reach n (rows_graph rows) (range 0 n) (proper-range n)))
 
-    pub whole-task : (records : List ℕ) → policy.p ≤ 100 → workers ≤ maxWorkers → length records ≡ width * maxGroups → GroupTask n policy maxDepth 0 starts columns (range 0 n) records (wholeGroup workers)
+    pub whole_task : (records : List ℕ) → policy.p ≤ 100 → workers ≤ max_workers → length records ≡ width * max_groups → GroupTask n policy max_depth 0 starts columns (range 0 n) records (whole_group workers)
     unfolding leaf
-    whole-task records a b c = record {
+    whole_task records a b c = record {
       rows = rows;
       proper = proper-range n;
       share = a;
@@ -79,29 +79,29 @@ module _ (n : ℕ) (starts columns : List ℕ) (rows : Rows n starts columns) wh
       room = go cases;
     }
       where
-        go : Cases → width * (0 + length numberedPlan.groups) ≤ length records
+        go : Cases → width * (0 + length numbered_plan.groups) ≤ length records
         go (inl (e, _)) = rw e (omega arith)
-        go (inr (e, _)) = rw e (omega (arith, rows_few adj n policy (rows-graph rows) far.0 workers b))
+        go (inr (e, _)) = rw e (omega (arith, rows_few adj n policy (rows_graph rows) far.0 workers b))
 
-    module _ {count : ℕ} {order before records : List ℕ} (h : Holds numberedPlan 0 before order records count) where
+    module _ {count : ℕ} {order before records : List ℕ} (h : Holds numbered_plan 0 before order records count) where
       -- one group: the rows are left to be sorted
-      pub leaf-held : count ≡ 1 → (order ≡ range 0 n) × ((order' : List ℕ) → order' ≡ sorted policy.reach → Holds (planRows adj n policy workers) 0 before order' records count)
+      pub leaf-held : count ≡ 1 → (order ≡ range 0 n) × ((order' : List ℕ) → order' ≡ sorted policy.reach → Holds (plan_rows adj n policy workers) 0 before order' records count)
       unfolding leaf
       leaf-held one = go cases
         where
           go : Cases
-              → (order ≡ range 0 n) × ((order' : List ℕ) → order' ≡ sorted policy.reach → Holds (planRows adj n policy workers) 0 before order' records count)
+              → (order ≡ range 0 n) × ((order' : List ℕ) → order' ≡ sorted policy.reach → Holds (plan_rows adj n policy workers) 0 before order' records count)
           go (inl (e, f)) = (
             h.order_is ∙ ap (λ (o : Plan). o.order) e,
-            λ order' s. rw f (record { order_is = s; count-is = one; records-are = h.records-are ∙ ap (λ (o : Plan). take (width * 0) before ++ flat o.groups) e }),
+            λ order' s. rw f (record { order_is = s; count_is = one; records_are = h.records_are ∙ ap (λ (o : Plan). take (width * 0) before ++ flat o.groups) e }),
           )
-          go (inr (e, l)) = absurd (omega (arith, h.count-is))
+          go (inr (e, l)) = absurd (omega (arith, h.count_is))
 
       -- several: the plan is that of all rows
-      pub split-held : (count ≡ 1 → ⊥) → Holds (planRows adj n policy workers) 0 before order records count
+      pub split-held : (count ≡ 1 → ⊥) → Holds (plan_rows adj n policy workers) 0 before order records count
       unfolding leaf
       split-held more = go cases
         where
-          go : Cases → Holds (planRows adj n policy workers) 0 before order records count
-          go (inl (e, f)) = absurd (more (h.count-is ∙ ap (λ (o : Plan). 0 + length o.groups) e))
+          go : Cases → Holds (plan_rows adj n policy workers) 0 before order records count
+          go (inl (e, f)) = absurd (more (h.count_is ∙ ap (λ (o : Plan). 0 + length o.groups) e))
           go (inr (e, l)) = rw e at h

@@ -1,4 +1,6 @@
 // The planner: RACE's recursive colouring at a distance.
+#![tactic(auto)]
+
 use crate::whole::plan_rows;
 use base::slices::copy;
 use base::{MATRIX, PARAMETER, SHORT, Verdict};
@@ -12,17 +14,17 @@ mod whole;
 
 ghost use Rattle.std.specs.Prelude.{◌≡◌, length};
 ghost use Rattle.base.specs.Replies.{lent};
-ghost use Rattle.base.specs.Verdicts.{replyOf};
-ghost use Rattle.matrix.specs.Matrix.{matrixOf};
+ghost use Rattle.base.specs.Verdicts.{reply_of};
+ghost use Rattle.matrix.specs.Matrix.{matrix_of};
 ghost use Rattle.plan.specs.Groups.{flat};
-ghost use Rattle.race.specs.Planner.{plan, areParameters, planReply};
+ghost use Rattle.race.specs.Planner.{plan, are_parameters, plan_reply};
 
 // "all workers, 1 to 16"
 const MOST_WORKERS: u32 = MAX_WORKERS as u32;
 
 // Whether there may be so many workers, this share and this distance.
 fn are_parameters(workers: u32, p: u32, k: u32) -> bool
-    ensures { result ≡ areParameters workers p k }
+    ensures { result ≡ are_parameters workers p k }
 {
     if workers < 1 {
         return false;
@@ -51,11 +53,11 @@ pub fn plan(
     order: &mut [u32],
     groups: &mut [u32],
 ) -> Verdict
-    ensures reply { replyOf result ≡ planReply (matrixOf n starts.now columns.now values.now) workers p k (length order.old) (length groups.old) }
-    ensures lent_order { order.new ≡ lent (planReply (matrixOf n starts.now columns.now values.now) workers p k (length order.old) (length groups.old))
-        (plan (matrixOf n starts.now columns.now values.now) workers p k).order order.old }
-    ensures lent_groups { groups.new ≡ lent (planReply (matrixOf n starts.now columns.now values.now) workers p k (length order.old) (length groups.old))
-        (flat (plan (matrixOf n starts.now columns.now values.now) workers p k).groups) groups.old }
+    ensures reply { reply_of result ≡ plan_reply (matrix_of n starts.now columns.now values.now) workers p k (length order.old) (length groups.old) }
+    ensures lent_order { order.new ≡ lent (plan_reply (matrix_of n starts.now columns.now values.now) workers p k (length order.old) (length groups.old))
+        (plan (matrix_of n starts.now columns.now values.now) workers p k).order order.old }
+    ensures lent_groups { groups.new ≡ lent (plan_reply (matrix_of n starts.now columns.now values.now) workers p k (length order.old) (length groups.old))
+        (flat (plan (matrix_of n starts.now columns.now values.now) workers p k).groups) groups.old }
 {
     if !is_matrix(n, starts, columns, values) {
         return Verdict::Refused(MATRIX, 0);

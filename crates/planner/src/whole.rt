@@ -1,15 +1,15 @@
 // The whole: all rows, sorted by level, and their plan.
 ghost use Rattle.std.specs.Prelude.{◌≡◌, ◌≤◌, ◌*◌, length};
 ghost use Rattle.base.specs.Lists.{concat, range};
-ghost use Rattle.levels.specs.Levels.{ownLevels};
-ghost use Rattle.levels.specs.code.Rows.{Rows, adjOf};
+ghost use Rattle.levels.specs.Levels.{own_levels};
+ghost use Rattle.levels.specs.Code.Rows.{Rows, adj_of};
 ghost use Rattle.plan.specs.Groups.{width};
-ghost use Rattle.plan.specs.Sound.{maxWorkers, maxGroups, maxDistance};
-ghost use Rattle.extents.specs.code.Scans.{policyOf};
-ghost use Rattle.race.specs.Planner.{planRows};
-ghost use Rattle.cycle.specs.code.Records.{Holds};
-ghost use Rattle.sort.specs.code.Sort.{Keyed, Room};
-ghost use Rattle.matrix.specs.Limits.{maxRows};
+ghost use Rattle.plan.specs.Sound.{max_workers, max_groups, max_distance};
+ghost use Rattle.extents.specs.Code.Scans.{policy_of};
+ghost use Rattle.race.specs.Planner.{plan_rows};
+ghost use Rattle.cycle.specs.Code.Records.{Holds};
+ghost use Rattle.sort.specs.Code.Sort.{Keyed, Room};
+ghost use Rattle.matrix.specs.Limits.{max_rows};
 
 use cycle::plan_group;
 use extents::Policy;
@@ -24,7 +24,7 @@ const STAGES: u32 = MAX_DEPTH as u32;
 
 // The rows by their numbers.
 fn number(order: &mut [u32])
-    requires { length order.old ≤ maxRows }
+    requires { length order.old ≤ max_rows }
     ensures { order.new ≡ range 0 (length order.old) }
 {
     let mut i = 0;
@@ -46,8 +46,8 @@ fn sort_rows(
     n: usize,
     reach: usize,
 )
-    requires { Rows n starts.now columns.now × Keyed (adjOf n starts.now columns.now) n keys.now × (order.old ≡ range 0 n) × Room n list.old tried.old queue.old × (1 ≤ reach) }
-    ensures { order.new ≡ concat (ownLevels (adjOf n starts.now columns.now) reach n (range 0 n)) }
+    requires { Rows n starts.now columns.now × Keyed (adj_of n starts.now columns.now) n keys.now × (order.old ≡ range 0 n) × Room n list.old tried.old queue.old × (1 ≤ reach) }
+    ensures { order.new ≡ concat (own_levels (adj_of n starts.now columns.now) reach n (range 0 n)) }
 {
     let mut ends = [0u32; MAX_LEVELS];
     level_sort(
@@ -66,8 +66,8 @@ pub fn plan_rows(
     policy: Policy,
     workers: u32,
 ) -> u32
-    requires { Rows n starts.now columns.now × (length order.old ≡ n) × (length records.old ≡ width * maxGroups) × (policy.p ≤ 100) × (1 ≤ policy.reach) × (policy.reach ≤ maxDistance) × (workers ≤ maxWorkers) }
-    ensures { Holds (planRows (adjOf n starts.now columns.now) n (policyOf policy) workers) 0 records.old order.new records.new result }
+    requires { Rows n starts.now columns.now × (length order.old ≡ n) × (length records.old ≡ width * max_groups) × (policy.p ≤ 100) × (1 ≤ policy.reach) × (policy.reach ≤ max_distance) × (workers ≤ max_workers) }
+    ensures { Holds (plan_rows (adj_of n starts.now columns.now) n (policy_of policy) workers) 0 records.old order.new records.new result }
 {
     number(order);
     let mut keys = [0u32; MAX_ROWS];

@@ -7,16 +7,16 @@ use Prim.Native.Nat.{ℕ, zero, suc, ◌+◌, ◌≤◌, ◌<◌, max}
 use native.Mathlib.Omega.{arith}
 use lib.Dec.{eqb, leb, ltb}
 use borrow.Author.Tests.{ltb-true, ltb-false, leb-true, leb-false, lt-ltb, le-ltb, eq-eqb, ne_eqb}
-use Rattle.base.proofs.Booleans.{or-false, or_left_false, or_right_false, same_or}
+use Rattle.base.proofs.Booleans.{or_false, or_left_false, or_right_false, same_or}
 use Rattle.plan.specs.Groups.{Group, red, blue}
-use Rattle.plan.specs.Sound.{maxWorkers}
+use Rattle.plan.specs.Sound.{max_workers}
 use Rattle.run.specs.Job.{Job, Accepted}
-use Rattle.run.specs.Tree.{Tree, none, node, tree, holds, unfinished, redOpen, blocked}
+use Rattle.run.specs.Tree.{Tree, none, node, tree, holds, unfinished, red_open, blocked}
 use Rattle.run.specs.Updates.{count, finished, next, waits}
 use Rattle.run.proofs.SoundTree.{Inner, Pairs, pairs-le}
 use Rattle.run.proofs.Forest.{WholePlan}
 use Rattle.run.proofs.Accepted.{tree_of}
-use Rattle.prepared.specs.Gates.{last_end, redEnd, gateIn, end_in, gate, behind}
+use Rattle.prepared.specs.Gates.{last_end, red_end, gate_in, end_in, gate, behind}
 
 -- ---- numbers
 
@@ -60,9 +60,9 @@ module _ (made : List ℕ) where
   behind-none (suc v) = rw (le-ltb (count made v) 0 (omega arith)) (behind-none v)
 
   -- numbers that count only under a test
-  pub behind-if : (t : Bool) (a : ℕ → ℕ) (k : ℕ) → behind made (λ v. cond t (a v) 0) k ≡ t && behind made a k
-  behind-if true a k = refl
-  behind-if false a k = behind-none k
+  pub behind_if : (t : Bool) (a : ℕ → ℕ) (k : ℕ) → behind made (λ v. cond t (a v) 0) k ≡ t && behind made a k
+  behind_if true a k = refl
+  behind_if false a k = behind-none k
 
   -- a number for one worker
   pub behind-one : (f e k : ℕ) → f < k → behind made (λ v. cond (eqb f v) e 0) k ≡ ltb (count made f) e
@@ -75,7 +75,7 @@ module _ (made : List ℕ) where
       before (suc m) h = rw (ne_eqb f m (λ q. omega arith), le-ltb (count made m) 0 (omega arith)) (before m (omega arith))
 
       go : (f ≡ v) ⊎ ((f ≡ v) → ⊥) → (f < v → behind made (λ v. cond (eqb f v) e 0) v ≡ ltb (count made f) e) → behind made (λ v. cond (eqb f v) e 0) (suc v) ≡ ltb (count made f) e
-      go (inl q) ih = rw (eq-eqb f v q, before v (omega arith)) (or-false (ltb (count made v) e) ∙ ap (λ (x : ℕ). ltb (count made x) e) (sym q))
+      go (inl q) ih = rw (eq-eqb f v q, before v (omega arith)) (or_false (ltb (count made v) e) ∙ ap (λ (x : ℕ). ltb (count made x) e) (sym q))
       go (inr q) ih = rw (ne_eqb f v q, le-ltb (count made v) 0 (omega arith)) (ih (omega arith))
 
 -- ---- the trees of a plan
@@ -87,14 +87,14 @@ Led k (node g below next) = (g.first < k) × Led k below × Led k next
 
 module _ (k : ℕ) where
   -- .. of pairs of groups whose workers are
-  led-pairs : (T : Tree) (f l : ℕ) → Pairs T f l → l ≤ k → Led k T
-  led-pairs none f l p h = tt
-  led-pairs (node r rb none) f l p h = absurd p
-  led-pairs (node r rb (node b bb ks)) f l p h =
+  led_pairs : (T : Tree) (f l : ℕ) → Pairs T f l → l ≤ k → Led k T
+  led_pairs none f l p h = tt
+  led_pairs (node r rb none) f l p h = absurd p
+  led_pairs (node r rb (node b bb ks)) f l p h =
       let m = pairs-le ks (f + r.workers) l p.4 in (
         omega arith,
-        inside rb (led-pairs rb) r.first (r.first + r.workers) (omega arith) p.2,
-        (omega arith, inside bb (led-pairs bb) b.first (b.first + b.workers) (omega arith) p.3, led-pairs ks (f + r.workers) l p.4 h),
+        inside rb (led_pairs rb) r.first (r.first + r.workers) (omega arith) p.2,
+        (omega arith, inside bb (led_pairs bb) b.first (b.first + b.workers) (omega arith) p.3, led_pairs ks (f + r.workers) l p.4 h),
       )
     where
       inside : (B : Tree) → ((f l : ℕ) → Pairs B f l → l ≤ k → Led k B) → (f l : ℕ) → l ≤ k → Inner B (Pairs B f l) → Led k B
@@ -102,12 +102,12 @@ module _ (k : ℕ) where
       inside (node g below next) ih f l h p = ih f l p h
 
 -- the groups of a sound plan are led by the workers of a state
-pub led-plan : (j : Job) → WholePlan j → Led maxWorkers (tree j.plan.groups)
-led-plan j W = rw W.is (omega (arith, W.first, W.some, W.few), go W.below W.under.pairs, tt)
+pub led_plan : (j : Job) → WholePlan j → Led max_workers (tree j.plan.groups)
+led_plan j W = rw W.is (omega (arith, W.first, W.some, W.few), go W.below W.under.pairs, tt)
   where
-    go : (B : Tree) → Inner B (Pairs B W.top.first (W.top.first + W.top.workers)) → Led maxWorkers B
+    go : (B : Tree) → Inner B (Pairs B W.top.first (W.top.first + W.top.workers)) → Led max_workers B
     go none p = tt
-    go (node g below next) p = led-pairs maxWorkers (node g below next) W.top.first (W.top.first + W.top.workers) p (omega (arith, W.first, W.few))
+    go (node g below next) p = led_pairs max_workers (node g below next) W.top.first (W.top.first + W.top.workers) p (omega (arith, W.first, W.few))
 
 -- ---- the wait
 
@@ -118,41 +118,41 @@ module _ (made : List ℕ) (end : Group → ℕ) (k : ℕ) where
   one-leaf : (g : Group) → g.first < k → behind made (λ v. cond (eqb g.first v) (end g) 0) k ≡ not (fin g)
   one-leaf g l = behind-one made g.first (end g) k l ∙ sym (not-leb (end g) (count made g.first))
 
-  open-behind : (T : Tree) → Led k T → behind made (λ v. last_end end v T) k ≡ unfinished fin T
+  open_behind : (T : Tree) → Led k T → behind made (λ v. last_end end v T) k ≡ unfinished fin T
   unfolding last_end unfinished
-  open-behind none l = behind-none made k
-  open-behind (node g none next) l =
-      behind-either made (λ v. cond (eqb g.first v) (end g) 0) (λ v. last_end end v next) k ∙ rw (one-leaf g l.0, open-behind next l.2) refl
-  open-behind (node g (node h hb hn) next) l =
-      behind-either made (λ v. last_end end v (node h hb hn)) (λ v. last_end end v next) k ∙ rw (open-behind (node h hb hn) l.1, open-behind next l.2) refl
+  open_behind none l = behind-none made k
+  open_behind (node g none next) l =
+      behind-either made (λ v. cond (eqb g.first v) (end g) 0) (λ v. last_end end v next) k ∙ rw (one-leaf g l.0, open_behind next l.2) refl
+  open_behind (node g (node h hb hn) next) l =
+      behind-either made (λ v. last_end end v (node h hb hn)) (λ v. last_end end v next) k ∙ rw (open_behind (node h hb hn) l.1, open_behind next l.2) refl
 
-  red-behind : (T : Tree) → Led k T → behind made (λ v. redEnd end v T) k ≡ redOpen fin T
-  unfolding redEnd redOpen
+  red-behind : (T : Tree) → Led k T → behind made (λ v. red_end end v T) k ≡ red_open fin T
+  unfolding red_end red_open
   red-behind none l = behind-none made k
   red-behind (node g below next) l =
-      behind-either made (λ v. cond (eqb g.colour red) (last_end end v (node g below none)) 0) (λ v. redEnd end v next) k
-      ∙ ap (λ (b : Bool). b || behind made (λ v. redEnd end v next) k) (behind-if made (eqb g.colour red) (λ v. last_end end v (node g below none)) k)
-      ∙ rw (open-behind (node g below none) (l.0, l.1, tt), red-behind next l.2) refl
+      behind-either made (λ v. cond (eqb g.colour red) (last_end end v (node g below none)) 0) (λ v. red_end end v next) k
+      ∙ ap (λ (b : Bool). b || behind made (λ v. red_end end v next) k) (behind_if made (eqb g.colour red) (λ v. last_end end v (node g below none)) k)
+      ∙ rw (open_behind (node g below none) (l.0, l.1, tt), red-behind next l.2) refl
 
-  pub blocked-behind : (q : ℕ) (all : Tree) → Led k all → (T : Tree) → Led k T → behind made (λ v. gateIn end v q all T) k ≡ blocked fin q all T
-  unfolding gateIn blocked
+  pub blocked-behind : (q : ℕ) (all : Tree) → Led k all → (T : Tree) → Led k T → behind made (λ v. gate_in end v q all T) k ≡ blocked fin q all T
+  unfolding gate_in blocked
   blocked-behind q all a none l = behind-none made k
   blocked-behind q all a (node g below next) l =
-      behind-either made (λ v. cond (holds g q) (max (cond (eqb g.colour blue) (redEnd end v all) 0) (gateIn end v q below below)) 0) (λ v. gateIn end v q all next) k
-      ∙ ap (λ (b : Bool). b || behind made (λ v. gateIn end v q all next) k)
-      (behind-if made (holds g q) (λ v. max (cond (eqb g.colour blue) (redEnd end v all) 0) (gateIn end v q below below)) k
-      ∙ ap (λ (b : Bool). holds g q && b) (behind-either made (λ v. cond (eqb g.colour blue) (redEnd end v all) 0) (λ v. gateIn end v q below below) k
-      ∙ ap (λ (b : Bool). b || behind made (λ v. gateIn end v q below below) k) (behind-if made (eqb g.colour blue) (λ v. redEnd end v all) k)))
+      behind-either made (λ v. cond (holds g q) (max (cond (eqb g.colour blue) (red_end end v all) 0) (gate_in end v q below below)) 0) (λ v. gate_in end v q all next) k
+      ∙ ap (λ (b : Bool). b || behind made (λ v. gate_in end v q all next) k)
+      (behind_if made (holds g q) (λ v. max (cond (eqb g.colour blue) (red_end end v all) 0) (gate_in end v q below below)) k
+      ∙ ap (λ (b : Bool). holds g q && b) (behind-either made (λ v. cond (eqb g.colour blue) (red_end end v all) 0) (λ v. gate_in end v q below below) k
+      ∙ ap (λ (b : Bool). b || behind made (λ v. gate_in end v q below below) k) (behind_if made (eqb g.colour blue) (λ v. red_end end v all) k)))
       ∙ rw (red-behind all a, blocked-behind q below l.1 below l.1, blocked-behind q all a next l.2) refl
 
 -- "A worker waits if the leaf of its next move lies in, or is, a blue group one of whose red siblings has an unfinished
 -- leaf": some worker is behind its number at that move's row
-pub gate-waits : (j : Job) → Accepted j → (made : List ℕ) (w : ℕ) → waits j made w ≡ behind made (gate j (next j made w).row) maxWorkers
+pub gate-waits : (j : Job) → Accepted j → (made : List ℕ) (w : ℕ) → waits j made w ≡ behind made (gate j (next j made w).row) max_workers
 unfolding waits gate end_in finished
 gate-waits j ok made w =
     let T : Tree = tree j.plan.groups in
-    let led = led-plan j (tree_of j ok) in
-    sym (blocked-behind made (end_in j) maxWorkers (next j made w).row T led T led)
+    let led = led_plan j (tree_of j ok) in
+    sym (blocked-behind made (end_in j) max_workers (next j made w).row T led T led)
 
 -- ---- as counts grow
 

@@ -12,11 +12,11 @@ use lib.Seq.{sets, length-sets, sets-eq, take_at, drop_at, take-set-le, drop-set
 use borrow.Author.Tests.{ltb-true, ltb-false}
 use Rattle.base.proofs.Booleans.{same_or}
 use Rattle.base.proofs.Lists.{take-drop}
-use Rattle.words.specs.LittleEndian.{number, to_signed, signedNumber, signedBytesOf, signed}
-use Rattle.words.specs.code.Places.{eightAt}
-use Rattle.words.proofs.Digits.{length-signedBytesOf, eight-at}
-use Rattle.words.proofs.Blocks.{decoded-at, length-decoded}
-use Rattle.words.proofs.Codes.{HoldsSigned, signed-code}
+use Rattle.words.specs.LittleEndian.{number, to_signed, signed_number, signed_bytes_of, signed}
+use Rattle.words.specs.Code.Places.{eight_at}
+use Rattle.words.proofs.Digits.{length-signed_bytes_of, eight-at}
+use Rattle.words.proofs.Blocks.{decoded_at, length_decoded}
+use Rattle.words.proofs.Codes.{HoldsSigned, signed_code}
 
 module _ {A : Type 0} where
   -- what is stored before a place, or from a place on
@@ -34,20 +34,20 @@ module _ {A : Type 0} where
       ∙ ap (take w) (drop_at (take i l) (vs ++ drop (i + length vs) l) i (length-take-le i l (omega arith))) ∙ take_at vs (drop (i + length vs) l) w e
 
 -- sum t is loaded
-pub load_signed : (bytes : List ℕ) (t : ℕ) → t < length bytes / 8 → get_or (signed 8 bytes) t (pos 0) ≡ to_signed 8 (eightAt bytes (t * 8))
+pub load_signed : (bytes : List ℕ) (t : ℕ) → t < length bytes / 8 → get_or (signed 8 bytes) t (pos 0) ≡ to_signed 8 (eight_at bytes (t * 8))
 unfolding number to_signed
-load_signed bytes t l = decoded-at (signedNumber 8) 8 bytes t l ∙ ap (to_signed 8) (sym (eight-at bytes (t * 8) (omega arith)))
+load_signed bytes t l = decoded_at (signed_number 8) 8 bytes t l ∙ ap (to_signed 8) (sym (eight-at bytes (t * 8) (omega arith)))
 
 -- sum t is stored
 module _ (bytes : List ℕ) (t : ℕ) (z : ℤ) (holds : HoldsSigned 8 z) (fits : t < length bytes / 8) where
   abbrev new : List ℕ
-  new = sets bytes (t * 8) (signedBytesOf 8 z)
+  new = sets bytes (t * 8) (signed_bytes_of 8 z)
 
   abbrev vs : List ℕ
-  vs = signedBytesOf 8 z
+  vs = signed_bytes_of 8 z
 
-  vs-long : length vs ≡ 8
-  vs-long = length-signedBytesOf 8 z
+  vs_long : length vs ≡ 8
+  vs_long = length-signed_bytes_of 8 z
 
   abbrev block : ℕ → List ℕ → List ℕ
   block k l = take 8 (drop (k * 8) l)
@@ -63,29 +63,29 @@ module _ (bytes : List ℕ) (t : ℕ) (z : ℤ) (holds : HoldsSigned 8 z) (fits 
 
       go : (b : Bool) → ltb k t ≡ b → block k new ≡ block k bytes
       go true c = cut new ∙ ap (drop (k * 8)) (before-sets bytes (t * 8) vs (k * 8 + 8) (omega (arith, ltb-true k t c))) ∙ sym (cut bytes)
-      go false c = ap (take 8) (past-sets bytes (t * 8) vs (k * 8) (omega (arith, vs-long, ltb-false k t c)))
+      go false c = ap (take 8) (past-sets bytes (t * 8) vs (k * 8) (omega (arith, vs_long, ltb-false k t c)))
 
   same-long : length new / 8 ≡ length bytes / 8
   same-long = ap (λ (n : ℕ). n / 8) (length-sets bytes (t * 8) vs)
 
   pub store-signed : signed 8 new ≡ set (signed 8 bytes) t z
   store-signed =
-      ext_get_or (signedNumber 8 []) (signed 8 new) (set (signed 8 bytes) t z)
-      (length-decoded (signedNumber 8) 8 new ∙ same-long ∙ sym (length-decoded (signedNumber 8) 8 bytes) ∙ sym (length-set (signed 8 bytes) t z)) at
+      ext_get_or (signed_number 8 []) (signed 8 new) (set (signed 8 bytes) t z)
+      (length_decoded (signed_number 8) 8 new ∙ same-long ∙ sym (length_decoded (signed_number 8) 8 bytes) ∙ sym (length-set (signed 8 bytes) t z)) at
     where
-      at : (k : ℕ) → k < length (signed 8 new) → get_or (signed 8 new) k (signedNumber 8 []) ≡ get_or (set (signed 8 bytes) t z) k (signedNumber 8 [])
-      at k l = decoded-at (signedNumber 8) 8 new k low ∙ go (same_or k t)
+      at : (k : ℕ) → k < length (signed 8 new) → get_or (signed 8 new) k (signed_number 8 []) ≡ get_or (set (signed 8 bytes) t z) k (signed_number 8 [])
+      at k l = decoded_at (signed_number 8) 8 new k low ∙ go (same_or k t)
         where
           low : k < length new / 8
-          low = omega (arith, length-decoded (signedNumber 8) 8 new)
+          low = omega (arith, length_decoded (signed_number 8) 8 new)
 
-          go : (k ≡ t) ⊎ (k ≢ t) → signedNumber 8 (block k new) ≡ get_or (set (signed 8 bytes) t z) k (signedNumber 8 [])
+          go : (k ≡ t) ⊎ (k ≢ t) → signed_number 8 (block k new) ≡ get_or (set (signed 8 bytes) t z) k (signed_number 8 [])
           go (inl q) =
-              ap (λ (y : ℕ). signedNumber 8 (block y new)) q
-              ∙ ap (signedNumber 8) (here-sets bytes (t * 8) vs 8 vs-long (omega (arith, vs-long)))
-              ∙ (signed-code 8 (omega arith)).back z holds
-              ∙ sym (get_or-set_same (signed 8 bytes) t z (signedNumber 8 []) (omega (arith, length-decoded (signedNumber 8) 8 bytes)))
-              ∙ ap (λ (y : ℕ). get_or (set (signed 8 bytes) t z) y (signedNumber 8 [])) (sym q)
+              ap (λ (y : ℕ). signed_number 8 (block y new)) q
+              ∙ ap (signed_number 8) (here-sets bytes (t * 8) vs 8 vs_long (omega (arith, vs_long)))
+              ∙ (signed_code 8 (omega arith)).back z holds
+              ∙ sym (get_or-set_same (signed 8 bytes) t z (signed_number 8 []) (omega (arith, length_decoded (signed_number 8) 8 bytes)))
+              ∙ ap (λ (y : ℕ). get_or (set (signed 8 bytes) t z) y (signed_number 8 [])) (sym q)
           go (inr q) =
-              ap (signedNumber 8) (other k q) ∙ sym (decoded-at (signedNumber 8) 8 bytes k (omega (arith, low, same-long)))
-              ∙ sym (get_or-set_other (signed 8 bytes) t k z (signedNumber 8 []) q)
+              ap (signed_number 8) (other k q) ∙ sym (decoded_at (signed_number 8) 8 bytes k (omega (arith, low, same-long)))
+              ∙ sym (get_or-set_other (signed 8 bytes) t k z (signed_number 8 []) q)

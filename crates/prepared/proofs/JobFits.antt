@@ -11,25 +11,25 @@ use Rattle.base.specs.Lists.{concat, range, filter, keep, position_of}
 use Rattle.base.proofs.Each.{Each, each_append}
 use Rattle.base.proofs.Integers.{abs-mul-le}
 use Rattle.base.proofs.Lists.{length-range}
-use Rattle.matrix.specs.Limits.{maxRows, max_value, maxDisplacement}
+use Rattle.matrix.specs.Limits.{max_rows, max_value, max_displacement}
 use Rattle.matrix.specs.Matrix.{adjacent, neighbours}
-use Rattle.matrix.proofs.Matrix.{matrix-facts, small-entry, small-displacement}
+use Rattle.matrix.proofs.Matrix.{matrix_facts, small-entry, small-displacement}
 use Rattle.plan.specs.Groups.{Group, red, blue}
-use Rattle.plan.specs.Sound.{maxWorkers, apart, likeApart}
+use Rattle.plan.specs.Sound.{max_workers, apart, like_apart}
 use Rattle.run.specs.Job.{Job, Accepted, row_at}
 use Rattle.run.specs.Tree.{Tree, none, node, tree, holds}
-use Rattle.run.specs.Updates.{entry_at, displacementAt, later, withEach, rowUpdates, owner, when, up_to, updates, accesses}
-use Rattle.tables.specs.code.Laid.{first_of}
+use Rattle.run.specs.Updates.{entry_at, displacement_at, later, with_each, row_updates, owner, when, up_to, updates, accesses}
+use Rattle.tables.specs.Code.Laid.{first_of}
 use Rattle.run.proofs.SoundTree.{tops, Inner, Tiles, Tiled, tiles-le}
 use Rattle.run.proofs.Forest.{WholePlan}
-use Rattle.run.proofs.Work.{cum, cum-mono}
-use Rattle.base.proofs.Pieces.{length-pieces}
+use Rattle.run.proofs.Work.{cum, cum_mono}
+use Rattle.base.proofs.Pieces.{length_pieces}
 use Rattle.layout.proofs.UpdateRoom.{first-room}
 use Rattle.run.proofs.Accepted.{facts, tree_of, accesses-small}
 use Rattle.words.proofs.Codes.{Holds, HoldsSigned}
-use Rattle.prepared.specs.Gates.{last_end, redEnd, gateIn, end_in, gate}
+use Rattle.prepared.specs.Gates.{last_end, red_end, gate_in, end_in, gate}
 use Rattle.prepared.specs.Format.{head_of, lists_of}
-use Rattle.prepared.proofs.Gates.{Led, led-plan}
+use Rattle.prepared.proofs.Gates.{Led, led_plan}
 use Rattle.prepared.proofs.TablesOf.{length-even}
 use Rattle.prepared.proofs.ReadBack.{HoldsUpdate, Fits}
 
@@ -54,52 +54,52 @@ each-filter-range p n k (suc m) h = go (p k) (each-filter-range p n (suc k) m (o
 -- ---- updates
 
 module _ (j : Job) (ok : Accepted j) where
-  few-rows : j.matrix.n ≤ maxRows
-  few-rows = (matrix-facts j.matrix ok.matrix).few
+  few-rows : j.matrix.n ≤ max_rows
+  few-rows = (matrix_facts j.matrix ok.matrix).few
 
-  product-fits : (p q r : ℕ) → HoldsSigned 8 (entry_at j p q *ℤ displacementAt j r)
-  unfolding entry_at displacementAt
-  product-fits p q r = go (entry_at j p q *ℤ displacementAt j r)
-      (abs-mul-le (entry_at j p q) (displacementAt j r) (small-entry j.matrix ok.matrix (row_at j p) (row_at j q)) (small-displacement j.matrix.n j.displacements ok.displacements (row_at j r)))
+  product-fits : (p q r : ℕ) → HoldsSigned 8 (entry_at j p q *ℤ displacement_at j r)
+  unfolding entry_at displacement_at
+  product-fits p q r = go (entry_at j p q *ℤ displacement_at j r)
+      (abs-mul-le (entry_at j p q) (displacement_at j r) (small-entry j.matrix ok.matrix (row_at j p) (row_at j q)) (small-displacement j.matrix.n j.displacements ok.displacements (row_at j r)))
     where
-      go : (z : ℤ) → nat_abs z ≤ max_value * maxDisplacement → HoldsSigned 8 z
+      go : (z : ℤ) → nat_abs z ≤ max_value * max_displacement → HoldsSigned 8 z
       go (pos v) h = omega arith
       go (negsuc v) h = omega arith
 
-  fits-with : (p : ℕ) → p < j.matrix.n → (qs : List ℕ) → Each (λ q. q < j.matrix.n) qs → Each HoldsUpdate (withEach j p qs)
-  unfolding withEach
-  fits-with p l [] h = tt
-  fits-with p l (q ∷ qs) h =
+  fits_with : (p : ℕ) → p < j.matrix.n → (qs : List ℕ) → Each (λ q. q < j.matrix.n) qs → Each HoldsUpdate (with_each j p qs)
+  unfolding with_each
+  fits_with p l [] h = tt
+  fits_with p l (q ∷ qs) h =
       let a = few-rows in
       let b = h.0 in (
         record { amount = product-fits p q q; target = omega arith; row = omega arith },
-        (record { amount = product-fits p q p; target = omega arith; row = omega arith }, fits-with p l qs h.1),
+        (record { amount = product-fits p q p; target = omega arith; row = omega arith }, fits_with p l qs h.1),
       )
 
-  fits-row : (p : ℕ) → p < j.matrix.n → Each HoldsUpdate (rowUpdates j p)
-  unfolding rowUpdates later
+  fits-row : (p : ℕ) → p < j.matrix.n → Each HoldsUpdate (row_updates j p)
+  unfolding row_updates later
   fits-row p l =
       let a = few-rows in (
         record { amount = product-fits p p p; target = omega arith; row = omega arith },
-        fits-with p l (later j p) (each-filter-range (λ q. adjacent j.matrix (row_at j p) (row_at j q)) j.matrix.n (suc p) (j.matrix.n - suc p) (omega arith)),
+        fits_with p l (later j p) (each-filter-range (λ q. adjacent j.matrix (row_at j p) (row_at j q)) j.matrix.n (suc p) (j.matrix.n - suc p) (omega arith)),
       )
 
-  fits-when : (b : Bool) (p : ℕ) → p < j.matrix.n → Each HoldsUpdate (when b (rowUpdates j p))
+  fits-when : (b : Bool) (p : ℕ) → p < j.matrix.n → Each HoldsUpdate (when b (row_updates j p))
   unfolding when
   fits-when true p l = fits-row p l
   fits-when false p l = tt
 
-  fits-to : (w e : ℕ) → e ≤ j.matrix.n → Each HoldsUpdate (up_to j w e)
+  fits_to : (w e : ℕ) → e ≤ j.matrix.n → Each HoldsUpdate (up_to j w e)
   unfolding up_to
-  fits-to w zero l = tt
-  fits-to w (suc e) l = each_append HoldsUpdate (up_to j w e) (when (eqb (owner j e) w) (rowUpdates j e)) (fits-to w e (omega arith)) (fits-when (eqb (owner j e) w) e (omega arith))
+  fits_to w zero l = tt
+  fits_to w (suc e) l = each_append HoldsUpdate (up_to j w e) (when (eqb (owner j e) w) (row_updates j e)) (fits_to w e (omega arith)) (fits-when (eqb (owner j e) w) e (omega arith))
 
-  fits_all : Each HoldsUpdate (concat (map (updates j) (range 0 maxWorkers)))
+  fits_all : Each HoldsUpdate (concat (map (updates j) (range 0 max_workers)))
   unfolding updates
-  fits_all = each-concat-range HoldsUpdate (updates j) 0 maxWorkers (λ w a b. fits-to w j.matrix.n (omega arith))
+  fits_all = each-concat-range HoldsUpdate (updates j) 0 max_workers (λ w a b. fits_to w j.matrix.n (omega arith))
 
   -- they are few
-  first_small : (w : ℕ) → w ≤ maxWorkers → first_of j w < 2 ^ 32
+  first_small : (w : ℕ) → w ≤ max_workers → first_of j w < 2 ^ 32
   first_small w l = omega (arith, first-room j ok w l)
 
 -- ---- gates
@@ -121,44 +121,44 @@ module _ (adj : ℕ → List ℕ) (order : List ℕ) (n : ℕ) where
       let m = tiles-le adj order next (s + g.length) e t.3 in
       (omega arith, inside below (short-tiles below) t.2, short-tiles next (s + g.length) e t.3 h)
     where
-      inside : (B : Tree) → ((s e : ℕ) → Tiles adj order B s e → e ≤ n → Short n B) → Inner B (Tiles adj order B g.start (g.start + g.length) × (likeApart (apart adj) order (tops B) ≡ true)) → Short n B
+      inside : (B : Tree) → ((s e : ℕ) → Tiles adj order B s e → e ≤ n → Short n B) → Inner B (Tiles adj order B g.start (g.start + g.length) × (like_apart (apart adj) order (tops B) ≡ true)) → Short n B
       inside none ih p = tt
       inside (node k kb kn) ih p = ih g.start (g.start + g.length) p.0 (omega (arith, tiles-le adj order next (s + g.length) e t.3))
 
 module _ (end : Group → ℕ) (top v : ℕ) where
-  if-low : (b : Bool) (x : ℕ) → x ≤ top → cond b x 0 ≤ top
-  if-low true x h = h
-  if-low false x h = omega arith
+  if_low : (b : Bool) (x : ℕ) → x ≤ top → cond b x 0 ≤ top
+  if_low true x h = h
+  if_low false x h = omega arith
 
   last-low : (T : Tree) → Low end top T → last_end end v T ≤ top
   unfolding last_end
   last-low none l = omega arith
-  last-low (node g none next) l = omega (arith, if-low (eqb g.first v) (end g) l.0, last-low next l.2)
+  last-low (node g none next) l = omega (arith, if_low (eqb g.first v) (end g) l.0, last-low next l.2)
   last-low (node g (node h hb hn) next) l = omega (arith, last-low (node h hb hn) l.1, last-low next l.2)
 
-  red-low : (T : Tree) → Low end top T → redEnd end v T ≤ top
-  unfolding redEnd
+  red-low : (T : Tree) → Low end top T → red_end end v T ≤ top
+  unfolding red_end
   red-low none l = omega arith
-  red-low (node g below next) l = omega (arith, if-low (eqb g.colour red) (last_end end v (node g below none)) (last-low (node g below none) (l.0, l.1, tt)), red-low next l.2)
+  red-low (node g below next) l = omega (arith, if_low (eqb g.colour red) (last_end end v (node g below none)) (last-low (node g below none) (l.0, l.1, tt)), red-low next l.2)
 
-  gate-low : (q : ℕ) (all : Tree) → Low end top all → (T : Tree) → Low end top T → gateIn end v q all T ≤ top
-  unfolding gateIn
+  gate-low : (q : ℕ) (all : Tree) → Low end top all → (T : Tree) → Low end top T → gate_in end v q all T ≤ top
+  unfolding gate_in
   gate-low q all a none l = omega arith
   gate-low q all a (node g below next) l =
-      let x = if-low (eqb g.colour blue) (redEnd end v all) (red-low all a) in
+      let x = if_low (eqb g.colour blue) (red_end end v all) (red-low all a) in
       let y = gate-low q below l.1 below l.1 in
-      let z = if-low (holds g q) (max (cond (eqb g.colour blue) (redEnd end v all) 0) (gateIn end v q below below)) (omega arith) in
+      let z = if_low (holds g q) (max (cond (eqb g.colour blue) (red_end end v all) 0) (gate_in end v q below below)) (omega arith) in
       omega (arith, gate-low q all a next l.2)
 
 module _ (j : Job) (ok : Accepted j) where
-  low-tree : (T : Tree) → Led maxWorkers T → Short j.matrix.n T → Low (end_in j) (2 ^ 32 - 1) T
+  low-tree : (T : Tree) → Led max_workers T → Short j.matrix.n T → Low (end_in j) (2 ^ 32 - 1) T
   unfolding end_in
   low-tree none l s = tt
   low-tree (node g below next) l s =
       (here, low-tree below l.1 s.1, low-tree next l.2 s.2)
     where
       here : 2 * cum j g.first (g.start + g.length) ≤ 2 ^ 32 - 1
-      here = omega (arith, cum-mono j g.first (g.start + g.length) j.matrix.n s.0, all)
+      here = omega (arith, cum_mono j g.first (g.start + g.length) j.matrix.n s.0, all)
         where
           all : 2 * cum j g.first j.matrix.n < 2 ^ 32
           all = unfold accesses updates in (accesses-small j ok g.first l.0)
@@ -177,7 +177,7 @@ module _ (j : Job) (ok : Accepted j) where
   unfolding gate
   gate-small q v =
       let T : Tree = tree j.plan.groups in
-      let low = low-tree T (led-plan j (tree_of j ok)) short-plan in
+      let low = low-tree T (led_plan j (tree_of j ok)) short-plan in
       omega (arith, gate-low (end_in j) (2 ^ 32 - 1) v q T low T low)
 
   pub job-fits : Fits (lists_of j)
@@ -186,24 +186,24 @@ module _ (j : Job) (ok : Accepted j) where
     few = (facts j ok).few;
     most-long = refl;
     first-long = refl;
-    gates-long = length-even (λ q. map (gate j q) (range 0 maxWorkers)) maxWorkers (λ q. refl) 0 j.matrix.n;
+    gates-long = length-even (λ q. map (gate j q) (range 0 max_workers)) max_workers (λ q. refl) 0 j.matrix.n;
     places-long = length-map (range 0 j.matrix.n) (position_of j.plan.order) ∙ length-range 0 j.matrix.n;
-    head-fits = (
+    head_fits = (
       omega arith,
       (
         omega (arith, few-rows j ok),
         (
           omega (arith, (facts j ok).few),
           (
-            rw (length-pieces (updates j) maxWorkers) (first_small j ok maxWorkers (omega arith)),
-            each_append (Holds 4) (map (accesses j) (range 0 maxWorkers)) (map (first_of j) (range 0 maxWorkers))
-                (each-map-range (Holds 4) (accesses j) 0 maxWorkers (λ w a b. accesses-small j ok w (omega arith)))
-                (each-map-range (Holds 4) (first_of j) 0 maxWorkers (λ w a b. first_small j ok w (omega arith))),
+            rw (length_pieces (updates j) max_workers) (first_small j ok max_workers (omega arith)),
+            each_append (Holds 4) (map (accesses j) (range 0 max_workers)) (map (first_of j) (range 0 max_workers))
+                (each-map-range (Holds 4) (accesses j) 0 max_workers (λ w a b. accesses-small j ok w (omega arith)))
+                (each-map-range (Holds 4) (first_of j) 0 max_workers (λ w a b. first_small j ok w (omega arith))),
           ),
         ),
       ),
     );
-    updates-fit = fits_all j ok;
-    gates-fit = each-concat-range (Holds 4) (λ q. map (gate j q) (range 0 maxWorkers)) 0 j.matrix.n (λ q a b. each-map-range (Holds 4) (gate j q) 0 maxWorkers (λ v c d. gate-small q v));
-    places-fit = each-map-range (Holds 4) (position_of j.plan.order) 0 j.matrix.n (λ i a b. omega (arith, ((facts j ok).placed i (omega arith)).0, few-rows j ok));
+    updates_fit = fits_all j ok;
+    gates_fit = each-concat-range (Holds 4) (λ q. map (gate j q) (range 0 max_workers)) 0 j.matrix.n (λ q a b. each-map-range (Holds 4) (gate j q) 0 max_workers (λ v c d. gate-small q v));
+    places_fit = each-map-range (Holds 4) (position_of j.plan.order) 0 j.matrix.n (λ i a b. omega (arith, ((facts j ok).placed i (omega arith)).0, few-rows j ok));
   }

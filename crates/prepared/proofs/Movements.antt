@@ -9,26 +9,26 @@ use lib.Dec.{eqb, leb}
 use lib.ListN.{length, get_or, replicate, length-append, length-replicate, get_or-replicate}
 use lib.IntN.{ℤ, pos, ◌*ℤ◌, *ℤ-one, one}
 use borrow.Author.Tests.{eq-eqb, ne_eqb}
-use Rattle.base.specs.Lists.{concat, range, all, isIn, sumBelow, position_of}
+use Rattle.base.specs.Lists.{concat, range, all, is_in, sum_below, position_of}
 use Rattle.base.specs.Integers.{within}
 use Rattle.base.specs.Replies.{in_turn}
-use Rattle.base.proofs.Booleans.{or-true}
-use Rattle.matrix.specs.Matrix.{displacement, areDisplacements}
+use Rattle.base.proofs.Booleans.{or_true}
+use Rattle.matrix.specs.Matrix.{displacement, are_displacements}
 use Rattle.plan.specs.Groups.{Group}
-use Rattle.plan.specs.Sound.{maxWorkers}
+use Rattle.plan.specs.Sound.{max_workers}
 use Rattle.run.specs.Job.{Job, Accepted, workers, row_at}
-use Rattle.run.specs.Tree.{ownerIn, tree}
-use Rattle.run.specs.Updates.{Update, entry_at, displacementAt, later, withEach, rowUpdates, owner, when, up_to, updates, accesses}
-use Rattle.run.specs.Machine.{allMade, over, original, countsFine, isState}
+use Rattle.run.specs.Tree.{owner_in, tree}
+use Rattle.run.specs.Updates.{Update, entry_at, displacement_at, later, with_each, row_updates, owner, when, up_to, updates, accesses}
+use Rattle.run.specs.Machine.{all_made, over, original, counts_fine, is_state}
 use Rattle.run.specs.State.{State}
-use Rattle.run.specs.Answers.{forceList}
-use Rattle.run.specs.Calls.{stateCheck, answer_of, answer}
+use Rattle.run.specs.Answers.{force_list}
+use Rattle.run.specs.Calls.{state_check, answer_of, answer}
 use Rattle.run.proofs.Accepted.{row_below}
 use Rattle.run.proofs.RowUpdates.{row-length, later-in}
-use Rattle.run.proofs.Work.{cum, cum-suc}
-use Rattle.prepared.specs.Gates.{gateIn, end_in, gate}
+use Rattle.run.proofs.Work.{cum, cum_suc}
+use Rattle.prepared.specs.Gates.{gate_in, end_in, gate}
 use Rattle.prepared.specs.Format.{Lists, lists_of}
-use Rattle.prepared.specs.Movements.{unit, nextTarget, source_of, times, withUpdates, OtherMovement, OtherMovements}
+use Rattle.prepared.specs.Movements.{unit, next_target, source_of, times, with_updates, OtherMovement, OtherMovements}
 
 -- ---- the job with movements 1
 
@@ -42,19 +42,19 @@ module _ (j : Job) (ok : Accepted j) where
   u = unit j
 
   accepted : Accepted u
-  unfolding unit areDisplacements
+  unfolding unit are_displacements
   accepted = record {
     matrix = ok.matrix;
     displacements = rw (eq-eqb (length (replicate j.matrix.n (pos 1))) j.matrix.n (length-replicate j.matrix.n (pos 1))) (all_one j.matrix.n);
     plan = ok.plan;
   }
 
-  one_at : (p : ℕ) → p < j.matrix.n → displacementAt u p ≡ pos 1
-  unfolding displacementAt displacement unit row_at
+  one_at : (p : ℕ) → p < j.matrix.n → displacement_at u p ≡ pos 1
+  unfolding displacement_at displacement unit row_at
   one_at p l = get_or-replicate j.matrix.n (row_at j p) (pos 1) (pos 0) (row_below j ok p l)
 
   -- an amount of that job, times a movement
-  amount : (p r q : ℕ) (y : ℤ) → q < j.matrix.n → (entry_at u p r *ℤ displacementAt u q) *ℤ y ≡ entry_at j p r *ℤ y
+  amount : (p r q : ℕ) (y : ℤ) → q < j.matrix.n → (entry_at u p r *ℤ displacement_at u q) *ℤ y ≡ entry_at j p r *ℤ y
   unfolding entry_at unit row_at one
   amount p r q y l = ap (λ (z : ℤ). (entry_at j p r *ℤ z) *ℤ y) (one_at q l) ∙ ap (λ (z : ℤ). z *ℤ y) (*ℤ-one (entry_at j p r))
 
@@ -69,22 +69,22 @@ module _ (j : Job) (ok : Accepted j) where
   -- ---- the updates of a row
 
   abbrev x : ℕ → ℤ
-  x = displacementAt j
+  x = displacement_at j
 
   -- with each of some later rows, and what comes after
-  each-times : (p : ℕ) → p < j.matrix.n → (qs : List ℕ) (rest : List Update) → ((q : ℕ) → isIn qs q ≡ true → (p < q) × (q < j.matrix.n))
-      → times x p (withEach u p qs ++ rest) ≡ withEach j p qs ++ times x p rest
-  unfolding times withEach source_of nextTarget
+  each-times : (p : ℕ) → p < j.matrix.n → (qs : List ℕ) (rest : List Update) → ((q : ℕ) → is_in qs q ≡ true → (p < q) × (q < j.matrix.n))
+      → times x p (with_each u p qs ++ rest) ≡ with_each j p qs ++ times x p rest
+  unfolding times with_each source_of next_target
   each-times p l [] rest h = refl
   each-times p l (q ∷ qs) rest h =
       let b = h q (rw (eq-eqb q q refl) refl) in
       let d : q ≢ p = λ e. omega arith in
       rw (eq-eqb p p refl, ne_eqb q p d, amount p q q (x q) b.1, amount p q p (x p) l)
       (ap (λ (us : List Update). record { row = p; target = p; amount = entry_at j p q *ℤ x q } ∷ record { row = p; target = q; amount = entry_at j p q *ℤ x p } ∷ us)
-      (each-times p l qs rest (λ r m. h r (rw m (or-true (eqb r q))))))
+      (each-times p l qs rest (λ r m. h r (rw m (or_true (eqb r q))))))
 
-  row-times : (p last : ℕ) → p < j.matrix.n → p ≢ last → (rest : List Update) → times x last (rowUpdates u p ++ rest) ≡ rowUpdates j p ++ times x p rest
-  unfolding times rowUpdates source_of
+  row-times : (p last : ℕ) → p < j.matrix.n → p ≢ last → (rest : List Update) → times x last (row_updates u p ++ rest) ≡ row_updates j p ++ times x p rest
+  unfolding times row_updates source_of
   row-times p last l d rest =
       rw (ne_eqb p last d, amount p p p (x p) l, later_same p)
       (ap (λ (us : List Update). record { row = p; target = p; amount = entry_at j p p *ℤ x p } ∷ us)
@@ -95,13 +95,13 @@ module _ (j : Job) (ok : Accepted j) where
   module _ (k : Job) (w : ℕ) where
     from : (s m : ℕ) → List Update
     from s zero = []
-    from s (suc m) = when (eqb (owner k s) w) (rowUpdates k s) ++ from (suc s) m
+    from s (suc m) = when (eqb (owner k s) w) (row_updates k s) ++ from (suc s) m
 
     up_from : (s m : ℕ) → up_to k w s ++ from s m ≡ up_to k w (s + m)
     unfolding from up_to
     up_from s zero = append-nil (up_to k w s) ∙ (let e : s ≡ s + 0 = omega arith in ap (up_to k w) e)
     up_from s (suc m) =
-        sym (append_assoc (up_to k w s) (when (eqb (owner k s) w) (rowUpdates k s)) (from (suc s) m)) ∙ up_from (suc s) m ∙ (let e : suc s + m ≡ s + suc m = omega arith in ap (up_to k w) e)
+        sym (append_assoc (up_to k w s) (when (eqb (owner k s) w) (row_updates k s)) (from (suc s) m)) ∙ up_from (suc s) m ∙ (let e : suc s + m ≡ s + suc m = omega arith in ap (up_to k w) e)
 
     all_from : updates k w ≡ from 0 k.matrix.n
     unfolding updates up_to
@@ -127,16 +127,16 @@ module _ (j : Job) (ok : Accepted j) where
           further (inr y) = inr y
 
       go : (b : Bool) → ((l : ℕ) → suc s + m ≡ j.matrix.n → (l < suc s) ⊎ (j.matrix.n ≤ l) → times x l (from u w (suc s) m) ≡ from j w (suc s) m)
-          → times x last (when b (rowUpdates u s) ++ from u w (suc s) m) ≡ when b (rowUpdates j s) ++ from j w (suc s) m
-      go true ih = row-times s last (omega arith) apart (from u w (suc s) m) ∙ ap (λ (us : List Update). rowUpdates j s ++ us) (ih s (omega arith) (inl (omega arith)))
+          → times x last (when b (row_updates u s) ++ from u w (suc s) m) ≡ when b (row_updates j s) ++ from j w (suc s) m
+      go true ih = row-times s last (omega arith) apart (from u w (suc s) m) ∙ ap (λ (us : List Update). row_updates j s ++ us) (ih s (omega arith) (inl (omega arith)))
       go false ih = ih last (omega arith) on
 
-  ones-from : (w : ℕ) → updates u w ≡ from u w 0 j.matrix.n
+  ones_from : (w : ℕ) → updates u w ≡ from u w 0 j.matrix.n
   unfolding unit
-  ones-from w = all_from u w
+  ones_from w = all_from u w
 
   multiplied : (w : ℕ) → updates j w ≡ times x j.matrix.n (updates u w)
-  multiplied w = all_from j w ∙ sym (from-times w 0 j.matrix.n j.matrix.n (omega arith) (inr (omega arith))) ∙ ap (times x j.matrix.n) (sym (ones-from w))
+  multiplied w = all_from j w ∙ sym (from-times w 0 j.matrix.n j.matrix.n (omega arith) (inr (omega arith))) ∙ ap (times x j.matrix.n) (sym (ones_from w))
 
   -- ---- what does not depend on movements
 
@@ -149,9 +149,9 @@ module _ (j : Job) (ok : Accepted j) where
   unfolding up_to
   long_same w zero = refl
   long_same w (suc e) =
-      cum-suc u w e ∙ rw (long_same w e, owner-same e)
-      (ap (λ (n : ℕ). length (up_to j w e) + n) (length-when (eqb (owner j e) w) (rowUpdates u e) (rowUpdates j e) (row-length u e ∙ rw (later_same e) (sym (row-length j e)))))
-      ∙ sym (cum-suc j w e)
+      cum_suc u w e ∙ rw (long_same w e, owner-same e)
+      (ap (λ (n : ℕ). length (up_to j w e) + n) (length-when (eqb (owner j e) w) (row_updates u e) (row_updates j e) (row-length u e ∙ rw (later_same e) (sym (row-length j e)))))
+      ∙ sym (cum_suc j w e)
 
   all-long : (w : ℕ) → length (updates u w) ≡ length (updates j w)
   unfolding updates unit
@@ -167,54 +167,54 @@ module _ (j : Job) (ok : Accepted j) where
 
   gate_same : gate u ≡ gate j
   unfolding gate unit
-  gate_same = fun_ext (λ q. fun_ext (λ v. ap (λ (end : Group → ℕ). gateIn end v q (tree j.plan.groups) (tree j.plan.groups)) ends_same))
+  gate_same = fun_ext (λ q. fun_ext (λ v. ap (λ (end : Group → ℕ). gate_in end v q (tree j.plan.groups) (tree j.plan.groups)) ends_same))
 
-  abbrev longOf : Job → ℕ → ℕ
-  longOf k w = length (updates k w)
+  abbrev long_of : Job → ℕ → ℕ
+  long_of k w = length (updates k w)
 
-  abbrev worksOf : ℕ → List Update
-  worksOf w = times x j.matrix.n (updates u w)
+  abbrev works_of : ℕ → List Update
+  works_of w = times x j.matrix.n (updates u w)
 
-  lists : lists_of j ≡ withUpdates (lists_of u) (concat (map worksOf (range 0 maxWorkers)))
-  unfolding lists_of withUpdates unit workers
+  lists : lists_of j ≡ with_updates (lists_of u) (concat (map works_of (range 0 max_workers)))
+  unfolding lists_of with_updates unit workers
   lists = λ i. record {
     rows = j.matrix.n;
     crew = workers j;
-    most = map (sym most-are i) (range 0 maxWorkers);
-    first = map (sumBelow (sym longs i)) (range 0 maxWorkers);
-    updates = concat (map (works i) (range 0 maxWorkers));
-    gates = concat (map (λ q. map (sym gate_same i q) (range 0 maxWorkers)) (range 0 j.matrix.n));
+    most = map (sym most-are i) (range 0 max_workers);
+    first = map (sum_below (sym longs i)) (range 0 max_workers);
+    updates = concat (map (works i) (range 0 max_workers));
+    gates = concat (map (λ q. map (sym gate_same i q) (range 0 max_workers)) (range 0 j.matrix.n));
     places = map (position_of j.plan.order) (range 0 j.matrix.n);
   }
     where
       most-are : accesses u ≡ accesses j
       most-are = fun_ext accesses-same
 
-      longs : longOf u ≡ longOf j
+      longs : long_of u ≡ long_of j
       longs = fun_ext all-long
 
-      works : updates j ≡ worksOf
+      works : updates j ≡ works_of
       works = fun_ext multiplied
 
   -- ---- the force list
 
-  made-same : (made : List ℕ) (k : ℕ) → allMade u made k ≡ allMade j made k
-  unfolding allMade
+  made-same : (made : List ℕ) (k : ℕ) → all_made u made k ≡ all_made j made k
+  unfolding all_made
   made-same made zero = refl
   made-same made (suc k) = rw (accesses-same k, made-same made k) refl
 
-  fine-same : (made : List ℕ) (k : ℕ) → countsFine u made k ≡ countsFine j made k
-  unfolding countsFine
+  fine-same : (made : List ℕ) (k : ℕ) → counts_fine u made k ≡ counts_fine j made k
+  unfolding counts_fine
   fine-same made zero = refl
   fine-same made (suc k) = rw (accesses-same k, fine-same made k) refl
 
-  forced : (s : State) (room : ℕ) → answer u s (forceList room) ≡ answer j s (forceList room)
-  unfolding answer answer_of stateCheck isState over original unit workers
-  forced s room = rw (made-same s.made (workers j), fine-same s.made maxWorkers) refl
+  forced : (s : State) (room : ℕ) → answer u s (force_list room) ≡ answer j s (force_list room)
+  unfolding answer answer_of state_check is_state over original unit workers
+  forced s room = rw (made-same s.made (workers j), fine-same s.made max_workers) refl
 
-  other-movement : OtherMovement j
-  other-movement = record { accepted = accepted; multiplied = multiplied; lists = lists; forced = forced }
+  other_movement : OtherMovement j
+  other_movement = record { accepted = accepted; multiplied = multiplied; lists = lists; forced = forced }
 
 -- the theorem
 pub other-movements : OtherMovements
-other-movements = record { every = other-movement }
+other-movements = record { every = other_movement }

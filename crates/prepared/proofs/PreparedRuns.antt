@@ -7,18 +7,18 @@ use native.Mathlib.Omega.{arith}
 use lib.IntN.{ℤ}
 use lib.ListN.{length}
 use Rattle.base.specs.Replies.{in_turn}
-use Rattle.base.proofs.Pieces.{length-pieces}
+use Rattle.base.proofs.Pieces.{length_pieces}
 use Rattle.matrix.specs.Matrix.{Matrix}
-use Rattle.matrix.proofs.Matrix.{matrix-facts}
-use Rattle.plan.specs.Sound.{maxWorkers}
+use Rattle.matrix.proofs.Matrix.{matrix_facts}
+use Rattle.plan.specs.Sound.{max_workers}
 use Rattle.run.specs.Job.{Job, job_of}
 use Rattle.run.specs.Updates.{updates}
 use Rattle.run.specs.LentRuns.{passed, LentRun}
 use Rattle.run.proofs.LentRuns.{lent_runs}
 use Rattle.layout.proofs.UpdateRoom.{first-room}
-use Rattle.prepared.specs.Tables.{answerBy, afterBy}
-use Rattle.prepared.specs.Format.{Lists, tables_of, listsIn, isPrepared, lists_of, preparedBytes}
-use Rattle.prepared.specs.PreparedRuns.{TableRun, preparedCheck, answerPrepared, afterPrepared, maxPrepared, PreparedRun, PreparedRuns}
+use Rattle.prepared.specs.Tables.{answer_by, after_by}
+use Rattle.prepared.specs.Format.{Lists, tables_of, lists_in, is_prepared, lists_of, prepared_bytes}
+use Rattle.prepared.specs.PreparedRuns.{TableRun, prepared_check, answer_prepared, after_prepared, max_prepared, PreparedRun, PreparedRuns}
 use Rattle.prepared.proofs.TableRuns.{table_runs}
 use Rattle.prepared.proofs.TablesOf.{tables-of}
 use Rattle.prepared.proofs.JobFits.{job-fits}
@@ -39,26 +39,26 @@ module _ (m : Matrix) (x : List ℤ) (order groups : List ℕ) (count : ℕ) (ok
 
   module _ (rest : List ℕ) where
     abbrev b : List ℕ
-    b = preparedBytes j ++ rest
+    b = prepared_bytes j ++ rest
 
-    is-prepared : isPrepared b ≡ true
-    unfolding preparedBytes
+    is-prepared : is_prepared b ≡ true
+    unfolding prepared_bytes
     is-prepared = back.prepared (lists_of j) fits rest
 
-    lists : listsIn b ≡ lists_of j
-    unfolding preparedBytes
+    lists : lists_in b ≡ lists_of j
+    unfolding prepared_bytes
     lists = back.read_back (lists_of j) fits rest
 
-  prepared-long : length (preparedBytes j) ≤ maxPrepared
-  unfolding preparedBytes lists_of job_of
-  prepared-long = omega (arith, back.lists-long (lists_of j) fits, length-pieces (updates j) maxWorkers, first-room j lent.accepted maxWorkers (omega arith), (matrix-facts m lent.accepted.matrix).few)
+  prepared-long : length (prepared_bytes j) ≤ max_prepared
+  unfolding prepared_bytes lists_of job_of
+  prepared-long = omega (arith, back.lists-long (lists_of j) fits, length_pieces (updates j) max_workers, first-room j lent.accepted max_workers (omega arith), (matrix_facts m lent.accepted.matrix).few)
 
   prepared-run : PreparedRun m x order groups count
-  unfolding answerPrepared afterPrepared preparedCheck in_turn
+  unfolding answer_prepared after_prepared prepared_check in_turn
   prepared-run = record {
     prepared = is-prepared;
-    answered = λ rest s c. rw (is-prepared rest) (ap (λ (L : Lists). answerBy (tables_of L) s c) (lists rest) ∙ run.answered s c ∙ sym (lent.answered s c));
-    left = λ rest s c. rw (is-prepared rest) (ap (λ (L : Lists). afterBy (tables_of L) s c) (lists rest) ∙ run.left s c ∙ sym (lent.left s c));
+    answered = λ rest s c. rw (is-prepared rest) (ap (λ (L : Lists). answer_by (tables_of L) s c) (lists rest) ∙ run.answered s c ∙ sym (lent.answered s c));
+    left = λ rest s c. rw (is-prepared rest) (ap (λ (L : Lists). after_by (tables_of L) s c) (lists rest) ∙ run.left s c ∙ sym (lent.left s c));
     short = prepared-long;
   }
 

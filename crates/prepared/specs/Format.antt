@@ -8,11 +8,11 @@
 --     144 + 16 u           for each position sixteen numbers: the accesses that each worker must have made before it
 --     144 + 16 u + 64 n    for each row its position
 use Rattle.std.specs.Prelude.{Bool, ◌&&◌, List, ◌∷◌, ◌++◌, map, ℕ, ◌+◌, ◌*◌, eqb, leb, length, get_or, take, drop}
-use Rattle.base.specs.Lists.{concat, range, position_of, sumBelow}
-use Rattle.plan.specs.Sound.{maxWorkers}
+use Rattle.base.specs.Lists.{concat, range, position_of, sum_below}
+use Rattle.plan.specs.Sound.{max_workers}
 use Rattle.run.specs.Job.{Job, workers}
-use Rattle.run.specs.Updates.{Update, updates, accesses, noUpdate}
-use Rattle.words.specs.LittleEndian.{number, bytes_of, signedNumber, signedBytesOf, wholeBlocks, unsigned, unsignedBytes}
+use Rattle.run.specs.Updates.{Update, updates, accesses, no_update}
+use Rattle.words.specs.LittleEndian.{number, bytes_of, signed_number, signed_bytes_of, whole_blocks, unsigned, unsigned_bytes}
 use Rattle.prepared.specs.Gates.{gate}
 use Rattle.prepared.specs.Tables.{Tables}
 
@@ -32,8 +32,8 @@ tables_of L = record {
   rows = L.rows;
   crew = L.crew;
   most = λ w. get_or L.most w 0;
-  update = λ w k. get_or L.updates (get_or L.first w 0 + k) noUpdate;
-  need = λ w k v. get_or L.gates ((get_or L.updates (get_or L.first w 0 + k) noUpdate).row * maxWorkers + v) 0;
+  update = λ w k. get_or L.updates (get_or L.first w 0 + k) no_update;
+  need = λ w k v. get_or L.gates ((get_or L.updates (get_or L.first w 0 + k) no_update).row * max_workers + v) 0;
   place = λ i. get_or L.places i 0;
 }
 
@@ -43,63 +43,63 @@ tables_of L = record {
 abbrev pub mark : ℕ
 mark = 1347115597
 
-abbrev pub headBytes : ℕ
-headBytes = 144
+abbrev pub head_bytes : ℕ
+head_bytes = 144
 
-abbrev pub updateBytes : ℕ
-updateBytes = 16
+abbrev pub update_bytes : ℕ
+update_bytes = 16
 
 -- the bytes of a position's sixteen numbers, and of these with the row's position
-abbrev pub gateBytes : ℕ
-gateBytes = 64
+abbrev pub gate_bytes : ℕ
+gate_bytes = 64
 
-abbrev pub rowBytes : ℕ
-rowBytes = 68
+abbrev pub row_bytes : ℕ
+row_bytes = 68
 
-unfoldable pub bytesOfUpdate : Update → List ℕ
-bytesOfUpdate u = signedBytesOf 8 u.amount ++ (bytes_of 4 u.target ++ bytes_of 4 u.row)
+unfoldable pub bytes_of_update : Update → List ℕ
+bytes_of_update u = signed_bytes_of 8 u.amount ++ (bytes_of 4 u.target ++ bytes_of 4 u.row)
 
-unfoldable pub updateIn : List ℕ → Update
-updateIn bs = record { row = number (take 4 (drop 12 bs)); target = number (take 4 (drop 8 bs)); amount = signedNumber 8 (take 8 bs) }
+unfoldable pub update_in : List ℕ → Update
+update_in bs = record { row = number (take 4 (drop 12 bs)); target = number (take 4 (drop 8 bs)); amount = signed_number 8 (take 8 bs) }
 
 unfoldable pub head_of : Lists → List ℕ
 head_of L = mark ∷ L.rows ∷ L.crew ∷ length L.updates ∷ (L.most ++ L.first)
 
-unfoldable pub bytesOfLists : Lists → List ℕ
-bytesOfLists L = unsignedBytes 4 (head_of L) ++ (concat (map bytesOfUpdate L.updates) ++ (unsignedBytes 4 L.gates ++ unsignedBytes 4 L.places))
+unfoldable pub bytes_of_lists : Lists → List ℕ
+bytes_of_lists L = unsigned_bytes 4 (head_of L) ++ (concat (map bytes_of_update L.updates) ++ (unsigned_bytes 4 L.gates ++ unsigned_bytes 4 L.places))
 
 -- ---- what calls read, of any bytes
 
-unfoldable pub headIn : List ℕ → List ℕ
-headIn b = unsigned 4 (take headBytes b)
+unfoldable pub head_in : List ℕ → List ℕ
+head_in b = unsigned 4 (take head_bytes b)
 
-abbrev pub rowsIn : List ℕ → ℕ
-rowsIn b = get_or (headIn b) 1 0
+abbrev pub rows_in : List ℕ → ℕ
+rows_in b = get_or (head_in b) 1 0
 
-abbrev pub countIn : List ℕ → ℕ
-countIn b = get_or (headIn b) 3 0
+abbrev pub count_in : List ℕ → ℕ
+count_in b = get_or (head_in b) 3 0
 
 -- where the gates begin
-abbrev pub gatesFrom : (count : ℕ) → ℕ
-gatesFrom count = headBytes + count * updateBytes
+abbrev pub gates_from : (count : ℕ) → ℕ
+gates_from count = head_bytes + count * update_bytes
 
-unfoldable pub listsIn : List ℕ → Lists
-listsIn b = record {
-  rows = rowsIn b;
-  crew = get_or (headIn b) 2 0;
-  most = take maxWorkers (drop 4 (headIn b));
-  first = take maxWorkers (drop 20 (headIn b));
-  updates = map updateIn (wholeBlocks updateBytes (take (countIn b * updateBytes) (drop headBytes b)));
-  gates = unsigned 4 (take (rowsIn b * gateBytes) (drop (gatesFrom (countIn b)) b));
-  places = unsigned 4 (take (rowsIn b * 4) (drop (gatesFrom (countIn b) + rowsIn b * gateBytes) b));
+unfoldable pub lists_in : List ℕ → Lists
+lists_in b = record {
+  rows = rows_in b;
+  crew = get_or (head_in b) 2 0;
+  most = take max_workers (drop 4 (head_in b));
+  first = take max_workers (drop 20 (head_in b));
+  updates = map update_in (whole_blocks update_bytes (take (count_in b * update_bytes) (drop head_bytes b)));
+  gates = unsigned 4 (take (rows_in b * gate_bytes) (drop (gates_from (count_in b)) b));
+  places = unsigned 4 (take (rows_in b * 4) (drop (gates_from (count_in b) + rows_in b * gate_bytes) b));
 }
 
 -- not "26: not a prepared list": shorter than a head, another mark, more than sixteen workers, or shorter than its head
 -- says
-unfoldable pub isPrepared : List ℕ → Bool
-isPrepared b =
-    leb headBytes (length b) && eqb (get_or (headIn b) 0 0) mark && leb (get_or (headIn b) 2 0) maxWorkers
-    && leb (gatesFrom (countIn b) + rowsIn b * rowBytes) (length b)
+unfoldable pub is_prepared : List ℕ → Bool
+is_prepared b =
+    leb head_bytes (length b) && eqb (get_or (head_in b) 0 0) mark && leb (get_or (head_in b) 2 0) max_workers
+    && leb (gates_from (count_in b) + rows_in b * row_bytes) (length b)
 
 -- ---- the prepared list of a job
 
@@ -107,12 +107,12 @@ unfoldable pub lists_of : Job → Lists
 lists_of j = record {
   rows = j.matrix.n;
   crew = workers j;
-  most = map (accesses j) (range 0 maxWorkers);
-  first = map (sumBelow (λ w. length (updates j w))) (range 0 maxWorkers);
-  updates = concat (map (updates j) (range 0 maxWorkers));
-  gates = concat (map (λ q. map (gate j q) (range 0 maxWorkers)) (range 0 j.matrix.n));
+  most = map (accesses j) (range 0 max_workers);
+  first = map (sum_below (λ w. length (updates j w))) (range 0 max_workers);
+  updates = concat (map (updates j) (range 0 max_workers));
+  gates = concat (map (λ q. map (gate j q) (range 0 max_workers)) (range 0 j.matrix.n));
   places = map (position_of j.plan.order) (range 0 j.matrix.n);
 }
 
-unfoldable pub preparedBytes : Job → List ℕ
-preparedBytes j = bytesOfLists (lists_of j)
+unfoldable pub prepared_bytes : Job → List ℕ
+prepared_bytes j = bytes_of_lists (lists_of j)

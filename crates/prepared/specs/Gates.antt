@@ -13,15 +13,15 @@ last_end end v (node g none next) = max (cond (eqb g.first v) (end g) 0) (last_e
 last_end end v (node g (node h hb hn) next) = max (last_end end v (node h hb hn)) (last_end end v next)
 
 -- .. in the red groups of these siblings
-unfoldable pub redEnd : (end : Group → ℕ) (v : ℕ) → Tree → ℕ
-redEnd end v none = 0
-redEnd end v (node g below next) = max (cond (eqb g.colour red) (last_end end v (node g below none)) 0) (redEnd end v next)
+unfoldable pub red_end : (end : Group → ℕ) (v : ℕ) → Tree → ℕ
+red_end end v none = 0
+red_end end v (node g below next) = max (cond (eqb g.colour red) (last_end end v (node g below none)) 0) (red_end end v next)
 
 -- .. in the red siblings of the blue groups that position q lies in; all: the siblings of the groups looked at
-unfoldable pub gateIn : (end : Group → ℕ) (v q : ℕ) (all : Tree) → Tree → ℕ
-gateIn end v q all none = 0
-gateIn end v q all (node g below next) =
-    max (cond (holds g q) (max (cond (eqb g.colour blue) (redEnd end v all) 0) (gateIn end v q below below)) 0) (gateIn end v q all next)
+unfoldable pub gate_in : (end : Group → ℕ) (v q : ℕ) (all : Tree) → Tree → ℕ
+gate_in end v q all none = 0
+gate_in end v q all (node g below next) =
+    max (cond (holds g q) (max (cond (eqb g.colour blue) (red_end end v all) 0) (gate_in end v q below below)) 0) (gate_in end v q all next)
 
 -- the access of its worker that ends a leaf
 unfoldable pub end_in : Job → Group → ℕ
@@ -29,7 +29,7 @@ end_in j g = 2 * length (up_to j g.first (g.start + g.length))
 
 -- how many accesses worker v must have made before the row at plan position q is worked
 unfoldable pub gate : Job → (q v : ℕ) → ℕ
-gate j q v = gateIn (end_in j) v q (tree j.plan.groups) (tree j.plan.groups)
+gate j q v = gate_in (end_in j) v q (tree j.plan.groups) (tree j.plan.groups)
 
 -- some worker below k has made fewer accesses than its number
 unfoldable pub behind : (made : List ℕ) (need : ℕ → ℕ) → ℕ → Bool

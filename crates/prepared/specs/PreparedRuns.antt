@@ -6,18 +6,18 @@ use Rattle.matrix.specs.Matrix.{Matrix}
 use Rattle.run.specs.Job.{Job, Accepted, job_of}
 use Rattle.run.specs.State.{State}
 use Rattle.run.specs.Answers.{Call, Answer, denied}
-use Rattle.run.specs.Calls.{answer, after, answerLent, afterLent}
+use Rattle.run.specs.Calls.{answer, after, answer_lent, after_lent}
 use Rattle.run.specs.LentRuns.{passed}
-use Rattle.prepared.specs.Tables.{Tables, Of, answerBy, afterBy}
-use Rattle.prepared.specs.Format.{tables_of, listsIn, isPrepared, preparedBytes}
+use Rattle.prepared.specs.Tables.{Tables, Of, answer_by, after_by}
+use Rattle.prepared.specs.Format.{tables_of, lists_in, is_prepared, prepared_bytes}
 
 -- ---- by tables
 
 pub record TableRun (T : Tables) (j : Job) : Type 0 where
   -- every call, with any state, is answered as on the job
-  pub answered : (s : State) (c : Call) → answerBy T s c ≡ answer j s c
+  pub answered : (s : State) (c : Call) → answer_by T s c ≡ answer j s c
   -- and leaves the state that it leaves there
-  pub left : (s : State) (c : Call) → afterBy T s c ≡ after j s c
+  pub left : (s : State) (c : Call) → after_by T s c ≡ after j s c
 
 -- the tables of an accepted job
 pub record TableRuns : Type 0 where
@@ -25,27 +25,27 @@ pub record TableRuns : Type 0 where
 
 -- ---- by a list of bytes, any whatever: 26 comes before 11
 
-unfoldable pub preparedCheck : List ℕ → List Check
-preparedCheck b = check why.notPrepared (isPrepared b) ∷ []
+unfoldable pub prepared_check : List ℕ → List Check
+prepared_check b = check why.not_prepared (is_prepared b) ∷ []
 
-unfoldable pub answerPrepared : List ℕ → State → Call → Answer
-answerPrepared b s c = in_turn denied (preparedCheck b) (answerBy (tables_of (listsIn b)) s c)
+unfoldable pub answer_prepared : List ℕ → State → Call → Answer
+answer_prepared b s c = in_turn denied (prepared_check b) (answer_by (tables_of (lists_in b)) s c)
 
-unfoldable pub afterPrepared : List ℕ → State → Call → State
-afterPrepared b s c = in_turn (λ number place. s) (preparedCheck b) (afterBy (tables_of (listsIn b)) s c)
+unfoldable pub after_prepared : List ℕ → State → Call → State
+after_prepared b s c = in_turn (λ number place. s) (prepared_check b) (after_by (tables_of (lists_in b)) s c)
 
 -- "at most 1,392,784" bytes
-abbrev pub maxPrepared : ℕ
-maxPrepared = 1392784
+abbrev pub max_prepared : ℕ
+max_prepared = 1392784
 
 -- the list that prepare left for lent lists, whatever stands past it
 pub record PreparedRun (m : Matrix) (x : List ℤ) (order groups : List ℕ) (count : ℕ) : Type 0 where
   -- no call refuses it with 26
-  pub prepared : (rest : List ℕ) → isPrepared (preparedBytes (job_of m x order groups count) ++ rest) ≡ true
+  pub prepared : (rest : List ℕ) → is_prepared (prepared_bytes (job_of m x order groups count) ++ rest) ≡ true
   -- every call, with any state, is answered as on the lent lists, and leaves the state that it leaves there
-  pub answered : (rest : List ℕ) (s : State) (c : Call) → answerPrepared (preparedBytes (job_of m x order groups count) ++ rest) s c ≡ answerLent m x order groups count s c
-  pub left : (rest : List ℕ) (s : State) (c : Call) → afterPrepared (preparedBytes (job_of m x order groups count) ++ rest) s c ≡ afterLent m x order groups count s c
-  pub short : length (preparedBytes (job_of m x order groups count)) ≤ maxPrepared
+  pub answered : (rest : List ℕ) (s : State) (c : Call) → answer_prepared (prepared_bytes (job_of m x order groups count) ++ rest) s c ≡ answer_lent m x order groups count s c
+  pub left : (rest : List ℕ) (s : State) (c : Call) → after_prepared (prepared_bytes (job_of m x order groups count) ++ rest) s c ≡ after_lent m x order groups count s c
+  pub short : length (prepared_bytes (job_of m x order groups count)) ≤ max_prepared
 
 pub record PreparedRuns : Type 0 where
   pub every : (m : Matrix) (x : List ℤ) (order groups : List ℕ) (count : ℕ) → passed m x order groups count ≡ true → PreparedRun m x order groups count

@@ -4,15 +4,15 @@ use Rattle.std.specs.Prelude.{◌≡◌, Bool, true, ◌&&◌, cond, List, [], �
 use Rattle.base.specs.Lists.{range, position_of}
 use Rattle.base.specs.Refusals as why
 use Rattle.base.specs.Replies.{Check, check, in_turn}
-use Rattle.plan.specs.Sound.{maxWorkers}
+use Rattle.plan.specs.Sound.{max_workers}
 use Rattle.run.specs.Job.{Job, workers}
-use Rattle.run.specs.Updates.{Update, count, updates, accesses, noUpdate}
-use Rattle.run.specs.Machine.{reason, Outcome, stepIf, bits}
-use Rattle.run.specs.Schedule.{Passed, pass, skipsNone}
+use Rattle.run.specs.Updates.{Update, count, updates, accesses, no_update}
+use Rattle.run.specs.Machine.{reason, Outcome, step_if, bits}
+use Rattle.run.specs.Schedule.{Passed, pass, skips_none}
 use Rattle.run.specs.Rounds.{skips}
 use Rattle.run.specs.State.{State}
-use Rattle.run.specs.Answers.{Call, picks, readySet, forceList, preview, rounds, Answer, isReady, denied, shown}
-use Rattle.run.specs.Calls.{passedOf, forcesOf}
+use Rattle.run.specs.Answers.{Call, picks, ready_set, force_list, preview, rounds, Answer, is_ready, denied, shown}
+use Rattle.run.specs.Calls.{passed_of, forces_of}
 use Rattle.prepared.specs.Gates.{gate, behind}
 
 pub record Tables : Type 0 where
@@ -32,88 +32,88 @@ module _ (T : Tables) where
   -- ---- one step
 
   -- the update that worker w's next access belongs to
-  unfoldable pub nextBy : (made : List ℕ) → ℕ → Update
-  nextBy made w = T.update w (count made w / 2)
+  unfoldable pub next_by : (made : List ℕ) → ℕ → Update
+  next_by made w = T.update w (count made w / 2)
 
   -- worker w waits
   unfoldable pub waits_by : (made : List ℕ) → ℕ → Bool
-  waits_by made w = behind made (T.need w (count made w / 2)) maxWorkers
+  waits_by made w = behind made (T.need w (count made w / 2)) max_workers
 
   -- why a step is refused by the counts; 0: it is taken
-  unfoldable pub refusalBy : (made : List ℕ) → ℕ → ℕ
-  refusalBy made w = reason (ltb w T.crew) (leb (T.most w) (count made w)) (waits_by made w)
+  unfoldable pub refusal_by : (made : List ℕ) → ℕ → ℕ
+  refusal_by made w = reason (ltb w T.crew) (leb (T.most w) (count made w)) (waits_by made w)
 
-  unfoldable pub stepBy : State → ℕ → Outcome State
-  stepBy s w = stepIf (refusalBy s.made w) s w (nextBy s.made w)
+  unfoldable pub step_by : State → ℕ → Outcome State
+  step_by s w = step_if (refusal_by s.made w) s w (next_by s.made w)
 
   -- a schedule that passes over the picks that are refused with these numbers
-  abbrev pub passBy : (skipped : ℕ → Bool) → State → (schedule : List ℕ) → Passed State
-  passBy skipped s ws = pass skipped stepBy s ws
+  abbrev pub pass_by : (skipped : ℕ → Bool) → State → (schedule : List ℕ) → Passed State
+  pass_by skipped s ws = pass skipped step_by s ws
 
   -- ---- what is asked of a state
 
   -- the workers below k whose step would be taken, the last one first
-  unfoldable pub readyBelowBy : (made : List ℕ) → ℕ → List ℕ
-  readyBelowBy made zero = []
-  readyBelowBy made (suc w) = cond (eqb (refusalBy made w) 0) (w ∷ readyBelowBy made w) (readyBelowBy made w)
+  unfoldable pub ready_below_by : (made : List ℕ) → ℕ → List ℕ
+  ready_below_by made zero = []
+  ready_below_by made (suc w) = cond (eqb (refusal_by made w) 0) (w ∷ ready_below_by made w) (ready_below_by made w)
 
-  abbrev pub readyBy : (made : List ℕ) → Answer
-  readyBy made = isReady (bits (readyBelowBy made T.crew)) (length (readyBelowBy made T.crew))
+  abbrev pub ready_by : (made : List ℕ) → Answer
+  ready_by made = is_ready (bits (ready_below_by made T.crew)) (length (ready_below_by made T.crew))
 
   -- every worker below k has made all its accesses
-  unfoldable pub allMadeBy : (made : List ℕ) → ℕ → Bool
-  allMadeBy made zero = true
-  allMadeBy made (suc w) = leb (T.most w) (count made w) && allMadeBy made w
+  unfoldable pub all_made_by : (made : List ℕ) → ℕ → Bool
+  all_made_by made zero = true
+  all_made_by made (suc w) = leb (T.most w) (count made w) && all_made_by made w
 
   -- the sums in original order
-  unfoldable pub originalBy : List ℤ → List ℤ
-  originalBy sums = map (λ i. get_or sums (T.place i) (pos 0)) (range 0 T.rows)
+  unfoldable pub original_by : List ℤ → List ℤ
+  original_by sums = map (λ i. get_or sums (T.place i) (pos 0)) (range 0 T.rows)
 
   -- no worker below k has a count past its accesses
-  unfoldable pub countsFineBy : (made : List ℕ) → ℕ → Bool
-  countsFineBy made zero = true
-  countsFineBy made (suc w) = leb (count made w) (T.most w) && countsFineBy made w
+  unfoldable pub counts_fine_by : (made : List ℕ) → ℕ → Bool
+  counts_fine_by made zero = true
+  counts_fine_by made (suc w) = leb (count made w) (T.most w) && counts_fine_by made w
 
-  unfoldable pub isStateBy : State → Bool
-  isStateBy s = eqb (length s.sums) T.rows && countsFineBy s.made maxWorkers
+  unfoldable pub is_state_by : State → Bool
+  is_state_by s = eqb (length s.sums) T.rows && counts_fine_by s.made max_workers
 
   -- ---- the calls
 
-  unfoldable pub answerOfBy : State → Call → Answer
-  answerOfBy s (picks ws) = passedOf (passBy skipsNone s ws)
-  answerOfBy s readySet = readyBy s.made
-  answerOfBy s (forceList room) = forcesOf (allMadeBy s.made T.crew) (leb T.rows room) T.rows (originalBy s.sums)
-  answerOfBy s (preview ws) = shown (passedOf (passBy skipsNone s ws)) (readyBy (passBy skipsNone s ws).state.made)
-  answerOfBy s (rounds ws) = passedOf (passBy skips s ws)
+  unfoldable pub answer_of_by : State → Call → Answer
+  answer_of_by s (picks ws) = passed_of (pass_by skips_none s ws)
+  answer_of_by s ready_set = ready_by s.made
+  answer_of_by s (force_list room) = forces_of (all_made_by s.made T.crew) (leb T.rows room) T.rows (original_by s.sums)
+  answer_of_by s (preview ws) = shown (passed_of (pass_by skips_none s ws)) (ready_by (pass_by skips_none s ws).state.made)
+  answer_of_by s (rounds ws) = passed_of (pass_by skips s ws)
 
-  unfoldable pub afterOfBy : State → Call → State
-  afterOfBy s (picks ws) = (passBy skipsNone s ws).state
-  afterOfBy s readySet = s
-  afterOfBy s (forceList room) = s
-  afterOfBy s (preview ws) = s
-  afterOfBy s (rounds ws) = (passBy skips s ws).state
+  unfoldable pub after_of_by : State → Call → State
+  after_of_by s (picks ws) = (pass_by skips_none s ws).state
+  after_of_by s ready_set = s
+  after_of_by s (force_list room) = s
+  after_of_by s (preview ws) = s
+  after_of_by s (rounds ws) = (pass_by skips s ws).state
 
   -- 11, then the call
-  unfoldable pub stateCheckBy : State → List Check
-  stateCheckBy s = check why.notState (isStateBy s) ∷ []
+  unfoldable pub state_check_by : State → List Check
+  state_check_by s = check why.not_state (is_state_by s) ∷ []
 
-  unfoldable pub answerBy : State → Call → Answer
-  answerBy s c = in_turn denied (stateCheckBy s) (answerOfBy s c)
+  unfoldable pub answer_by : State → Call → Answer
+  answer_by s c = in_turn denied (state_check_by s) (answer_of_by s c)
 
-  unfoldable pub afterBy : State → Call → State
-  afterBy s c = in_turn (λ number place. s) (stateCheckBy s) (afterOfBy s c)
+  unfoldable pub after_by : State → Call → State
+  after_by s c = in_turn (λ number place. s) (state_check_by s) (after_of_by s c)
 
 -- ---- the tables of a job
 
 -- update number k of worker w of the job
-abbrev pub updateAt : Job → (w k : ℕ) → Update
-updateAt j w k = get_or (updates j w) k noUpdate
+abbrev pub update_at : Job → (w k : ℕ) → Update
+update_at j w k = get_or (updates j w) k no_update
 
 pub record Of (T : Tables) (j : Job) : Type 0 where
   pub rows_are : T.rows ≡ j.matrix.n
-  pub crew-is : T.crew ≡ workers j
-  pub most-is : (w : ℕ) → w < maxWorkers → T.most w ≡ accesses j w
-  pub target_is : (w k : ℕ) → w < workers j → k < length (updates j w) → (T.update w k).target ≡ (updateAt j w k).target
-  pub amount-is : (w k : ℕ) → w < workers j → k < length (updates j w) → (T.update w k).amount ≡ (updateAt j w k).amount
-  pub need-is : (w k v : ℕ) → w < workers j → k < length (updates j w) → v < maxWorkers → T.need w k v ≡ gate j (updateAt j w k).row v
+  pub crew_is : T.crew ≡ workers j
+  pub most_is : (w : ℕ) → w < max_workers → T.most w ≡ accesses j w
+  pub target_is : (w k : ℕ) → w < workers j → k < length (updates j w) → (T.update w k).target ≡ (update_at j w k).target
+  pub amount_is : (w k : ℕ) → w < workers j → k < length (updates j w) → (T.update w k).amount ≡ (update_at j w k).amount
+  pub need_is : (w k v : ℕ) → w < workers j → k < length (updates j w) → v < max_workers → T.need w k v ≡ gate j (update_at j w k).row v
   pub place_is : (i : ℕ) → i < j.matrix.n → T.place i ≡ position_of j.plan.order i

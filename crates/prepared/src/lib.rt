@@ -1,5 +1,6 @@
 // Prepared jobs: what a list of tables holds that picks look everything up in, and that it stands for its job. The code
 // is in preparing and picking; here are the places and sizes in such a list, in bytes.
+#![tactic(auto)]
 
 // "MZKP", low byte first.
 pub const MARK: u32 = 1347115597;

@@ -9,13 +9,13 @@ use lib.ListN.{length, get_or, set, length-map}
 use lib.Seq.{sets, length-sets, ext_get_or}
 use Rattle.base.specs.Lists.{concat, range}
 use Rattle.base.proofs.Lists.{length-range, map-range-zero}
-use Rattle.base.proofs.Pieces.{pieces-snoc}
+use Rattle.base.proofs.Pieces.{pieces_snoc}
 use Rattle.run.specs.Updates.{Update}
-use Rattle.words.specs.LittleEndian.{bytes_of, unsignedBytes}
-use Rattle.words.proofs.Digits.{length-bytesOf}
-use Rattle.prepared.specs.Format.{bytesOfUpdate}
+use Rattle.words.specs.LittleEndian.{bytes_of, unsigned_bytes}
+use Rattle.words.proofs.Digits.{length-bytes_of}
+use Rattle.prepared.specs.Format.{bytes_of_update}
 use Rattle.prepared.proofs.TablesOf.{length-even}
-use Rattle.prepared.proofs.ReadBack.{update-code}
+use Rattle.prepared.proofs.ReadBack.{update_code}
 
 -- lists that are written one after the other
 pub sets-append : {A : Type 0} (l : List A) (i : ℕ) (vs ws : List A) → sets (sets l i vs) (i + length vs) ws ≡ sets l i (vs ++ ws)
@@ -47,19 +47,19 @@ module _ (f : ℕ → List ℕ) (width : ℕ) (same : (i : ℕ) → length (f i)
         e ∙ ap (λ (xs : List ℕ). sets xs (from + k * width) (f k)) s.is
         ∙ ap (λ (n : ℕ). sets (sets old from (concat (map f (range 0 k)))) (from + n) (f k)) (sym (length-even f width same 0 k))
         ∙ sets-append old from (concat (map f (range 0 k))) (f k)
-        ∙ ap (sets old from) (sym (ap (λ (n : ℕ). concat (map f (range 0 n))) (add-one k) ∙ pieces-snoc f 0 k ∙ ap (λ (n : ℕ). concat (map f (range 0 k)) ++ f n) (omega arith)));
+        ∙ ap (sets old from) (sym (ap (λ (n : ℕ). concat (map f (range 0 n))) (add-one k) ∙ pieces_snoc f 0 k ∙ ap (λ (n : ℕ). concat (map f (range 0 k)) ++ f n) (omega arith)));
   }
 
 -- numbers of four bytes
 module _ (g : ℕ → ℕ) where
-  abbrev pub fourOf : ℕ → List ℕ
-  fourOf i = bytes_of 4 (g i)
+  abbrev pub four_of : ℕ → List ℕ
+  four_of i = bytes_of 4 (g i)
 
-  pub four-long : (i : ℕ) → length (fourOf i) ≡ 4
-  four-long i = length-bytesOf 4 (g i)
+  pub four_long : (i : ℕ) → length (four_of i) ≡ 4
+  four_long i = length-bytes_of 4 (g i)
 
-  pub four-pieces : (n : ℕ) → concat (map fourOf (range 0 n)) ≡ unsignedBytes 4 (map g (range 0 n))
-  four-pieces n = ap concat (sym (map-map (bytes_of 4) g (range 0 n)))
+  pub four_pieces : (n : ℕ) → concat (map four_of (range 0 n)) ≡ unsigned_bytes 4 (map g (range 0 n))
+  four_pieces n = ap concat (sym (map-map (bytes_of 4) g (range 0 n)))
 
 -- the numbers of a list, one by one
 pub listed : (xs : List ℕ) → map (λ i. get_or xs i 0) (range 0 (length xs)) ≡ xs
@@ -69,11 +69,11 @@ listed xs =
 
 -- updates
 module _ (g : ℕ → Update) where
-  abbrev pub updateOf : ℕ → List ℕ
-  updateOf i = bytesOfUpdate (g i)
+  abbrev pub update_of : ℕ → List ℕ
+  update_of i = bytes_of_update (g i)
 
-  pub update-long : (i : ℕ) → length (updateOf i) ≡ 16
-  update-long i = update-code.size (g i)
+  pub update-long : (i : ℕ) → length (update_of i) ≡ 16
+  update-long i = update_code.size (g i)
 
-  pub update-pieces : (n : ℕ) → concat (map updateOf (range 0 n)) ≡ concat (map bytesOfUpdate (map g (range 0 n)))
-  update-pieces n = ap concat (sym (map-map bytesOfUpdate g (range 0 n)))
+  pub update_pieces : (n : ℕ) → concat (map update_of (range 0 n)) ≡ concat (map bytes_of_update (map g (range 0 n)))
+  update_pieces n = ap concat (sym (map-map bytes_of_update g (range 0 n)))

@@ -10,11 +10,11 @@ use Rattle.base.specs.Lists.{range, position_of}
 use Rattle.base.proofs.Booleans.{same_or}
 use Rattle.base.proofs.Lists.{length-range, map-range-zero}
 use Rattle.base.proofs.Positions.{position_at}
-use Rattle.plan.specs.Sound.{maxWorkers}
-use Rattle.plan.proofs.Once.{Once, low-at, injective}
-use Rattle.tables.specs.code.Laid.{updatesIn}
+use Rattle.plan.specs.Sound.{max_workers}
+use Rattle.plan.proofs.Once.{Once, low_at, injective}
+use Rattle.tables.specs.Code.Laid.{updates_in}
 use Rattle.prepared.specs.Format.{mark}
-use Rattle.preparing.specs.code.Rows.{Positions, HeadTo}
+use Rattle.preparing.specs.Code.Rows.{Positions, HeadTo}
 
 -- ---- positions
 
@@ -25,7 +25,7 @@ module _ (n : ℕ) (order : List ℕ) (once : Once n order) (old : List ℕ) (ro
   module _ (k : ℕ) (l : k < n) (new : List ℕ) (s : Positions k order old new) where
     -- the row at a position has its place
     pub row_below : get_or order k 0 < length new
-    row_below = omega (arith, low-at n order k once.low (omega (arith, once.long)), s.long)
+    row_below = omega (arith, low_at n order k once.low (omega (arith, once.long)), s.long)
 
     -- one position more
     pub positions-next : Positions (k + 1) order old (set new (get_or order k 0) k)
@@ -50,35 +50,35 @@ module _ (n : ℕ) (order : List ℕ) (once : Once n order) (old : List ℕ) (ro
 
 module _ (n workers : ℕ) (first : List ℕ) where
   -- the first four numbers
-  pub head-none : (head : List ℕ) → length head ≡ 36 → HeadTo 0 n workers first (set (set (set (set head 0 mark) 1 n) 2 workers) 3 (get_or first maxWorkers 0))
-  head-none head e =
+  pub head_none : (head : List ℕ) → length head ≡ 36 → HeadTo 0 n workers first (set (set (set (set head 0 mark) 1 n) 2 workers) 3 (get_or first max_workers 0))
+  head_none head e =
       let a : List ℕ = set head 0 mark in
       let b : List ℕ = set a 1 n in
       let c : List ℕ = set b 2 workers in
-      let f : ℕ = get_or first maxWorkers 0 in
+      let f : ℕ = get_or first max_workers 0 in
       let al : length a ≡ 36 = length-set head 0 mark ∙ e in
       let bl : length b ≡ 36 = length-set a 1 n ∙ al in
       let cl : length c ≡ 36 = length-set b 2 workers ∙ bl in
       record {
         long = length-set c 3 f ∙ cl;
-        mark-is = get_or-set_other c 3 0 f 0 (λ q. omega arith) ∙ get_or-set_other b 2 0 workers 0 (λ q. omega arith) ∙ get_or-set_other a 1 0 n 0 (λ q. omega arith) ∙ get_or-set_same head 0 mark 0 (omega arith);
+        mark_is = get_or-set_other c 3 0 f 0 (λ q. omega arith) ∙ get_or-set_other b 2 0 workers 0 (λ q. omega arith) ∙ get_or-set_other a 1 0 n 0 (λ q. omega arith) ∙ get_or-set_same head 0 mark 0 (omega arith);
         rows_are = get_or-set_other c 3 1 f 0 (λ q. omega arith) ∙ get_or-set_other b 2 1 workers 0 (λ q. omega arith) ∙ get_or-set_same a 1 n 0 (omega arith);
-        crew-is = get_or-set_other c 3 2 f 0 (λ q. omega arith) ∙ get_or-set_same b 2 workers 0 (omega arith);
-        count-is = get_or-set_same c 3 f 0 (omega arith);
-        most-is = λ w l. absurd (omega arith);
-        first-is = λ w l. absurd (omega arith);
+        crew_is = get_or-set_other c 3 2 f 0 (λ q. omega arith) ∙ get_or-set_same b 2 workers 0 (omega arith);
+        count_is = get_or-set_same c 3 f 0 (omega arith);
+        most_is = λ w l. absurd (omega arith);
+        first_is = λ w l. absurd (omega arith);
       }
 
   -- the two of one worker more
-  pub head-next : (k x : ℕ) (head : List ℕ) → k < maxWorkers → x ≡ 2 * updatesIn first k → HeadTo k n workers first head → HeadTo (k + 1) n workers first (set (set head (4 + k) x) (20 + k) (get_or first k 0))
-  head-next k x head l e h = record {
+  pub head_next : (k x : ℕ) (head : List ℕ) → k < max_workers → x ≡ 2 * updates_in first k → HeadTo k n workers first head → HeadTo (k + 1) n workers first (set (set head (4 + k) x) (20 + k) (get_or first k 0))
+  head_next k x head l e h = record {
     long = length-set a (20 + k) f ∙ al;
-    mark-is = same 0 (omega arith) ∙ h.mark-is;
+    mark_is = same 0 (omega arith) ∙ h.mark_is;
     rows_are = same 1 (omega arith) ∙ h.rows_are;
-    crew-is = same 2 (omega arith) ∙ h.crew-is;
-    count-is = same 3 (omega arith) ∙ h.count-is;
-    most-is = λ w m. most w m (same_or w k);
-    first-is = λ w m. firsts w m (same_or w k);
+    crew_is = same 2 (omega arith) ∙ h.crew_is;
+    count_is = same 3 (omega arith) ∙ h.count_is;
+    most_is = λ w m. most w m (same_or w k);
+    first_is = λ w m. firsts w m (same_or w k);
   }
     where
       f : ℕ
@@ -93,10 +93,10 @@ module _ (n workers : ℕ) (first : List ℕ) where
       same : (i : ℕ) → i < 4 → get_or (set a (20 + k) f) i 0 ≡ get_or head i 0
       same i m = get_or-set_other a (20 + k) i f 0 (λ q. omega arith) ∙ get_or-set_other head (4 + k) i x 0 (λ q. omega arith)
 
-      most : (w : ℕ) → w < k + 1 → (w ≡ k) ⊎ (w ≢ k) → get_or (set a (20 + k) f) (4 + w) 0 ≡ 2 * updatesIn first w
-      most w m (inl q) = get_or-set_other a (20 + k) (4 + w) f 0 (λ q. omega arith) ∙ ap (λ (y : ℕ). get_or a (4 + y) 0) q ∙ get_or-set_same head (4 + k) x 0 (omega (arith, h.long)) ∙ e ∙ ap (λ (y : ℕ). 2 * updatesIn first y) (sym q)
-      most w m (inr d) = get_or-set_other a (20 + k) (4 + w) f 0 (λ q. omega arith) ∙ get_or-set_other head (4 + k) (4 + w) x 0 (λ q. d (omega arith)) ∙ h.most-is w (omega arith)
+      most : (w : ℕ) → w < k + 1 → (w ≡ k) ⊎ (w ≢ k) → get_or (set a (20 + k) f) (4 + w) 0 ≡ 2 * updates_in first w
+      most w m (inl q) = get_or-set_other a (20 + k) (4 + w) f 0 (λ q. omega arith) ∙ ap (λ (y : ℕ). get_or a (4 + y) 0) q ∙ get_or-set_same head (4 + k) x 0 (omega (arith, h.long)) ∙ e ∙ ap (λ (y : ℕ). 2 * updates_in first y) (sym q)
+      most w m (inr d) = get_or-set_other a (20 + k) (4 + w) f 0 (λ q. omega arith) ∙ get_or-set_other head (4 + k) (4 + w) x 0 (λ q. d (omega arith)) ∙ h.most_is w (omega arith)
 
       firsts : (w : ℕ) → w < k + 1 → (w ≡ k) ⊎ (w ≢ k) → get_or (set a (20 + k) f) (20 + w) 0 ≡ get_or first w 0
       firsts w m (inl q) = ap (λ (y : ℕ). get_or (set a (20 + k) f) (20 + y) 0) q ∙ get_or-set_same a (20 + k) f 0 (omega (arith, al)) ∙ ap (λ (y : ℕ). get_or first y 0) (sym q)
-      firsts w m (inr d) = get_or-set_other a (20 + k) (20 + w) f 0 (λ q. d (omega arith)) ∙ get_or-set_other head (4 + k) (20 + w) x 0 (λ q. omega arith) ∙ h.first-is w (omega arith)
+      firsts w m (inr d) = get_or-set_other a (20 + k) (20 + w) f 0 (λ q. d (omega arith)) ∙ get_or-set_other head (4 + k) (20 + w) x 0 (λ q. omega arith) ∙ h.first_is w (omega arith)

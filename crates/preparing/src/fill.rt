@@ -2,12 +2,12 @@
 ghost use Rattle.std.specs.Prelude.{◌≡◌, map, ℕ, ◌+◌, ◌*◌, ◌^◌, ◌≤◌, ◌<◌, length, get_or};
 ghost use Rattle.std.proofs.lemmas.List.Edits.{sets};
 ghost use Rattle.base.specs.Lists.{concat};
-ghost use Rattle.matrix.specs.Limits.{maxRows};
-ghost use Rattle.plan.specs.Sound.{maxGroups};
-ghost use Rattle.tables.specs.code.Laid.{maxUpdates};
-ghost use Rattle.words.specs.LittleEndian.{unsignedBytes};
-ghost use Rattle.prepared.specs.Format.{bytesOfUpdate};
-ghost use Rattle.preparing.specs.code.Filled.{gateNumbers, updateNumbers, Legible};
+ghost use Rattle.matrix.specs.Limits.{max_rows};
+ghost use Rattle.plan.specs.Sound.{max_groups};
+ghost use Rattle.tables.specs.Code.Laid.{max_updates};
+ghost use Rattle.words.specs.LittleEndian.{unsigned_bytes};
+ghost use Rattle.prepared.specs.Format.{bytes_of_update};
+ghost use Rattle.preparing.specs.Code.Filled.{gate_numbers, update_numbers, Legible};
 
 use crate::table::GATES;
 use base::shorts::wide;
@@ -22,7 +22,7 @@ use words::signs::of_i64;
 // One update: what it adds, the position of its sum, and of its row.
 pub fn store_update(out: &mut [u8], at: usize, amount: i64, target: usize, row: usize)
     requires { (at + 16 ≤ length out.old) × (target < 2 ^ 32) × (row < 2 ^ 32) }
-    ensures { out.new ≡ sets out.old at (bytesOfUpdate (record { row = row; target = target; amount = amount })) }
+    ensures { out.new ≡ sets out.old at (bytes_of_update (record { row = row; target = target; amount = amount })) }
 {
     write_u64(out, at, of_i64(amount));
     write_u32(out, at + 8, target as u32);
@@ -32,7 +32,7 @@ pub fn store_update(out: &mut [u8], at: usize, amount: i64, target: usize, row: 
 // Numbers of four bytes.
 pub fn store_numbers(out: &mut [u8], from: usize, numbers: &[u32])
     requires { from + length numbers.now * 4 ≤ length out.old }
-    ensures { out.new ≡ sets out.old from (unsignedBytes 4 numbers.now) }
+    ensures { out.new ≡ sets out.old from (unsigned_bytes 4 numbers.now) }
 {
     let mut k = 0;
     while k < numbers.len() {
@@ -49,8 +49,8 @@ pub fn store_gates(
     leaves: &[u16; MAX_ROWS],
     table: &[u32; GATES],
 )
-    requires { (from + n * 64 ≤ length out.old) × (n ≤ maxRows) × ((q : ℕ) → get_or leaves.now q 0 < maxGroups) }
-    ensures { out.new ≡ sets out.old from (unsignedBytes 4 (gateNumbers n leaves.now table.now)) }
+    requires { (from + n * 64 ≤ length out.old) × (n ≤ max_rows) × ((q : ℕ) → get_or leaves.now q 0 < max_groups) }
+    ensures { out.new ≡ sets out.old from (unsigned_bytes 4 (gate_numbers n leaves.now table.now)) }
 {
     let mut k = 0;
     while k < n * MAX_WORKERS {
@@ -72,9 +72,9 @@ pub fn store_updates(
     at: &[u16],
     beside: &[i32],
 )
-    requires { (from + count * 16 ≤ length out.old) × (count ≤ maxUpdates) × ((n : ℕ) × Legible n count row.now begins.now parts.now at.now beside.now) }
-    ensures { out.new ≡ sets out.old from (concat (map bytesOfUpdate
-        (updateNumbers count row.now begins.now parts.now displaced.now at.now beside.now))) }
+    requires { (from + count * 16 ≤ length out.old) × (count ≤ max_updates) × ((n : ℕ) × Legible n count row.now begins.now parts.now at.now beside.now) }
+    ensures { out.new ≡ sets out.old from (concat (map bytes_of_update
+        (update_numbers count row.now begins.now parts.now displaced.now at.now beside.now))) }
 {
     let mut k = 0;
     while k < count {

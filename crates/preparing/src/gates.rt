@@ -1,7 +1,7 @@
 // What each group waits for of one worker, by two passes over the records: how many accesses it must have made.
 ghost use Rattle.std.specs.Prelude.{◌≡◌, max};
-ghost use Rattle.waits.specs.code.Waits.{Recorded};
-ghost use Rattle.preparing.specs.code.Gates.{ownEnd, lastIf, redLast, gateIf, RedEnds, Gated, Gates};
+ghost use Rattle.waits.specs.Code.Waits.{Recorded};
+ghost use Rattle.preparing.specs.Code.Gates.{own_end, last_if, red_last, gate_if, RedEnds, Gated, Gates};
 
 use plan::MAX_GROUPS;
 use plan::fields::{BLUE, RED, record_at};
@@ -14,28 +14,28 @@ fn larger(a: u32, b: u32) -> u32
 
 // The end of a leaf, if it is worker v's.
 fn own_end(first: usize, v: usize, end: u32) -> u32
-    ensures { result ≡ ownEnd first v end }
+    ensures { result ≡ own_end first v end }
 {
     if first == v { end } else { 0 }
 }
 
 // The last end of a group: its own, if it is no parent, so a leaf, else that of those below it.
 fn last_if(parent: u8, below: u32, own: u32) -> u32
-    ensures { result ≡ lastIf parent below own }
+    ensures { result ≡ last_if parent below own }
 {
     if parent == 0 { own } else { below }
 }
 
 // .. if it is red.
 fn red_last(colour: u32, last: u32) -> u32
-    ensures { result ≡ redLast colour last }
+    ensures { result ≡ red_last colour last }
 {
     if colour == RED { last } else { 0 }
 }
 
 // A group's gate: its parent's, or that of its red siblings if it is blue.
 fn gate_if(above: u32, colour: u32, reds: u32) -> u32
-    ensures { result ≡ gateIf above colour reds }
+    ensures { result ≡ gate_if above colour reds }
 {
     if colour == BLUE {
         return larger(above, reds);

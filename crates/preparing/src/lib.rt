@@ -1,4 +1,6 @@
 // A job's prepared list: its tables, found once.
+#![tactic(auto)]
+
 pub mod fill;
 pub mod gates;
 pub mod rows;
@@ -7,19 +9,19 @@ pub mod table;
 ghost use Rattle.std.specs.Prelude.{◌≡◌, true, map, ◌++◌, ◌+◌, ◌*◌, ◌/◌, ◌^◌, ◌≤◌, ◌<◌, length, take};
 ghost use Rattle.std.proofs.lemmas.List.Edits.{sets};
 ghost use Rattle.base.specs.Lists.{concat, range, position_of};
-ghost use Rattle.base.specs.Verdicts.{replyOf};
-ghost use Rattle.matrix.specs.Limits.{maxRows};
-ghost use Rattle.matrix.specs.Matrix.{matrixOf};
+ghost use Rattle.base.specs.Verdicts.{reply_of};
+ghost use Rattle.matrix.specs.Limits.{max_rows};
+ghost use Rattle.matrix.specs.Matrix.{matrix_of};
 ghost use Rattle.plan.specs.Groups.{width};
-ghost use Rattle.plan.specs.Sound.{maxWorkers, eachOnce};
+ghost use Rattle.plan.specs.Sound.{max_workers, each_once};
 ghost use Rattle.run.specs.Job.{Job, workers, job_of};
-ghost use Rattle.tables.specs.code.Laid.{maxUpdates, first_of, Counted, Rising};
-ghost use Rattle.layout.specs.code.UpdateTable.{Given, Planned};
-ghost use Rattle.steps.specs.code.Updates.{Triangle};
-ghost use Rattle.words.specs.LittleEndian.{unsignedBytes};
-ghost use Rattle.prepared.specs.Format.{headBytes, gatesFrom, gateBytes, rowBytes, bytesOfUpdate, head_of, lists_of};
+ghost use Rattle.tables.specs.Code.Laid.{max_updates, first_of, Counted, Rising};
+ghost use Rattle.layout.specs.Code.UpdateTable.{Given, Planned};
+ghost use Rattle.steps.specs.Code.Updates.{Triangle};
+ghost use Rattle.words.specs.LittleEndian.{unsigned_bytes};
+ghost use Rattle.prepared.specs.Format.{head_bytes, gates_from, gate_bytes, row_bytes, bytes_of_update, head_of, lists_of};
 ghost use Rattle.prepared.specs.Prepare.{PreparedFrom};
-ghost use Rattle.preparing.specs.code.Prepared.{PreparedIn};
+ghost use Rattle.preparing.specs.Code.Prepared.{PreparedIn};
 
 use base::{SHORT, Verdict};
 use calls::check_job;
@@ -38,8 +40,8 @@ use upper::upper;
 
 // Writes the head, by where each worker's updates begin.
 fn store_head(out: &mut [u8], n: u32, crew: u32, first: [u32; FIRSTS])
-    requires { Rising first × (headBytes ≤ length out.old) }
-    ensures { (j : Job) → Counted j first → n ≡ j.matrix.n → crew ≡ workers j → out.new ≡ sets out.old 0 (unsignedBytes 4 (head_of (lists_of j))) }
+    requires { Rising first × (head_bytes ≤ length out.old) }
+    ensures { (j : Job) → Counted j first → n ≡ j.matrix.n → crew ≡ workers j → out.new ≡ sets out.old 0 (unsigned_bytes 4 (head_of (lists_of j))) }
 {
     let head = head_numbers(n, crew, &first);
     store_numbers(out, 0, &head);
@@ -47,8 +49,8 @@ fn store_head(out: &mut [u8], n: u32, crew: u32, first: [u32; FIRSTS])
 
 // Writes the position of each row, from a place on.
 fn store_places(out: &mut [u8], from: usize, n: usize, order: &[u32])
-    requires { (from + n * 4 ≤ length out.old) × (n ≤ length order.now) × (n ≤ maxRows) × (eachOnce n (take n order.now) ≡ true) }
-    ensures { out.new ≡ sets out.old from (unsignedBytes 4 (map (position_of (take n order.now)) (range 0 n))) }
+    requires { (from + n * 4 ≤ length out.old) × (n ≤ length order.now) × (n ≤ max_rows) × (each_once n (take n order.now) ≡ true) }
+    ensures { out.new ≡ sets out.old from (unsigned_bytes 4 (map (position_of (take n order.now)) (range 0 n))) }
 {
     let mut places = [0u32; MAX_ROWS];
     put_positions(n, order, &mut places);
@@ -68,10 +70,10 @@ fn store_tables(
     beside: &[i32],
 )
     requires { (j : Job) × Planned j groups.now (length groups.now / width) sizes.now × Counted j first × Triangle j parts.now displaced.now at.now beside.now
-        × (n ≡ j.matrix.n) × (gatesFrom (first_of j maxWorkers) + n * gateBytes ≤ length out.old) }
+        × (n ≡ j.matrix.n) × (gates_from (first_of j max_workers) + n * gate_bytes ≤ length out.old) }
     ensures { (j : Job) → Planned j groups.now (length groups.now / width) sizes.now → Counted j first
         → Triangle j parts.now displaced.now at.now beside.now → n ≡ j.matrix.n
-        → out.new ≡ sets out.old headBytes (concat (map bytesOfUpdate (lists_of j).updates) ++ unsignedBytes 4 (lists_of j).gates) }
+        → out.new ≡ sets out.old head_bytes (concat (map bytes_of_update (lists_of j).updates) ++ unsigned_bytes 4 (lists_of j).gates) }
 {
     let mut row = [0u16; MAX_UPDATES];
     let mut begins = [0u32; MAX_ROWS];
@@ -98,8 +100,8 @@ fn store_tables(
 
 // The bytes of a list with so many rows and updates.
 fn size_of(n: usize, count: u32) -> usize
-    requires { (n ≤ maxRows) × (count ≤ maxUpdates) }
-    ensures { (result ≡ gatesFrom count + n * rowBytes) × (result < 2 ^ 32) }
+    requires { (n ≤ max_rows) × (count ≤ max_updates) }
+    ensures { (result ≡ gates_from count + n * row_bytes) × (result < 2 ^ 32) }
 {
     HEAD + count as usize * UPDATE + n * ROW
 }
@@ -116,8 +118,8 @@ fn store_job(
     out: &mut [u8],
 ) -> Verdict
     requires { Given n starts.now columns.now values.now displacements.now order.now groups.now (length groups.now / width) }
-    ensures { PreparedIn (job_of (matrixOf n starts.now columns.now values.now) displacements.now order.now groups.now (length groups.now / width))
-        out.old (replyOf result) out.new }
+    ensures { PreparedIn (job_of (matrix_of n starts.now columns.now values.now) displacements.now order.now groups.now (length groups.now / width))
+        out.old (reply_of result) out.new }
 {
     let rows = n as usize;
     let mut parts = [0u32; MAX_ROWS];
@@ -163,8 +165,8 @@ pub fn prepare(
     count: u32,
     out: &mut [u8],
 ) -> Verdict
-    ensures { PreparedFrom (matrixOf n starts.now columns.now values.now) displacements.now order.now groups.now count
-        out.old (replyOf result) out.new }
+    ensures { PreparedFrom (matrix_of n starts.now columns.now values.now) displacements.now order.now groups.now count
+        out.old (reply_of result) out.new }
 {
     let checked = check_job(
         n,

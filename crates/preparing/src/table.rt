@@ -1,8 +1,8 @@
 // The gates of all groups and workers in one table, sixteen numbers a group.
 ghost use Rattle.std.specs.Prelude.{◌≡◌, ◌*◌, ◌<◌, length};
-ghost use Rattle.plan.specs.Sound.{maxWorkers, maxGroups};
-ghost use Rattle.waits.specs.code.Waits.{Recorded};
-ghost use Rattle.preparing.specs.code.Gates.{Column, AllGates};
+ghost use Rattle.plan.specs.Sound.{max_workers, max_groups};
+ghost use Rattle.waits.specs.Code.Waits.{Recorded};
+ghost use Rattle.preparing.specs.Code.Gates.{Column, AllGates};
 
 use crate::gates::worker_gates;
 use plan::{MAX_GROUPS, MAX_WORKERS};
@@ -11,8 +11,8 @@ pub const GATES: usize = MAX_GROUPS * MAX_WORKERS;
 
 // One worker's gates, over its column.
 fn put_column(gates: &[u32; MAX_GROUPS], v: usize, table: &mut [u32; GATES])
-    requires { (v < maxWorkers) × (length table.old ≡ maxGroups * maxWorkers) }
-    ensures { Column v maxGroups gates.now table.old table.new }
+    requires { (v < max_workers) × (length table.old ≡ max_groups * max_workers) }
+    ensures { Column v max_groups gates.now table.old table.new }
 {
     let mut i = 0;
     while i < MAX_GROUPS {
@@ -24,7 +24,7 @@ fn put_column(gates: &[u32; MAX_GROUPS], v: usize, table: &mut [u32; GATES])
 // The gates of all workers, worker by worker.
 pub fn all_gates(groups: &[u32], count: usize, ends: &[u32; MAX_GROUPS]) -> [u32; GATES]
     requires { Recorded count groups.now }
-    ensures { AllGates maxWorkers count groups.now ends.now result }
+    ensures { AllGates max_workers count groups.now ends.now result }
 {
     let mut table = [0u32; GATES];
     let mut v = 0;

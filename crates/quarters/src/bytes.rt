@@ -1,10 +1,10 @@
 // The states and sums of both crews in bytes.
 ghost use Rattle.std.specs.Prelude.{[], take};
-ghost use Rattle.calls.specs.Performed.{asAnswer};
+ghost use Rattle.calls.specs.Performed.{as_answer};
 ghost use Rattle.crews.specs.Calls.{one};
-ghost use Rattle.turns.specs.Records.{statesOf};
+ghost use Rattle.turns.specs.Records.{states_of};
 ghost use Rattle.quarters.specs.Both.{PicksBothAnswered};
-ghost use Rattle.quarters.specs.code.Loaded.{CrewsAre, BothFit};
+ghost use Rattle.quarters.specs.Code.Loaded.{CrewsAre, BothFit};
 
 use answers::state::load_state;
 use answers::stored::store_picks;
@@ -43,7 +43,7 @@ pub(crate) fn store_both(
     sums1: &mut [u8],
 ) -> u64
     requires { BothFit n done.answer new0.now new1.now (record { of0 = record { state = state0.old; sums = sums0.old }; of1 = record { state = state1.old; sums = sums1.old } }) }
-    ensures { PicksBothAnswered (one (asAnswer done.answer [])) (statesOf done.crews (take n new0.now) (take n new1.now))
+    ensures { PicksBothAnswered (one (as_answer done.answer [])) (states_of done.crews (take n new0.now) (take n new1.now))
         (record { of0 = record { state = state0.old; sums = sums0.old }; of1 = record { state = state1.old; sums = sums1.old } }) result
         (record { of0 = record { state = state0.new; sums = sums0.new }; of1 = record { state = state1.new; sums = sums1.new } }) }
 {

@@ -1,17 +1,19 @@
 // The calls for two crews whose lists stand in bytes: numbers are decoded into arrays, the proved call is made
 // (document 02, Q-9).
+#![tactic(auto)]
+
 pub mod bytes;
 mod word;
 
 ghost use Rattle.std.specs.Prelude.{◌≡◌};
 ghost use Rattle.crews.specs.Crews.{Two};
-ghost use Rattle.crews.specs.Calls.{picksBoth, readySets, afterBothLent};
+ghost use Rattle.crews.specs.Calls.{picks_both, ready_sets, after_both_lent};
 ghost use Rattle.words.specs.LittleEndian.{unsigned, signed};
-ghost use Rattle.lent.specs.Bytes.{matrixIn};
+ghost use Rattle.lent.specs.Bytes.{matrix_in};
 ghost use Rattle.lent.specs.Word.{word};
 ghost use Rattle.answers.specs.Runs.{Bytes};
-ghost use Rattle.quarters.specs.Both.{statesIn, answerBothIn, replyToBoth, PicksBothAnswered};
-ghost use Rattle.quarters.specs.code.Loaded.{CrewsLent};
+ghost use Rattle.quarters.specs.Both.{states_in, answer_both_in, reply_to_both, PicksBothAnswered};
+ghost use Rattle.quarters.specs.Code.Loaded.{CrewsLent};
 
 use answers::state::sums_of;
 use bytes::{load_crews, store_both};
@@ -41,10 +43,10 @@ pub fn picks_both_in(
     picks: &[u8],
 ) -> u64
     ensures { PicksBothAnswered
-        (answerBothIn (matrixIn n row_starts.now columns.now values.now) (record { of0 = signed 4 movements0.now; of1 = signed 4 movements1.now }) (unsigned 4 order.now) (unsigned 4 groups.now) group_count
-        (record { of0 = record { state = state0.old; sums = sums0.old }; of1 = record { state = state1.old; sums = sums1.old } }) (picksBoth picks.now))
-        (afterBothLent (matrixIn n row_starts.now columns.now values.now) (record { of0 = signed 4 movements0.now; of1 = signed 4 movements1.now }) (unsigned 4 order.now) (unsigned 4 groups.now) group_count
-        (statesIn (record { of0 = record { state = state0.old; sums = sums0.old }; of1 = record { state = state1.old; sums = sums1.old } })) (picksBoth picks.now))
+        (answer_both_in (matrix_in n row_starts.now columns.now values.now) (record { of0 = signed 4 movements0.now; of1 = signed 4 movements1.now }) (unsigned 4 order.now) (unsigned 4 groups.now) group_count
+        (record { of0 = record { state = state0.old; sums = sums0.old }; of1 = record { state = state1.old; sums = sums1.old } }) (picks_both picks.now))
+        (after_both_lent (matrix_in n row_starts.now columns.now values.now) (record { of0 = signed 4 movements0.now; of1 = signed 4 movements1.now }) (unsigned 4 order.now) (unsigned 4 groups.now) group_count
+        (states_in (record { of0 = record { state = state0.old; sums = sums0.old }; of1 = record { state = state1.old; sums = sums1.old } })) (picks_both picks.now))
         (record { of0 = record { state = state0.old; sums = sums0.old }; of1 = record { state = state1.old; sums = sums1.old } }) result
         (record { of0 = record { state = state0.new; sums = sums0.new }; of1 = record { state = state1.new; sums = sums1.new } }) }
 {
@@ -94,7 +96,7 @@ pub fn ready_both_in(
     sums1: &[u8],
 ) -> u64
     ensures { (b : Two Bytes) → CrewsLent crews sums0.now sums1.now b
-        → result ≡ word (replyToBoth (answerBothIn (matrixIn n row_starts.now columns.now values.now) (record { of0 = signed 4 movements0.now; of1 = signed 4 movements1.now }) (unsigned 4 order.now) (unsigned 4 groups.now) group_count b readySets)) }
+        → result ≡ word (reply_to_both (answer_both_in (matrix_in n row_starts.now columns.now values.now) (record { of0 = signed 4 movements0.now; of1 = signed 4 movements1.now }) (unsigned 4 order.now) (unsigned 4 groups.now) group_count b ready_sets)) }
 {
     let mut starts = [0u32; MAX_STARTS];
     let mut column_list = [0u32; MAX_CELLS];

@@ -1,9 +1,9 @@
 // The word of both ready sets.
 ghost use Rattle.std.specs.Prelude.{◌≡◌};
 ghost use Rattle.lent.specs.Word.{word};
-ghost use Rattle.shared.specs.Performed.{asSets};
-ghost use Rattle.quarters.specs.Both.{replyToBoth};
-ghost use Rattle.quarters.specs.code.Loaded.{FewReady};
+ghost use Rattle.shared.specs.Performed.{as_sets};
+ghost use Rattle.quarters.specs.Both.{reply_to_both};
+ghost use Rattle.quarters.specs.Code.Loaded.{FewReady};
 
 use base::Verdict;
 use shared::Sets;
@@ -18,7 +18,7 @@ const COUNT1: u64 = 281474976710656;
 // Each crew's bits, then each crew's count of those set; or a refusal's number and place.
 pub(crate) fn word_of_sets(sets: Sets) -> u64
     requires { FewReady sets }
-    ensures { result ≡ word (replyToBoth (asSets sets)) }
+    ensures { result ≡ word (reply_to_both (as_sets sets)) }
 {
     match sets {
         Sets::Ready(bits0, count0, bits1, count1) => {

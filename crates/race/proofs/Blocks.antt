@@ -9,8 +9,8 @@ use lib.ListN.{length, length-append}
 use Rattle.base.proofs.Booleans.{and_left, and_right}
 use Rattle.base.proofs.Each.{Each, each_map, each_append}
 use Rattle.plan.specs.Groups.{Group}
-use Rattle.plan.specs.Sound.{children, childrenSound, allSound}
-use Rattle.plan.proofs.Children.{children-append, children-skip, children-keep, children-none}
+use Rattle.plan.specs.Sound.{children, children_sound, all_sound}
+use Rattle.plan.proofs.Children.{children-append, children_skip, children-keep, children-none}
 
 -- a record's parent is one of the records from lo to hi
 abbrev pub Inside : (lo hi : ℕ) → Group → Type 0
@@ -24,8 +24,8 @@ Under up lo hi h = (h.parent ≡ up) ⊎ Inside lo hi h
 abbrev pub Ready : (world gs : List Group) (lo hi : ℕ) → Type 0
 Ready world gs lo hi = (i : ℕ) → lo ≤ i → i < hi → children i world ≡ children i gs
 
-under-wider : (up a b c d : ℕ) → c ≤ a → b ≤ d → (gs : List Group) → Each (Under up a b) gs → Each (Under up c d) gs
-under-wider up a b c d p q gs h = each_map (Under up a b) (Under up c d) go gs h
+under_wider : (up a b c d : ℕ) → c ≤ a → b ≤ d → (gs : List Group) → Each (Under up a b) gs → Each (Under up c d) gs
+under_wider up a b c d p q gs h = each_map (Under up a b) (Under up c d) go gs h
   where
     go : (g : Group) → Under up a b g → Under up c d g
     go g (inl x) = inl x
@@ -43,20 +43,20 @@ outside up lo hi i gs u ne o = children-none i gs (each_map (Under up lo hi) (λ
 -- a child g of up at index, the records below it, and later ones
 module _ (up index : ℕ) (g : Group) (below later : List Group) (lt : up < index) (child : g.parent ≡ up)
     (mine : Each (Inside index (index + suc (length below))) below) (theirs : Each (Under up (index + suc (length below)) (index + suc (length below) + length later)) later) where
-  under-mine : Each (Under up index (index + suc (length below))) (g ∷ below)
-  under-mine = (inl child, each_map (Inside index (index + suc (length below))) (Under up index (index + suc (length below))) (λ h q. inr q) below mine)
+  under_mine : Each (Under up index (index + suc (length below))) (g ∷ below)
+  under_mine = (inl child, each_map (Inside index (index + suc (length below))) (Under up index (index + suc (length below))) (λ h q. inr q) below mine)
 
   -- the parents of all these records are up, or among them
-  pub block-under : Each (Under up index (index + length ((g ∷ below) ++ later))) ((g ∷ below) ++ later)
-  block-under =
+  pub block_under : Each (Under up index (index + length ((g ∷ below) ++ later))) ((g ∷ below) ++ later)
+  block_under =
       let end : index + length ((g ∷ below) ++ later) ≡ index + suc (length below) + length later = omega (arith, length-append (g ∷ below) later) in
       each_append (Under up index (index + length ((g ∷ below) ++ later))) (g ∷ below) later
-      (under-wider up index (index + suc (length below)) index (index + length ((g ∷ below) ++ later)) (omega arith) (omega arith) (g ∷ below) under-mine)
-      (under-wider up (index + suc (length below)) (index + suc (length below) + length later) index (index + length ((g ∷ below) ++ later)) (omega arith) (omega arith) later theirs)
+      (under_wider up index (index + suc (length below)) index (index + length ((g ∷ below) ++ later)) (omega arith) (omega arith) (g ∷ below) under_mine)
+      (under_wider up (index + suc (length below)) (index + suc (length below) + length later) index (index + length ((g ∷ below) ++ later)) (omega arith) (omega arith) later theirs)
 
   -- up's children are g, and those later
-  pub block-children : children up ((g ∷ below) ++ later) ≡ g ∷ children up later
-  block-children =
+  pub block_children : children up ((g ∷ below) ++ later) ≡ g ∷ children up later
+  block_children =
       children-append up (g ∷ below) later
       ∙ ap (λ (l : List Group). l ++ children up later)
       (children-keep up g below child
@@ -71,20 +71,20 @@ module _ (up index : ℕ) (g : Group) (below later : List Group) (lt : up < inde
         ∙ ap (λ (l : List Group). children i (g ∷ below) ++ l)
         (outside up (index + suc (length below)) (index + suc (length below) + length later) i later theirs (λ q. omega arith) (inl hi))
         ∙ append-nil (children i (g ∷ below))
-        ∙ children-skip i g below (λ q. omega arith)
+        ∙ children_skip i g below (λ q. omega arith)
 
     -- the children of the later records
-    pub ready-theirs : Ready world later (index + suc (length below)) (index + suc (length below) + length later)
-    ready-theirs i lo hi =
+    pub ready_theirs : Ready world later (index + suc (length below)) (index + suc (length below) + length later)
+    ready_theirs i lo hi =
         ready i (omega arith) (omega (arith, length-append (g ∷ below) later)) ∙ children-append i (g ∷ below) later
-        ∙ ap (λ (l : List Group). l ++ children i later) (outside up index (index + suc (length below)) i (g ∷ below) under-mine (λ q. omega arith) (inr lo))
+        ∙ ap (λ (l : List Group). l ++ children i later) (outside up index (index + suc (length below)) i (g ∷ below) under_mine (λ q. omega arith) (inr lo))
 
 -- every group of a list, and of the list after it
 pub all_append : (far : List ℕ → List ℕ → Bool) (O : List ℕ) (world : List Group) (i : ℕ) (xs ys : List Group)
-    → allSound far O world i xs ≡ true → allSound far O world (i + length xs) ys ≡ true → allSound far O world i (xs ++ ys) ≡ true
-unfolding allSound
-all_append far O world i [] ys a b = subst (λ (k : ℕ). allSound far O world k ys ≡ true) (omega arith) b
+    → all_sound far O world i xs ≡ true → all_sound far O world (i + length xs) ys ≡ true → all_sound far O world i (xs ++ ys) ≡ true
+unfolding all_sound
+all_append far O world i [] ys a b = subst (λ (k : ℕ). all_sound far O world k ys ≡ true) (omega arith) b
 all_append far O world i (x ∷ xs) ys a b =
-    rw (and_left (childrenSound far O x (children i world)) (allSound far O world (i + 1) xs) a)
-    (all_append far O world (i + 1) xs ys (and_right (childrenSound far O x (children i world)) (allSound far O world (i + 1) xs) a)
-    (subst (λ (k : ℕ). allSound far O world k ys ≡ true) (omega arith) b))
+    rw (and_left (children_sound far O x (children i world)) (all_sound far O world (i + 1) xs) a)
+    (all_append far O world (i + 1) xs ys (and_right (children_sound far O x (children i world)) (all_sound far O world (i + 1) xs) a)
+    (subst (λ (k : ℕ). all_sound far O world k ys ≡ true) (omega arith) b))

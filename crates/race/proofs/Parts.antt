@@ -10,7 +10,7 @@ use Rattle.base.specs.Lists.{concat}
 use Rattle.base.proofs.Lists.{concat-append}
 use Rattle.plan.specs.Groups.{Group, Plan, red, blue}
 use Rattle.plan.specs.Sound.{tiled}
-use Rattle.race.specs.Planner.{Pair, Planner, nothing, ◌then◌, planPairs, childOf}
+use Rattle.race.specs.Planner.{Pair, Planner, nothing, ◌then◌, plan_pairs, child_of}
 use Rattle.race.proofs.Tiles.{Tiles, done, more}
 
 -- a child's rows, colour and workers
@@ -34,31 +34,31 @@ all_rows [] = []
 all_rows (x ∷ xs) = x.rows ++ all_rows xs
 
 -- the record of a child of the group at index up
-abbrev pub recordOf : (up depth start : ℕ) → Part → Group
-recordOf up depth start x = childOf up depth start (length x.rows) x.first x.workers x.colour
+abbrev pub record_of : (up depth start : ℕ) → Part → Group
+record_of up depth start x = child_of up depth start (length x.rows) x.first x.workers x.colour
 
 -- .. and of all its children
-abbrev pub recordsOf : (up depth start : ℕ) → List Part → List Group
-recordsOf up depth start [] = []
-recordsOf up depth start (x ∷ xs) = recordOf up depth start x ∷ recordsOf up depth (start + length x.rows) xs
+abbrev pub records_of : (up depth start : ℕ) → List Part → List Group
+records_of up depth start [] = []
+records_of up depth start (x ∷ xs) = record_of up depth start x ∷ records_of up depth (start + length x.rows) xs
 
 -- each part with all below it
-abbrev pub planParts : (child : Planner) (up depth start index : ℕ) → List Part → Plan
-planParts child up depth start index [] = nothing
-planParts child up depth start index (x ∷ xs) =
-    let a = child index (recordOf up depth start x) x.rows in
-    a then planParts child up depth (start + length x.rows) (index + length a.groups) xs
+abbrev pub plan_parts : (child : Planner) (up depth start index : ℕ) → List Part → Plan
+plan_parts child up depth start index [] = nothing
+plan_parts child up depth start index (x ∷ xs) =
+    let a = child index (record_of up depth start x) x.rows in
+    a then plan_parts child up depth (start + length x.rows) (index + length a.groups) xs
 
 -- planning pairs is planning their parts
-pub planPairs-parts : (child : Planner) (up depth start first index : ℕ) (cs : List Pair) → planPairs child up depth start first index cs ≡ planParts child up depth start index (parts first cs)
-unfolding planPairs
-planPairs-parts child up depth start first index [] = refl
-planPairs-parts child up depth start first index (c ∷ cs) =
-    let a = child index (childOf up depth start (length c.reds) first c.workers red) c.reds in
+pub plan_pairs-parts : (child : Planner) (up depth start first index : ℕ) (cs : List Pair) → plan_pairs child up depth start first index cs ≡ plan_parts child up depth start index (parts first cs)
+unfolding plan_pairs
+plan_pairs-parts child up depth start first index [] = refl
+plan_pairs-parts child up depth start first index (c ∷ cs) =
+    let a = child index (child_of up depth start (length c.reds) first c.workers red) c.reds in
     let mid = start + length c.reds in
     let index₁ = index + length a.groups in
-    let b = child index₁ (childOf up depth mid (length c.blues) first c.workers blue) c.blues in
-    ap (λ (r : Plan). a then b then r) (planPairs-parts child up depth (mid + length c.blues) (first + c.workers) (index₁ + length b.groups) cs)
+    let b = child index₁ (child_of up depth mid (length c.blues) first c.workers blue) c.blues in
+    ap (λ (r : Plan). a then b then r) (plan_pairs-parts child up depth (mid + length c.blues) (first + c.workers) (index₁ + length b.groups) cs)
 
 -- ---- what tiles gives
 
@@ -78,7 +78,7 @@ tiles-rows {ls = ls} f (more {cs = cs} c m w a b l pos le ts) =
 
 -- the records of the parts tile their parent
 pub tiles-tiled : {reach free : ℕ} {ls : List (List ℕ)} {cs : List Pair} (g : Group) (up depth s f : ℕ) → Tiles reach free ls cs
-    → s + length (all_rows (parts f cs)) ≡ g.start + g.length → f + free ≡ g.first + g.workers → tiled g s f (recordsOf up depth s (parts f cs)) ≡ true
+    → s + length (all_rows (parts f cs)) ≡ g.start + g.length → f + free ≡ g.first + g.workers → tiled g s f (records_of up depth s (parts f cs)) ≡ true
 unfolding tiled
 tiles-tiled g up depth s f done e d = rw (eq-eqb s (g.start + g.length) (omega arith), eq-eqb f (g.first + g.workers) (omega arith)) refl
 tiles-tiled {ls = ls} g up depth s f (more {cs = cs} c m w a b l pos le ts) e d =

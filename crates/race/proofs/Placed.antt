@@ -6,7 +6,7 @@ use Prim.Native.Nat.{ℕ, ◌+◌}
 use native.Mathlib.Omega.{arith}
 use lib.ListN.{length, take, drop, length-append}
 use lib.Seq.{take-add, take-take, drop-drop, take-append_seam, drop-append_seam}
-use Rattle.base.specs.Lists.{isIn}
+use Rattle.base.specs.Lists.{is_in}
 use Rattle.base.proofs.Counts.{Same, count-in, in_count, same_length}
 use Rattle.race.proofs.Parts.{Part}
 
@@ -35,7 +35,7 @@ placed-right O s xs ys h =
 
 -- who is in xs is in ys
 abbrev pub Sub : List ℕ → List ℕ → Type 0
-Sub xs ys = (v : ℕ) → isIn xs v ≡ true → isIn ys v ≡ true
+Sub xs ys = (v : ℕ) → is_in xs v ≡ true → is_in ys v ≡ true
 
 -- in the order O from place s on stand rows of each part, as many as it has
 abbrev pub Covers : (O : List ℕ) (s : ℕ) → List Part → Type 0
@@ -46,4 +46,4 @@ Covers O s (x ∷ xs) = Sub (take (length x.rows) (drop s O)) x.rows × Covers O
 pub placed-sub : (O : List ℕ) (s : ℕ) (xs T : List ℕ) → Same xs T → Placed O s xs → Sub (take (length T) (drop s O)) T
 placed-sub O s xs T same h v k =
     let e : take (length T) (drop s O) ≡ xs = ap (λ (m : ℕ). take m (drop s O)) (sym (same_length xs T same)) ∙ h in
-    count-in v T (omega (arith, same v, in_count v xs (subst (λ (l : List ℕ). isIn l v ≡ true) e k)))
+    count-in v T (omega (arith, same v, in_count v xs (subst (λ (l : List ℕ). is_in l v ≡ true) e k)))

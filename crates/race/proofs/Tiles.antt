@@ -37,13 +37,13 @@ module _ (adj : ℕ → List ℕ) (policy : Policy) (some : 1 ≤ policy.reach) 
   pairs-none (suc k) w R free [] e d = subst (λ (f : ℕ). Tiles policy.reach f [] []) (sym e) done
 
   -- the planner's pairs
-  pub pairs-tile : (k w R free : ℕ) (ls : List (List ℕ)) → 1 ≤ free → 2 * policy.reach ≤ length ls → length ls ≤ k → Tiles policy.reach free ls (pairs adj k w R policy free ls)
+  pub pairs_tile : (k w R free : ℕ) (ls : List (List ℕ)) → 1 ≤ free → 2 * policy.reach ≤ length ls → length ls ≤ k → Tiles policy.reach free ls (pairs adj k w R policy free ls)
   unfolding pairs
-  pairs-tile zero w R free ls f long b = absurd (omega arith)
-  pairs-tile (suc k) w R free [] f long b = absurd (omega arith)
-  pairs-tile (suc k) w R free (l ∷ ls) f long b =
+  pairs_tile zero w R free ls f long b = absurd (omega arith)
+  pairs_tile (suc k) w R free [] f long b = absurd (omega arith)
+  pairs_tile (suc k) w R free (l ∷ ls) f long b =
       go (extent-taken w R policy free (map (load_of adj) (l ∷ ls)) some f (omega (arith, len)))
-      (λ f' long' b'. pairs-tile k w R (free - e.workers) (drop e.levels (l ∷ ls)) f' long' b')
+      (λ f' long' b'. pairs_tile k w R (free - e.workers) (drop e.levels (l ∷ ls)) f' long' b')
     where
       e : Extent
       e = extent w R policy free (map (load_of adj) (l ∷ ls))

@@ -6,25 +6,25 @@ use Prim.Native.Nat.{ℕ}
 use lib.IntN.{ℤ}
 use lib.ListN.{length, take}
 use Rattle.base.specs.Replies.{Reply, accepted, refused, room_for, in_turn, lent}
-use Rattle.base.proofs.Replies.{inTurn-map}
-use Rattle.matrix.specs.Limits.{maxRows}
-use Rattle.matrix.specs.code.Room.{maxStarts}
-use Rattle.matrix.specs.Matrix.{Matrix, isMatrix}
+use Rattle.base.proofs.Replies.{in_turn-map}
+use Rattle.matrix.specs.Limits.{max_rows}
+use Rattle.matrix.specs.Code.Room.{max_starts}
+use Rattle.matrix.specs.Matrix.{Matrix, is_matrix}
 use Rattle.matrix.proofs.Cut.{cut}
 use Rattle.plan.specs.Groups.{Plan}
-use Rattle.plan.specs.code.Room.{maxFields}
+use Rattle.plan.specs.Code.Room.{max_fields}
 use Rattle.run.specs.Job.{Job, job_of, workers}
 use Rattle.run.specs.Updates.{updates, accesses}
-use Rattle.run.specs.Calls.{jobChecks}
+use Rattle.run.specs.Calls.{job_checks}
 use Rattle.lent.specs.Word.{word}
 use Rattle.answers.proofs.CutJobs.{updates-same}
 use Rattle.answers.proofs.RunCalls.{job-cut}
 use Rattle.prepared.specs.Gates.{end_in, gate}
-use Rattle.prepared.specs.Format.{lists_of, preparedBytes}
-use Rattle.prepared.specs.Prepare.{listReply, prepareReply, PreparedFrom}
+use Rattle.prepared.specs.Format.{lists_of, prepared_bytes}
+use Rattle.prepared.specs.Prepare.{list_reply, prepare_reply, PreparedFrom}
 use Rattle.rack.specs.Kept.{PrepareAnswered}
 
-module _ (m : Matrix) (ok : isMatrix m ≡ true) (x : List ℤ) (p : Plan) where
+module _ (m : Matrix) (ok : is_matrix m ≡ true) (x : List ℤ) (p : Plan) where
   abbrev whole : Job
   whole = record { matrix = m; displacements = x; plan = p }
 
@@ -35,9 +35,9 @@ module _ (m : Matrix) (ok : isMatrix m ≡ true) (x : List ℤ) (p : Plan) where
   unfolding accesses updates
   accesses-same = fun_ext (λ w. rw (updates-same m ok x p))
 
-  updated-same : updates part ≡ updates whole
+  updated_same : updates part ≡ updates whole
   unfolding updates
-  updated-same = fun_ext (λ w. rw (updates-same m ok x p))
+  updated_same = fun_ext (λ w. rw (updates-same m ok x p))
 
   ends_same : end_in part ≡ end_in whole
   unfolding end_in
@@ -47,37 +47,37 @@ module _ (m : Matrix) (ok : isMatrix m ≡ true) (x : List ℤ) (p : Plan) where
   unfolding gate
   gates-same = fun_ext (λ q. fun_ext (λ v. rw ends_same))
 
-  bytes_same : preparedBytes part ≡ preparedBytes whole
-  unfolding preparedBytes lists_of workers
-  bytes_same = rw (accesses-same, updated-same, gates-same)
+  bytes_same : prepared_bytes part ≡ prepared_bytes whole
+  unfolding prepared_bytes lists_of workers
+  bytes_same = rw (accesses-same, updated_same, gates-same)
 
 module _ (old : List ℕ) where
   -- what is left of the lent list: it stays where a check refuses the call
-  left-in-turn : (m : Matrix) (x : List ℤ) (order groups : List ℕ) (count : ℕ) → lent (prepareReply m x order groups count (length old)) (preparedBytes (job_of m x order groups count)) old
-      ≡ in_turn (λ number place. old) (jobChecks m x order groups count) (lent (listReply (job_of m x order groups count) (length old)) (preparedBytes (job_of m x order groups count)) old)
-  unfolding prepareReply lent
-  left-in-turn m x order groups count =
+  left_in_turn : (m : Matrix) (x : List ℤ) (order groups : List ℕ) (count : ℕ) → lent (prepare_reply m x order groups count (length old)) (prepared_bytes (job_of m x order groups count)) old
+      ≡ in_turn (λ number place. old) (job_checks m x order groups count) (lent (list_reply (job_of m x order groups count) (length old)) (prepared_bytes (job_of m x order groups count)) old)
+  unfolding prepare_reply lent
+  left_in_turn m x order groups count =
       let j : Job = job_of m x order groups count in
-      inTurn-map (λ (r : Reply). lent r (preparedBytes j) old) refused (jobChecks m x order groups count) (listReply j (length old))
+      in_turn-map (λ (r : Reply). lent r (prepared_bytes j) old) refused (job_checks m x order groups count) (list_reply j (length old))
 
   module _ (m : Matrix) (x : List ℤ) (order groups : List ℕ) (count : ℕ) where
-    reply-cut : prepareReply (cut m) (take maxStarts x) (take maxRows order) (take maxFields groups) count (length old) ≡ prepareReply m x order groups count (length old)
-    unfolding prepareReply listReply
+    reply-cut : prepare_reply (cut m) (take max_starts x) (take max_rows order) (take max_fields groups) count (length old) ≡ prepare_reply m x order groups count (length old)
+    unfolding prepare_reply list_reply
     reply-cut =
-        job-cut refused (λ j. listReply j (length old))
+        job-cut refused (λ j. list_reply j (length old))
         (λ m ok x p. ap (λ (bs : List ℕ). in_turn refused (room_for (length bs) (length old) ∷ []) (accepted (length bs))) (bytes_same m ok x p)) m x order groups count
 
-    left_cut : lent (prepareReply (cut m) (take maxStarts x) (take maxRows order) (take maxFields groups) count (length old)) (preparedBytes (job_of (cut m) (take maxStarts x) (take maxRows order) (take maxFields groups) count)) old
-        ≡ lent (prepareReply m x order groups count (length old)) (preparedBytes (job_of m x order groups count)) old
-    unfolding listReply
+    left_cut : lent (prepare_reply (cut m) (take max_starts x) (take max_rows order) (take max_fields groups) count (length old)) (prepared_bytes (job_of (cut m) (take max_starts x) (take max_rows order) (take max_fields groups) count)) old
+        ≡ lent (prepare_reply m x order groups count (length old)) (prepared_bytes (job_of m x order groups count)) old
+    unfolding list_reply
     left_cut =
-        left-in-turn (cut m) (take maxStarts x) (take maxRows order) (take maxFields groups) count
-        ∙ job-cut (λ number place. old) (λ j. lent (listReply j (length old)) (preparedBytes j) old)
+        left_in_turn (cut m) (take max_starts x) (take max_rows order) (take max_fields groups) count
+        ∙ job-cut (λ number place. old) (λ j. lent (list_reply j (length old)) (prepared_bytes j) old)
         (λ m ok x p. ap (λ (bs : List ℕ). lent (in_turn refused (room_for (length bs) (length old) ∷ []) (accepted (length bs))) bs old) (bytes_same m ok x p)) m x order groups count
-        ∙ sym (left-in-turn m x order groups count)
+        ∙ sym (left_in_turn m x order groups count)
 
 -- the lists that a call decodes, cut, for the whole ones
-pub prepared-whole : (m : Matrix) (x : List ℤ) (order groups : List ℕ) (count : ℕ) {d : Matrix} {y : List ℤ} {o g : List ℕ} → d ≡ cut m → y ≡ take maxStarts x → o ≡ take maxRows order → g ≡ take maxFields groups
+pub prepared-whole : (m : Matrix) (x : List ℤ) (order groups : List ℕ) (count : ℕ) {d : Matrix} {y : List ℤ} {o g : List ℕ} → d ≡ cut m → y ≡ take max_starts x → o ≡ take max_rows order → g ≡ take max_fields groups
     → (old : List ℕ) {reply : Reply} {new : List ℕ} {w : ℕ} → PreparedFrom d y o g count old reply new → w ≡ word reply
     → PrepareAnswered m x order groups count old w new
 prepared-whole m x order groups count ed ey eo eg old h f =

@@ -1,3 +1,3 @@
 pub mod Kept
 pub mod KeptRuns
-pub mod code
+pub mod Code

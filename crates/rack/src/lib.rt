@@ -1,15 +1,17 @@
 // The calls on a prepared list and a run whose state and sums stand in bytes: the sums are changed in place. And
 // how such a list is made.
+#![tactic(auto)]
+
 pub mod prepare;
 
 ghost use Rattle.std.specs.Prelude.{◌≡◌, List, ◌%◌, ◌^◌, ℤ};
-ghost use Rattle.run.specs.Answers.{readySet};
+ghost use Rattle.run.specs.Answers.{ready_set};
 ghost use Rattle.run.specs.Calls.{place_of};
-ghost use Rattle.calls.specs.Performed.{asAnswer};
+ghost use Rattle.calls.specs.Performed.{as_answer};
 ghost use Rattle.calls.specs.declared.Response.TheVariants.{Picked};
-ghost use Rattle.answers.specs.code.Ran.{LowPlace};
-ghost use Rattle.rack.specs.Kept.{answerKept};
-ghost use Rattle.rack.specs.code.Taken.{refusalIn, takes, TookKept, GaveKept};
+ghost use Rattle.answers.specs.Code.Ran.{LowPlace};
+ghost use Rattle.rack.specs.Kept.{answer_kept};
+ghost use Rattle.rack.specs.Code.Taken.{refusal_in, takes, TookKept, GaveKept};
 
 use answers::state::{STATE_BYTES, load_state, store_state};
 use base::{EARLY, SHORT, STATE, UNPREPARED};
@@ -22,7 +24,7 @@ use picking::walk::{ready_bits, walk};
 
 // Why every call is refused: 26, 11, or 0 if none is.
 fn refusal_of(list: &[u8], state: &[u8], sums: &[u8]) -> u32
-    ensures { result ≡ refusalIn list.now state.now sums.now }
+    ensures { result ≡ refusal_in list.now state.now sums.now }
 {
     if !is_prepared(list) {
         return UNPREPARED;
@@ -83,7 +85,7 @@ pub fn take(list: &[u8], state: &mut [u8], sums: &mut [u8], schedule: &[u8], rul
 
 // Who is ready.
 pub fn ready(list: &[u8], state: &[u8], sums: &[u8]) -> Response
-    ensures { ((zs : List ℤ) → asAnswer result zs ≡ answerKept list.now state.now sums.now readySet) × LowPlace result }
+    ensures { ((zs : List ℤ) → as_answer result zs ≡ answer_kept list.now state.now sums.now ready_set) × LowPlace result }
 {
     let why = refusal_of(list, state, sums);
     if why != 0 {

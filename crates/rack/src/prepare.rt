@@ -1,6 +1,6 @@
 // prepare: the prepared list of a job whose lists stand in bytes.
 ghost use Rattle.words.specs.LittleEndian.{unsigned, signed};
-ghost use Rattle.lent.specs.Bytes.{matrixIn};
+ghost use Rattle.lent.specs.Bytes.{matrix_in};
 ghost use Rattle.rack.specs.Kept.{PrepareAnswered};
 
 use lent::lists::{load_signed, load_unsigned};
@@ -19,7 +19,7 @@ pub fn prepare_in(
     group_count: u32,
     out: &mut [u8],
 ) -> u64
-    ensures { PrepareAnswered (matrixIn n row_starts.now columns.now values.now) (signed 4 movements.now) (unsigned 4 order.now) (unsigned 4 groups.now) group_count
+    ensures { PrepareAnswered (matrix_in n row_starts.now columns.now values.now) (signed 4 movements.now) (unsigned 4 order.now) (unsigned 4 groups.now) group_count
         out.old result out.new }
 {
     let mut starts = [0u32; MAX_STARTS];

@@ -2,9 +2,9 @@
 
 ghost use Rattle.std.specs.Prelude.{◌≡◌, [], ℕ, drop};
 ghost use Rattle.market.specs.Parse.{entries};
-ghost use Rattle.compress.specs.code.Arrays.{Arrays};
-ghost use Rattle.reader.specs.code.Scanned.{parsed, Within};
-ghost use Rattle.reader.specs.code.Entries.{Held, remaining, Ended};
+ghost use Rattle.compress.specs.Code.Arrays.{Arrays};
+ghost use Rattle.reader.specs.Code.Scanned.{parsed, Within};
+ghost use Rattle.reader.specs.Code.Entries.{Held, remaining, Ended};
 
 use crate::entry::{Entry, read_entry};
 use crate::marks::{bit_of, mark, mark_all};

@@ -2,9 +2,9 @@
 
 ghost use Rattle.std.specs.Prelude.{◌≡◌, ◌≤◌};
 ghost use Rattle.base.specs.Integers.{within};
-ghost use Rattle.matrix.specs.Limits.{maxRows, max_value};
-ghost use Rattle.market.specs.Parse.{isEntry};
-ghost use Rattle.reader.specs.code.Entries.{EntryAt};
+ghost use Rattle.matrix.specs.Limits.{max_rows, max_value};
+ghost use Rattle.market.specs.Parse.{is_entry};
+ghost use Rattle.reader.specs.Code.Entries.{EntryAt};
 
 use matrix::limits::MAX_VALUE;
 use scan::lines::{Fields, read_line};
@@ -29,8 +29,8 @@ fn in_limits(v: i64) -> bool
 
 // Whether row, column and value may stand in a matrix of n rows.
 fn is_entry(n: usize, row: u64, column: u64, v: i64) -> bool
-    requires { n ≤ maxRows }
-    ensures { result ≡ isEntry n row column v }
+    requires { n ≤ max_rows }
+    ensures { result ≡ is_entry n row column v }
 {
     if column < 1 {
         return false;
@@ -58,7 +58,7 @@ pub(crate) enum Entry {
 
 // The entry line at a position, for a matrix of n rows.
 pub(crate) fn read_entry(s: &[u8], at: usize, n: usize) -> Entry
-    requires { n ≤ maxRows }
+    requires { n ≤ max_rows }
     ensures { EntryAt s.now at n result }
 {
     let found = read_line(s, at);

@@ -1,4 +1,6 @@
 // The reader of Matrix Market integer symmetric text.
+#![tactic(auto)]
+
 mod entries;
 mod entry;
 mod marks;
@@ -6,10 +8,10 @@ mod opening;
 mod parse;
 
 ghost use Rattle.std.specs.Prelude.{◌≡◌, length};
-ghost use Rattle.base.specs.Verdicts.{replyOf};
+ghost use Rattle.base.specs.Verdicts.{reply_of};
 ghost use Rattle.base.specs.Replies.{lent};
 ghost use Rattle.market.specs.Parse.{parse};
-ghost use Rattle.market.specs.FullRows.{readMatrix, readReply};
+ghost use Rattle.market.specs.FullRows.{read_matrix, read_reply};
 
 use base::Verdict;
 use compress::rows;
@@ -19,10 +21,10 @@ use matrix::limits::MAX_ENTRIES;
 // The matrix of a text in full rows, into three lists: 1, 2, 3 or 4 line by line, then 9. Nothing is written on a
 // refusal.
 pub fn read(text: &[u8], starts: &mut [u32], columns: &mut [u32], values: &mut [i32]) -> Verdict
-    ensures result_value { replyOf result ≡ readReply (parse text.now) (length starts.old) (length columns.old) (length values.old) }
-    ensures starts_after { starts.new ≡ lent (readReply (parse text.now) (length starts.old) (length columns.old) (length values.old)) (readMatrix (parse text.now)).starts starts.old }
-    ensures columns_after { columns.new ≡ lent (readReply (parse text.now) (length starts.old) (length columns.old) (length values.old)) (readMatrix (parse text.now)).columns columns.old }
-    ensures values_after { values.new ≡ lent (readReply (parse text.now) (length starts.old) (length columns.old) (length values.old)) (readMatrix (parse text.now)).values values.old }
+    ensures result_value { reply_of result ≡ read_reply (parse text.now) (length starts.old) (length columns.old) (length values.old) }
+    ensures starts_after { starts.new ≡ lent (read_reply (parse text.now) (length starts.old) (length columns.old) (length values.old)) (read_matrix (parse text.now)).starts starts.old }
+    ensures columns_after { columns.new ≡ lent (read_reply (parse text.now) (length starts.old) (length columns.old) (length values.old)) (read_matrix (parse text.now)).columns columns.old }
+    ensures values_after { values.new ≡ lent (read_reply (parse text.now) (length starts.old) (length columns.old) (length values.old)) (read_matrix (parse text.now)).values values.old }
 {
     let mut rs = [0u32; MAX_ENTRIES];
     let mut cs = [0u32; MAX_ENTRIES];

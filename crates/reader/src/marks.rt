@@ -1,16 +1,16 @@
 // One bit for each place of the lower triangle: which places an earlier line has named.
 
 ghost use Rattle.std.specs.Prelude.{◌≡◌, List, [], ◌≤◌, ◌<◌, ℤ, length};
-ghost use Rattle.compress.specs.code.Arrays.{tripletsOf};
-ghost use Rattle.reader.specs.code.Entries.{Lower};
-ghost use Rattle.reader.specs.code.Marks.{isMarked, marked, bit_of, Marks};
-ghost use Rattle.matrix.specs.Limits.{maxEntries, maxRows};
+ghost use Rattle.compress.specs.Code.Arrays.{triplets_of};
+ghost use Rattle.reader.specs.Code.Entries.{Lower};
+ghost use Rattle.reader.specs.Code.Marks.{is_marked, marked, bit_of, Marks};
+ghost use Rattle.matrix.specs.Limits.{max_entries, max_rows};
 
 use matrix::limits::MAX_ENTRIES;
 
 // The bit of row r and column c.
 pub(crate) fn bit_of(r: u32, c: u32) -> usize
-    requires { (c ≤ r) × (r < maxRows) }
+    requires { (c ≤ r) × (r < max_rows) }
     ensures { (result ≡ bit_of r c) × (result < 8390656) }
 {
     (r * (r + 1) / 2 + c) as usize
@@ -19,7 +19,7 @@ pub(crate) fn bit_of(r: u32, c: u32) -> usize
 // Sets bit q, and says whether it was set.
 pub(crate) fn mark(marks: &mut [u64; 131104], q: usize) -> bool
     requires { (q < 8390656) × (length marks.old ≡ 131104) }
-    ensures { (result ≡ isMarked marks.old q) × (marks.new ≡ marked marks.old q) }
+    ensures { (result ≡ is_marked marks.old q) × (marks.new ≡ marked marks.old q) }
 {
     let w = q / 64;
     let k = q % 64;
@@ -35,8 +35,8 @@ pub(crate) fn mark_all(
     count: usize,
     marks: &mut [u64; 131104],
 )
-    requires { (count ≤ maxEntries) × (length rows.now ≡ maxEntries) × (length columns.now ≡ maxEntries) × Lower rows.now columns.now count × Marks marks.old [] }
-    ensures { (vs : List ℤ) → Marks marks.new (tripletsOf count rows.now columns.now vs) }
+    requires { (count ≤ max_entries) × (length rows.now ≡ max_entries) × (length columns.now ≡ max_entries) × Lower rows.now columns.now count × Marks marks.old [] }
+    ensures { (vs : List ℤ) → Marks marks.new (triplets_of count rows.now columns.now vs) }
 {
     let mut k: usize = 0;
     while k < count {

@@ -2,9 +2,9 @@
 
 ghost use Rattle.std.specs.Prelude.{◌≡◌, ◌≤◌, length};
 ghost use Rattle.base.specs.Lists.{begins};
-ghost use Rattle.matrix.specs.Limits.{maxText};
+ghost use Rattle.matrix.specs.Limits.{max_text};
 ghost use Rattle.market.specs.Bytes.{header};
-ghost use Rattle.reader.specs.code.Opening.{LineEnds, Skipped};
+ghost use Rattle.reader.specs.Code.Opening.{LineEnds, Skipped};
 
 use market::HEADER;
 use scan::classes::{LINE_END, class_of};
@@ -57,7 +57,7 @@ pub(crate) struct LineStart {
 
 // The first line from a position on that does not begin with %; the line at the position has the given number.
 pub(crate) fn skip_comments(s: &[u8], at: usize, first: u32) -> LineStart
-    requires { (first ≤ at) × (at ≤ length s.now) × (length s.now ≤ maxText) }
+    requires { (first ≤ at) × (at ≤ length s.now) × (length s.now ≤ max_text) }
     ensures { Skipped s.now at first result }
 {
     let mut i = at;

@@ -1,10 +1,10 @@
 // A whole text: its rows and entries, or its refusal.
 
 ghost use Rattle.std.specs.Prelude.{◌≡◌, ◌&&◌, ◌≤◌, eqb, leb, drop};
-ghost use Rattle.matrix.specs.Limits.{maxRows, maxEntries};
-ghost use Rattle.market.specs.Parse.{sizeLine, parse};
-ghost use Rattle.compress.specs.code.Arrays.{Arrays};
-ghost use Rattle.reader.specs.code.Scanned.{parsed};
+ghost use Rattle.matrix.specs.Limits.{max_rows, max_entries};
+ghost use Rattle.market.specs.Parse.{size_line, parse};
+ghost use Rattle.compress.specs.Code.Arrays.{Arrays};
+ghost use Rattle.reader.specs.Code.Scanned.{parsed};
 
 use crate::entries::{Scanned, read_entries};
 use crate::opening::{has_header, skip_comments};
@@ -18,7 +18,7 @@ const MOST_ENTRIES: u64 = MAX_ENTRIES as u64;
 
 // Whether rows, columns and entry count are a size within limits.
 fn is_size(rows: u64, columns: u64, count: u64) -> bool
-    ensures { result ≡ eqb rows columns && leb 1 rows && leb rows maxRows && leb count maxEntries }
+    ensures { result ≡ eqb rows columns && leb 1 rows && leb rows max_rows && leb count max_entries }
 {
     if rows != columns {
         return false;
@@ -42,7 +42,7 @@ fn parse_size(
     values: &mut [i32; MAX_ENTRIES],
 ) -> Scanned
     requires { (line ≤ 1048577) × Arrays rows.old columns.old values.old }
-    ensures { (sizeLine line (drop pos s.now) ≡ parsed result rows.new columns.new values.new) × Arrays rows.new columns.new values.new }
+    ensures { (size_line line (drop pos s.now) ≡ parsed result rows.new columns.new values.new) × Arrays rows.new columns.new values.new }
 {
     let found = read_line(s, pos);
     let Fields::Line {

@@ -1,1 +1,2 @@
 // Rounds: what holds of every run with such calls. The calls themselves are in `calls`.
+#![tactic(auto)]

@@ -14,33 +14,33 @@ use Rattle.base.proofs.Booleans.{same_or, same_test}
 use Rattle.base.proofs.Lists.{range_snoc, filter-append, all-range, range_all}
 use Rattle.run.specs.Job.{Job, workers}
 use Rattle.run.specs.Updates.{count, accesses, waits}
-use Rattle.run.specs.Machine.{reason, refusal, readyBelow, ready, bits, over}
-use Rattle.run.specs.Model.{ending, able, isFinished}
+use Rattle.run.specs.Machine.{reason, refusal, ready_below, ready, bits, over}
+use Rattle.run.specs.Model.{ending, able, is_finished}
 use Rattle.run.proofs.Finished.{over-made, made-over}
 
 -- a pick that is taken names a worker of the plan
-pub ending-in : (j : Job) (made : List ℕ) (w : ℕ) → ending j made w ≡ 0 → w < workers j
+pub ending_in : (j : Job) (made : List ℕ) (w : ℕ) → ending j made w ≡ 0 → w < workers j
 unfolding ending
-ending-in j made w e = go (ltb w (workers j)) refl e
+ending_in j made w e = go (ltb w (workers j)) refl e
   where
-    go : (b : Bool) → ltb w (workers j) ≡ b → cond b (cond (eqb (count made w) (accesses j w)) why.allDone (cond (waits j made w) why.mustWait 0)) why.noWorker ≡ 0 → w < workers j
+    go : (b : Bool) → ltb w (workers j) ≡ b → cond b (cond (eqb (count made w) (accesses j w)) why.all_done (cond (waits j made w) why.must_wait 0)) why.no_worker ≡ 0 → w < workers j
     go true l e = ltb-true w (workers j) l
     go false l e = absurd (omega arith)
 
 -- ---- lists of workers, weighed
 
-weigh-append : (g : ℕ → ℕ) (xs ys : List ℕ) → sum (map g (xs ++ ys)) ≡ sum (map g xs) + sum (map g ys)
-weigh-append g [] ys = omega arith
-weigh-append g (x ∷ xs) ys = omega (arith, weigh-append g xs ys)
+weigh_append : (g : ℕ → ℕ) (xs ys : List ℕ) → sum (map g (xs ++ ys)) ≡ sum (map g xs) + sum (map g ys)
+weigh_append g [] ys = omega arith
+weigh_append g (x ∷ xs) ys = omega (arith, weigh_append g xs ys)
 
-weigh-bits : (ws : List ℕ) → sum (map (◌^◌ 2) ws) ≡ bits ws
+weigh_bits : (ws : List ℕ) → sum (map (◌^◌ 2) ws) ≡ bits ws
 unfolding bits
-weigh-bits [] = refl
-weigh-bits (w ∷ ws) = ap (◌+◌ (2 ^ w)) (weigh-bits ws)
+weigh_bits [] = refl
+weigh_bits (w ∷ ws) = ap (◌+◌ (2 ^ w)) (weigh_bits ws)
 
-weigh-length : (ws : List ℕ) → sum (map (λ w. 1) ws) ≡ length ws
-weigh-length [] = refl
-weigh-length (w ∷ ws) = omega (arith, weigh-length ws)
+weigh_length : (ws : List ℕ) → sum (map (λ w. 1) ws) ≡ length ws
+weigh_length [] = refl
+weigh_length (w ∷ ws) = omega (arith, weigh_length ws)
 
 -- ---- counts of which none is past its worker's accesses
 
@@ -58,7 +58,7 @@ module _ (j : Job) (made : List ℕ) (bounded : (w : ℕ) → count made w ≤ a
   unfolding ending refusal reason
   ending-is w = rw (same_end (accesses j w) (count made w) (bounded w)) (go (ltb w (workers j)) (leb (accesses j w) (count made w)) (waits j made w))
     where
-      go : (a b c : Bool) → cond a (cond b why.allDone (cond c why.mustWait 0)) why.noWorker ≡ reason a b c
+      go : (a b c : Bool) → cond a (cond b why.all_done (cond c why.must_wait 0)) why.no_worker ≡ reason a b c
       go false b c = refl
       go true true c = refl
       go true false true = refl
@@ -68,29 +68,29 @@ module _ (j : Job) (made : List ℕ) (bounded : (w : ℕ) → count made w ≤ a
   passes w = eqb (ending j made w) 0
 
   -- the workers whose pick would be taken, below k
-  weigh-ready : (g : ℕ → ℕ) (k : ℕ) → sum (map g (filter passes (range 0 k))) ≡ sum (map g (readyBelow j made k))
-  unfolding readyBelow
-  weigh-ready g zero = refl
-  weigh-ready g (suc k) =
+  weigh_ready : (g : ℕ → ℕ) (k : ℕ) → sum (map g (filter passes (range 0 k))) ≡ sum (map g (ready_below j made k))
+  unfolding ready_below
+  weigh_ready g zero = refl
+  weigh_ready g (suc k) =
       ap (λ (ws : List ℕ). sum (map g (filter passes ws))) (range_snoc 0 k ∙ (let e : 0 + k ≡ k = omega arith in ap (λ (y : ℕ). range 0 k ++ (y ∷ [])) e)) ∙ ap (λ (ws : List ℕ). sum (map g ws)) (filter-append passes (range 0 k) (k ∷ []))
-      ∙ weigh-append g (filter passes (range 0 k)) (keep (passes k) k []) ∙ rw (ending-is k, weigh-ready g k) (go (eqb (refusal j made k) 0))
+      ∙ weigh_append g (filter passes (range 0 k)) (keep (passes k) k []) ∙ rw (ending-is k, weigh_ready g k) (go (eqb (refusal j made k) 0))
     where
-      go : (b : Bool) → sum (map g (readyBelow j made k)) + sum (map g (keep b k [])) ≡ sum (map g (cond b (k ∷ readyBelow j made k) (readyBelow j made k)))
+      go : (b : Bool) → sum (map g (ready_below j made k)) + sum (map g (keep b k [])) ≡ sum (map g (cond b (k ∷ ready_below j made k) (ready_below j made k)))
       go true = omega arith
       go false = omega arith
 
   -- their bits and their count
   pub able-bits : sum (map (◌^◌ 2) (able j made)) ≡ bits (ready j made)
   unfolding able ready
-  able-bits = weigh-ready (◌^◌ 2) (workers j) ∙ weigh-bits (readyBelow j made (workers j))
+  able-bits = weigh_ready (◌^◌ 2) (workers j) ∙ weigh_bits (ready_below j made (workers j))
 
   pub able-count : length (able j made) ≡ length (ready j made)
   unfolding able ready
-  able-count = sym (weigh-length (filter passes (range 0 (workers j)))) ∙ weigh-ready (λ w. 1) (workers j) ∙ weigh-length (readyBelow j made (workers j))
+  able-count = sym (weigh_length (filter passes (range 0 (workers j)))) ∙ weigh_ready (λ w. 1) (workers j) ∙ weigh_length (ready_below j made (workers j))
 
   -- whether the run is finished
-  pub finished-is : isFinished j made ≡ over j made
-  unfolding isFinished
+  pub finished-is : is_finished j made ≡ over j made
+  unfolding is_finished
   finished-is =
       same_test (all (λ w. eqb (count made w) (accesses j w)) (range 0 (workers j))) (over j made)
       (λ h. made-over j made (λ w l. let e = eqb-true (count made w) (accesses j w) (all-range (λ w. eqb (count made w) (accesses j w)) (workers j) w h l) in omega arith))

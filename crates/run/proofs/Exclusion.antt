@@ -9,16 +9,16 @@ use lib.ListN.{length}
 use Rattle.base.proofs.Graph.{Graph}
 use Rattle.matrix.specs.Matrix.{neighbours}
 use Rattle.run.specs.Job.{Job}
-use Rattle.run.specs.Tree.{Tree, none, node, ownerIn, blocked}
+use Rattle.run.specs.Tree.{Tree, none, node, owner_in, blocked}
 use Rattle.run.specs.Updates.{owner, accesses, count, finished, next, waits}
-use Rattle.run.proofs.Holds.{holds-in}
+use Rattle.run.proofs.Holds.{holds_in}
 use Rattle.run.proofs.Blocked.{not-blocked-below}
 use Rattle.run.proofs.SoundTree.{Tiled}
 use Rattle.run.proofs.Apart.{Touch, Clear}
 use Rattle.run.proofs.Exclude.{Active, clear}
 use Rattle.run.proofs.Forest.{WholePlan}
 use Rattle.run.proofs.Owners.{held, own}
-use Rattle.run.proofs.Next.{next-at, next_row, next-touch, live}
+use Rattle.run.proofs.Next.{next-at, next_row, next_touch, live}
 
 module _ (j : Job) (W : WholePlan j) (long : length j.plan.order ≡ j.matrix.n) (G : Graph (neighbours j.matrix) j.matrix.n) (made : List ℕ) where
   -- position q, run by w, is active among the siblings below the whole
@@ -28,8 +28,8 @@ module _ (j : Job) (W : WholePlan j) (long : length j.plan.order ≡ j.matrix.n)
   working : (w : ℕ) (l : count made w < accesses j w) → waits j made w ≡ false → Working W.below (next-at j made w l).row w
   unfolding waits
   working w l h = record {
-    low = (holds-in W.top q (held j W q low)).0;
-    high = (holds-in W.top q (held j W q low)).1;
+    low = (holds_in W.top q (held j W q low)).0;
+    high = (holds_in W.top q (held j W q low)).1;
     inside = omega (arith, low, long);
     owned = sym (own j W q low) ∙ (next-at j made w l).mine;
     live = live j made w l;
@@ -44,7 +44,7 @@ module _ (j : Job) (W : WholePlan j) (long : length j.plan.order ≡ j.matrix.n)
       low = (next-at j made w l).below
 
   rows-clear : (p q v w : ℕ) → v ≢ w → Working W.below p v → Working W.below q w → Clear (neighbours j.matrix) j.plan.order p q
-  unfolding ownerIn
+  unfolding owner_in
   rows-clear p q v w d = go W.below W.under.tiles
     where
       go : (B : Tree) → Tiled (neighbours j.matrix) j.plan.order W.top B → Working B p v → Working B q w → Clear (neighbours j.matrix) j.plan.order p q
@@ -59,6 +59,6 @@ module _ (j : Job) (W : WholePlan j) (long : length j.plan.order ≡ j.matrix.n)
   exclusion v w d lv lw nv nw e =
       let p : ℕ = (next-at j made v lv).row in
       let q : ℕ = (next-at j made w lw).row in
-      let same : p ≡ q = rows-clear p q v w d (working v lv nv) (working w lw nw) (next j made v).target (next-touch j made v lv)
-      (subst (Touch (neighbours j.matrix) j.plan.order q) (sym e) (next-touch j made w lw)) in
+      let same : p ≡ q = rows-clear p q v w d (working v lv nv) (working w lw nw) (next j made v).target (next_touch j made v lv)
+      (subst (Touch (neighbours j.matrix) j.plan.order q) (sym e) (next_touch j made w lw)) in
       d (sym (next-at j made v lv).mine ∙ ap (owner j) same ∙ (next-at j made w lw).mine)

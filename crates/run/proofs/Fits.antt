@@ -10,17 +10,17 @@ use lib.ListN.{length, get_or, set, replicate}
 use Rattle.base.specs.Integers.{fits64}
 use Rattle.base.specs.Replies.{in_turn}
 use Rattle.base.proofs.Each.{Each}
-use Rattle.plan.specs.Sound.{maxWorkers}
+use Rattle.plan.specs.Sound.{max_workers}
 use Rattle.run.specs.Job.{Job, Accepted}
 use Rattle.run.specs.Updates.{Update, count, next}
-use Rattle.run.specs.Machine.{refusal, Outcome, moved, halted, load, total, store, access, move, stepIf, step, oneMore, steps, isState}
+use Rattle.run.specs.Machine.{refusal, Outcome, moved, halted, load, total, store, access, move, step_if, step, one_more, steps, is_state}
 use Rattle.run.specs.State.{State, fresh}
 use Rattle.run.specs.Rounds.{skips}
-use Rattle.run.specs.Calls.{stateCheck, after_of, after}
-use Rattle.run.specs.Answers.{Call, picks, readySet, forceList, preview, rounds}
+use Rattle.run.specs.Calls.{state_check, after_of, after}
+use Rattle.run.specs.Answers.{Call, picks, ready_set, force_list, preview, rounds}
 use Rattle.run.proofs.Invariant.{Inv}
 use Rattle.run.proofs.Passes.{pass-keeps}
-use Rattle.run.proofs.Schedule.{steps_on, steps-end}
+use Rattle.run.proofs.Schedule.{steps_on, steps_end}
 use Rattle.run.proofs.Accepted.{accesses-small}
 
 -- ---- a property of each element
@@ -57,7 +57,7 @@ pub record Fits (s : State) : Type 0 where
 -- a fresh state's
 pub fits_fresh : (n : ℕ) → Fits (fresh n)
 unfolding fresh fits64
-fits_fresh n = record { held = each-replicate Fit maxWorkers (pos 0) refl; sums = each-replicate Fit n (pos 0) refl }
+fits_fresh n = record { held = each-replicate Fit max_workers (pos 0) refl; sums = each-replicate Fit n (pos 0) refl }
 
 -- the state that a step moves to
 abbrev FitsIn : Outcome State → Type 0
@@ -73,31 +73,31 @@ access-fits false false s w u e f = tt
 
 module _ (j : Job) where
   step_fits : (s : State) (w : ℕ) → Fits s → FitsIn (step j s w)
-  unfolding step stepIf move
+  unfolding step step_if move
   step_fits s w f = go (refusal j s.made w)
     where
-      go : (k : ℕ) → FitsIn (stepIf k s w (next j s.made w))
+      go : (k : ℕ) → FitsIn (step_if k s w (next j s.made w))
       go zero = access-fits (eqb (count s.made w % 2) 0) (fits64 (total s w (next j s.made w))) s w (next j s.made w) refl f
       go (suc k) = tt
 
-  steps-fit : (s : State) (ws : List ℕ) → Fits s → Fits (steps j s ws).state
-  unfolding steps oneMore
-  steps-fit s [] f = f
-  steps-fit s (w ∷ ws) f = go (step j s w) refl (step_fits s w f) (λ t. steps-fit t ws)
+  steps_fit : (s : State) (ws : List ℕ) → Fits s → Fits (steps j s ws).state
+  unfolding steps one_more
+  steps_fit s [] f = f
+  steps_fit s (w ∷ ws) f = go (step j s w) refl (step_fits s w f) (λ t. steps_fit t ws)
     where
       go : (o : Outcome State) → step j s w ≡ o → FitsIn o → ((t : State) → Fits t → Fits (steps j t ws).state) → Fits (steps j s (w ∷ ws)).state
       go (moved t) e g ih = rw (steps_on j s w ws t e) (ih t g)
-      go (halted k) e g ih = rw (steps-end j s w ws k e) f
+      go (halted k) e g ih = rw (steps_end j s w ws k e) f
 
   -- the state that a call leaves
   pub after-fits : (s : State) (c : Call) → Fits s → Fits (after j s c)
-  unfolding after stateCheck in_turn after_of
-  after-fits s c f = go (isState j s)
+  unfolding after state_check in_turn after_of
+  after-fits s c f = go (is_state j s)
     where
       made : (c : Call) → Fits (after_of j s c)
-      made (picks ws) = steps-fit s ws f
-      made readySet = f
-      made (forceList room) = f
+      made (picks ws) = steps_fit s ws f
+      made ready_set = f
+      made (force_list room) = f
       made (preview ws) = f
       made (rounds ws) = pass-keeps skips (step j) Fits (λ s w t e g. subst FitsIn e (step_fits s w g)) s ws f
 
@@ -107,5 +107,5 @@ module _ (j : Job) where
 
 -- ---- counts
 
-pub counts-fit : (j : Job) → Accepted j → (s : State) → Inv j s → Each (λ k. k < 2 ^ 32) s.made
-counts-fit j ok s I = get-each (λ k. k < 2 ^ 32) s.made 0 (λ i l. omega (arith, I.bounded i, accesses-small j ok i (omega (arith, I.made-length))))
+pub counts_fit : (j : Job) → Accepted j → (s : State) → Inv j s → Each (λ k. k < 2 ^ 32) s.made
+counts_fit j ok s I = get-each (λ k. k < 2 ^ 32) s.made 0 (λ i l. omega (arith, I.bounded i, accesses-small j ok i (omega (arith, I.made-length))))

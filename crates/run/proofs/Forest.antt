@@ -11,19 +11,19 @@ use Rattle.base.specs.Lists.{filter, keep}
 use Rattle.base.proofs.Booleans.{and_left, and_right}
 use Rattle.matrix.specs.Matrix.{neighbours}
 use Rattle.plan.specs.Groups.{Group, whole}
-use Rattle.plan.specs.Sound.{apart, maxWorkers, eachOnce, children, tiled, likeApart, childrenSound, sound}
+use Rattle.plan.specs.Sound.{apart, max_workers, each_once, children, tiled, like_apart, children_sound, sound}
 use Rattle.plan.proofs.Records.{Sounds}
-use Rattle.plan.proofs.Sound.{sound-facts}
+use Rattle.plan.proofs.Sound.{sound_facts}
 use Rattle.plan.proofs.Pair.{pair_of}
-use Rattle.run.specs.Job.{Job, workersOf}
+use Rattle.run.specs.Job.{Job, workers_of}
 use Rattle.run.specs.Tree.{Tree, none, node, forest, tree}
 use Rattle.run.proofs.SoundTree.{tops, Tiles, Tiled, Pairs, Paired}
 
 -- the first siblings of a forest are the children of its group
-tops-children : (up i : ℕ) (gs : List Group) → tops (forest up i gs) ≡ children up gs
+tops_children : (up i : ℕ) (gs : List Group) → tops (forest up i gs) ≡ children up gs
 unfolding tops forest children
-tops-children up i [] = refl
-tops-children up i (g ∷ gs) = go (eqb g.parent up) refl (tops-children up (suc i) gs)
+tops_children up i [] = refl
+tops_children up i (g ∷ gs) = go (eqb g.parent up) refl (tops_children up (suc i) gs)
   where
     p : Group → Bool
     p h = eqb h.parent up
@@ -36,7 +36,7 @@ module _ (adj : ℕ → List ℕ) (order : List ℕ) where
   -- every group's children are as a sound plan's
   abbrev AllSound : Tree → Type 0
   AllSound none = Unit {0}
-  AllSound (node g below next) = (childrenSound (apart adj) order g (tops below) ≡ true) × AllSound below × AllSound next
+  AllSound (node g below next) = (children_sound (apart adj) order g (tops below) ≡ true) × AllSound below × AllSound next
 
   -- a sound list of records makes such a tree
   grown : (gs : List Group) (i up : ℕ) → Sounds (apart adj) order i gs → AllSound (forest up i gs)
@@ -45,7 +45,7 @@ module _ (adj : ℕ → List ℕ) (order : List ℕ) where
   grown (g ∷ gs) i up s = go (eqb g.parent up) refl (grown gs (suc i) i s.1) (grown gs (suc i) up s.1)
     where
       go : (b : Bool) → eqb g.parent up ≡ b → AllSound (forest i (suc i) gs) → AllSound (forest up (suc i) gs) → AllSound (forest up i (g ∷ gs))
-      go true e x y = rw (e, forest) (subst (λ (l : List Group). childrenSound (apart adj) order g l ≡ true) (sym (tops-children i (suc i) gs)) s.0, x, y)
+      go true e x y = rw (e, forest) (subst (λ (l : List Group). children_sound (apart adj) order g l ≡ true) (sym (tops_children i (suc i) gs)) s.0, x, y)
       go false e x y = rw (e, forest) y
 
   -- siblings that tile the rest of g from position s and worker f on
@@ -58,12 +58,12 @@ module _ (adj : ℕ → List ℕ) (order : List ℕ) where
     pub tiles : Tiled adj order g B
     pub pairs : Paired g B
 
-  under : (g : Group) (B : Tree) → childrenSound (apart adj) order g (tops B) ≡ true → (tiled g g.start g.first (tops B) ≡ true → Laid g g.start g.first B) → Under g B
-  unfolding tops childrenSound
+  under : (g : Group) (B : Tree) → children_sound (apart adj) order g (tops B) ≡ true → (tiled g g.start g.first (tops B) ≡ true → Laid g g.start g.first B) → Under g B
+  unfolding tops children_sound
   under g none h f = record { tiles = tt; pairs = tt }
   under g (node k kb kn) h f =
-      let l = f (and_left (tiled g g.start g.first (k ∷ tops kn)) (likeApart (apart adj) order (k ∷ tops kn)) h) in
-      record { tiles = (l.tiles, and_right (tiled g g.start g.first (k ∷ tops kn)) (likeApart (apart adj) order (k ∷ tops kn)) h); pairs = l.pairs }
+      let l = f (and_left (tiled g g.start g.first (k ∷ tops kn)) (like_apart (apart adj) order (k ∷ tops kn)) h) in
+      record { tiles = (l.tiles, and_right (tiled g g.start g.first (k ∷ tops kn)) (like_apart (apart adj) order (k ∷ tops kn)) h); pairs = l.pairs }
 
   -- the tree of a sound plan, two siblings at a time
   laid : (g : Group) (T : Tree) (s f : ℕ) → AllSound T → tiled g s f (tops T) ≡ true → Laid g s f T
@@ -79,8 +79,8 @@ module _ (adj : ℕ → List ℕ) (order : List ℕ) where
       let ub = under b bb a.2.0 (λ t. laid b bb b.start b.first a.2.1 t) in
       let k = laid g ks (s + r.length + b.length) (f + r.workers) a.2.2 p.rest in
       record {
-        tiles = (p.here, inl p.isRed, ur.tiles, (p.then, inr p.isBlue, ub.tiles, k.tiles));
-        pairs = ((p.isRed, p.isBlue), (p.firstR, p.firstB, p.some, p.alike), ur.pairs, ub.pairs, k.pairs);
+        tiles = (p.here, inl p.is_red, ur.tiles, (p.then, inr p.is_blue, ub.tiles, k.tiles));
+        pairs = ((p.is_red, p.is_blue), (p.first_r, p.first_b, p.some, p.alike), ur.pairs, ub.pairs, k.pairs);
       }
 
 -- a sound plan: its whole, and what lies below
@@ -93,18 +93,18 @@ pub record Whole (adj : ℕ → List ℕ) (n : ℕ) (order : List ℕ) (groups :
   pub first : top.first ≡ 0
   pub colour : top.colour ≡ whole
   pub some : 1 ≤ top.workers
-  pub few : top.workers ≤ maxWorkers
-  pub once : eachOnce n order ≡ true
-  pub crew : workersOf groups ≡ top.workers
+  pub few : top.workers ≤ max_workers
+  pub once : each_once n order ≡ true
+  pub crew : workers_of groups ≡ top.workers
   pub under : Under adj order top below
 
 -- what the tests of `sound` say
 pub whole_of : (adj : ℕ → List ℕ) (n : ℕ) (order : List ℕ) (groups : List Group) → sound (apart adj) n order groups ≡ true → Whole adj n order groups
-unfolding sound tree workersOf
+unfolding sound tree workers_of
 whole_of adj n order [] h = absurd (true≢false (sym h))
 whole_of adj n order (g ∷ gs) h =
-    let f = sound-facts (apart adj) n order g gs h in
-    let mine : childrenSound (apart adj) order g (tops (forest 0 1 gs)) ≡ true = subst (λ (l : List Group). childrenSound (apart adj) order g l ≡ true) (sym (tops-children 0 1 gs)) f.under.0 in
+    let f = sound_facts (apart adj) n order g gs h in
+    let mine : children_sound (apart adj) order g (tops (forest 0 1 gs)) ≡ true = subst (λ (l : List Group). children_sound (apart adj) order g l ≡ true) (sym (tops_children 0 1 gs)) f.under.0 in
     record {
       top = g;
       below = forest 0 1 gs;

@@ -11,11 +11,11 @@ use lib.IntN.{ℤ, pos}
 use borrow.Author.Tests.{leb-true, leb-false}
 use Rattle.base.specs.Integers.{sumℤ}
 use Rattle.base.proofs.Sums.{sum-zero}
-use Rattle.plan.specs.Sound.{maxWorkers}
+use Rattle.plan.specs.Sound.{max_workers}
 use Rattle.run.specs.Job.{Job, workers}
 use Rattle.run.specs.Updates.{count, updates, accesses, next, waits}
 use Rattle.run.specs.State.{State, fresh}
-use Rattle.run.proofs.Amounts.{landedBy, landed}
+use Rattle.run.proofs.Amounts.{landed_by, landed}
 
 -- what worker w has stored in the sum at position t
 abbrev pub so_far : Job → List ℕ → ℕ → ℕ → ℤ
@@ -23,8 +23,8 @@ so_far j made t w = landed t (take (count made w / 2) (updates j w))
 
 -- the invariant of a state s
 pub record Inv (j : Job) (s : State) : Type 0 where
-  pub made-length : length s.made ≡ maxWorkers
-  pub held-length : length s.held ≡ maxWorkers
+  pub made-length : length s.made ≡ max_workers
+  pub held-length : length s.held ≡ max_workers
   pub sums-length : length s.sums ≡ j.matrix.n
   -- no count passes its worker's accesses
   pub bounded : (w : ℕ) → count s.made w ≤ accesses j w
@@ -36,17 +36,17 @@ pub record Inv (j : Job) (s : State) : Type 0 where
   pub right : (t : ℕ) → t < j.matrix.n → get_or s.sums t (pos 0) ≡ sumℤ (so_far j s.made t) (workers j)
 
 -- at first every count is 0, also of numbers that are no worker's
-pub zero-count : (w : ℕ) → count (replicate maxWorkers 0) w ≡ 0
-zero-count w = go (leb maxWorkers w) refl
+pub zero-count : (w : ℕ) → count (replicate max_workers 0) w ≡ 0
+zero-count w = go (leb max_workers w) refl
   where
-    go : (b : Bool) → leb maxWorkers w ≡ b → count (replicate maxWorkers 0) w ≡ 0
-    go true e = get_or-eq_default (replicate maxWorkers 0) 0 (leb-true maxWorkers w e)
-    go false e = get_or-replicate maxWorkers w 0 0 (leb-false maxWorkers w e)
+    go : (b : Bool) → leb max_workers w ≡ b → count (replicate max_workers 0) w ≡ 0
+    go true e = get_or-eq_default (replicate max_workers 0) 0 (leb-true max_workers w e)
+    go false e = get_or-replicate max_workers w 0 0 (leb-false max_workers w e)
 
 -- a fresh state has the invariant
-pub inv-fresh : (j : Job) → Inv j (fresh j.matrix.n)
-unfolding fresh landedBy
-inv-fresh j = record {
+pub inv_fresh : (j : Job) → Inv j (fresh j.matrix.n)
+unfolding fresh landed_by
+inv_fresh j = record {
   made-length = refl;
   held-length = refl;
   sums-length = length-replicate j.matrix.n (pos 0);
@@ -54,5 +54,5 @@ inv-fresh j = record {
   free = λ w o. absurd (omega (arith, zero-count w));
   holding = λ w l o. absurd (omega (arith, zero-count w));
   right = λ t l. get_or-replicate j.matrix.n t (pos 0) (pos 0) l
-      ∙ sym (sum-zero (so_far j (replicate maxWorkers 0) t) (workers j) (λ w. rw (zero-count w) refl));
+      ∙ sym (sum-zero (so_far j (replicate max_workers 0) t) (workers j) (λ w. rw (zero-count w) refl));
 }

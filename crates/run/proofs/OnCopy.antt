@@ -9,9 +9,9 @@ use Rattle.base.specs.Replies.{Check, in_turn}
 use Rattle.matrix.specs.Matrix.{Matrix}
 use Rattle.run.specs.Job.{Job, job_of}
 use Rattle.run.specs.State.{State}
-use Rattle.run.specs.Machine.{steps, isState}
-use Rattle.run.specs.Calls.{stateCheck, answer_of, after_of, answer, after, jobChecks, answerLent, afterLent}
-use Rattle.run.specs.Answers.{picks, readySet, preview, Answer, denied, shown}
+use Rattle.run.specs.Machine.{steps, is_state}
+use Rattle.run.specs.Calls.{state_check, answer_of, after_of, answer, after, job_checks, answer_lent, after_lent}
+use Rattle.run.specs.Answers.{picks, ready_set, preview, Answer, denied, shown}
 use Rattle.run.specs.LentRuns.{passed}
 use Rattle.run.specs.OnCopy.{OnCopy}
 use Rattle.run.proofs.LentRuns.{lent_runs}
@@ -40,35 +40,35 @@ left-turn a (c ∷ cs) = go c.holds (left-turn a cs)
     go false e = refl
 
 -- on a job
-pub on-job : (j : Job) (s : State) (ws : List ℕ) → answer j s (preview ws) ≡ shown (answer j s (picks ws)) (answer j (after j s (picks ws)) readySet)
-unfolding answer after stateCheck in_turn answer_of after_of shown
-on-job j s ws = go (isState j s) refl
+pub on_job : (j : Job) (s : State) (ws : List ℕ) → answer j s (preview ws) ≡ shown (answer j s (picks ws)) (answer j (after j s (picks ws)) ready_set)
+unfolding answer after state_check in_turn answer_of after_of shown
+on_job j s ws = go (is_state j s) refl
   where
-    go : (b : Bool) → isState j s ≡ b → answer j s (preview ws) ≡ shown (answer j s (picks ws)) (answer j (after j s (picks ws)) readySet)
+    go : (b : Bool) → is_state j s ≡ b → answer j s (preview ws) ≡ shown (answer j s (picks ws)) (answer j (after j s (picks ws)) ready_set)
     go true e = rw (e, steps-stay j s ws e) refl
     go false e = rw e refl
 
 -- .. the state is left alone
 pub job-left : (j : Job) (s : State) (ws : List ℕ) → after j s (preview ws) ≡ s
 unfolding after after_of
-job-left j s ws = left-turn s (stateCheck j s)
+job-left j s ws = left-turn s (state_check j s)
 
 module _ (m : Matrix) (x : List ℤ) (order groups : List ℕ) (count : ℕ) (s : State) (ws : List ℕ) where
   abbrev j : Job
   j = job_of m x order groups count
 
-  same : answerLent m x order groups count s (preview ws)
-      ≡ shown (answerLent m x order groups count s (picks ws)) (answerLent m x order groups count (afterLent m x order groups count s (picks ws)) readySet)
-  unfolding answerLent passed
-  same = shown-turn (jobChecks m x order groups count) (answer j s (preview ws)) (answer j s (picks ws)) _ (λ h.
+  same : answer_lent m x order groups count s (preview ws)
+      ≡ shown (answer_lent m x order groups count s (picks ws)) (answer_lent m x order groups count (after_lent m x order groups count s (picks ws)) ready_set)
+  unfolding answer_lent passed
+  same = shown-turn (job_checks m x order groups count) (answer j s (preview ws)) (answer j s (picks ws)) _ (λ h.
       let run = lent_runs.every m x order groups count h in
-      on-job j s ws ∙ ap (λ (t : State). shown (answer j s (picks ws)) (answer j t readySet)) (sym (run.left s (picks ws)))
-      ∙ ap (shown (answer j s (picks ws))) (sym (run.answered (afterLent m x order groups count s (picks ws)) readySet)))
+      on_job j s ws ∙ ap (λ (t : State). shown (answer j s (picks ws)) (answer j t ready_set)) (sym (run.left s (picks ws)))
+      ∙ ap (shown (answer j s (picks ws))) (sym (run.answered (after_lent m x order groups count s (picks ws)) ready_set)))
 
-  left_alone : afterLent m x order groups count s (preview ws) ≡ s
-  unfolding afterLent
-  left_alone = rw (job-left j s ws) (left-turn s (jobChecks m x order groups count))
+  left_alone : after_lent m x order groups count s (preview ws) ≡ s
+  unfolding after_lent
+  left_alone = rw (job-left j s ws) (left-turn s (job_checks m x order groups count))
 
 -- the theorem
-pub on-copy : OnCopy
-on-copy = record { same = same; left_alone = left_alone }
+pub on_copy : OnCopy
+on_copy = record { same = same; left_alone = left_alone }

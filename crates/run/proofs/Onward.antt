@@ -23,14 +23,14 @@ module _ (made : List ℕ) (w : ℕ) where
 
   module _ (l : w < length made) where
     -- its own is one more
-    pub onward-at : count (onward made w) w ≡ suc (count made w)
+    pub onward_at : count (onward made w) w ≡ suc (count made w)
     unfolding onward
-    onward-at = get_or-set_same made w (suc (count made w)) 0 l
+    onward_at = get_or-set_same made w (suc (count made w)) 0 l
 
     -- so no count falls
-    pub onward-grows : (v : ℕ) → count made v ≤ count (onward made w) v
-    onward-grows v = go (same_or v w)
+    pub onward_grows : (v : ℕ) → count made v ≤ count (onward made w) v
+    onward_grows v = go (same_or v w)
       where
         go : (v ≡ w) ⊎ (v ≢ w) → count made v ≤ count (onward made w) v
-        go (inl e) = subst (λ (y : ℕ). count made y ≤ count (onward made w) y) (sym e) (omega (arith, onward-at))
+        go (inl e) = subst (λ (y : ℕ). count made y ≤ count (onward made w) y) (sym e) (omega (arith, onward_at))
         go (inr d) = omega (arith, onward-other v d)

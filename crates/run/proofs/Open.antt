@@ -5,9 +5,9 @@ use mathlib.Core.Logic.{◌⊎◌, inl, inr}
 use mathlib.Core.Bool.{Bool, true, not, ◌&&◌, ◌||◌}
 use lib.Dec.{eqb}
 use borrow.Author.Tests.{eqb-true, eq-eqb}
-use Rattle.base.proofs.Booleans.{and_left, and_right, or-true, or-false, or_cases, or_mono}
+use Rattle.base.proofs.Booleans.{and_left, and_right, or_true, or_false, or_cases, or_mono}
 use Rattle.plan.specs.Groups.{Group, red}
-use Rattle.run.specs.Tree.{Tree, none, node, unfinished, redOpen}
+use Rattle.run.specs.Tree.{Tree, none, node, unfinished, red_open}
 
 module _ (fin : Group → Bool) (g : Group) (below next : Tree) where
   -- an unfinished leaf is in the first group or in the later siblings
@@ -16,48 +16,48 @@ module _ (fin : Group → Bool) (g : Group) (below next : Tree) where
   unfinished-split = go below
     where
       go : (B : Tree) → unfinished fin (node g B next) ≡ unfinished fin (node g B none) || unfinished fin next
-      go none = ap (λ (b : Bool). b || unfinished fin next) (sym (or-false (not (fin g))))
-      go (node k kb kn) = ap (λ (b : Bool). b || unfinished fin next) (sym (or-false (unfinished fin (node k kb kn))))
+      go none = ap (λ (b : Bool). b || unfinished fin next) (sym (or_false (not (fin g))))
+      go (node k kb kn) = ap (λ (b : Bool). b || unfinished fin next) (sym (or_false (unfinished fin (node k kb kn))))
 
   -- a red group with an unfinished leaf is open
-  pub red-here : g.colour ≡ red → unfinished fin (node g below none) ≡ true → redOpen fin (node g below next) ≡ true
-  unfolding redOpen
+  pub red-here : g.colour ≡ red → unfinished fin (node g below none) ≡ true → red_open fin (node g below next) ≡ true
+  unfolding red_open
   red-here c u = rw (eq-eqb g.colour red c, u) refl
 
   -- .. among later siblings too
-  pub red-next : redOpen fin next ≡ true → redOpen fin (node g below next) ≡ true
-  unfolding redOpen
-  red-next h = rw h (or-true (eqb g.colour red && unfinished fin (node g below none)))
+  pub red-next : red_open fin next ≡ true → red_open fin (node g below next) ≡ true
+  unfolding red_open
+  red-next h = rw h (or_true (eqb g.colour red && unfinished fin (node g below none)))
 
   -- and there are no other open red groups
-  pub red-is : redOpen fin (node g below next) ≡ true → ((g.colour ≡ red) × (unfinished fin (node g below none) ≡ true)) ⊎ (redOpen fin next ≡ true)
-  unfolding redOpen
-  red-is h = go (or_cases (isRed && unfinished fin (node g below none)) (redOpen fin next) h)
+  pub red-is : red_open fin (node g below next) ≡ true → ((g.colour ≡ red) × (unfinished fin (node g below none) ≡ true)) ⊎ (red_open fin next ≡ true)
+  unfolding red_open
+  red-is h = go (or_cases (is_red && unfinished fin (node g below none)) (red_open fin next) h)
     where
-      isRed : Bool
-      isRed = eqb g.colour red
+      is_red : Bool
+      is_red = eqb g.colour red
 
-      go : (isRed && unfinished fin (node g below none) ≡ true) ⊎ (redOpen fin next ≡ true) → ((g.colour ≡ red) × (unfinished fin (node g below none) ≡ true)) ⊎ (redOpen fin next ≡ true)
-      go (inl e) = inl (eqb-true g.colour red (and_left isRed (unfinished fin (node g below none)) e), and_right isRed (unfinished fin (node g below none)) e)
+      go : (is_red && unfinished fin (node g below none) ≡ true) ⊎ (red_open fin next ≡ true) → ((g.colour ≡ red) × (unfinished fin (node g below none) ≡ true)) ⊎ (red_open fin next ≡ true)
+      go (inl e) = inl (eqb-true g.colour red (and_left is_red (unfinished fin (node g below none)) e), and_right is_red (unfinished fin (node g below none)) e)
       go (inr e) = inr e
 
 -- ---- more leaves are finished
 
 module _ (fin new : Group → Bool) (grows : (g : Group) → not (new g) ≡ true → not (fin g) ≡ true) where
   -- an unfinished leaf was one before
-  pub unfinished-mono : (T : Tree) → unfinished new T ≡ true → unfinished fin T ≡ true
+  pub unfinished_mono : (T : Tree) → unfinished new T ≡ true → unfinished fin T ≡ true
   unfolding unfinished
-  unfinished-mono none h = h
-  unfinished-mono (node g none next) h = or_mono (not (new g)) (unfinished new next) (not (fin g)) (unfinished fin next) (grows g) (unfinished-mono next) h
-  unfinished-mono (node g (node k kb kn) next) h =
-      or_mono (unfinished new (node k kb kn)) (unfinished new next) (unfinished fin (node k kb kn)) (unfinished fin next) (unfinished-mono (node k kb kn)) (unfinished-mono next) h
+  unfinished_mono none h = h
+  unfinished_mono (node g none next) h = or_mono (not (new g)) (unfinished new next) (not (fin g)) (unfinished fin next) (grows g) (unfinished_mono next) h
+  unfinished_mono (node g (node k kb kn) next) h =
+      or_mono (unfinished new (node k kb kn)) (unfinished new next) (unfinished fin (node k kb kn)) (unfinished fin next) (unfinished_mono (node k kb kn)) (unfinished_mono next) h
 
   -- so was an open red group
-  pub red-mono : (T : Tree) → redOpen new T ≡ true → redOpen fin T ≡ true
-  unfolding redOpen
-  red-mono none h = h
-  red-mono (node g below next) h = go (red-is new g below next h) (red-mono next)
+  pub red_mono : (T : Tree) → red_open new T ≡ true → red_open fin T ≡ true
+  unfolding red_open
+  red_mono none h = h
+  red_mono (node g below next) h = go (red-is new g below next h) (red_mono next)
     where
-      go : ((g.colour ≡ red) × (unfinished new (node g below none) ≡ true)) ⊎ (redOpen new next ≡ true) → (redOpen new next ≡ true → redOpen fin next ≡ true) → redOpen fin (node g below next) ≡ true
-      go (inl (c, u)) ih = red-here fin g below next c (unfinished-mono (node g below none) u)
+      go : ((g.colour ≡ red) × (unfinished new (node g below none) ≡ true)) ⊎ (red_open new next ≡ true) → (red_open new next ≡ true → red_open fin next ≡ true) → red_open fin (node g below next) ≡ true
+      go (inl (c, u)) ih = red-here fin g below next c (unfinished_mono (node g below none) u)
       go (inr e) ih = red-next fin g below next (ih e)

@@ -7,29 +7,29 @@ use native.Mathlib.Omega.{arith}
 use lib.ListN.{length, get_or, drop}
 use lib.Seq.{drop-cons, drop-length}
 use Rattle.run.specs.Machine.{Outcome, moved, halted}
-use Rattle.run.specs.Schedule.{Passed, oneTaken, oneSkipped, pass}
+use Rattle.run.specs.Schedule.{Passed, one_taken, one_skipped, pass}
 
 module _ {S : Type 0} (skips : ℕ → Bool) (step : S → ℕ → Outcome S) where
   -- what the first pick makes of it
   module _ (s : S) (w : ℕ) (ws : List ℕ) where
     -- it is taken
-    pub pass_on : (t : S) → step s w ≡ moved t → pass skips step s (w ∷ ws) ≡ oneTaken (pass skips step t ws)
+    pub pass_on : (t : S) → step s w ≡ moved t → pass skips step s (w ∷ ws) ≡ one_taken (pass skips step t ws)
     unfolding pass
     pass_on t e = rw (e, pass)
 
     -- it is skipped
-    pub pass-skip : (k : ℕ) → step s w ≡ halted k → skips k ≡ true → pass skips step s (w ∷ ws) ≡ oneSkipped (pass skips step s ws)
+    pub pass_skip : (k : ℕ) → step s w ≡ halted k → skips k ≡ true → pass skips step s (w ∷ ws) ≡ one_skipped (pass skips step s ws)
     unfolding pass
-    pass-skip k e h = rw (e, h, pass)
+    pass_skip k e h = rw (e, h, pass)
 
     -- it ends the call
-    pub pass-end : (k : ℕ) → step s w ≡ halted k → skips k ≡ false → pass skips step s (w ∷ ws) ≡ record { state = s; taken = 0; met = 0; number = k }
+    pub pass_end : (k : ℕ) → step s w ≡ halted k → skips k ≡ false → pass skips step s (w ∷ ws) ≡ record { state = s; taken = 0; met = 0; number = k }
     unfolding pass
-    pass-end k e h = rw (e, h, pass)
+    pass_end k e h = rw (e, h, pass)
 
   -- what every step keeps, a schedule keeps
   pub pass-keeps : (P : S → Type 0) → ((s : S) (w : ℕ) (t : S) → step s w ≡ moved t → P s → P t) → (s : S) (ws : List ℕ) → P s → P (pass skips step s ws).state
-  unfolding pass oneTaken oneSkipped
+  unfolding pass one_taken one_skipped
   pass-keeps P keeps s [] p = p
   pass-keeps P keeps s (w ∷ ws) p = go (step s w) refl (λ t. pass-keeps P keeps t ws)
     where
@@ -38,8 +38,8 @@ module _ {S : Type 0} (skips : ℕ → Bool) (step : S → ℕ → Outcome S) wh
       go (halted k) e ih = by (skips k) refl
         where
           by : (b : Bool) → skips k ≡ b → P (pass skips step s (w ∷ ws)).state
-          by true h = rw (pass-skip s w ws k e h) (ih s p)
-          by false h = rw (pass-end s w ws k e h) p
+          by true h = rw (pass_skip s w ws k e h) (ih s p)
+          by false h = rw (pass_end s w ws k e h) p
 
   -- ---- pick by pick: what is left decides, after k picks of ws, n of them taken, from s₀ to s
 
@@ -78,9 +78,9 @@ module _ {S : Type 0} (skips : ℕ → Bool) (step : S → ℕ → Outcome S) wh
       module _ (l : k < length ws) where
         -- the next one is taken
         pub left_step : (t : S) → step s (get_or ws k 0) ≡ moved t → Left (suc k) (suc n) t
-        unfolding oneTaken
+        unfolding one_taken
         left_step t e =
-            let one : pass skips step s (drop k ws) ≡ oneTaken (pass skips step t (drop (suc k) ws)) = ap (pass skips step s) (drop-cons ws k 0 l) ∙ pass_on s (get_or ws k 0) (drop (suc k) ws) t e in
+            let one : pass skips step s (drop k ws) ≡ one_taken (pass skips step t (drop (suc k) ws)) = ap (pass skips step s) (drop-cons ws k 0 l) ∙ pass_on s (get_or ws k 0) (drop (suc k) ws) t e in
             record {
               state = left.state ∙ ap (λ (r : Passed S). r.state) one;
               taken = left.taken ∙ ap (λ (r : Passed S). n + r.taken) one ∙ omega arith;
@@ -89,10 +89,10 @@ module _ {S : Type 0} (skips : ℕ → Bool) (step : S → ℕ → Outcome S) wh
             }
 
         -- .. or skipped
-        pub left-skip : (q : ℕ) → step s (get_or ws k 0) ≡ halted q → skips q ≡ true → Left (suc k) n s
-        unfolding oneSkipped
-        left-skip q e h =
-            let one : pass skips step s (drop k ws) ≡ oneSkipped (pass skips step s (drop (suc k) ws)) = ap (pass skips step s) (drop-cons ws k 0 l) ∙ pass-skip s (get_or ws k 0) (drop (suc k) ws) q e h in
+        pub left_skip : (q : ℕ) → step s (get_or ws k 0) ≡ halted q → skips q ≡ true → Left (suc k) n s
+        unfolding one_skipped
+        left_skip q e h =
+            let one : pass skips step s (drop k ws) ≡ one_skipped (pass skips step s (drop (suc k) ws)) = ap (pass skips step s) (drop-cons ws k 0 l) ∙ pass_skip s (get_or ws k 0) (drop (suc k) ws) q e h in
             record {
               state = left.state ∙ ap (λ (r : Passed S). r.state) one;
               taken = left.taken ∙ ap (λ (r : Passed S). n + r.taken) one;
@@ -101,5 +101,5 @@ module _ {S : Type 0} (skips : ℕ → Bool) (step : S → ℕ → Outcome S) wh
             }
 
         -- .. or ends the call
-        pub left-halt : (q : ℕ) → step s (get_or ws k 0) ≡ halted q → skips q ≡ false → record { state = s; taken = n; met = k; number = q } ≡ pass skips step s₀ ws
-        left-halt q e h = ends q (ap (pass skips step s) (drop-cons ws k 0 l) ∙ pass-end s (get_or ws k 0) (drop (suc k) ws) q e h)
+        pub left_halt : (q : ℕ) → step s (get_or ws k 0) ≡ halted q → skips q ≡ false → record { state = s; taken = n; met = k; number = q } ≡ pass skips step s₀ ws
+        left_halt q e h = ends q (ap (pass skips step s) (drop-cons ws k 0 l) ∙ pass_end s (get_or ws k 0) (drop (suc k) ws) q e h)

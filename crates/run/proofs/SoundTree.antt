@@ -7,7 +7,7 @@ use mathlib.Core.List.{List, [], ◌∷◌}
 use Prim.Native.Nat.{ℕ, ◌+◌, ◌≤◌}
 use native.Mathlib.Omega.{arith}
 use Rattle.plan.specs.Groups.{Group, red, blue}
-use Rattle.plan.specs.Sound.{apart, likeApart}
+use Rattle.plan.specs.Sound.{apart, like_apart}
 use Rattle.run.specs.Tree.{Tree, none, node}
 
 -- the siblings without what is below them
@@ -30,12 +30,12 @@ module _ (adj : ℕ → List ℕ) (order : List ℕ) where
   Tiles none s e = s ≡ e
   Tiles (node g below next) s e =
       (g.start ≡ s) × Coloured g
-      × Inner below (Tiles below g.start (g.start + g.length) × (likeApart (apart adj) order (tops below) ≡ true))
+      × Inner below (Tiles below g.start (g.start + g.length) × (like_apart (apart adj) order (tops below) ≡ true))
       × Tiles next (s + g.length) e
 
   -- the children of g tile its positions, and like colours are apart
   abbrev pub Tiled : Group → Tree → Type 0
-  Tiled g below = Inner below (Tiles below g.start (g.start + g.length) × (likeApart (apart adj) order (tops below) ≡ true))
+  Tiled g below = Inner below (Tiles below g.start (g.start + g.length) × (like_apart (apart adj) order (tops below) ≡ true))
 
   -- they end at or after their start
   pub tiles-le : (T : Tree) (s e : ℕ) → Tiles T s e → s ≤ e

@@ -7,9 +7,9 @@ use Rattle.run.specs.Machine.{refusal}
 
 -- "pick by pick 10, 12, 13"
 pub record StepInOrder (j : Job) (made : List ℕ) (w : ℕ) : Type 0 where
-  pub stranger : workers j ≤ w → refusal j made w ≡ why.noWorker
-  pub done : w < workers j → accesses j w ≤ count made w → refusal j made w ≡ why.allDone
-  pub waiting : w < workers j → count made w < accesses j w → waits j made w ≡ true → refusal j made w ≡ why.mustWait
+  pub stranger : workers j ≤ w → refusal j made w ≡ why.no_worker
+  pub done : w < workers j → accesses j w ≤ count made w → refusal j made w ≡ why.all_done
+  pub waiting : w < workers j → count made w < accesses j w → waits j made w ≡ true → refusal j made w ≡ why.must_wait
   pub taken : w < workers j → count made w < accesses j w → waits j made w ≡ false → refusal j made w ≡ 0
 
 -- .. whatever the job, the counts and the pick

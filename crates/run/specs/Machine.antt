@@ -4,16 +4,16 @@ use Rattle.base.specs.Lists.{range}
 use Rattle.base.specs.Lists.{position_of}
 use Rattle.base.specs.Integers.{fits64}
 use Rattle.base.specs.Refusals as why
-use Rattle.plan.specs.Sound.{maxWorkers}
+use Rattle.plan.specs.Sound.{max_workers}
 use Rattle.run.specs.Job.{Job, workers}
 use Rattle.run.specs.Updates.{Update, count, accesses, next, waits}
 use Rattle.run.specs.State.{State}
 
 -- why a step is refused by the counts alone, 10 before 12 before 13; 0: it is taken
-unfoldable pub reason : (inPlan done waiting : Bool) → ℕ
-reason false done waiting = why.noWorker
-reason true true waiting = why.allDone
-reason true false true = why.mustWait
+unfoldable pub reason : (in_plan done waiting : Bool) → ℕ
+reason false done waiting = why.no_worker
+reason true true waiting = why.all_done
+reason true false true = why.must_wait
 reason true false false = 0
 
 unfoldable pub refusal : Job → (made : List ℕ) → ℕ → ℕ
@@ -47,13 +47,13 @@ access false false s w u = halted why.overflow
 unfoldable pub move : State → ℕ → Update → Outcome State
 move s w u = access (eqb (count s.made w % 2) 0) (fits64 (total s w u)) s w u
 
-unfoldable pub stepIf : (reason : ℕ) → State → ℕ → Update → Outcome State
-stepIf zero s w u = move s w u
-stepIf (suc k) s w u = halted (suc k)
+unfoldable pub step_if : (reason : ℕ) → State → ℕ → Update → Outcome State
+step_if zero s w u = move s w u
+step_if (suc k) s w u = halted (suc k)
 
 -- one step of worker w: "pick by pick 10, 12, 13, 14"
 unfoldable pub step : Job → State → ℕ → Outcome State
-step j s w = stepIf (refusal j s.made w) s w (next j s.made w)
+step j s w = step_if (refusal j s.made w) s w (next j s.made w)
 
 -- what a schedule (document 01's list of picks) comes to: the state, how many steps were taken, and the number that
 -- ended it
@@ -62,21 +62,21 @@ pub record Stepped : Type 0 where
   pub taken : ℕ
   pub number : ℕ
 
-unfoldable pub oneMore : Stepped → Stepped
-oneMore r = record { state = r.state; taken = suc r.taken; number = r.number }
+unfoldable pub one_more : Stepped → Stepped
+one_more r = record { state = r.state; taken = suc r.taken; number = r.number }
 
 unfoldable pub steps : Job → State → (schedule : List ℕ) → Stepped
 steps j s [] = record { state = s; taken = 0; number = 0 }
 steps j s (w ∷ ws) =
-    elim (step j s w) [ moved t ↦ oneMore (steps j t ws) | halted k ↦ record { state = s; taken = 0; number = k } ]
+    elim (step j s w) [ moved t ↦ one_more (steps j t ws) | halted k ↦ record { state = s; taken = 0; number = k } ]
 
 -- "a worker of the plan is in it whose pick neither 12 nor 13 would refuse": those below k, the last one first
-unfoldable pub readyBelow : Job → (made : List ℕ) → ℕ → List ℕ
-readyBelow j made zero = []
-readyBelow j made (suc w) = cond (eqb (refusal j made w) 0) (w ∷ readyBelow j made w) (readyBelow j made w)
+unfoldable pub ready_below : Job → (made : List ℕ) → ℕ → List ℕ
+ready_below j made zero = []
+ready_below j made (suc w) = cond (eqb (refusal j made w) 0) (w ∷ ready_below j made w) (ready_below j made w)
 
 unfoldable pub ready : Job → (made : List ℕ) → List ℕ
-ready j made = readyBelow j made (workers j)
+ready j made = ready_below j made (workers j)
 
 -- "sixteen bits, bit 0 for worker 0"
 unfoldable pub bits : List ℕ → ℕ
@@ -84,23 +84,23 @@ bits [] = 0
 bits (w ∷ ws) = 2 ^ w + bits ws
 
 -- every worker below k has made all its accesses
-unfoldable pub allMade : Job → (made : List ℕ) → ℕ → Bool
-allMade j made zero = true
-allMade j made (suc w) = leb (accesses j w) (count made w) && allMade j made w
+unfoldable pub all_made : Job → (made : List ℕ) → ℕ → Bool
+all_made j made zero = true
+all_made j made (suc w) = leb (accesses j w) (count made w) && all_made j made w
 
 -- "The run is finished when all counts are all their workers' moves"
 unfoldable pub over : Job → (made : List ℕ) → Bool
-over j made = allMade j made (workers j)
+over j made = all_made j made (workers j)
 
 -- "the sums in original order"
 unfoldable pub original : Job → List ℤ → List ℤ
 original j sums = map (λ i. get_or sums (position_of j.plan.order i) (pos 0)) (range 0 j.matrix.n)
 
 -- no worker below k has a count past its accesses (a worker outside the plan has none)
-unfoldable pub countsFine : Job → (made : List ℕ) → ℕ → Bool
-countsFine j made zero = true
-countsFine j made (suc w) = leb (count made w) (accesses j w) && countsFine j made w
+unfoldable pub counts_fine : Job → (made : List ℕ) → ℕ → Bool
+counts_fine j made zero = true
+counts_fine j made (suc w) = leb (count made w) (accesses j w) && counts_fine j made w
 
 -- not "11: list of sums not n long, or a worker's count past its moves"
-unfoldable pub isState : Job → State → Bool
-isState j s = eqb (length s.sums) j.matrix.n && countsFine j s.made maxWorkers
+unfoldable pub is_state : Job → State → Bool
+is_state j s = eqb (length s.sums) j.matrix.n && counts_fine j s.made max_workers

@@ -2,14 +2,14 @@
 use Rattle.std.specs.Prelude.{◌≡◌, List, ℕ, ℤ}
 use Rattle.matrix.specs.Matrix.{Matrix}
 use Rattle.run.specs.State.{State}
-use Rattle.run.specs.Calls.{answerLent, afterLent}
-use Rattle.run.specs.Answers.{picks, readySet, preview, shown}
+use Rattle.run.specs.Calls.{answer_lent, after_lent}
+use Rattle.run.specs.Answers.{picks, ready_set, preview, shown}
 
 -- whatever the lent lists, the state, also one that no run meets, and the picks
 pub record OnCopy : Type 0 where
   -- the answer of the picks, and the ready set of the state that they leave; refused as they are
   pub same : (m : Matrix) (x : List ℤ) (order groups : List ℕ) (count : ℕ) (s : State) (ws : List ℕ)
-      → answerLent m x order groups count s (preview ws)
-      ≡ shown (answerLent m x order groups count s (picks ws)) (answerLent m x order groups count (afterLent m x order groups count s (picks ws)) readySet)
+      → answer_lent m x order groups count s (preview ws)
+      ≡ shown (answer_lent m x order groups count s (picks ws)) (answer_lent m x order groups count (after_lent m x order groups count s (picks ws)) ready_set)
   -- "with the state and sums left alone"
-  pub left_alone : (m : Matrix) (x : List ℤ) (order groups : List ℕ) (count : ℕ) (s : State) (ws : List ℕ) → afterLent m x order groups count s (preview ws) ≡ s
+  pub left_alone : (m : Matrix) (x : List ℤ) (order groups : List ℕ) (count : ℕ) (s : State) (ws : List ℕ) → after_lent m x order groups count s (preview ws) ≡ s

@@ -10,9 +10,9 @@ pub data Access : Type 0 where
   stores : Update → Access
 
 -- "loads and stores": a worker's accesses, of its updates in their order
-unfoldable pub loadsAndStores : List Update → List Access
-loadsAndStores [] = []
-loadsAndStores (u ∷ us) = loads u ∷ stores u ∷ loadsAndStores us
+unfoldable pub loads_and_stores : List Update → List Access
+loads_and_stores [] = []
+loads_and_stores (u ∷ us) = loads u ∷ stores u ∷ loads_and_stores us
 
 -- the position of its sum
 unfoldable pub sum_of : Access → ℕ
@@ -20,14 +20,14 @@ sum_of (loads u) = u.target
 sum_of (stores u) = u.target
 
 -- "Loading copies a sum to the worker's held number; storing .. leaves the held number"
-unfoldable pub heldAfter : Access → (w : ℕ) (held sums : List ℤ) → List ℤ
-heldAfter (loads u) w held sums = set held w (get_or sums u.target (pos 0))
-heldAfter (stores u) w held sums = held
+unfoldable pub held_after : Access → (w : ℕ) (held sums : List ℤ) → List ℤ
+held_after (loads u) w held sums = set held w (get_or sums u.target (pos 0))
+held_after (stores u) w held sums = held
 
 -- "storing puts held number plus product"; loading changes no sum
-unfoldable pub sumsAfter : Access → (w : ℕ) (held sums : List ℤ) → List ℤ
-sumsAfter (loads u) w held sums = sums
-sumsAfter (stores u) w held sums = set sums u.target (get_or held w (pos 0) +ℤ u.amount)
+unfoldable pub sums_after : Access → (w : ℕ) (held sums : List ℤ) → List ℤ
+sums_after (loads u) w held sums = sums
+sums_after (stores u) w held sums = set sums u.target (get_or held w (pos 0) +ℤ u.amount)
 
 -- from s to t by the one load or store that document 01 gives worker w next, and by nothing else
 pub record OneAccess (j : Job) (s : State) (w : ℕ) (t : State) : Type 0 where
@@ -35,12 +35,12 @@ pub record OneAccess (j : Job) (s : State) (w : ℕ) (t : State) : Type 0 where
   pub before : List Access
   pub this : Access
   pub left : List Access
-  pub all : loadsAndStores (updates j w) ≡ before ++ (this ∷ left)
+  pub all : loads_and_stores (updates j w) ≡ before ++ (this ∷ left)
   pub next : count s.made w ≡ length before
   -- its count goes up by one; the held number and the sum are as above; every other number of the state stays
   pub made : t.made ≡ set s.made w (suc (count s.made w))
-  pub held : t.held ≡ heldAfter this w s.held s.sums
-  pub sums : t.sums ≡ sumsAfter this w s.held s.sums
+  pub held : t.held ≡ held_after this w s.held s.sums
+  pub sums : t.sums ≡ sums_after this w s.held s.sums
   -- where something is set, there is such a place
   pub counts : w < length s.made
   pub holds : w < length s.held

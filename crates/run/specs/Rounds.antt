@@ -8,7 +8,7 @@ use Rattle.run.specs.State.{State}
 
 -- "In this kind of call 12 and 13 skip a pick and the rest stop it as before"
 unfoldable pub skips : (number : ℕ) → Bool
-skips number = eqb number why.allDone || eqb number why.mustWait
+skips number = eqb number why.all_done || eqb number why.must_wait
 
 -- what it comes to
 abbrev pub round : Job → State → (schedule : List ℕ) → Passed State
@@ -16,6 +16,6 @@ round j s ws = pass skips (step j) s ws
 
 -- the picks that it takes, in their order; of any machine
 module _ {S : Type 0} (step : S → ℕ → Outcome S) where
-  unfoldable pub takenBy : S → (schedule : List ℕ) → List ℕ
-  takenBy s [] = []
-  takenBy s (w ∷ ws) = elim (step s w) [ moved t ↦ w ∷ takenBy t ws | halted k ↦ elim (skips k) [ true ↦ takenBy s ws | false ↦ [] ] ]
+  unfoldable pub taken_by : S → (schedule : List ℕ) → List ℕ
+  taken_by s [] = []
+  taken_by s (w ∷ ws) = elim (step s w) [ moved t ↦ w ∷ taken_by t ws | halted k ↦ elim (skips k) [ true ↦ taken_by s ws | false ↦ [] ] ]

@@ -27,9 +27,9 @@ holds g q = leb g.start q && ltb q (g.start + g.length)
 
 -- "a leaf, run by its first worker": the first worker of the leaf that holds q (leader: the first worker of the group
 -- around)
-unfoldable pub ownerIn : (leader q : ℕ) → Tree → ℕ
-ownerIn leader q none = leader
-ownerIn leader q (node g below next) = elim (holds g q) [ true ↦ ownerIn g.first q below | false ↦ ownerIn leader q next ]
+unfoldable pub owner_in : (leader q : ℕ) → Tree → ℕ
+owner_in leader q none = leader
+owner_in leader q (node g below next) = elim (holds g q) [ true ↦ owner_in g.first q below | false ↦ owner_in leader q next ]
 
 -- some leaf is not finished
 unfoldable pub unfinished : (finished : Group → Bool) → Tree → Bool
@@ -38,13 +38,13 @@ unfinished finished (node g none next) = not (finished g) || unfinished finished
 unfinished finished (node g (node h hb hn) next) = unfinished finished (node h hb hn) || unfinished finished next
 
 -- some red group of these siblings has an unfinished leaf
-unfoldable pub redOpen : (finished : Group → Bool) → Tree → Bool
-redOpen finished none = false
-redOpen finished (node g below next) = (eqb g.colour red && unfinished finished (node g below none)) || redOpen finished next
+unfoldable pub red_open : (finished : Group → Bool) → Tree → Bool
+red_open finished none = false
+red_open finished (node g below next) = (eqb g.colour red && unfinished finished (node g below none)) || red_open finished next
 
 -- the leaf that holds q "lies in, or is, a blue group one of whose red siblings has an unfinished leaf"; all: the
 -- siblings of the groups looked at
 unfoldable pub blocked : (finished : Group → Bool) (q : ℕ) (all : Tree) → Tree → Bool
 blocked finished q all none = false
 blocked finished q all (node g below next) =
-    (holds g q && ((eqb g.colour blue && redOpen finished all) || blocked finished q below below)) || blocked finished q all next
+    (holds g q && ((eqb g.colour blue && red_open finished all) || blocked finished q below below)) || blocked finished q all next

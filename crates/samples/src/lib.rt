@@ -1,1 +1,2 @@
 // Document 01's samples: see specs/Samples.antt.
+#![tactic(auto)]

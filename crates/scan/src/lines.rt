@@ -1,8 +1,8 @@
 // Values, and lines of three fields, at a position of a text.
 
 ghost use Rattle.std.specs.Prelude.{◌≡◌, drop};
-ghost use Rattle.market.specs.Fields.{value, valueField, fields};
-ghost use Rattle.scan.specs.code.Positions.{value_at, fields_at};
+ghost use Rattle.market.specs.Fields.{value, value_field, fields};
+ghost use Rattle.scan.specs.Code.Positions.{value_at, fields_at};
 
 use crate::classes::{LINE_END, SIGN, SPACE, class_at, class_of};
 use crate::numbers::{Number, read_field, read_number, skip_spaces};
@@ -42,7 +42,7 @@ fn read_value(s: &[u8], at: usize) -> Value
 
 // One or more spaces and a value at a position.
 fn read_value_field(s: &[u8], at: usize) -> Value
-    ensures { result ≡ value_at at (valueField (drop at s.now)) }
+    ensures { result ≡ value_at at (value_field (drop at s.now)) }
 {
     if class_at(s, at) != SPACE {
         return Value::No;

@@ -1,9 +1,9 @@
 // Numbers at a position of a text.
 
 ghost use Rattle.std.specs.Prelude.{◌≡◌, ◌≢◌, ◌+◌, ◌<◌, length, get_or, drop};
-ghost use Rattle.market.specs.Bytes.{classOf, digit0};
+ghost use Rattle.market.specs.Bytes.{class_of, digit0};
 ghost use Rattle.market.specs.Fields.{numeral, spaces, field};
-ghost use Rattle.scan.specs.code.Positions.{number_at};
+ghost use Rattle.scan.specs.Code.Positions.{number_at};
 
 use crate::classes::{DIGIT, SPACE, class_at, class_of};
 use base::bytes::wide64;
@@ -21,7 +21,7 @@ const MOST_DIGITS: usize = 10;
 
 // The number at a position where a digit stands that is not 0.
 fn read_digits(s: &[u8], at: usize) -> Number
-    requires { (at < length s.now) × (classOf (get_or s.now at 0) ≡ 1) × (get_or s.now at 0 ≢ digit0) }
+    requires { (at < length s.now) × (class_of (get_or s.now at 0) ≡ 1) × (get_or s.now at 0 ≢ digit0) }
     ensures { result ≡ number_at at (numeral (drop at s.now)) }
 {
     let end = at + least(s.len() - at, MOST_DIGITS);

@@ -1,12 +1,12 @@
 // The region of a group, ring after ring: a ring's rows are one join further from the group than those before.
 ghost use Rattle.std.specs.Prelude.{◌≡◌, map, ℕ, ◌-◌, ◌<◌, ◌≤◌, length, get_or};
-ghost use Rattle.base.specs.Lists.{isIn, concat, bit};
+ghost use Rattle.base.specs.Lists.{is_in, concat, bit};
 ghost use Rattle.base.specs.Near.{near};
-ghost use Rattle.matrix.specs.Limits.{maxRows};
-ghost use Rattle.matrix.specs.Matrix.{columnsOf};
-ghost use Rattle.matrix.specs.code.Pattern.{pattern};
-ghost use Rattle.levels.specs.code.Rows.{Rows, adjOf};
-ghost use Rattle.search.specs.code.Marks.{unreached, Marked};
+ghost use Rattle.matrix.specs.Limits.{max_rows};
+ghost use Rattle.matrix.specs.Matrix.{columns_of};
+ghost use Rattle.matrix.specs.Code.Pattern.{pattern};
+ghost use Rattle.levels.specs.Code.Rows.{Rows, adj_of};
+ghost use Rattle.search.specs.Code.Marks.{unreached, Marked};
 
 use crate::marking::{OUTSIDE, UNREACHED, mark};
 use crate::visiting::next_level;
@@ -23,8 +23,8 @@ fn mark_columns(
     marks: &mut [u32; MAX_ROWS],
     n: usize,
 )
-    requires { Rows n starts.now columns.now × (length marks.old ≡ maxRows) × ((i : ℕ) → i < length rows.now → get_or rows.now i 0 < n) }
-    ensures { Marked (concat (map (columnsOf (pattern n starts.now columns.now)) rows.now)) marks.old marks.new }
+    requires { Rows n starts.now columns.now × (length marks.old ≡ max_rows) × ((i : ℕ) → i < length rows.now → get_or rows.now i 0 < n) }
+    ensures { Marked (concat (map (columns_of (pattern n starts.now columns.now)) rows.now)) marks.old marks.new }
 {
     for i in 0..rows.len() {
         mark(columns_of(starts, columns, wide(rows[i])), marks);
@@ -43,10 +43,10 @@ pub(crate) fn mark_region(
     n: usize,
     reach: usize,
 )
-    requires { Rows n starts.now columns.now × (length marks.old ≡ maxRows) × (length queue.old ≡ maxRows) × ((i : ℕ) → i < length own.now → get_or own.now i 0 < n)
-        × ((v : ℕ) → get_or marks.old v 0 ≡ bit (isIn own.now v)) × (length own.now ≡ unreached n marks.old) × (1 ≤ reach) }
-    ensures { (length marks.new ≡ maxRows) × (length queue.new ≡ maxRows)
-        × ((v : ℕ) → get_or marks.new v 0 ≡ bit (near (adjOf n starts.now columns.now) (reach - 1) own.now v)) }
+    requires { Rows n starts.now columns.now × (length marks.old ≡ max_rows) × (length queue.old ≡ max_rows) × ((i : ℕ) → i < length own.now → get_or own.now i 0 < n)
+        × ((v : ℕ) → get_or marks.old v 0 ≡ bit (is_in own.now v)) × (length own.now ≡ unreached n marks.old) × (1 ≤ reach) }
+    ensures { (length marks.new ≡ max_rows) × (length queue.new ≡ max_rows)
+        × ((v : ℕ) → get_or marks.new v 0 ≡ bit (near (adj_of n starts.now columns.now) (reach - 1) own.now v)) }
 {
     if reach < 2 {
         return;

@@ -2,8 +2,8 @@
 ghost use Rattle.std.specs.Prelude.{◌≢◌, map, ℕ, ◌<◌, ◌≤◌, length, get_or, take};
 ghost use Rattle.std.proofs.Math.Seq.{slice};
 ghost use Rattle.base.specs.Lists.{concat};
-ghost use Rattle.levels.specs.code.Rows.{Rows, adjOf};
-ghost use Rattle.search.specs.code.Search.{wave, visited, visitedAll, Ready, After, Front};
+ghost use Rattle.levels.specs.Code.Rows.{Rows, adj_of};
+ghost use Rattle.search.specs.Code.Search.{wave, visited, visited_all, Ready, After, Front};
 
 use base::numbers::wide;
 use base::slices::wide_at;
@@ -44,7 +44,7 @@ fn visit_all(
 ) -> usize
     requires { Ready n c marks.old queue.old start × ((i : ℕ) → i < length rows.now → get_or rows.now i 0 < n) × (m ≢ c) }
     ensures { After n c marks.new queue.new result
-        (visitedAll c m (wave marks.old (take start queue.old)) rows.now) }
+        (visited_all c m (wave marks.old (take start queue.old)) rows.now) }
 {
     let mut tail = start;
     let mut i = 0;
@@ -73,8 +73,8 @@ pub(crate) fn next_level(
 ) -> usize
     requires { Rows n starts.now columns.now × Ready n c marks.old queue.old hi × (lo ≤ hi) × (m ≢ c) × Front n c marks.old (slice lo hi queue.old) }
     ensures { After n c marks.new queue.new result
-        (visitedAll c m (wave marks.old (take hi queue.old))
-        (concat (map (adjOf n starts.now columns.now) (slice lo hi queue.old)))) }
+        (visited_all c m (wave marks.old (take hi queue.old))
+        (concat (map (adj_of n starts.now columns.now) (slice lo hi queue.old)))) }
 {
     let mut tail = hi;
     for i in lo..hi {

@@ -1,9 +1,9 @@
 // The records stand depth first, with their parents and depths.
 ghost use Rattle.std.specs.Prelude.{◌≡◌, ◌*◌, ◌≤◌, eqb, length};
-ghost use Rattle.base.specs.Lists.{fromFirst};
+ghost use Rattle.base.specs.Lists.{from_first};
 ghost use Rattle.plan.specs.Groups.{width};
-ghost use Rattle.shape.specs.code.Shape.{pathOf};
-ghost use Rattle.plan.specs.code.Checks.{standsDepthFirst};
+ghost use Rattle.shape.specs.Code.Shape.{path_of};
+ghost use Rattle.plan.specs.Code.Checks.{stands_depth_first};
 
 use plan::MAX_DEPTH;
 use plan::fields::record_at;
@@ -11,7 +11,7 @@ use plan::fields::record_at;
 // How long the path is up to the parent, of the first t of the array; 0 if it is not there.
 fn up_to(path: &[usize; 5], t: usize, parent: usize) -> usize
     requires { t ≤ 5 }
-    ensures { (pathOf path.now result ≡ fromFirst (eqb parent) (pathOf path.now t)) × (result ≤ t) }
+    ensures { (path_of path.now result ≡ from_first (eqb parent) (path_of path.now t)) × (result ≤ t) }
 {
     let mut up = t;
     while 0 < up {
@@ -27,7 +27,7 @@ fn up_to(path: &[usize; 5], t: usize, parent: usize) -> usize
 // deep it is.
 pub fn depth_first(groups: &[u32], count: usize) -> bool
     requires { width * count ≤ length groups.now }
-    ensures { result ≡ standsDepthFirst count groups.now }
+    ensures { result ≡ stands_depth_first count groups.now }
 {
     let mut path = [0usize; 5];
     let mut t = 1;

@@ -1,2 +1,2 @@
 pub mod Performed
-pub mod code
+pub mod Code

@@ -1,16 +1,18 @@
 // The calls for two crews, by the lists that a caller lends: the checks, then what is asked (document 02, Q-9).
+#![tactic(auto)]
+
 mod ready_sets;
 mod roof;
 
 ghost use Rattle.std.specs.Prelude.{◌≡◌, List, ◌/◌, ℤ, length};
-ghost use Rattle.matrix.specs.Matrix.{matrixOf};
+ghost use Rattle.matrix.specs.Matrix.{matrix_of};
 ghost use Rattle.plan.specs.Groups.{width};
-ghost use Rattle.layout.specs.code.UpdateTable.{Given};
+ghost use Rattle.layout.specs.Code.UpdateTable.{Given};
 ghost use Rattle.crews.specs.Crews.{Crew, Two, own_of};
-ghost use Rattle.crews.specs.Calls.{readySets, answerBoth, roofOf, answerBothLent};
-ghost use Rattle.turns.specs.Records.{statesOf};
-ghost use Rattle.shared.specs.Performed.{PicksMade, asSets};
-ghost use Rattle.shared.specs.code.Made.{Made};
+ghost use Rattle.crews.specs.Calls.{ready_sets, answer_both, roof_of, answer_both_lent};
+ghost use Rattle.turns.specs.Records.{states_of};
+ghost use Rattle.shared.specs.Performed.{PicksMade, as_sets};
+ghost use Rattle.shared.specs.Code.Made.{Made};
 
 use base::{STATE, Verdict};
 use calls::Response;
@@ -67,8 +69,8 @@ fn take_picks(
 ) -> BothDone
     requires { ((c : Crew) → Given (length sums0.old) starts.now columns.now values.now (own_of (record { of0 = displacements0.now; of1 = displacements1.now }) c) order.now groups.now (length groups.now / width))
         × (length sums1.old ≡ length sums0.old) }
-    ensures { Made (roofOf (matrixOf (length sums0.old) starts.now columns.now values.now) (record { of0 = displacements0.now; of1 = displacements1.now }) order.now groups.now (length groups.now / width))
-        (statesOf crews sums0.old sums1.old) schedule.now result.answer (statesOf result.crews sums0.new sums1.new) }
+    ensures { Made (roof_of (matrix_of (length sums0.old) starts.now columns.now values.now) (record { of0 = displacements0.now; of1 = displacements1.now }) order.now groups.now (length groups.now / width))
+        (states_of crews sums0.old sums1.old) schedule.now result.answer (states_of result.crews sums0.new sums1.new) }
 {
     let rows = sums0.len();
     let mut parts = [0u32; MAX_ROWS];
@@ -129,8 +131,8 @@ pub fn picks_both(
     sums1: &mut [i64],
     schedule: &[u8],
 ) -> BothDone
-    ensures { PicksMade (matrixOf n starts.now columns.now values.now) (record { of0 = displacements0.now; of1 = displacements1.now }) order.now groups.now count
-        (statesOf crews sums0.old sums1.old) schedule.now result.answer (statesOf result.crews sums0.new sums1.new) }
+    ensures { PicksMade (matrix_of n starts.now columns.now values.now) (record { of0 = displacements0.now; of1 = displacements1.now }) order.now groups.now count
+        (states_of crews sums0.old sums1.old) schedule.now result.answer (states_of result.crews sums0.new sums1.new) }
 {
     let checked = check_roof(
         n,
@@ -181,7 +183,7 @@ fn look(
     requires { (values : List ℤ) × (x : Two (List ℤ)) × ((c : Crew) → Given rows starts.now columns.now values (own_of x c) order.now groups.now (length groups.now / width)) }
     ensures { (values : List ℤ) (x : Two (List ℤ)) (sums0 sums1 : List ℤ) → ((c : Crew) → Given rows starts.now columns.now values (own_of x c) order.now groups.now (length groups.now / width))
         → length sums0 ≡ rows → length sums1 ≡ rows
-        → asSets result ≡ answerBoth (roofOf (matrixOf rows starts.now columns.now values) x order.now groups.now (length groups.now / width)) (statesOf crews sums0 sums1) readySets }
+        → as_sets result ≡ answer_both (roof_of (matrix_of rows starts.now columns.now values) x order.now groups.now (length groups.now / width)) (states_of crews sums0 sums1) ready_sets }
 {
     let count = groups.len() / WIDTH;
     let mut sizes = [0u32; MAX_ROWS];
@@ -209,8 +211,8 @@ pub fn ready_both(
     sums0: &[i64],
     sums1: &[i64],
 ) -> Sets
-    ensures { asSets result ≡ answerBothLent (matrixOf n starts.now columns.now values.now) (record { of0 = displacements0.now; of1 = displacements1.now }) order.now groups.now count
-        (statesOf crews sums0.now sums1.now) readySets }
+    ensures { as_sets result ≡ answer_both_lent (matrix_of n starts.now columns.now values.now) (record { of0 = displacements0.now; of1 = displacements1.now }) order.now groups.now count
+        (states_of crews sums0.now sums1.now) ready_sets }
 {
     let checked = check_roof(
         n,

@@ -1,15 +1,15 @@
 // The ready sets of both crews, by the tables of the roof.
 ghost use Rattle.std.specs.Prelude.{◌≡◌, List, ℕ, ◌≤◌};
-ghost use Rattle.plan.specs.Sound.{maxWorkers};
+ghost use Rattle.plan.specs.Sound.{max_workers};
 ghost use Rattle.run.specs.Job as job;
 ghost use Rattle.run.specs.State.{State};
 ghost use Rattle.run.specs.Machine.{bits};
-ghost use Rattle.tables.specs.code.Laid.{Counted, Laid, Waits};
-ghost use Rattle.layout.specs.code.UpdateTable.{Planned};
-ghost use Rattle.crews.specs.Crews.{Crew, other, Two, own_of, Roof, jobFor, crewReady};
-ghost use Rattle.crews.specs.Calls.{readyBoth};
-ghost use Rattle.turns.specs.code.Inside.{RowTables};
-ghost use Rattle.shared.specs.Performed.{asSets};
+ghost use Rattle.tables.specs.Code.Laid.{Counted, Laid, Waits};
+ghost use Rattle.layout.specs.Code.UpdateTable.{Planned};
+ghost use Rattle.crews.specs.Crews.{Crew, other, Two, own_of, Roof, job_for, crew_ready};
+ghost use Rattle.crews.specs.Calls.{ready_both};
+ghost use Rattle.turns.specs.Code.Inside.{RowTables};
+ghost use Rattle.shared.specs.Performed.{as_sets};
 
 use crate::Sets;
 use layout::lay;
@@ -32,9 +32,9 @@ fn crew_bits(
     leaves: &[u16; MAX_ROWS],
     blocks: &[u8; MAX_GROUPS],
 ) -> u16
-    requires { (workers ≤ maxWorkers) × ((n : ℕ) × RowTables n first.now row.now begins.now leaves.now) }
-    ensures { (q : Roof) (s : Two State) (c : Crew) (ends : List ℕ) → workers ≡ job.workers (jobFor q c) → ((d : Crew) → Laid (jobFor q d) first.now row.now begins.now leaves.now ends)
-        → (own_of s c).made ≡ made.now → (own_of s (other c)).made ≡ theirs.now → Waits (jobFor q c) made.now blocks.now → result ≡ bits (crewReady q s c) }
+    requires { (workers ≤ max_workers) × ((n : ℕ) × RowTables n first.now row.now begins.now leaves.now) }
+    ensures { (q : Roof) (s : Two State) (c : Crew) (ends : List ℕ) → workers ≡ job.workers (job_for q c) → ((d : Crew) → Laid (job_for q d) first.now row.now begins.now leaves.now ends)
+        → (own_of s c).made ≡ made.now → (own_of s (other c)).made ≡ theirs.now → Waits (job_for q c) made.now blocks.now → result ≡ bits (crew_ready q s c) }
 {
     let mut set: u16 = 0;
     let mut w = 0;
@@ -54,9 +54,9 @@ pub(crate) fn ready_sets(
     sizes: &[u32; MAX_ROWS],
     first: [u32; FIRSTS],
 ) -> Sets
-    requires { (q : Roof) × ((c : Crew) → Planned (jobFor q c) groups.now count sizes.now) × ((c : Crew) → Counted (jobFor q c) first) }
-    ensures { (q : Roof) (s : Two State) → ((c : Crew) → Planned (jobFor q c) groups.now count sizes.now) → ((c : Crew) → Counted (jobFor q c) first)
-        → s.of0.made ≡ crews.made0 → s.of1.made ≡ crews.made1 → asSets result ≡ readyBoth q s }
+    requires { (q : Roof) × ((c : Crew) → Planned (job_for q c) groups.now count sizes.now) × ((c : Crew) → Counted (job_for q c) first) }
+    ensures { (q : Roof) (s : Two State) → ((c : Crew) → Planned (job_for q c) groups.now count sizes.now) → ((c : Crew) → Counted (job_for q c) first)
+        → s.of0.made ≡ crews.made0 → s.of1.made ≡ crews.made1 → as_sets result ≡ ready_both q s }
 {
     let mut row = [0u16; MAX_UPDATES];
     let mut begins = [0u32; MAX_ROWS];

@@ -1,12 +1,12 @@
 // The checks of a call for both.
 ghost use Rattle.std.specs.Prelude.{◌≡◌, ◌&&◌};
 ghost use Rattle.base.specs.Replies.{accepted, refused, in_turn};
-ghost use Rattle.base.specs.Verdicts.{replyOf};
-ghost use Rattle.matrix.specs.Matrix.{matrixOf};
-ghost use Rattle.plan.specs.Sound.{maxWorkers};
-ghost use Rattle.tables.specs.code.Laid.{Rising};
-ghost use Rattle.machine.specs.code.Tests.{all_below, fine};
-ghost use Rattle.crews.specs.Calls.{roofChecks};
+ghost use Rattle.base.specs.Verdicts.{reply_of};
+ghost use Rattle.matrix.specs.Matrix.{matrix_of};
+ghost use Rattle.plan.specs.Sound.{max_workers};
+ghost use Rattle.tables.specs.Code.Laid.{Rising};
+ghost use Rattle.machine.specs.Code.Tests.{all_below, fine};
+ghost use Rattle.crews.specs.Calls.{roof_checks};
 
 use base::{MATRIX, UNSOUND, Verdict};
 use machine::state::State;
@@ -29,7 +29,7 @@ pub(crate) fn check_roof(
     groups: &[u32],
     count: u32,
 ) -> Verdict
-    ensures { replyOf result ≡ in_turn refused (roofChecks (matrixOf n starts.now columns.now values.now) (record { of0 = displacements0.now; of1 = displacements1.now }) order.now groups.now count) (accepted 0) }
+    ensures { reply_of result ≡ in_turn refused (roof_checks (matrix_of n starts.now columns.now values.now) (record { of0 = displacements0.now; of1 = displacements1.now }) order.now groups.now count) (accepted 0) }
 {
     if !is_matrix(n, starts, columns, values) {
         return Verdict::Refused(MATRIX, 0);
@@ -51,7 +51,7 @@ pub(crate) fn check_roof(
 // No worker has made more than its accesses, for either crew.
 pub(crate) fn are_fine(crews: Crews, first: [u32; FIRSTS]) -> bool
     requires { Rising first }
-    ensures { result ≡ all_below (fine first crews.made0) maxWorkers && all_below (fine first crews.made1) maxWorkers }
+    ensures { result ≡ all_below (fine first crews.made0) max_workers && all_below (fine first crews.made1) max_workers }
 {
     let made0 = crews.made0;
     let held0 = crews.held0;

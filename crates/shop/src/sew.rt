@@ -1,11 +1,11 @@
 // join: two nets sewn together.
 ghost use Rattle.std.specs.Prelude.{◌/◌, length};
-ghost use Rattle.matrix.specs.Matrix.{matrixOf};
+ghost use Rattle.matrix.specs.Matrix.{matrix_of};
 ghost use Rattle.words.specs.LittleEndian.{unsigned};
-ghost use Rattle.lent.specs.Bytes.{matrixIn};
-ghost use Rattle.lent.specs.code.Few.{IsFew};
+ghost use Rattle.lent.specs.Bytes.{matrix_in};
+ghost use Rattle.lent.specs.Code.Few.{IsFew};
 ghost use Rattle.shop.specs.Lent.{JoinAnswered};
-ghost use Rattle.shop.specs.code.Reach.{reached, Ample};
+ghost use Rattle.shop.specs.Code.Reach.{reached, Ample};
 
 use base::Verdict;
 use base::numbers::{least, wide};
@@ -35,7 +35,7 @@ fn join_of(
     values: &mut [u8],
 ) -> u64
     requires { Ample (length columns1.now) (length columns2.now) (length column_list.old) × Ample (length columns1.now) (length columns2.now) (length value_list.old) }
-    ensures { JoinAnswered (matrixOf n1 starts1.now columns1.now values1.now) (matrixOf n2 starts2.now columns2.now values2.now) places.now row_starts.old columns.old values.old result row_starts.new columns.new values.new }
+    ensures { JoinAnswered (matrix_of n1 starts1.now columns1.now values1.now) (matrix_of n2 starts2.now columns2.now values2.now) places.now row_starts.old columns.old values.old result row_starts.new columns.new values.new }
 {
     let mut starts = [0u32; MAX_STARTS];
     let starts_room = least(row_starts.len() / 4, MAX_STARTS);
@@ -164,7 +164,7 @@ pub fn join_in(
     columns: &mut [u8],
     values: &mut [u8],
 ) -> u64
-    ensures { JoinAnswered (matrixIn n1 row_starts1.now columns1.now values1.now) (matrixIn n2 row_starts2.now columns2.now values2.now) (unsigned 4 places.now) row_starts.old columns.old values.old result row_starts.new columns.new values.new }
+    ensures { JoinAnswered (matrix_in n1 row_starts1.now columns1.now values1.now) (matrix_in n2 row_starts2.now columns2.now values2.now) (unsigned 4 places.now) row_starts.old columns.old values.old result row_starts.new columns.new values.new }
 {
     let mut first_starts = [0u32; MAX_STARTS];
     let mut second_starts = [0u32; MAX_STARTS];

@@ -1,10 +1,10 @@
 // set_entry: a new value for a stored entry and its mirror.
 ghost use Rattle.std.specs.Prelude.{◌/◌, ◌≤◌, length};
-ghost use Rattle.matrix.specs.Matrix.{matrixOf};
-ghost use Rattle.lent.specs.Bytes.{matrixIn};
-ghost use Rattle.upkeep.specs.Upkeep.{newValue};
+ghost use Rattle.matrix.specs.Matrix.{matrix_of};
+ghost use Rattle.lent.specs.Bytes.{matrix_in};
+ghost use Rattle.upkeep.specs.Upkeep.{new_value};
 ghost use Rattle.site.specs.Lent.{EntryAnswered};
-ghost use Rattle.site.specs.code.Decoded.{Decoded};
+ghost use Rattle.site.specs.Code.Decoded.{Decoded};
 
 use base::Verdict;
 use base::numbers::wide;
@@ -32,7 +32,7 @@ fn set_entry_of(
     forces: &mut [u8],
 ) -> u64
     requires { Decoded movements.now forces.old displacements.now sums.old × (length list.old ≤ length values.old / 4) }
-    ensures { EntryAnswered (matrixOf n starts.now columns.now list.old) (newValue row column value) values.old movements.now forces.old result values.new forces.new }
+    ensures { EntryAnswered (matrix_of n starts.now columns.now list.old) (new_value row column value) values.old movements.now forces.old result values.new forces.new }
 {
     let answer = set_entry(
         n,
@@ -66,7 +66,7 @@ pub fn set_entry_in(
     column: u32,
     value: i32,
 ) -> u64
-    ensures { EntryAnswered (matrixIn n row_starts.now columns.now values.old) (newValue row column value) values.old movements.now forces.old result values.new forces.new }
+    ensures { EntryAnswered (matrix_in n row_starts.now columns.now values.old) (new_value row column value) values.old movements.now forces.old result values.new forces.new }
 {
     let mut starts = [0u32; MAX_STARTS];
     let mut displacements = [0i32; MAX_STARTS];

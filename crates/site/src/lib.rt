@@ -1,4 +1,6 @@
 // The calls for a kept force list on byte lists: numbers are decoded into arrays, the proved call is made, and what it
 // changed is stored.
+#![tactic(auto)]
+
 pub mod entry;
 pub mod movement;

@@ -1,9 +1,9 @@
 // set_movement: a new displacement.
-ghost use Rattle.matrix.specs.Matrix.{matrixOf};
-ghost use Rattle.lent.specs.Bytes.{matrixIn};
-ghost use Rattle.upkeep.specs.Upkeep.{newDisplacement};
+ghost use Rattle.matrix.specs.Matrix.{matrix_of};
+ghost use Rattle.lent.specs.Bytes.{matrix_in};
+ghost use Rattle.upkeep.specs.Upkeep.{new_displacement};
 ghost use Rattle.site.specs.Lent.{MovementAnswered};
-ghost use Rattle.site.specs.code.Decoded.{Decoded};
+ghost use Rattle.site.specs.Code.Decoded.{Decoded};
 
 use base::Verdict;
 use lent::few::{FEW_CELLS, are_few};
@@ -28,7 +28,7 @@ fn set_movement_of(
     forces: &mut [u8],
 ) -> u64
     requires { Decoded movements.old forces.old displacements.old sums.old }
-    ensures { MovementAnswered (matrixOf n starts.now columns.now values.now) (newDisplacement row value) movements.old forces.old result movements.new forces.new }
+    ensures { MovementAnswered (matrix_of n starts.now columns.now values.now) (new_displacement row value) movements.old forces.old result movements.new forces.new }
 {
     let answer = set_displacement(n, starts, columns, values, displacements, sums, row, value);
     let Verdict::Accepted(_) = answer else {
@@ -49,7 +49,7 @@ pub fn set_movement_in(
     row: u32,
     value: i32,
 ) -> u64
-    ensures { MovementAnswered (matrixIn n row_starts.now columns.now values.now) (newDisplacement row value) movements.old forces.old result movements.new forces.new }
+    ensures { MovementAnswered (matrix_in n row_starts.now columns.now values.now) (new_displacement row value) movements.old forces.old result movements.new forces.new }
 {
     let mut starts = [0u32; MAX_STARTS];
     let mut displacements = [0i32; MAX_STARTS];

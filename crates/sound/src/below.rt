@@ -1,12 +1,12 @@
 // The children of every group tile it, and like-coloured ones keep their distance.
 ghost use Rattle.std.specs.Prelude.{◌≡◌, ◌+◌, ◌^◌, ◌≤◌, ◌<◌, take};
 ghost use Rattle.matrix.specs.Matrix.{neighbours};
-ghost use Rattle.matrix.specs.code.Pattern.{pattern};
+ghost use Rattle.matrix.specs.Code.Pattern.{pattern};
 ghost use Rattle.plan.specs.Groups.{records};
-ghost use Rattle.plan.specs.Sound.{maxGroups, maxDistance, children, beyond, childrenSound, allSound};
-ghost use Rattle.plan.specs.code.Checks.{recordAt, belowWhole};
-ghost use Rattle.shape.specs.code.Shape.{PlanLists};
-ghost use Rattle.apart.specs.code.Marks.{OfMatrix, UpTo, Judged};
+ghost use Rattle.plan.specs.Sound.{max_groups, max_distance, children, beyond, children_sound, all_sound};
+ghost use Rattle.plan.specs.Code.Checks.{record_at, below_whole};
+ghost use Rattle.shape.specs.Code.Shape.{PlanLists};
+ghost use Rattle.apart.specs.Code.Marks.{OfMatrix, UpTo, Judged};
 
 use apart::apart_below;
 use matrix::limits::MAX_ROWS;
@@ -33,9 +33,9 @@ fn sound_below(
     k: usize,
     low: u32,
 ) -> bool
-    requires { OfMatrix n starts.now columns.now × PlanLists n order.now groups.now count × (parent < count) × UpTo low marks.old × UpTo low done.old × (low + maxGroups + maxGroups < 2 ^ 32) × (k ≤ maxDistance) }
-    ensures { Judged (childrenSound (beyond (neighbours (pattern n starts.now columns.now)) k) (take n order.now)
-        (recordAt groups.now parent) (children parent (belowWhole count groups.now))) (low + maxGroups + maxGroups) marks.new done.new result }
+    requires { OfMatrix n starts.now columns.now × PlanLists n order.now groups.now count × (parent < count) × UpTo low marks.old × UpTo low done.old × (low + max_groups + max_groups < 2 ^ 32) × (k ≤ max_distance) }
+    ensures { Judged (children_sound (beyond (neighbours (pattern n starts.now columns.now)) k) (take n order.now)
+        (record_at groups.now parent) (children parent (below_whole count groups.now))) (low + max_groups + max_groups) marks.new done.new result }
 {
     if !tiled_below(groups, count, parent) {
         return false;
@@ -71,9 +71,9 @@ pub fn all_sound(
     count: usize,
     k: usize,
 ) -> bool
-    requires { OfMatrix n starts.now columns.now × PlanLists n order.now groups.now count × (k ≤ maxDistance) }
-    ensures { result ≡ allSound (beyond (neighbours (pattern n starts.now columns.now)) k) (take n order.now)
-        (belowWhole count groups.now) 0 (records count groups.now) }
+    requires { OfMatrix n starts.now columns.now × PlanLists n order.now groups.now count × (k ≤ max_distance) }
+    ensures { result ≡ all_sound (beyond (neighbours (pattern n starts.now columns.now)) k) (take n order.now)
+        (below_whole count groups.now) 0 (records count groups.now) }
 {
     let mut marks = [0u32; MAX_ROWS];
     let mut done = [0u32; MAX_ROWS];

@@ -1,13 +1,15 @@
 // The check that a plan is sound for a matrix.
+#![tactic(auto)]
+
 mod below;
 
 ghost use Rattle.std.specs.Prelude.{◌≡◌, List, ◌≤◌, ℤ};
-ghost use Rattle.base.specs.Verdicts.{replyOf};
-ghost use Rattle.matrix.specs.Matrix.{matrixOf};
-ghost use Rattle.plan.specs.Sound.{maxDistance, isPlan, isPlanAt, checkReply};
-ghost use Rattle.plan.specs.code.Checks.{ofRecord};
-ghost use Rattle.apart.specs.code.Marks.{OfMatrix};
-ghost use Rattle.sound.specs.code.Whole.{isWhole};
+ghost use Rattle.base.specs.Verdicts.{reply_of};
+ghost use Rattle.matrix.specs.Matrix.{matrix_of};
+ghost use Rattle.plan.specs.Sound.{max_distance, is_plan, is_plan_at, check_reply};
+ghost use Rattle.plan.specs.Code.Checks.{of_record};
+ghost use Rattle.apart.specs.Code.Marks.{OfMatrix};
+ghost use Rattle.sound.specs.Code.Whole.{is_whole};
 
 use base::{MATRIX, PARAMETER, UNSOUND, Verdict};
 use below::all_sound;
@@ -19,7 +21,7 @@ use symmetric::is_matrix;
 
 // The record is the whole of n rows.
 fn is_whole(g: Record, n: usize) -> bool
-    ensures { result ≡ isWhole n (ofRecord g) }
+    ensures { result ≡ is_whole n (of_record g) }
 {
     if g.start != 0 {
         return false;
@@ -52,8 +54,8 @@ fn is_plan_at(
     count: u32,
     k: usize,
 ) -> bool
-    requires { OfMatrix n starts.now columns.now × (k ≤ maxDistance) }
-    ensures { (values : List ℤ) → result ≡ isPlanAt k (matrixOf n starts.now columns.now values) order.now groups.now count }
+    requires { OfMatrix n starts.now columns.now × (k ≤ max_distance) }
+    ensures { (values : List ℤ) → result ≡ is_plan_at k (matrix_of n starts.now columns.now values) order.now groups.now count }
 {
     let rows = n as usize;
     let records = count as usize;
@@ -94,7 +96,7 @@ pub fn is_plan(
     count: u32,
 ) -> bool
     requires { OfMatrix n starts.now columns.now }
-    ensures { (values : List ℤ) → result ≡ isPlan (matrixOf n starts.now columns.now values) order.now groups.now count }
+    ensures { (values : List ℤ) → result ≡ is_plan (matrix_of n starts.now columns.now values) order.now groups.now count }
 {
     is_plan_at(n, starts, columns, order, groups, count, RUN_DISTANCE)
 }
@@ -111,7 +113,7 @@ pub fn check(
     count: u32,
     k: u32,
 ) -> Verdict
-    ensures { replyOf result ≡ checkReply (matrixOf n starts.now columns.now values.now) order.now groups.now count k }
+    ensures { reply_of result ≡ check_reply (matrix_of n starts.now columns.now values.now) order.now groups.now count k }
 {
     if !is_matrix(n, starts, columns, values) {
         return Verdict::Refused(MATRIX, 0);

@@ -6,9 +6,9 @@ use mir.Syntax.{w32, w64}
 use mir.Val.{SFits}
 use Rattle.base.proofs.Integers.{abs-mul-le, fits-abs}
 
-abs-32 : {z : ℤ} → SFits w32 z → nat_abs z ≤ 2 ^ 31
-abs-32 {z = pos n} f = omega (arith, f.sfits)
-abs-32 {z = negsuc n} f = omega (arith, f.sfits)
+abs_32 : {z : ℤ} → SFits w32 z → nat_abs z ≤ 2 ^ 31
+abs_32 {z = pos n} f = omega (arith, f.sfits)
+abs_32 {z = negsuc n} f = omega (arith, f.sfits)
 
 module _ {a b : ℤ} (f : SFits w32 a) (g : SFits w32 b) where
   pub record Fitting : Type 0 where
@@ -18,7 +18,7 @@ module _ {a b : ℤ} (f : SFits w32 a) (g : SFits w32 b) where
 
   pub fitting : Fitting
   fitting = record {
-    left = fits-abs (omega (arith, abs-32 f));
-    right = fits-abs (omega (arith, abs-32 g));
-    product = fits-abs (omega (arith, abs-mul-le a b (abs-32 f) (abs-32 g)));
+    left = fits-abs (omega (arith, abs_32 f));
+    right = fits-abs (omega (arith, abs_32 g));
+    product = fits-abs (omega (arith, abs-mul-le a b (abs_32 f) (abs_32 g)));
   }

@@ -10,15 +10,15 @@ use lib.Dec.{eqb}
 use lib.IntN.{ℤ, pos, ◌*ℤ◌}
 use lib.ListN.{length, get_or}
 use borrow.Author.Tests.{eqb-true, eqb-false, eq-eqb, ne_eqb}
-use Rattle.base.specs.Lists.{sumBelow}
-use Rattle.plan.specs.Sound.{maxWorkers}
+use Rattle.base.specs.Lists.{sum_below}
+use Rattle.plan.specs.Sound.{max_workers}
 use Rattle.run.specs.Job.{Job, row_at}
-use Rattle.run.specs.Updates.{Update, entry_at, displacementAt, later, rowUpdates, updates, noUpdate}
-use Rattle.tables.specs.code.Laid.{updateAt, first_of, next_of, beginOf, updatesIn, Counted, Laid}
-use Rattle.upper.specs.code.Upper.{upperOf}
-use Rattle.upper.specs.code.Row.{Part}
-use Rattle.upper.proofs.UpperRows.{upper-whole}
-use Rattle.steps.specs.code.Updates.{byTurns, entryPlace, updateIn, Triangle}
+use Rattle.run.specs.Updates.{Update, entry_at, displacement_at, later, row_updates, updates, no_update}
+use Rattle.tables.specs.Code.Laid.{update_at, first_of, next_of, begin_of, updates_in, Counted, Laid}
+use Rattle.upper.specs.Code.Upper.{upper_of}
+use Rattle.upper.specs.Code.Row.{Part}
+use Rattle.upper.proofs.UpperRows.{upper_whole}
+use Rattle.steps.specs.Code.Updates.{by_turns, entry_place, update_in, Triangle}
 use Rattle.run.proofs.RowUpdates.{row-length, row-at}
 use Rattle.run.proofs.Work.{cum, At, locate}
 use Rattle.run.proofs.Next.{at_row}
@@ -26,17 +26,17 @@ use Rattle.run.proofs.Next.{at_row}
 -- ---- the updates of a row
 
 -- one of two numbers below n
-pub by-low : (k a b : ℕ) {n : ℕ} → a < n → b < n → byTurns k a b < n
-by-low k a b {n} l h = go (eqb (k % 2) 0) refl
+pub by_low : (k a b : ℕ) {n : ℕ} → a < n → b < n → by_turns k a b < n
+by_low k a b {n} l h = go (eqb (k % 2) 0) refl
   where
-    go : (t : Bool) → eqb (k % 2) 0 ≡ t → byTurns k a b < n
+    go : (t : Bool) → eqb (k % 2) 0 ≡ t → by_turns k a b < n
     go true e = rw e l
     go false e = rw e h
 
 -- job j's displacements stand in plan order, and the row at p has its part of the upper triangle
 pub record RowFound (j : Job) (parts : List ℕ) (displaced : List ℤ) (at : List ℕ) (beside : List ℤ) (p : ℕ) : Type 0 where
   pub low : p < j.matrix.n
-  pub displacements : (q : ℕ) → q < j.matrix.n → get_or displaced q (pos 0) ≡ displacementAt j q
+  pub displacements : (q : ℕ) → q < j.matrix.n → get_or displaced q (pos 0) ≡ displacement_at j q
   pub at_low : (k : ℕ) → get_or at k 0 < j.matrix.n
   pub part : Part j.matrix j.plan.order p (get_or parts p 0) at beside
 
@@ -46,46 +46,46 @@ module _ (j : Job) {parts : List ℕ} {displaced : List ℤ} {at : List ℕ} {be
   others = p ∷ later j p
 
   -- the update with other row number c
-  abbrev with-other : (k c : ℕ) → Update
-  with-other k c = record { row = p; target = byTurns k (get_or others c 0) p; amount = entry_at j p (get_or others c 0) *ℤ displacementAt j (byTurns k p (get_or others c 0)) }
+  abbrev with_other : (k c : ℕ) → Update
+  with_other k c = record { row = p; target = by_turns k (get_or others c 0) p; amount = entry_at j p (get_or others c 0) *ℤ displacement_at j (by_turns k p (get_or others c 0)) }
 
-  found : (k c : ℕ) → (k + 1) / 2 ≡ c → c < length others → updateIn parts displaced at beside p k ≡ with-other k c
+  found : (k c : ℕ) → (k + 1) / 2 ≡ c → c < length others → update_in parts displaced at beside p k ≡ with_other k c
   unfolding entry_at row_at
   found k c e l =
-      let whole = upper-whole j p t.low in
-      let inside : c < length (upperOf j.matrix j.plan.order p) = omega (arith, ap length whole) in
+      let whole = upper_whole j p t.low in
+      let inside : c < length (upper_of j.matrix j.plan.order p) = omega (arith, ap length whole) in
       let same = ap (λ (xs : List ℕ). get_or xs c 0) whole in
       let q : get_or at (get_or parts p 0 + c) 0 ≡ get_or others c 0 = t.part.positions c inside ∙ same in
       let v : get_or beside (get_or parts p 0 + c) (pos 0) ≡ entry_at j p (get_or others c 0) = t.part.entries c inside ∙ ap (entry_at j p) same in
-      rw (e, t.displacements _ (by-low k p _ t.low (t.at_low (get_or parts p 0 + c))), q, v)
+      rw (e, t.displacements _ (by_low k p _ t.low (t.at_low (get_or parts p 0 + c))), q, v)
 
   -- by the numbers of the updates
-  pub row-update : (k : ℕ) → k < length (rowUpdates j p) → updateIn parts displaced at beside p k ≡ get_or (rowUpdates j p) k noUpdate
-  unfolding rowUpdates
+  pub row-update : (k : ℕ) → k < length (row_updates j p) → update_in parts displaced at beside p k ≡ get_or (row_updates j p) k no_update
+  unfolding row_updates
   row-update zero l = found 0 0 refl (omega arith)
   row-update (suc k) l = go (eqb (k % 2) 0) refl
     where
       i : ℕ
       i = k / 2
 
-      low-i : i < length (later j p)
-      low-i = omega (arith, row-length j p)
+      low_i : i < length (later j p)
+      low_i = omega (arith, row-length j p)
 
-      go : (b : Bool) → eqb (k % 2) 0 ≡ b → updateIn parts displaced at beside p (suc k) ≡ get_or (rowUpdates j p) (suc k) noUpdate
+      go : (b : Bool) → eqb (k % 2) 0 ≡ b → update_in parts displaced at beside p (suc k) ≡ get_or (row_updates j p) (suc k) no_update
       go true e =
           let f : suc k ≡ suc (2 * i) = omega (arith, eqb-true (k % 2) 0 e) in
           let d : suc (2 * i) % 2 ≢ 0 = λ z. omega arith in
-          rw f (found (suc (2 * i)) (suc i) (omega arith) (omega (arith, low-i)) ∙ rw (ne_eqb (suc (2 * i) % 2) 0 d) (sym (row-at j p i low-i).0))
+          rw f (found (suc (2 * i)) (suc i) (omega arith) (omega (arith, low_i)) ∙ rw (ne_eqb (suc (2 * i) % 2) 0 d) (sym (row-at j p i low_i).0))
       go false e =
           let f : suc k ≡ suc (suc (2 * i)) = omega (arith, eqb-false (k % 2) 0 e) in
           let d : suc (suc (2 * i)) % 2 ≡ 0 = omega arith in
-          rw f (found (suc (suc (2 * i))) (suc i) (omega arith) (omega (arith, low-i)) ∙ rw (eq-eqb (suc (suc (2 * i)) % 2) 0 d) (sym (row-at j p i low-i).1))
+          rw f (found (suc (suc (2 * i))) (suc i) (omega arith) (omega (arith, low_i)) ∙ rw (eq-eqb (suc (suc (2 * i)) % 2) 0 d) (sym (row-at j p i low_i).1))
 
 -- .. so has every row in the whole upper triangle
 pub triangle-row : (j : Job) {parts : List ℕ} {displaced : List ℤ} {at : List ℕ} {beside : List ℤ} → Triangle j parts displaced at beside
     → (p : ℕ) → p < j.matrix.n → RowFound j parts displaced at beside p
 triangle-row j t p low =
-    let whole = upper-whole j p low in
+    let whole = upper_whole j p low in
     record {
       low = low;
       displacements = t.displacements;
@@ -96,13 +96,13 @@ triangle-row j t p low =
 -- ---- the updates of a worker
 
 -- how many it has
-pub updates-are : (j : Job) {first : List ℕ} → Counted j first → (w : ℕ) → w < maxWorkers → updatesIn first w ≡ length (updates j w)
-unfolding sumBelow
+pub updates-are : (j : Job) {first : List ℕ} → Counted j first → (w : ℕ) → w < max_workers → updates_in first w ≡ length (updates j w)
+unfolding sum_below
 updates-are j c w l =
     let e : first_of j (w + 1) ≡ first_of j w + length (updates j w) = ap (first_of j) (add-one w) in
     omega (arith, c.is w (omega arith), c.is (w + 1) (omega arith))
 
-module _ (j : Job) {first row begins leaves ends : List ℕ} (laid : Laid j first row begins leaves ends) (w : ℕ) (l : w < maxWorkers) where
+module _ (j : Job) {first row begins leaves ends : List ℕ} (laid : Laid j first row begins leaves ends) (w : ℕ) (l : w < max_workers) where
   module _ (k : ℕ) (low : k < length (updates j w)) where
     -- where number k is
     pub placed_at : At j w j.matrix.n k
@@ -118,7 +118,7 @@ module _ (j : Job) {first row begins leaves ends : List ℕ} (laid : Laid j firs
     number : ℕ
     number = k - cum j w placed_at.row
 
-    here : get_or first w 0 + k ≡ beginOf j placed_at.row + number
+    here : get_or first w 0 + k ≡ begin_of j placed_at.row + number
     unfolding number
     here = omega (arith, laid.begun placed_at.row placed_at.below, begins-is, placed_at.low)
 
@@ -140,15 +140,15 @@ module _ (j : Job) {first row begins leaves ends : List ℕ} (laid : Laid j firs
 
     -- the row's update by that number
     pub table-update : {parts : List ℕ} {displaced : List ℤ} {at : List ℕ} {beside : List ℤ} → RowFound j parts displaced at beside (get_or row (get_or first w 0 + k) 0)
-        → updateIn parts displaced at beside (get_or row (get_or first w 0 + k) 0) (get_or first w 0 + k - get_or begins (get_or row (get_or first w 0 + k) 0) 0) ≡ updateAt j w k
+        → update_in parts displaced at beside (get_or row (get_or first w 0 + k) 0) (get_or first w 0 + k - get_or begins (get_or row (get_or first w 0 + k) 0) 0) ≡ update_at j w k
     unfolding updates
     table-update t = rw (row_is, number_is) (row-update j (rw row_is at t) (k - cum j w placed_at.row) placed_at.inside ∙ sym placed_at.is)
 
     -- .. has its entry in the tables, if there is room for the row's
     pub entry-inside : (parts : List ℕ) {room : ℕ} → ((p : ℕ) → p < j.matrix.n → get_or parts p 0 + suc (length (later j p)) ≤ room)
-        → entryPlace parts (get_or row (get_or first w 0 + k) 0) (get_or first w 0 + k - get_or begins (get_or row (get_or first w 0 + k) 0) 0) < room
+        → entry_place parts (get_or row (get_or first w 0 + k) 0) (get_or first w 0 + k - get_or begins (get_or row (get_or first w 0 + k) 0) 0) < room
     entry-inside parts h = rw (row_is, number_is) (omega (arith, placed_at.inside, row-length j placed_at.row, h placed_at.row placed_at.below))
 
     -- .. is one of the job's
-    pub row-is-update : get_or row (get_or first w 0 + k) 0 ≡ (updateAt j w k).row
+    pub row-is-update : get_or row (get_or first w 0 + k) 0 ≡ (update_at j w k).row
     row-is-update = row_is ∙ sym (at_row j placed_at)

@@ -1,13 +1,15 @@
 // Steps: one load or store each.
+#![tactic(auto)]
+
 pub mod sum;
 pub mod updates;
 
 ghost use Rattle.std.specs.Prelude.{◌≡◌, List, ℕ, ◌*◌, ◌≤◌, ◌<◌, length, get_or, set};
-ghost use Rattle.plan.specs.Sound.{maxWorkers};
+ghost use Rattle.plan.specs.Sound.{max_workers};
 ghost use Rattle.run.specs.Updates.{count};
-ghost use Rattle.tables.specs.code.Laid.{maxUpdates, updatesIn, Rising, Bounded};
-ghost use Rattle.steps.specs.code.Steps.{stateWith, placeNext, reasonAt, updateNext, StepTables};
-ghost use Rattle.steps.specs.code.AtHand.{AtHand, AccessMade, Entered};
+ghost use Rattle.tables.specs.Code.Laid.{max_updates, updates_in, Rising, Bounded};
+ghost use Rattle.steps.specs.Code.Steps.{state_with, place_next, reason_at, update_next, StepTables};
+ghost use Rattle.steps.specs.Code.AtHand.{AtHand, AccessMade, Entered};
 
 use base::shorts::wide;
 use base::{DONE, OVERFLOW, STRANGER, WAITING};
@@ -22,16 +24,16 @@ pub const NONE: usize = MAX_ROWS;
 
 // How many accesses worker w makes: two for each of its updates.
 pub fn accesses(first: &[u32; FIRSTS], w: usize) -> u32
-    requires { (w < maxWorkers) × Rising first.now }
-    ensures { result ≡ 2 * updatesIn first.now w }
+    requires { (w < max_workers) × Rising first.now }
+    ensures { result ≡ 2 * updates_in first.now w }
 {
     2 * (first[w + 1] - first[w])
 }
 
 // The place of the update of worker w's next access.
 fn next_place(made: &[u32; MAX_WORKERS], w: usize, first: &[u32; FIRSTS]) -> usize
-    requires { (w < maxWorkers) × (placeNext first.now made.now w < maxUpdates) }
-    ensures { result ≡ placeNext first.now made.now w }
+    requires { (w < max_workers) × (place_next first.now made.now w < max_updates) }
+    ensures { result ≡ place_next first.now made.now w }
 {
     (first[w] + made[w] / 2) as usize
 }
@@ -46,8 +48,8 @@ pub fn refusal(
     leaves: &[u16; MAX_ROWS],
     blocks: &[u8; MAX_GROUPS],
 ) -> u32
-    requires { (workers ≤ maxWorkers) × ((n : ℕ) × Bounded n first.now row.now leaves.now) }
-    ensures { result ≡ reasonAt workers first.now row.now leaves.now blocks.now made.now w }
+    requires { (workers ≤ max_workers) × ((n : ℕ) × Bounded n first.now row.now leaves.now) }
+    ensures { result ≡ reason_at workers first.now row.now leaves.now blocks.now made.now w }
 {
     if workers <= w {
         return STRANGER;
@@ -74,12 +76,12 @@ pub fn look_up(
     targets: &mut [usize; MAX_WORKERS],
     adds: &mut [i64; MAX_WORKERS],
 )
-    requires { (w < maxWorkers) × (count made.now w < 2 * updatesIn first.now w)
+    requires { (w < max_workers) × (count made.now w < 2 * updates_in first.now w)
         × ((n : ℕ) × (leaves : List ℕ) × StepTables n first.now row.now begins.now parts.now leaves at.now beside.now) }
     ensures targets { targets.new ≡ set targets.old w
-        (updateNext first.now row.now begins.now parts.now displaced.now at.now beside.now made.now w).target }
+        (update_next first.now row.now begins.now parts.now displaced.now at.now beside.now made.now w).target }
     ensures adds { adds.new ≡ set adds.old w
-        (updateNext first.now row.now begins.now parts.now displaced.now at.now beside.now made.now w).amount }
+        (update_next first.now row.now begins.now parts.now displaced.now at.now beside.now made.now w).amount }
 {
     let place = next_place(made, w, first);
     let p = wide(row[place]);
@@ -98,9 +100,9 @@ pub fn access(
     targets: &mut [usize; MAX_WORKERS],
     adds: &[i64; MAX_WORKERS],
 ) -> u32
-    requires { (w < maxWorkers) × (count made.old w < 2 * maxUpdates) × (get_or targets.old w 0 < length sums.old) }
-    ensures { AccessMade (stateWith made.old held.old sums.old) w targets.old adds.now result
-        (stateWith made.new held.new sums.new) targets.new }
+    requires { (w < max_workers) × (count made.old w < 2 * max_updates) × (get_or targets.old w 0 < length sums.old) }
+    ensures { AccessMade (state_with made.old held.old sums.old) w targets.old adds.now result
+        (state_with made.new held.new sums.new) targets.new }
 {
     let t = targets[w];
     if made[w] % 2 == 0 {
@@ -135,11 +137,11 @@ pub fn enter(
     targets: &mut [usize; MAX_WORKERS],
     adds: &mut [i64; MAX_WORKERS],
 ) -> u32
-    requires { (workers ≤ maxWorkers) × ((n : ℕ) × StepTables n first.now row.now begins.now parts.now leaves.now at.now beside.now)
-        × AtHand (reasonAt workers first.now row.now leaves.now blocks.now)
-        (updateNext first.now row.now begins.now parts.now displaced.now at.now beside.now) made.now targets.old adds.old }
-    ensures { Entered (reasonAt workers first.now row.now leaves.now blocks.now)
-        (updateNext first.now row.now begins.now parts.now displaced.now at.now beside.now)
+    requires { (workers ≤ max_workers) × ((n : ℕ) × StepTables n first.now row.now begins.now parts.now leaves.now at.now beside.now)
+        × AtHand (reason_at workers first.now row.now leaves.now blocks.now)
+        (update_next first.now row.now begins.now parts.now displaced.now at.now beside.now) made.now targets.old adds.old }
+    ensures { Entered (reason_at workers first.now row.now leaves.now blocks.now)
+        (update_next first.now row.now begins.now parts.now displaced.now at.now beside.now)
         made.now w result targets.new adds.new }
 {
     if workers <= w {

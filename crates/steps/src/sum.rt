@@ -1,6 +1,6 @@
 // The sum of two numbers, where it fits 64 bits.
 ghost use Rattle.std.specs.Prelude.{◌≡◌, true, ◌^◌, ◌<◌, nat_abs};
-ghost use Rattle.steps.specs.code.Sum.{sum_of};
+ghost use Rattle.steps.specs.Code.Sum.{sum_of};
 
 const MOST: i64 = 9223372036854775807;
 

@@ -1,15 +1,15 @@
 // The updates of a row, found in the upper triangle of the matrix in plan order.
 ghost use Rattle.std.specs.Prelude.{◌≡◌, ℕ, ◌≤◌, ◌<◌, ◌*ℤ◌, length};
-ghost use Rattle.matrix.specs.Limits.{maxRows};
-ghost use Rattle.tables.specs.code.Laid.{maxUpdates};
-ghost use Rattle.steps.specs.code.Updates.{byTurns, entryPlace, targetIn, amountIn, Readable};
+ghost use Rattle.matrix.specs.Limits.{max_rows};
+ghost use Rattle.tables.specs.Code.Laid.{max_updates};
+ghost use Rattle.steps.specs.Code.Updates.{by_turns, entry_place, target_in, amount_in, Readable};
 
 use base::shorts::wide;
 use matrix::limits::MAX_ROWS;
 
 // a at even numbers k, b at odd ones.
 fn by_turns(k: usize, a: usize, b: usize) -> usize
-    ensures { result ≡ byTurns k a b }
+    ensures { result ≡ by_turns k a b }
 {
     if k % 2 == 0 { a } else { b }
 }
@@ -23,16 +23,16 @@ fn product(entry: i32, displacement: i32) -> i64
 
 // Where update number k of the row at position p has its entry, beside the other row's position.
 fn entry_place(parts: &[u32; MAX_ROWS], p: usize, k: usize) -> usize
-    requires { (p < maxRows) × (entryPlace parts.now p k < maxUpdates) }
-    ensures { result ≡ entryPlace parts.now p k }
+    requires { (p < max_rows) × (entry_place parts.now p k < max_updates) }
+    ensures { result ≡ entry_place parts.now p k }
 {
     parts[p] as usize + (k + 1) / 2
 }
 
 // The position of its sum: the other row's, then the row's own.
 pub fn target_of(parts: &[u32; MAX_ROWS], at: &[u16], p: usize, k: usize) -> usize
-    requires { (p < maxRows) × (entryPlace parts.now p k < length at.now) × (length at.now ≤ maxUpdates) }
-    ensures { result ≡ targetIn parts.now at.now p k }
+    requires { (p < max_rows) × (entry_place parts.now p k < length at.now) × (length at.now ≤ max_updates) }
+    ensures { result ≡ target_in parts.now at.now p k }
 {
     by_turns(k, wide(at[entry_place(parts, p, k)]), p)
 }
@@ -47,7 +47,7 @@ pub fn amount_of(
     k: usize,
 ) -> i64
     requires { (n : ℕ) × Readable n parts.now at.now beside.now p k }
-    ensures { result ≡ amountIn parts.now displaced.now at.now beside.now p k }
+    ensures { result ≡ amount_in parts.now displaced.now at.now beside.now p k }
 {
     let place = entry_place(parts, p, k);
     let row = by_turns(k, p, wide(at[place]));

@@ -14,14 +14,14 @@ use denote.Slice.{Room}
 use Rattle.plan.specs.declared.fields.Group.{Group}
 use Rattle.plan.specs.contracts.fields.Group as T
 use Rattle.plan.proofs.fields.Group.TheLaws as T'
-use Rattle.groups.proofs.Walking.{group-lawful, group-makes}
+use Rattle.groups.proofs.Walking.{group_lawful, group_makes}
 
 -- the array, and its type in the code
 abbrev pub Places : RattleType
 Places = Array T.the_row 5
 
-abbrev pub placesTy : Ty
-placesTy = ty_array T'.mir 5
+abbrev pub places_ty : Ty
+places_ty = ty_array T'.mir 5
 
 module _ (gs : List Group) (v : Val) (are : Is Places gs (v ∷ [])) where
   pub five : length gs ≡ 5
@@ -30,8 +30,8 @@ module _ (gs : List Group) (v : Val) (are : Is Places gs (v ∷ [])) where
   pub room : Room T.the_row (length gs)
   room = subst (Room T.the_row) (sym five) (lit< tt, lit< tt)
 
-  pub places-typed : {M : Type 1} {𝓤 : Ura M} (𝓛 : Logic 𝓤) → T (has_ty placesTy v) × WT v
-  places-typed 𝓛 = ((Array-Lawful 𝓛 T.the_row (group-lawful 𝓛) 5).typed gs _ are).0
+  pub places_typed : {M : Type 1} {𝓤 : Ura M} (𝓛 : Logic 𝓤) → T (has_ty places_ty v) × WT v
+  places_typed 𝓛 = ((Array-Lawful 𝓛 T.the_row (group_lawful 𝓛) 5).typed gs _ are).0
 
 pub places-makes : {M : Type 1} {𝓤 : Ura M} (𝓛 : Logic 𝓤) → Makes 𝓛 Places (Is Places)
-places-makes 𝓛 = Array-Makes 𝓛 T.the_row (group-makes 𝓛) 5
+places-makes 𝓛 = Array-Makes 𝓛 T.the_row (group_makes 𝓛) 5

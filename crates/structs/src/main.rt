@@ -1,13 +1,15 @@
 // structs: plans a chain of eight rows into a slice of group structs, and checks the plan.
 // A plan with a group twice, or with a wrong depth, is not sound, and a slice is too short for the plan of more rows.
+#![tactic(auto)]
+
 ghost use Rattle.std.specs.Prelude.{◌≡◌, map, ◌*◌, length};
 ghost use Rattle.base.specs.Replies.{lent};
-ghost use Rattle.base.specs.Verdicts.{replyOf};
-ghost use Rattle.matrix.specs.Matrix.{matrixOf};
+ghost use Rattle.base.specs.Verdicts.{reply_of};
+ghost use Rattle.matrix.specs.Matrix.{matrix_of};
 ghost use Rattle.plan.specs.Groups.{width, flat, group_of};
-ghost use Rattle.plan.specs.Sound.{checkReply};
-ghost use Rattle.race.specs.Planner.{plan, planReply};
-ghost use Rattle.groups.specs.Structs.{ofGroup};
+ghost use Rattle.plan.specs.Sound.{check_reply};
+ghost use Rattle.race.specs.Planner.{plan, plan_reply};
+ghost use Rattle.groups.specs.Structs.{of_group};
 
 use base::Verdict;
 use libc::STDOUT_FILENO;
@@ -34,9 +36,9 @@ fn plan_in(
     order: &mut [u32],
     list: [Group; 5],
 ) -> Five
-    ensures { (replyOf result.answer ≡ planReply (matrixOf n starts.now columns.now values.now) workers p 2 (length order.old) (width * length list))
-        × (result.groups ≡ lent (planReply (matrixOf n starts.now columns.now values.now) workers p 2 (length order.old) (width * length list))
-        (map ofGroup (plan (matrixOf n starts.now columns.now values.now) workers p 2).groups) list) }
+    ensures { (reply_of result.answer ≡ plan_reply (matrix_of n starts.now columns.now values.now) workers p 2 (length order.old) (width * length list))
+        × (result.groups ≡ lent (plan_reply (matrix_of n starts.now columns.now values.now) workers p 2 (length order.old) (width * length list))
+        (map of_group (plan (matrix_of n starts.now columns.now values.now) workers p 2).groups) list) }
 {
     let mut groups = list;
     let answer = groups::plan(
@@ -62,7 +64,7 @@ fn check_in(
     order: &[u32],
     list: [Group; 5],
 ) -> Verdict
-    ensures { replyOf result ≡ checkReply (matrixOf n starts.now columns.now values.now) order.now (flat (map group_of list)) (length list) 2 }
+    ensures { reply_of result ≡ check_reply (matrix_of n starts.now columns.now values.now) order.now (flat (map group_of list)) (length list) 2 }
 {
     groups::check(n, starts, columns, values, order, &list, DISTANCE)
 }

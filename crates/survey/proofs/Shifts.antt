@@ -12,38 +12,38 @@ use Rattle.base.proofs.Integers.{abs_neg, abs-mul, times-sum}
 use Rattle.base.proofs.Lists.{map-range-zero}
 use Rattle.base.proofs.Sums.{sum_same, sum-add, abs-sum, pos_sum, sum-below-le, sum-below-times}
 use Rattle.matrix.specs.Matrix.{Matrix, entry, displacement}
-use Rattle.matrix.specs.Product.{forceAt}
-use Rattle.survey.specs.Survey.{afterShift, amount, with_sign, farthest}
-use Rattle.survey.specs.SurveyError.{movedBy}
+use Rattle.matrix.specs.Product.{force_at}
+use Rattle.survey.specs.Survey.{after_shift, amount, with_sign, farthest}
+use Rattle.survey.specs.SurveyError.{moved_by}
 
 -- the displacement of row j after a shift
-pub shifted_at : (n : ℕ) (x shift : List ℤ) (j : ℕ) → j < n → displacement (afterShift n x shift) j ≡ displacement x j +ℤ displacement shift j
-unfolding displacement afterShift
+pub shifted_at : (n : ℕ) (x shift : List ℤ) (j : ℕ) → j < n → displacement (after_shift n x shift) j ≡ displacement x j +ℤ displacement shift j
+unfolding displacement after_shift
 shifted_at n x shift j l = map-range-zero (λ j. displacement x j +ℤ displacement shift j) n j (pos 0) l
 
-pub shifted-long : (n : ℕ) (x shift : List ℤ) → length (afterShift n x shift) ≡ n
-unfolding afterShift
+pub shifted-long : (n : ℕ) (x shift : List ℤ) → length (after_shift n x shift) ≡ n
+unfolding after_shift
 shifted-long n x shift = length-made (λ j. displacement x j +ℤ displacement shift j) x n
 
 -- ---- the force after a shift
 
 module _ (m : Matrix) (x shift : List ℤ) (i : ℕ) where
   -- a shift moves the force by the row's stiffnesses times the shift
-  pub moved_sum : movedBy m x shift i ≡ sumℤ (λ j. entry m i j *ℤ displacement shift j) m.n
-  unfolding movedBy forceAt afterShift
+  pub moved_sum : moved_by m x shift i ≡ sumℤ (λ j. entry m i j *ℤ displacement shift j) m.n
+  unfolding moved_by force_at after_shift
   moved_sum =
       let was = sumℤ (λ j. entry m i j *ℤ displacement x j) m.n in
       let more = sumℤ (λ j. entry m i j *ℤ displacement shift j) m.n in
-      let is : sumℤ (λ j. entry m i j *ℤ displacement (afterShift m.n x shift) j) m.n ≡ was +ℤ more =
-      sum_same (λ j. entry m i j *ℤ displacement (afterShift m.n x shift) j) (λ j. entry m i j *ℤ displacement x j +ℤ entry m i j *ℤ displacement shift j) m.n term
+      let is : sumℤ (λ j. entry m i j *ℤ displacement (after_shift m.n x shift) j) m.n ≡ was +ℤ more =
+      sum_same (λ j. entry m i j *ℤ displacement (after_shift m.n x shift) j) (λ j. entry m i j *ℤ displacement x j +ℤ entry m i j *ℤ displacement shift j) m.n term
       ∙ sum-add (λ j. entry m i j *ℤ displacement x j) (λ j. entry m i j *ℤ displacement shift j) m.n in
       ap (λ (z : ℤ). z -ℤ was) (is ∙ +ℤ_comm was more) ∙ +ℤ-neg_ℤ_cancel more was
     where
-      term : (j : ℕ) → j < m.n → entry m i j *ℤ displacement (afterShift m.n x shift) j ≡ entry m i j *ℤ displacement x j +ℤ entry m i j *ℤ displacement shift j
+      term : (j : ℕ) → j < m.n → entry m i j *ℤ displacement (after_shift m.n x shift) j ≡ entry m i j *ℤ displacement x j +ℤ entry m i j *ℤ displacement shift j
       term j l = ap (λ (z : ℤ). entry m i j *ℤ z) (shifted_at m.n x shift j l) ∙ times-sum (entry m i j) (displacement x j) (displacement shift j)
 
   -- .. which is at most the amount
-  pub moved-most : (t : ℕ) → ((j : ℕ) → nat_abs (displacement shift j) ≤ t) → nat_abs (movedBy m x shift i) ≤ amount m t i
+  pub moved-most : (t : ℕ) → ((j : ℕ) → nat_abs (displacement shift j) ≤ t) → nat_abs (moved_by m x shift i) ≤ amount m t i
   unfolding amount
   moved-most t h =
       rw moved_sum
@@ -60,12 +60,12 @@ module _ (m : Matrix) (x shift : List ℤ) (i : ℕ) where
 -- ---- the shift that is written
 
 -- a stiffness times t with its sign
-sign-product : (t : ℕ) (z : ℤ) → z *ℤ with_sign t z ≡ pos (t * nat_abs z)
+sign_product : (t : ℕ) (z : ℤ) → z *ℤ with_sign t z ≡ pos (t * nat_abs z)
 unfolding with_sign
-sign-product t (pos zero) = ap pos (omega arith)
-sign-product t (pos (suc k)) = ap pos (mul_comm (suc k) t)
-sign-product zero (negsuc k) = *ℤ-zero (negsuc k) ∙ ap pos (sym (zero-mul (suc k)))
-sign-product (suc t) (negsuc k) = ap pos (mul_comm (suc k) (suc t))
+sign_product t (pos zero) = ap pos (omega arith)
+sign_product t (pos (suc k)) = ap pos (mul_comm (suc k) t)
+sign_product zero (negsuc k) = *ℤ-zero (negsuc k) ∙ ap pos (sym (zero-mul (suc k)))
+sign_product (suc t) (negsuc k) = ap pos (mul_comm (suc k) (suc t))
 
 pub sign_small : (t : ℕ) (z : ℤ) → nat_abs (with_sign t z) ≤ t
 unfolding with_sign
@@ -74,18 +74,18 @@ sign_small t (pos (suc k)) = omega arith
 sign_small t (negsuc k) = omega (arith, abs_neg t)
 
 module _ (m : Matrix) (t i : ℕ) where
-  pub farthest-at : (j : ℕ) → j < m.n → displacement (farthest m t i) j ≡ with_sign t (entry m i j)
+  pub farthest_at : (j : ℕ) → j < m.n → displacement (farthest m t i) j ≡ with_sign t (entry m i j)
   unfolding displacement farthest
-  farthest-at j l = map-range-zero (λ j. with_sign t (entry m i j)) m.n j (pos 0) l
+  farthest_at j l = map-range-zero (λ j. with_sign t (entry m i j)) m.n j (pos 0) l
 
   pub farthest-long : length (farthest m t i) ≡ m.n
   unfolding farthest
   farthest-long = length-made (λ j. with_sign t (entry m i j)) (farthest m t i) m.n
 
   -- it reaches the amount
-  pub farthest-reaches : (x : List ℤ) → movedBy m x (farthest m t i) i ≡ pos (amount m t i)
+  pub farthest_reaches : (x : List ℤ) → moved_by m x (farthest m t i) i ≡ pos (amount m t i)
   unfolding amount
-  farthest-reaches x =
+  farthest_reaches x =
       moved_sum m x (farthest m t i) i
-      ∙ sum_same (λ j. entry m i j *ℤ displacement (farthest m t i) j) (λ j. pos (t * nat_abs (entry m i j))) m.n (λ j l. ap (λ (z : ℤ). entry m i j *ℤ z) (farthest-at j l) ∙ sign-product t (entry m i j))
+      ∙ sum_same (λ j. entry m i j *ℤ displacement (farthest m t i) j) (λ j. pos (t * nat_abs (entry m i j))) m.n (λ j l. ap (λ (z : ℤ). entry m i j *ℤ z) (farthest_at j l) ∙ sign_product t (entry m i j))
       ∙ pos_sum (λ j. t * nat_abs (entry m i j)) m.n ∙ ap pos (sum-below-times t (λ j. nat_abs (entry m i j)) m.n)

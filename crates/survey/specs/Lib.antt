@@ -1,3 +1,3 @@
 pub mod Survey
 pub mod SurveyError
-pub mod code
+pub mod Code

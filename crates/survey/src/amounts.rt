@@ -1,8 +1,8 @@
 // The amount of each row: t times the sum of its values without sign.
 ghost use Rattle.std.specs.Prelude.{◌≡◌, ◌++◌, ◌^◌, ◌<◌, pos, nat_abs, length, drop};
-ghost use Rattle.matrix.specs.Matrix.{matrixOf};
-ghost use Rattle.survey.specs.Survey.{amountsOf};
-ghost use Rattle.survey.specs.code.Rows.{sizesTo, Amounting};
+ghost use Rattle.matrix.specs.Matrix.{matrix_of};
+ghost use Rattle.survey.specs.Survey.{amounts_of};
+ghost use Rattle.survey.specs.Code.Rows.{sizes_to, Amounting};
 
 use matrix::row::values_of;
 
@@ -19,8 +19,8 @@ fn size(v: i32) -> i64
 
 // The sum of values without sign.
 fn sizes(values: &[i32]) -> i64
-    requires { sizesTo values.now (length values.now) < 2 ^ 63 }
-    ensures { result ≡ pos (sizesTo values.now (length values.now)) }
+    requires { sizes_to values.now (length values.now) < 2 ^ 63 }
+    ensures { result ≡ pos (sizes_to values.now (length values.now)) }
 {
     let mut sum: i64 = 0;
     let mut k = 0;
@@ -40,8 +40,8 @@ pub(crate) fn put_amounts(
     t: u32,
     out: &mut [i64],
 )
-    requires { Amounting (matrixOf n starts.now columns.now values.now) t (length out.old) }
-    ensures { out.new ≡ amountsOf (matrixOf n starts.now columns.now values.now) t ++ drop n out.old }
+    requires { Amounting (matrix_of n starts.now columns.now values.now) t (length out.old) }
+    ensures { out.new ≡ amounts_of (matrix_of n starts.now columns.now values.now) t ++ drop n out.old }
 {
     let times = t as i64;
     let mut i = 0;

@@ -1,12 +1,14 @@
 // How far a survey error reaches (document 02, Q-6): the amount of each row, and the shift that reaches one.
+#![tactic(auto)]
+
 mod amounts;
 mod shift;
 
 ghost use Rattle.std.specs.Prelude.{◌≡◌, length};
 ghost use Rattle.base.specs.Replies.{lent};
-ghost use Rattle.base.specs.Verdicts.{replyOf};
-ghost use Rattle.matrix.specs.Matrix.{matrixOf};
-ghost use Rattle.survey.specs.Survey.{amountsOf, writtenShift, surveyReply};
+ghost use Rattle.base.specs.Verdicts.{reply_of};
+ghost use Rattle.matrix.specs.Matrix.{matrix_of};
+ghost use Rattle.survey.specs.Survey.{amounts_of, written_shift, survey_reply};
 
 use amounts::put_amounts;
 use base::{MATRIX, SHORT, SURVEY, Verdict};
@@ -32,11 +34,11 @@ pub fn survey(
     amounts: &mut [i64],
     shift: &mut [i32],
 ) -> Verdict
-    ensures reply { replyOf result ≡ surveyReply (matrixOf n starts.now columns.now values.now) displacements.now t row (length amounts.old) (length shift.old) }
-    ensures lent_amounts { amounts.new ≡ lent (surveyReply (matrixOf n starts.now columns.now values.now) displacements.now t row (length amounts.old) (length shift.old))
-        (amountsOf (matrixOf n starts.now columns.now values.now) t) amounts.old }
-    ensures lent_shift { shift.new ≡ lent (surveyReply (matrixOf n starts.now columns.now values.now) displacements.now t row (length amounts.old) (length shift.old))
-        (writtenShift (matrixOf n starts.now columns.now values.now) displacements.now t row) shift.old }
+    ensures reply { reply_of result ≡ survey_reply (matrix_of n starts.now columns.now values.now) displacements.now t row (length amounts.old) (length shift.old) }
+    ensures lent_amounts { amounts.new ≡ lent (survey_reply (matrix_of n starts.now columns.now values.now) displacements.now t row (length amounts.old) (length shift.old))
+        (amounts_of (matrix_of n starts.now columns.now values.now) t) amounts.old }
+    ensures lent_shift { shift.new ≡ lent (survey_reply (matrix_of n starts.now columns.now values.now) displacements.now t row (length amounts.old) (length shift.old))
+        (written_shift (matrix_of n starts.now columns.now values.now) displacements.now t row) shift.old }
 {
     if !is_matrix(n, starts, columns, values) {
         return Verdict::Refused(MATRIX, 0);

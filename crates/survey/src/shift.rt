@@ -1,13 +1,13 @@
 // The shift that reaches a row's amount.
 ghost use Rattle.std.specs.Prelude.{◌≡◌, ◌++◌, map, ◌+◌, ◌≤◌, length, drop};
-ghost use Rattle.base.specs.Lists.{range, isIn};
+ghost use Rattle.base.specs.Lists.{range, is_in};
 ghost use Rattle.matrix.specs.Matrix.{lookup};
-ghost use Rattle.survey.specs.Survey.{maxError, with_sign};
-ghost use Rattle.survey.specs.code.Rows.{Passed, Shifting};
+ghost use Rattle.survey.specs.Survey.{max_error, with_sign};
+ghost use Rattle.survey.specs.Code.Rows.{Passed, Shifting};
 
 // t with the sign of v, 0 where it is 0.
 fn with_sign(t: u32, v: i32) -> i32
-    requires { t ≤ maxError }
+    requires { t ≤ max_error }
     ensures { result ≡ with_sign t v }
 {
     let up = t as i32;
@@ -23,7 +23,7 @@ fn with_sign(t: u32, v: i32) -> i32
 // Whether column j is one of the columns; k of them stand before it.
 fn stands(columns: &[u32], k: usize, j: u32) -> bool
     requires { Passed columns.now k j }
-    ensures { result ≡ isIn columns.now j }
+    ensures { result ≡ is_in columns.now j }
 {
     if columns.len() <= k {
         return false;

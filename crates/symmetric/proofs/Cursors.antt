@@ -12,29 +12,29 @@ use lib.IntN.{ℤ, pos}
 use lib.ListN.{length, get_or, take, set, length-set}
 use lib.Seq.{take-suc, get_or-set_same, get_or-set_other}
 use borrow.Author.Tests.{ltb-true, ltb-false, lt-ltb, eqb-true, eq-eqb, ne_eqb}
-use Rattle.base.specs.Lists.{isIn, bit}
+use Rattle.base.specs.Lists.{is_in, bit}
 use Rattle.base.specs.Integers.{same}
-use Rattle.base.proofs.Booleans.{and_left, and_right, or-false, same_or, clash, is_false}
-use Rattle.base.proofs.Lists.{isIn-append, isIn-filter, length-filter-le}
+use Rattle.base.proofs.Booleans.{and_left, and_right, or_false, same_or, clash, is_false}
+use Rattle.base.proofs.Lists.{is_in-append, is_in-filter, length-filter-le}
 use Rattle.base.proofs.Integers.{same_true, same_refl}
-use Rattle.matrix.specs.Limits.{maxRows}
-use Rattle.matrix.specs.Matrix.{Matrix, columnsOf, valuesOf, lookup, entry}
-use Rattle.matrix.specs.code.Checks.{shaped, place_in}
-use Rattle.symmetric.specs.code.Cursors.{regular, Mirror, Met, Cursors}
+use Rattle.matrix.specs.Limits.{max_rows}
+use Rattle.matrix.specs.Matrix.{Matrix, columns_of, values_of, lookup, entry}
+use Rattle.matrix.specs.Code.Checks.{shaped, place_in}
+use Rattle.symmetric.specs.Code.Cursors.{regular, Mirror, Met, Cursors}
 use Rattle.matrix.proofs.Checks.{shape}
-use Rattle.matrix.proofs.Ascending.{ascending-less, before-place, isIn-place, isIn-get, lookup-get, place-past, place-before, place-missing, place-more, take-place}
-use Rattle.matrix.proofs.Rows.{length-columns, columns-in, values-in}
+use Rattle.matrix.proofs.Ascending.{ascending_less, before-place, is_in-place, is_in-get, lookup-get, place-past, place-before, place-missing, place_more, take-place}
+use Rattle.matrix.proofs.Rows.{length-columns, columns-in, values_in}
 use Rattle.symmetric.proofs.Regular.{column-get, value-get, ascends, mirror-of, both_ways}
 
 -- ---- what is met of a row
 
 -- a greater bound
-met-wider : (m : Matrix) {b i e : ℕ} (b' : ℕ) → b ≤ b' → Met m b i e → Met m b' i e
-met-wider m b' h t = record { low = t.low; high = t.high; climbs = t.climbs; below = λ p a l. omega (arith, t.below p a l); mirror = t.mirror }
+met_wider : (m : Matrix) {b i e : ℕ} (b' : ℕ) → b ≤ b' → Met m b i e → Met m b' i e
+met_wider m b' h t = record { low = t.low; high = t.high; climbs = t.climbs; below = λ p a l. omega (arith, t.below p a l); mirror = t.mirror }
 
 -- the entry at the end has a mirror, and its column is not below the bound
-met-more : (m : Matrix) {b i e : ℕ} → Met m b i e → e < get_or m.starts (i + 1) 0 → b ≤ get_or m.columns e 0 → Mirror m i e → Met m (get_or m.columns e 0 + 1) i (e + 1)
-met-more m {b} {i} {e} t h up r = record {
+met_more : (m : Matrix) {b i e : ℕ} → Met m b i e → e < get_or m.starts (i + 1) 0 → b ≤ get_or m.columns e 0 → Mirror m i e → Met m (get_or m.columns e 0 + 1) i (e + 1)
+met_more m {b} {i} {e} t h up r = record {
   low = omega (arith, t.low);
   high = omega arith;
   climbs = λ p a l. climbs p a l (same_or (p + 1) e);
@@ -67,7 +67,7 @@ pub record Turns (m : Matrix) (i p least : ℕ) (cursors : List ℕ) : Type 0 wh
   pub fresh : (j : ℕ) → j < i → least ≤ j → Met m i j (get_or cursors j 0)
   pub rest : regular m ≡ true → (q : ℕ) → p ≤ q → q < get_or m.starts (i + 1) 0 → least ≤ get_or m.columns q 0
   pub exact : regular m ≡ true → (j : ℕ) → j < i
-      → get_or cursors j 0 ≡ get_or m.starts j 0 + (place_in (columnsOf m j) i + bit (isIn (take (p - get_or m.starts i 0) (columnsOf m i)) j))
+      → get_or cursors j 0 ≡ get_or m.starts j 0 + (place_in (columns_of m j) i + bit (is_in (take (p - get_or m.starts i 0) (columns_of m i)) j))
 
 pub turns-first : (m : Matrix) → shaped m ≡ true → {i : ℕ} → i < m.n → {cursors : List ℕ} → Cursors m i cursors → Turns m i (get_or m.starts i 0) 0 cursors
 turns-first m h {i} l c = record {
@@ -80,15 +80,15 @@ turns-first m h {i} l c = record {
     mirror = λ p a b. absurd (omega arith);
   };
   few = omega arith;
-  others = λ j b. met-wider m (i + 1) (omega arith) (c.met j b);
+  others = λ j b. met_wider m (i + 1) (omega arith) (c.met j b);
   fresh = λ j b a. c.met j b;
   rest = λ g q a b. omega arith;
   exact = λ g j b. let e : get_or m.starts i 0 - get_or m.starts i 0 ≡ 0 = omega arith in rw e (omega (arith, c.exact g j b));
 }
 
 -- place p of row i holds a column below the diagonal
-abbrev pub isLower : (m : Matrix) (i p : ℕ) → Bool
-isLower m i p = ltb p (get_or m.starts (i + 1) 0) && ltb (get_or m.columns p 0) i
+abbrev pub is_lower : (m : Matrix) (i p : ℕ) → Bool
+is_lower m i p = ltb p (get_or m.starts (i + 1) 0) && ltb (get_or m.columns p 0) i
 
 -- what stands at the cursor of row j is the mirror of the entry of row i in column j with the value v
 abbrev pub meets : (m : Matrix) (i j q : ℕ) → ℤ → Bool
@@ -96,16 +96,16 @@ meets m i j q v = ltb q (get_or m.starts (j + 1) 0) && eqb (get_or m.columns q 0
 
 -- every index of the turn is within its list
 pub record Turn (m : Matrix) (p : ℕ) (cursors : List ℕ) : Type 0 where
-  pub few : m.n ≤ maxRows
+  pub few : m.n ≤ max_rows
   pub column : get_or m.columns p 0 < m.n
-  pub in-columns : p < length m.columns
-  pub in-values : p < length m.values
-  pub in-starts : get_or m.columns p 0 + 1 < length m.starts
-  pub in-cursors : get_or m.columns p 0 < length cursors
+  pub in_columns : p < length m.columns
+  pub in_values : p < length m.values
+  pub in_starts : get_or m.columns p 0 + 1 < length m.starts
+  pub in_cursors : get_or m.columns p 0 < length cursors
   pub ends-columns : get_or m.starts (get_or m.columns p 0 + 1) 0 ≤ length m.columns
   pub ends-values : get_or m.starts (get_or m.columns p 0 + 1) 0 ≤ length m.values
 
-module _ (m : Matrix) (h : shaped m ≡ true) {i : ℕ} (l : i < m.n) {p least : ℕ} {cursors : List ℕ} (t : Turns m i p least cursors) (low : isLower m i p ≡ true) where
+module _ (m : Matrix) (h : shaped m ≡ true) {i : ℕ} (l : i < m.n) {p least : ℕ} {cursors : List ℕ} (t : Turns m i p least cursors) (low : is_lower m i p ≡ true) where
   -- the entry at p: its column and its value, and the cursor of its mirror's row
   abbrev j : ℕ
   j = get_or m.columns p 0
@@ -119,108 +119,108 @@ module _ (m : Matrix) (h : shaped m ≡ true) {i : ℕ} (l : i < m.n) {p least :
   pub turn_in : p < get_or m.starts (i + 1) 0
   turn_in = ltb-true p (get_or m.starts (i + 1) 0) (and_left (ltb p (get_or m.starts (i + 1) 0)) (ltb j i) low)
 
-  j-low : j < i
-  j-low = ltb-true j i (and_right (ltb p (get_or m.starts (i + 1) 0)) (ltb j i) low)
+  j_low : j < i
+  j_low = ltb-true j i (and_right (ltb p (get_or m.starts (i + 1) 0)) (ltb j i) low)
 
-  j-row : j < m.n
-  j-row = omega (arith, j-low)
+  j_row : j < m.n
+  j_row = omega (arith, j_low)
 
   pub turn : Turn m p cursors
   turn = record {
     few = (shape m h).few;
-    column = j-row;
-    in-columns = omega (arith, turn_in, (columns-in m h i l).ends);
-    in-values = omega (arith, turn_in, (values-in m h i l).ends);
-    in-starts = (columns-in m h j j-row).starts-long;
-    in-cursors = omega (arith, j-row, t.size);
-    ends-columns = (columns-in m h j j-row).ends;
-    ends-values = (values-in m h j j-row).ends;
+    column = j_row;
+    in_columns = omega (arith, turn_in, (columns-in m h i l).ends);
+    in_values = omega (arith, turn_in, (values_in m h i l).ends);
+    in_starts = (columns-in m h j j_row).starts-long;
+    in_cursors = omega (arith, j_row, t.size);
+    ends-columns = (columns-in m h j j_row).ends;
+    ends-values = (values_in m h j j_row).ends;
   }
 
   -- place p as a place of row i
   abbrev k : ℕ
   k = p - get_or m.starts i 0
 
-  k-is : get_or m.starts i 0 + k ≡ p
-  k-is = omega (arith, t.own.low)
+  k_is : get_or m.starts i 0 + k ≡ p
+  k_is = omega (arith, t.own.low)
 
-  in-row : k < length (columnsOf m i)
+  in-row : k < length (columns_of m i)
   in-row = omega (arith, turn_in, length-columns m h i l, t.own.low)
 
-  column-is : get_or (columnsOf m i) k 0 ≡ j
-  column-is = column-get m i l k (omega (arith, turn_in, k-is)) ∙ ap (λ (x : ℕ). get_or m.columns x 0) k-is
+  column-is : get_or (columns_of m i) k 0 ≡ j
+  column-is = column-get m i l k (omega (arith, turn_in, k_is)) ∙ ap (λ (x : ℕ). get_or m.columns x 0) k_is
 
   value-is : regular m ≡ true → entry m i j ≡ v
   unfolding entry
   value-is g =
-      ap (λ (c : ℕ). lookup c (columnsOf m i) (valuesOf m i)) (sym column-is) ∙ lookup-get (columnsOf m i) (valuesOf m i) k (ascends m g i l) in-row
-      ∙ value-get m i l k (omega (arith, turn_in, k-is)) ∙ ap (λ (x : ℕ). get_or m.values x (pos 0)) k-is
+      ap (λ (c : ℕ). lookup c (columns_of m i) (values_of m i)) (sym column-is) ∙ lookup-get (columns_of m i) (values_of m i) k (ascends m g i l) in-row
+      ∙ value-get m i l k (omega (arith, turn_in, k_is)) ∙ ap (λ (x : ℕ). get_or m.values x (pos 0)) k_is
 
-  unmet : regular m ≡ true → isIn (take k (columnsOf m i)) j ≡ false
-  unmet g = subst (λ (c : ℕ). isIn (take k (columnsOf m i)) c ≡ false) column-is (before-place (columnsOf m i) k (ascends m g i l) in-row)
+  unmet : regular m ≡ true → is_in (take k (columns_of m i)) j ≡ false
+  unmet g = subst (λ (c : ℕ). is_in (take k (columns_of m i)) c ≡ false) column-is (before-place (columns_of m i) k (ascends m g i l) in-row)
 
   -- a column below the least that may come: the columns do not ascend
-  pub turn-falls : j < least → regular m ≡ false
-  turn-falls f = is_false (λ g. omega (arith, t.rest g p (omega arith) turn_in))
+  pub turn_falls : j < least → regular m ≡ false
+  turn_falls f = is_false (λ g. omega (arith, t.rest g p (omega arith) turn_in))
 
   -- in a regular matrix the mirror stands at the cursor
-  regular-meets : regular m ≡ true → meets m i j q v ≡ true
+  regular_meets : regular m ≡ true → meets m i j q v ≡ true
   unfolding entry
-  regular-meets g =
-      let ds = columnsOf m j in
-      let stored : isIn (columnsOf m i) j ≡ true = subst (λ (c : ℕ). isIn (columnsOf m i) c ≡ true) column-is (isIn-get (columnsOf m i) k in-row) in
+  regular_meets g =
+      let ds = columns_of m j in
+      let stored : is_in (columns_of m i) j ≡ true = subst (λ (c : ℕ). is_in (columns_of m i) c ≡ true) column-is (is_in-get (columns_of m i) k in-row) in
       let back = mirror-of m g i j l stored in
-      let up = ascends m g j j-row in
-      let at = isIn-place ds i up back.0 in
+      let up = ascends m g j j_row in
+      let at = is_in-place ds i up back.0 in
       let d = place_in ds i in
-      let e : q ≡ get_or m.starts j 0 + d = t.exact g j j-low ∙ rw (unmet g) (omega arith) in
-      let inside : get_or m.starts j 0 + d < get_or m.starts (j + 1) 0 = omega (arith, at.0, length-columns m h j j-row) in
-      let column : get_or m.columns q 0 ≡ i = ap (λ (x : ℕ). get_or m.columns x 0) e ∙ sym (column-get m j j-row d inside) ∙ at.1 in
+      let e : q ≡ get_or m.starts j 0 + d = t.exact g j j_low ∙ rw (unmet g) (omega arith) in
+      let inside : get_or m.starts j 0 + d < get_or m.starts (j + 1) 0 = omega (arith, at.0, length-columns m h j j_row) in
+      let column : get_or m.columns q 0 ≡ i = ap (λ (x : ℕ). get_or m.columns x 0) e ∙ sym (column-get m j j_row d inside) ∙ at.1 in
       let value : get_or m.values q (pos 0) ≡ v =
-      ap (λ (x : ℕ). get_or m.values x (pos 0)) e ∙ sym (value-get m j j-row d inside)
-      ∙ sym (lookup-get ds (valuesOf m j) d up at.0) ∙ ap (λ (c : ℕ). lookup c ds (valuesOf m j)) at.1 ∙ sym back.1 ∙ value-is g in
+      ap (λ (x : ℕ). get_or m.values x (pos 0)) e ∙ sym (value-get m j j_row d inside)
+      ∙ sym (lookup-get ds (values_of m j) d up at.0) ∙ ap (λ (c : ℕ). lookup c ds (values_of m j)) at.1 ∙ sym back.1 ∙ value-is g in
       rw (lt-ltb q (get_or m.starts (j + 1) 0) (omega arith), eq-eqb (get_or m.columns q 0) i column, value) (same_refl v)
 
   -- the test at the cursor fails
-  pub turn-misses : meets m i j q v ≡ false → regular m ≡ false
-  turn-misses f = is_false (λ g. clash (regular-meets g) f)
+  pub turn_misses : meets m i j q v ≡ false → regular m ≡ false
+  turn_misses f = is_false (λ g. clash (regular_meets g) f)
 
   -- it holds
   module _ (f : meets m i j q v ≡ true) where
     abbrev in_row : Bool
     in_row = ltb q (get_or m.starts (j + 1) 0)
 
-    abbrev inColumn : Bool
-    inColumn = eqb (get_or m.columns q 0) i
+    abbrev in_column : Bool
+    in_column = eqb (get_or m.columns q 0) i
 
     pub turn-ends : q < get_or m.starts (j + 1) 0
-    turn-ends = ltb-true q (get_or m.starts (j + 1) 0) (and_left in_row inColumn (and_left (in_row && inColumn) (same (get_or m.values q (pos 0)) v) f))
+    turn-ends = ltb-true q (get_or m.starts (j + 1) 0) (and_left in_row in_column (and_left (in_row && in_column) (same (get_or m.values q (pos 0)) v) f))
 
     met-column : get_or m.columns q 0 ≡ i
-    met-column = eqb-true (get_or m.columns q 0) i (and_right in_row inColumn (and_left (in_row && inColumn) (same (get_or m.values q (pos 0)) v) f))
+    met-column = eqb-true (get_or m.columns q 0) i (and_right in_row in_column (and_left (in_row && in_column) (same (get_or m.values q (pos 0)) v) f))
 
     met-value : get_or m.values q (pos 0) ≡ v
-    met-value = same_true (get_or m.values q (pos 0)) v (and_right (in_row && inColumn) (same (get_or m.values q (pos 0)) v) f)
+    met-value = same_true (get_or m.values q (pos 0)) v (and_right (in_row && in_column) (same (get_or m.values q (pos 0)) v) f)
 
     -- the entries at p and q are each other's mirrors
     mirror-p : Mirror m i p
-    mirror-p = record { place = q; low = (t.others j j-low).low; high = turn-ends; column = met-column; value = met-value }
+    mirror-p = record { place = q; low = (t.others j j_low).low; high = turn-ends; column = met-column; value = met-value }
 
-    mirror-q : Mirror m j q
-    mirror-q = record { place = p; low = rw met-column t.own.low; high = rw met-column turn_in; column = refl; value = sym met-value }
+    mirror_q : Mirror m j q
+    mirror_q = record { place = p; low = rw met-column t.own.low; high = rw met-column turn_in; column = refl; value = sym met-value }
 
     -- one more column of row i is met
-    met-columns : (c : ℕ) → isIn (take (p + 1 - get_or m.starts i 0) (columnsOf m i)) c ≡ isIn (take k (columnsOf m i)) c || eqb c j
+    met-columns : (c : ℕ) → is_in (take (p + 1 - get_or m.starts i 0) (columns_of m i)) c ≡ is_in (take k (columns_of m i)) c || eqb c j
     met-columns c =
         let e : p + 1 - get_or m.starts i 0 ≡ k + 1 = omega (arith, t.own.low) in
-        rw (e, add-one k, take-suc (columnsOf m i) k 0 in-row, column-is)
-        (isIn-append (take k (columnsOf m i)) (j ∷ []) c ∙ ap (λ (x : Bool). isIn (take k (columnsOf m i)) c || x) (or-false (eqb c j)))
+        rw (e, add-one k, take-suc (columns_of m i) k 0 in-row, column-is)
+        (is_in-append (take k (columns_of m i)) (j ∷ []) c ∙ ap (λ (x : Bool). is_in (take k (columns_of m i)) c || x) (or_false (eqb c j)))
 
     pub turn-next : least ≤ j → Turns m i (p + 1) (j + 1) (set cursors j (q + 1))
     turn-next up = record {
       size = rw (length-set cursors j (q + 1)) t.size;
-      own = met-more m t.own turn_in up mirror-p;
-      few = omega (arith, j-low);
+      own = met_more m t.own turn_in up mirror-p;
+      few = omega (arith, j_low);
       others = λ c n. others c n (same_or c j);
       fresh = λ c n d. rw (get_or-set_other cursors j c (q + 1) 0 (λ e. omega arith)) (t.fresh c n (omega arith));
       rest = rest;
@@ -228,33 +228,33 @@ module _ (m : Matrix) (h : shaped m ≡ true) {i : ℕ} (l : i < m.n) {p least :
     }
       where
         here : get_or (set cursors j (q + 1)) j 0 ≡ q + 1
-        here = get_or-set_same cursors j (q + 1) 0 turn.in-cursors
+        here = get_or-set_same cursors j (q + 1) 0 turn.in_cursors
 
         others : (c : ℕ) → c < i → (c ≡ j) ⊎ (c ≢ j) → Met m (i + 1) c (get_or (set cursors j (q + 1)) c 0)
-        others c n (inl e) = rw (e, here) (rw met-column at (met-more m (t.fresh j j-low up) turn-ends (omega (arith, met-column)) mirror-q))
+        others c n (inl e) = rw (e, here) (rw met-column at (met_more m (t.fresh j j_low up) turn-ends (omega (arith, met-column)) mirror_q))
         others c n (inr d) = rw (get_or-set_other cursors j c (q + 1) 0 d) (t.others c n)
 
         rest : regular m ≡ true → (x : ℕ) → p + 1 ≤ x → x < get_or m.starts (i + 1) 0 → j + 1 ≤ get_or m.columns x 0
         rest g x c n =
             let y = x - get_or m.starts i 0 in
             let e : get_or m.starts i 0 + y ≡ x = omega (arith, t.own.low) in
-            let is : get_or (columnsOf m i) y 0 ≡ get_or m.columns x 0 = column-get m i l y (omega arith) ∙ ap (λ (z : ℕ). get_or m.columns z 0) e in
-            let less = ascending-less (columnsOf m i) k y (ascends m g i l) (omega (arith, t.own.low)) (omega (arith, length-columns m h i l, t.own.low)) in
+            let is : get_or (columns_of m i) y 0 ≡ get_or m.columns x 0 = column-get m i l y (omega arith) ∙ ap (λ (z : ℕ). get_or m.columns z 0) e in
+            let less = ascending_less (columns_of m i) k y (ascends m g i l) (omega (arith, t.own.low)) (omega (arith, length-columns m h i l, t.own.low)) in
             omega (arith, column-is)
 
         exactly : regular m ≡ true → (c : ℕ) → c < i → (c ≡ j) ⊎ (c ≢ j)
-            → get_or (set cursors j (q + 1)) c 0 ≡ get_or m.starts c 0 + (place_in (columnsOf m c) i + bit (isIn (take (p + 1 - get_or m.starts i 0) (columnsOf m i)) c))
-        exactly g c n (inl e) = rw (e, here, met-columns j, unmet g, eq-eqb j j refl) (omega (arith, rw (unmet g) at (t.exact g j j-low)))
+            → get_or (set cursors j (q + 1)) c 0 ≡ get_or m.starts c 0 + (place_in (columns_of m c) i + bit (is_in (take (p + 1 - get_or m.starts i 0) (columns_of m i)) c))
+        exactly g c n (inl e) = rw (e, here, met-columns j, unmet g, eq-eqb j j refl) (omega (arith, rw (unmet g) at (t.exact g j j_low)))
         exactly g c n (inr d) =
-            rw (get_or-set_other cursors j c (q + 1) 0 d, met-columns c, ne_eqb c j d, or-false (isIn (take k (columnsOf m i)) c)) (t.exact g c n)
+            rw (get_or-set_other cursors j c (q + 1) 0 d, met-columns c, ne_eqb c j d, or_false (is_in (take k (columns_of m i)) c)) (t.exact g c n)
 
 -- ---- the end of a row
 
 -- row i is met up to its first column that is not below i, and its cursor goes past its diagonal
 module _ (m : Matrix) (h : shaped m ≡ true) {i : ℕ} (l : i < m.n) {p least : ℕ} {cursors : List ℕ} (t : Turns m i p least cursors)
-    (stop : isLower m i p ≡ false) where
+    (stop : is_lower m i p ≡ false) where
   abbrev cs : List ℕ
-  cs = columnsOf m i
+  cs = columns_of m i
 
   abbrev inside : Bool
   inside = ltb p (get_or m.starts (i + 1) 0)
@@ -293,13 +293,13 @@ module _ (m : Matrix) (h : shaped m ≡ true) {i : ℕ} (l : i < m.n) {p least :
           omega (arith, length-filter-le (λ x. ltb x i) cs, length-columns m h i l, t.own.low, t.own.high, ltb-false p (get_or m.starts (i + 1) 0) e)
 
   -- .. and column i is there if it stands at p
-  on-diagonal : regular m ≡ true → isIn cs i ≡ diagonal
-  on-diagonal g = go diagonal refl
+  on_diagonal : regular m ≡ true → is_in cs i ≡ diagonal
+  on_diagonal g = go diagonal refl
     where
-      go : (b : Bool) → diagonal ≡ b → isIn cs i ≡ b
+      go : (b : Bool) → diagonal ≡ b → is_in cs i ≡ b
       go true d =
           let c = next-column (ltb-true p (get_or m.starts (i + 1) 0) (and_left inside (eqb (get_or m.columns p 0) i) d)) in
-          subst (λ (x : ℕ). isIn cs x ≡ true) (c.1 ∙ eqb-true (get_or m.columns p 0) i (and_right inside (eqb (get_or m.columns p 0) i) d)) (isIn-get cs many c.0)
+          subst (λ (x : ℕ). is_in cs x ≡ true) (c.1 ∙ eqb-true (get_or m.columns p 0) i (and_right inside (eqb (get_or m.columns p 0) i) d)) (is_in-get cs many c.0)
       go false d = place-missing cs i many (ascends m g i l) (placed g) (λ b e. clash (found b e) d)
         where
           found : many < length cs → get_or cs many 0 ≡ i → diagonal ≡ true
@@ -315,11 +315,11 @@ module _ (m : Matrix) (h : shaped m ≡ true) {i : ℕ} (l : i < m.n) {p least :
           let a = ltb-true p (get_or m.starts (i + 1) 0) (and_left inside (eqb (get_or m.columns p 0) i) d) in
           let c : get_or m.columns p 0 ≡ i = eqb-true (get_or m.columns p 0) i (and_right inside (eqb (get_or m.columns p 0) i) d) in
           let self : Mirror m i p = record { place = p; low = rw c t.own.low; high = rw c a; column = c; value = refl } in
-          rw f (rw c at (met-more m t.own a (omega (arith, t.few)) self))
-      go false d f = let e : r ≡ p = omega arith in rw e (met-wider m (i + 1) (omega (arith, t.few)) t.own)
+          rw f (rw c at (met_more m t.own a (omega (arith, t.few)) self))
+      go false d f = let e : r ≡ p = omega arith in rw e (met_wider m (i + 1) (omega (arith, t.few)) t.own)
 
-  pub turns-end : (r : ℕ) → r ≡ p + bit diagonal → Cursors m (i + 1) (set cursors i r)
-  turns-end r e = record {
+  pub turns_end : (r : ℕ) → r ≡ p + bit diagonal → Cursors m (i + 1) (set cursors i r)
+  turns_end r e = record {
     size = rw (length-set cursors i r) t.size;
     met = λ j b. met j b (same_or j i);
     exact = λ g j b. exactly g j b (same_or j i);
@@ -333,14 +333,14 @@ module _ (m : Matrix) (h : shaped m ≡ true) {i : ℕ} (l : i < m.n) {p least :
       met j b (inr d) = rw (get_or-set_other cursors i j r 0 d) (t.others j (omega arith))
 
       -- column j was met if it is there
-      all-met : regular m ≡ true → (j : ℕ) → j < i → isIn (take many cs) j ≡ isIn cs j
+      all-met : regular m ≡ true → (j : ℕ) → j < i → is_in (take many cs) j ≡ is_in cs j
       all-met g j b =
-          ap (λ (k : ℕ). isIn (take k cs) j) (placed g) ∙ ap (λ (xs : List ℕ). isIn xs j) (take-place cs i (ascends m g i l)) ∙ isIn-filter (λ x. ltb x i) cs j
-          ∙ rw (lt-ltb j i b) (and-true (isIn cs j))
+          ap (λ (k : ℕ). is_in (take k cs) j) (placed g) ∙ ap (λ (xs : List ℕ). is_in xs j) (take-place cs i (ascends m g i l)) ∙ is_in-filter (λ x. ltb x i) cs j
+          ∙ rw (lt-ltb j i b) (and-true (is_in cs j))
 
-      exactly : regular m ≡ true → (j : ℕ) → j < i + 1 → (j ≡ i) ⊎ (j ≢ i) → get_or (set cursors i r) j 0 ≡ get_or m.starts j 0 + place_in (columnsOf m j) (i + 1)
-      exactly g j b (inl d) = rw (d, here, place-more cs i (ascends m g i l), on-diagonal g) (omega (arith, e, placed g, t.own.low))
+      exactly : regular m ≡ true → (j : ℕ) → j < i + 1 → (j ≡ i) ⊎ (j ≢ i) → get_or (set cursors i r) j 0 ≡ get_or m.starts j 0 + place_in (columns_of m j) (i + 1)
+      exactly g j b (inl d) = rw (d, here, place_more cs i (ascends m g i l), on_diagonal g) (omega (arith, e, placed g, t.own.low))
       exactly g j b (inr d) =
           let lj : j < i = omega arith in
           let ln : j < m.n = omega arith in
-          rw (get_or-set_other cursors i j r 0 d, place-more (columnsOf m j) i (ascends m g j ln), ← both_ways m g i j l ln, ← all-met g j lj) (t.exact g j lj)
+          rw (get_or-set_other cursors i j r 0 d, place_more (columns_of m j) i (ascends m g j ln), ← both_ways m g i j l ln, ← all-met g j lj) (t.exact g j lj)

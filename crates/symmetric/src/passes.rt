@@ -2,10 +2,10 @@
 ghost use Rattle.std.specs.Prelude.{◌≡◌, true, ◌&&◌, ◌<◌, ◌≤◌, leb, length, get_or, take};
 ghost use Rattle.base.specs.Lists.{all, range};
 ghost use Rattle.base.specs.Integers.{within};
-ghost use Rattle.matrix.specs.Limits.{maxEntries, max_value};
-ghost use Rattle.matrix.specs.Matrix.{lowerEntries, matrixOf};
-ghost use Rattle.matrix.specs.code.Checks.{rises, shaped};
-ghost use Rattle.symmetric.specs.code.Cursors.{regular, ended, MeetOk, RowMet};
+ghost use Rattle.matrix.specs.Limits.{max_entries, max_value};
+ghost use Rattle.matrix.specs.Matrix.{lower_entries, matrix_of};
+ghost use Rattle.matrix.specs.Code.Checks.{rises, shaped};
+ghost use Rattle.symmetric.specs.Code.Cursors.{regular, ended, MeetOk, RowMet};
 
 use crate::places::{is_at, is_below, past};
 use matrix::limits::{MAX_ENTRIES, MAX_ROWS, MAX_VALUE, all_within};
@@ -26,7 +26,7 @@ fn starts_rise(n: usize, starts: &[u32]) -> bool
 
 // The number of rows, the row starts and the lengths of the lists are a matrix's.
 pub fn is_shaped(n: usize, starts: &[u32], columns: &[u32], values: &[i32]) -> bool
-    ensures { result ≡ shaped (matrixOf n starts.now columns.now values.now) }
+    ensures { result ≡ shaped (matrix_of n starts.now columns.now values.now) }
 {
     if n < 1 {
         return false;
@@ -69,8 +69,8 @@ fn meet_row(
     i: usize,
     cursors: &mut [u32],
 ) -> bool
-    requires { MeetOk (matrixOf n starts.now columns.now values.now) i cursors.old }
-    ensures { RowMet (matrixOf n starts.now columns.now values.now) i result cursors.new }
+    requires { MeetOk (matrix_of n starts.now columns.now values.now) i cursors.old }
+    ensures { RowMet (matrix_of n starts.now columns.now values.now) i result cursors.new }
 {
     let end = starts[i + 1] as usize;
     let mut p = starts[i] as usize;
@@ -109,8 +109,8 @@ fn are_ended(n: usize, starts: &[u32], cursors: &[u32]) -> bool
 
 // As is_regular, given a cursor for each row: every row is met, so an entry that no cursor has passed has no mirror.
 fn meet_rows(n: usize, starts: &[u32], columns: &[u32], values: &[i32], cursors: &mut [u32]) -> bool
-    requires { (shaped (matrixOf n starts.now columns.now values.now) ≡ true) × (n ≤ length cursors.old) }
-    ensures { result ≡ regular (matrixOf n starts.now columns.now values.now) && leb (lowerEntries (matrixOf n starts.now columns.now values.now)) maxEntries }
+    requires { (shaped (matrix_of n starts.now columns.now values.now) ≡ true) × (n ≤ length cursors.old) }
+    ensures { result ≡ regular (matrix_of n starts.now columns.now values.now) && leb (lower_entries (matrix_of n starts.now columns.now values.now)) max_entries }
 {
     let mut lower: usize = 0;
     let mut i = 0;
@@ -130,8 +130,8 @@ fn meet_rows(n: usize, starts: &[u32], columns: &[u32], values: &[i32], cursors:
 // Every row's columns ascend and are below n, every entry is mirrored, and those on and below the diagonal are not too
 // many.
 pub fn is_regular(n: usize, starts: &[u32], columns: &[u32], values: &[i32]) -> bool
-    requires { shaped (matrixOf n starts.now columns.now values.now) ≡ true }
-    ensures { result ≡ regular (matrixOf n starts.now columns.now values.now) && leb (lowerEntries (matrixOf n starts.now columns.now values.now)) maxEntries }
+    requires { shaped (matrix_of n starts.now columns.now values.now) ≡ true }
+    ensures { result ≡ regular (matrix_of n starts.now columns.now values.now) && leb (lower_entries (matrix_of n starts.now columns.now values.now)) max_entries }
 {
     let mut cursors = [0u32; MAX_ROWS];
     meet_rows(n, starts, columns, values, &mut cursors)

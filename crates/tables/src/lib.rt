@@ -1,4 +1,6 @@
 // What the tables of a run hold, and laws on the leaves of flat records. The code is in upper, layout and waits.
+#![tactic(auto)]
+
 use matrix::limits::{MAX_CELLS, MAX_ROWS};
 use plan::MAX_WORKERS;
 

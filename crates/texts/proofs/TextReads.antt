@@ -13,35 +13,35 @@ use Rattle.base.specs.Replies.{Reply, accepted, refused, Check, room_for, in_tur
 use Rattle.base.proofs.Booleans.{both_ways, leb-min}
 use Rattle.base.proofs.Replies.{accepted-all, lent-accepted, lent-refused}
 use Rattle.matrix.proofs.Entries.{few-entries}
-use Rattle.market.specs.Parse.{Triplet, Parsed, matrixText, rejected, parse}
-use Rattle.market.specs.FullRows.{full, rows_of, rowStarts, columns, values, ofTriplets, readMatrix, readReply}
+use Rattle.market.specs.Parse.{Triplet, Parsed, matrix_text, rejected, parse}
+use Rattle.market.specs.FullRows.{full, rows_of, row_starts, columns, values, of_triplets, read_matrix, read_reply}
 use Rattle.market.proofs.Accepted.{parse-accepted}
 use Rattle.market.proofs.AcceptedText.{accepted-text}
 use Rattle.market.proofs.FullCount.{length-rows}
 use Rattle.market.proofs.FullRows.{length-row-starts, rows_end}
-use Rattle.words.specs.LittleEndian.{bytes_of, signedBytesOf, unsignedBytes, signedBytes, stored}
-use Rattle.matrix.specs.code.Room.{maxStarts, maxCells}
+use Rattle.words.specs.LittleEndian.{bytes_of, signed_bytes_of, unsigned_bytes, signed_bytes, stored}
+use Rattle.matrix.specs.Code.Room.{max_starts, max_cells}
 use Rattle.lent.specs.Word.{word}
-use Rattle.texts.specs.Lent.{readIn, ReadAnswered}
-use Rattle.texts.specs.code.Room.{Ample}
-use Rattle.lent.proofs.Answers.{Begins, begins, begins-at, begins-stored}
+use Rattle.texts.specs.Lent.{read_in, ReadAnswered}
+use Rattle.texts.specs.Code.Room.{Ample}
+use Rattle.lent.proofs.Answers.{Begins, begins, begins_at, begins-stored}
 
 -- the matrix of an accepted text
-module _ (text : List ℕ) (n : ℕ) (es : List Triplet) (e : parse text ≡ matrixText n es) where
-  full-few : length (full es) ≤ maxCells
-  unfolding ofTriplets
+module _ (text : List ℕ) (n : ℕ) (es : List Triplet) (e : parse text ≡ matrix_text n es) where
+  full-few : length (full es) ≤ max_cells
+  unfolding of_triplets
   full-few =
-      let end : get_or (rowStarts n es) n 0 ≡ length (rows_of n es) = rw (append-nil (rowStarts n es)) at (rows_end n es []) in
-      omega (arith, end, length-rows n es (parse-accepted text n es e).inner, few-entries (ofTriplets n es) (accepted-text.matrix text n es e))
+      let end : get_or (row_starts n es) n 0 ≡ length (rows_of n es) = rw (append-nil (row_starts n es)) at (rows_end n es []) in
+      omega (arith, end, length-rows n es (parse-accepted text n es e).inner, few-entries (of_triplets n es) (accepted-text.matrix text n es e))
 
 -- a room that is cut to no less than was lent or a matrix can need is as good
-room-same : (f b y : ℕ) → f ≤ maxCells → min b maxCells ≤ y → leb f (min b y) ≡ leb f b
+room-same : (f b y : ℕ) → f ≤ max_cells → min b max_cells ≤ y → leb f (min b y) ≡ leb f b
 room-same f b y h g = both_ways (leb f (min b y)) (leb f b) (λ t. le-leb f b (omega (arith, leb-true f (min b y) t))) (λ t. le-leb f (min b y) (omega (arith, leb-true f b t)))
 
 -- so the reply is the same
-module _ (text : List ℕ) (a b c x y z : ℕ) (hx : maxStarts ≤ x) (hy : min b maxCells ≤ y) (hz : min c maxCells ≤ z) where
-  room_cut : (n : ℕ) (es : List Triplet) → parse text ≡ matrixText n es → readReply (matrixText n es) (min a x) (min b y) (min c z) ≡ readReply (matrixText n es) a b c
-  unfolding readReply
+module _ (text : List ℕ) (a b c x y z : ℕ) (hx : max_starts ≤ x) (hy : min b max_cells ≤ y) (hz : min c max_cells ≤ z) where
+  room_cut : (n : ℕ) (es : List Triplet) → parse text ≡ matrix_text n es → read_reply (matrix_text n es) (min a x) (min b y) (min c z) ≡ read_reply (matrix_text n es) a b c
+  unfolding read_reply
   room_cut n es e =
       let few = full-few text n es e in
       rw (
@@ -51,27 +51,27 @@ module _ (text : List ℕ) (a b c x y z : ℕ) (hx : maxStarts ≤ x) (hy : min 
         room-same (length (full es)) c z few hz,
       )
 
-  pub rooms-cut : readReply (parse text) (min a x) (min b y) (min c z) ≡ readReply (parse text) a b c
-  unfolding readReply
-  rooms-cut = go (parse text) refl
+  pub rooms_cut : read_reply (parse text) (min a x) (min b y) (min c z) ≡ read_reply (parse text) a b c
+  unfolding read_reply
+  rooms_cut = go (parse text) refl
     where
-      go : (t : Parsed) → parse text ≡ t → readReply t (min a x) (min b y) (min c z) ≡ readReply t a b c
-      go (matrixText n es) e = room_cut n es e
+      go : (t : Parsed) → parse text ≡ t → read_reply t (min a x) (min b y) (min c z) ≡ read_reply t a b c
+      go (matrix_text n es) e = room_cut n es e
       go (rejected q p) e = refl
 
 -- the lists of an accepted call, of k rows: how long they are, how many entries
 -- the last row start tells, and that there is room
 pub record Read (t : Parsed) (a b c k : ℕ) : Type 0 where
-  pub starts-size : length (readMatrix t).starts ≡ k + 1
-  pub values-size : length (readMatrix t).values ≡ length (readMatrix t).columns
-  pub last : (rest : List ℕ) → get_or ((readMatrix t).starts ++ rest) k 0 ≡ length (readMatrix t).columns
+  pub starts-size : length (read_matrix t).starts ≡ k + 1
+  pub values-size : length (read_matrix t).values ≡ length (read_matrix t).columns
+  pub last : (rest : List ℕ) → get_or ((read_matrix t).starts ++ rest) k 0 ≡ length (read_matrix t).columns
   pub starts-room : k + 1 ≤ a
-  pub columns-room : length (readMatrix t).columns ≤ b
-  pub values-room : length (readMatrix t).columns ≤ c
+  pub columns-room : length (read_matrix t).columns ≤ b
+  pub values-room : length (read_matrix t).columns ≤ c
 
 module _ (text : List ℕ) (a b c k : ℕ) where
-  matrix-read : (n : ℕ) (es : List Triplet) → parse text ≡ matrixText n es → readReply (matrixText n es) a b c ≡ accepted k → Read (matrixText n es) a b c k
-  unfolding readReply readMatrix ofTriplets columns values in_turn
+  matrix-read : (n : ℕ) (es : List Triplet) → parse text ≡ matrix_text n es → read_reply (matrix_text n es) a b c ≡ accepted k → Read (matrix_text n es) a b c k
+  unfolding read_reply read_matrix of_triplets columns values in_turn
   matrix-read n es t e =
       let checks : List Check = room_for (n + 1) a ∷ room_for (length (full es)) b ∷ room_for (length (full es)) c ∷ [] in
       let all = accepted-all checks (accepted n) k e in
@@ -89,73 +89,73 @@ module _ (text : List ℕ) (a b c k : ℕ) where
         values-room = omega (arith, leb-true (length (full es)) c all.1.1.0);
       })
 
-  pub read_made : readReply (parse text) a b c ≡ accepted k → Read (parse text) a b c k
-  unfolding readReply
+  pub read_made : read_reply (parse text) a b c ≡ accepted k → Read (parse text) a b c k
+  unfolding read_reply
   read_made e = go (parse text) refl e
     where
-      go : (t : Parsed) → parse text ≡ t → readReply t a b c ≡ accepted k → Read t a b c k
-      go (matrixText n es) t e = matrix-read n es t e
+      go : (t : Parsed) → parse text ≡ t → read_reply t a b c ≡ accepted k → Read t a b c k
+      go (matrix_text n es) t e = matrix-read n es t e
       go (rejected q p) t e = (let z : ◌≡◌ {A = ℕ} 0 1 = cc in absurd (omega arith))
 
 -- the reply of a call to which the first i, j and k numbers of three arrays are lent on
-pub same-reply : (text starts columns : List ℕ) (values : List ℤ) (startBytes columnBytes valueBytes : List ℕ) {i j k : ℕ}
-    → (maxStarts ≤ length starts) × Ample columnBytes (length columns) × Ample valueBytes (length values)
-    → i ≡ min (length startBytes / 4) (length starts) → j ≡ min (length columnBytes / 4) (length columns) → k ≡ min (length valueBytes / 4) (length values)
-    → readReply (parse text) (length (take i starts)) (length (take j columns)) (length (take k values)) ≡ readIn text startBytes columnBytes valueBytes
-same-reply text starts columns values startBytes columnBytes valueBytes {i} {j} {k} enough ei ej ek =
+pub same-reply : (text starts columns : List ℕ) (values : List ℤ) (start_bytes column_bytes value_bytes : List ℕ) {i j k : ℕ}
+    → (max_starts ≤ length starts) × Ample column_bytes (length columns) × Ample value_bytes (length values)
+    → i ≡ min (length start_bytes / 4) (length starts) → j ≡ min (length column_bytes / 4) (length columns) → k ≡ min (length value_bytes / 4) (length values)
+    → read_reply (parse text) (length (take i starts)) (length (take j columns)) (length (take k values)) ≡ read_in text start_bytes column_bytes value_bytes
+same-reply text starts columns values start_bytes column_bytes value_bytes {i} {j} {k} enough ei ej ek =
     rw (length-take-le i starts (omega arith), length-take-le j columns (omega arith), length-take-le k values (omega arith), ei, ej, ek)
-    (rooms-cut text (length startBytes / 4) (length columnBytes / 4) (length valueBytes / 4) (length starts) (length columns) (length values) enough.0 enough.1 enough.2)
+    (rooms_cut text (length start_bytes / 4) (length column_bytes / 4) (length value_bytes / 4) (length starts) (length columns) (length values) enough.0 enough.1 enough.2)
 
 -- three arrays begin with the matrix of n rows that an accepted call gives
-pub record Held (text startBytes columnBytes valueBytes : List ℕ) (n : ℕ) (starts columns : List ℕ) (values : List ℤ) : Type 0 where
-  pub reply : accepted n ≡ readIn text startBytes columnBytes valueBytes
-  pub starts-begin : Begins starts (readMatrix (parse text)).starts (n + 1)
-  pub columns-begin : Begins columns (readMatrix (parse text)).columns (get_or starts n 0)
-  pub values-begin : Begins values (readMatrix (parse text)).values (get_or starts n 0)
-  pub starts-room : n + 1 ≤ length startBytes / 4
-  pub columns-room : get_or starts n 0 ≤ length columnBytes / 4
-  pub values-room : get_or starts n 0 ≤ length valueBytes / 4
+pub record Held (text start_bytes column_bytes value_bytes : List ℕ) (n : ℕ) (starts columns : List ℕ) (values : List ℤ) : Type 0 where
+  pub reply : accepted n ≡ read_in text start_bytes column_bytes value_bytes
+  pub starts_begin : Begins starts (read_matrix (parse text)).starts (n + 1)
+  pub columns_begin : Begins columns (read_matrix (parse text)).columns (get_or starts n 0)
+  pub values_begin : Begins values (read_matrix (parse text)).values (get_or starts n 0)
+  pub starts-room : n + 1 ≤ length start_bytes / 4
+  pub columns-room : get_or starts n 0 ≤ length column_bytes / 4
+  pub values-room : get_or starts n 0 ≤ length value_bytes / 4
 
-module _ {text startBytes columnBytes valueBytes : List ℕ} {r : Reply} (same : r ≡ readIn text startBytes columnBytes valueBytes) where
+module _ {text start_bytes column_bytes value_bytes : List ℕ} {r : Reply} (same : r ≡ read_in text start_bytes column_bytes value_bytes) where
   -- a refused call leaves the lent lists
-  pub read-refused : {q p w : ℕ} → refused q p ≡ r → w ≡ word (refused q p) → ReadAnswered text startBytes columnBytes valueBytes w startBytes columnBytes valueBytes
+  pub read-refused : {q p w : ℕ} → refused q p ≡ r → w ≡ word (refused q p) → ReadAnswered text start_bytes column_bytes value_bytes w start_bytes column_bytes value_bytes
   read-refused {q} {p} e f =
       let reply = sym (e ∙ same) in
       record {
         returns = f ∙ ap word (sym reply);
-        starts-left = sym (lent-refused _ startBytes _ q p reply);
-        columns-left = sym (lent-refused _ columnBytes _ q p reply);
-        values-left = sym (lent-refused _ valueBytes _ q p reply);
+        starts_left = sym (lent-refused _ start_bytes _ q p reply);
+        columns_left = sym (lent-refused _ column_bytes _ q p reply);
+        values_left = sym (lent-refused _ value_bytes _ q p reply);
       }
 
   -- an accepted one holds the matrix in the arrays; `more` is what is in them past the part that is lent on
-  pub read_held : {n : ℕ} → accepted n ≡ r → {ss cs : List ℕ} {vs : List ℤ} (oldStarts oldColumns : List ℕ) (oldValues : List ℤ)
-      → ss ≡ lent r (readMatrix (parse text)).starts oldStarts → cs ≡ lent r (readMatrix (parse text)).columns oldColumns → vs ≡ lent r (readMatrix (parse text)).values oldValues
-      → (moreStarts moreColumns : List ℕ) (moreValues : List ℤ) → Held text startBytes columnBytes valueBytes n (ss ++ moreStarts) (cs ++ moreColumns) (vs ++ moreValues)
-  read_held {n} e {ss} oldStarts oldColumns oldValues es ec ev moreStarts moreColumns moreValues =
-      let made = read_made text (length startBytes / 4) (length columnBytes / 4) (length valueBytes / 4) n (sym (e ∙ same)) in
-      let last : get_or (ss ++ moreStarts) n 0 ≡ length (readMatrix (parse text)).columns =
-      rw (es, lent-accepted (readMatrix (parse text)).starts oldStarts r n (sym e), append_assoc) (made.last _) in
+  pub read_held : {n : ℕ} → accepted n ≡ r → {ss cs : List ℕ} {vs : List ℤ} (old_starts old_columns : List ℕ) (old_values : List ℤ)
+      → ss ≡ lent r (read_matrix (parse text)).starts old_starts → cs ≡ lent r (read_matrix (parse text)).columns old_columns → vs ≡ lent r (read_matrix (parse text)).values old_values
+      → (more_starts more_columns : List ℕ) (more_values : List ℤ) → Held text start_bytes column_bytes value_bytes n (ss ++ more_starts) (cs ++ more_columns) (vs ++ more_values)
+  read_held {n} e {ss} old_starts old_columns old_values es ec ev more_starts more_columns more_values =
+      let made = read_made text (length start_bytes / 4) (length column_bytes / 4) (length value_bytes / 4) n (sym (e ∙ same)) in
+      let last : get_or (ss ++ more_starts) n 0 ≡ length (read_matrix (parse text)).columns =
+      rw (es, lent-accepted (read_matrix (parse text)).starts old_starts r n (sym e), append_assoc) (made.last _) in
       record {
         reply = e ∙ same;
-        starts-begin = begins (sym e) _ _ es moreStarts made.starts-size;
-        columns-begin = begins (sym e) _ _ ec moreColumns (sym last);
-        values-begin = begins (sym e) _ _ ev moreValues (made.values-size ∙ sym last);
+        starts_begin = begins (sym e) _ _ es more_starts made.starts-size;
+        columns_begin = begins (sym e) _ _ ec more_columns (sym last);
+        values_begin = begins (sym e) _ _ ev more_values (made.values-size ∙ sym last);
         starts-room = made.starts-room;
         columns-room = rw last made.columns-room;
         values-room = rw last made.values-room;
       }
 
 -- .. and stores it
-pub read-stored : {text startBytes columnBytes valueBytes : List ℕ} {n : ℕ} {starts columns : List ℕ} {values : List ℤ} → Held text startBytes columnBytes valueBytes n starts columns values
-    → {entries w : ℕ} {newStarts newColumns newValues : List ℕ} → entries ≡ get_or starts n 0 → w ≡ word (accepted n)
-    → newStarts ≡ stored (unsignedBytes 4 (take (length startBytes / 4) (take (n + 1) starts))) startBytes
-    → newColumns ≡ stored (unsignedBytes 4 (take (length columnBytes / 4) (take entries columns))) columnBytes
-    → newValues ≡ stored (signedBytes 4 (take (length valueBytes / 4) (take entries values))) valueBytes
-    → ReadAnswered text startBytes columnBytes valueBytes w newStarts newColumns newValues
-read-stored {startBytes = startBytes} {columnBytes = columnBytes} {valueBytes = valueBytes} h l f gs gc gv = record {
+pub read-stored : {text start_bytes column_bytes value_bytes : List ℕ} {n : ℕ} {starts columns : List ℕ} {values : List ℤ} → Held text start_bytes column_bytes value_bytes n starts columns values
+    → {entries w : ℕ} {new_starts new_columns new_values : List ℕ} → entries ≡ get_or starts n 0 → w ≡ word (accepted n)
+    → new_starts ≡ stored (unsigned_bytes 4 (take (length start_bytes / 4) (take (n + 1) starts))) start_bytes
+    → new_columns ≡ stored (unsigned_bytes 4 (take (length column_bytes / 4) (take entries columns))) column_bytes
+    → new_values ≡ stored (signed_bytes 4 (take (length value_bytes / 4) (take entries values))) value_bytes
+    → ReadAnswered text start_bytes column_bytes value_bytes w new_starts new_columns new_values
+read-stored {start_bytes = start_bytes} {column_bytes = column_bytes} {value_bytes = value_bytes} h l f gs gc gv = record {
   returns = f ∙ ap word h.reply;
-  starts-left = begins-stored h.starts-begin (bytes_of 4) 4 startBytes (sym h.reply) h.starts-room gs;
-  columns-left = begins-stored (begins-at h.columns-begin l) (bytes_of 4) 4 columnBytes (sym h.reply) (rw l h.columns-room) gc;
-  values-left = begins-stored (begins-at h.values-begin l) (signedBytesOf 4) 4 valueBytes (sym h.reply) (rw l h.values-room) gv;
+  starts_left = begins-stored h.starts_begin (bytes_of 4) 4 start_bytes (sym h.reply) h.starts-room gs;
+  columns_left = begins-stored (begins_at h.columns_begin l) (bytes_of 4) 4 column_bytes (sym h.reply) (rw l h.columns-room) gc;
+  values_left = begins-stored (begins_at h.values_begin l) (signed_bytes_of 4) 4 value_bytes (sym h.reply) (rw l h.values-room) gv;
 }

@@ -1,8 +1,8 @@
 // read: the matrix of a text.
 ghost use Rattle.std.specs.Prelude.{◌≤◌, length};
 ghost use Rattle.texts.specs.Lent.{ReadAnswered};
-ghost use Rattle.texts.specs.code.Room.{Ample};
-ghost use Rattle.matrix.specs.code.Room.{maxStarts};
+ghost use Rattle.texts.specs.Code.Room.{Ample};
+ghost use Rattle.matrix.specs.Code.Room.{max_starts};
 
 use base::Verdict;
 use base::numbers::{least, wide};
@@ -22,7 +22,7 @@ fn read_of(
     column_bytes: &mut [u8],
     value_bytes: &mut [u8],
 ) -> u64
-    requires { (maxStarts ≤ length starts.old) × Ample column_bytes.old (length columns.old) × Ample value_bytes.old (length values.old) }
+    requires { (max_starts ≤ length starts.old) × Ample column_bytes.old (length columns.old) × Ample value_bytes.old (length values.old) }
     ensures { ReadAnswered text.now start_bytes.old column_bytes.old value_bytes.old result start_bytes.new column_bytes.new value_bytes.new }
 {
     let starts_room = least(start_bytes.len() / 4, starts.len());

@@ -10,32 +10,32 @@ use native.Mathlib.Omega.{arith}
 use lib.IntN.{ℤ}
 use lib.ListN.{length, get_or, replicate, length-set}
 use Rattle.base.proofs.Booleans.{same_or}
-use Rattle.matrix.specs.Limits.{maxRows}
-use Rattle.plan.specs.Sound.{maxWorkers}
+use Rattle.matrix.specs.Limits.{max_rows}
+use Rattle.plan.specs.Sound.{max_workers}
 use Rattle.plan.specs.Groups.{records}
-use Rattle.plan.specs.code.Checks.{recordAt}
+use Rattle.plan.specs.Code.Checks.{record_at}
 use Rattle.run.specs.Job.{workers}
 use Rattle.run.specs.Updates.{Update, count}
 use Rattle.run.specs.State.{State}
-use Rattle.run.specs.Schedule.{skipsNone}
-use Rattle.run.proofs.Passes.{Left, left-start, left_step, left-halt, left-none}
-use Rattle.tables.specs.code.Laid.{maxUpdates, Laid}
-use Rattle.waits.specs.code.Waits.{Recorded, Blocks, Ahead, Current}
-use Rattle.steps.specs.code.Updates.{Triangle}
-use Rattle.steps.specs.code.Steps.{reasonAt, updateNext, outcomeOf, StepTables, PickMade}
-use Rattle.steps.specs.code.AtHand.{AtHand, Entered}
-use Rattle.steps.proofs.TableSteps.{pick-refused}
-use Rattle.steps.proofs.UpdatesAtHand.{Steady, none-at-hand, access-ready, access-picks, access-keeps}
-use Rattle.crews.proofs.Turns.{not-away}
+use Rattle.run.specs.Schedule.{skips_none}
+use Rattle.run.proofs.Passes.{Left, left-start, left_step, left_halt, left-none}
+use Rattle.tables.specs.Code.Laid.{max_updates, Laid}
+use Rattle.waits.specs.Code.Waits.{Recorded, Blocks, Ahead, Current}
+use Rattle.steps.specs.Code.Updates.{Triangle}
+use Rattle.steps.specs.Code.Steps.{reason_at, update_next, outcome_of, StepTables, PickMade}
+use Rattle.steps.specs.Code.AtHand.{AtHand, Entered}
+use Rattle.steps.proofs.TableSteps.{pick_refused}
+use Rattle.steps.proofs.UpdatesAtHand.{Steady, none_at_hand, access-ready, access-picks, access-keeps}
+use Rattle.crews.proofs.Turns.{not_away}
 use Rattle.machine.proofs.BlockedLeaves.{whole-crew, waits-of}
-use Rattle.crews.specs.Crews.{Crew, crew0, crew1, other, crewNumber, Two, own_of, putFor, Roof, jobFor, crewStep, turn, turns}
+use Rattle.crews.specs.Crews.{Crew, crew0, crew1, other, crew_number, Two, own_of, put_for, Roof, job_for, crew_step, turn, turns}
 use Rattle.crews.specs.TwoCrews.{AcceptedRoof}
-use Rattle.turns.specs.code.Inside.{insideAt, causeAt}
-use Rattle.turns.specs.code.Both.{Begun, AccessFor, RenewedFor}
-use Rattle.turns.specs.code.Turned.{misnamed}
+use Rattle.turns.specs.Code.Inside.{inside_at, cause_at}
+use Rattle.turns.specs.Code.Both.{Begun, AccessFor, RenewedFor}
+use Rattle.turns.specs.Code.Turned.{misnamed}
 use Rattle.turns.proofs.BothLists.{crew-of}
-use Rattle.turns.proofs.CrewHands.{crew-steady, other-moved}
-use Rattle.turns.proofs.CrewTurns.{turn-answer, turn-halts, turn-moves, name-halts, named-low}
+use Rattle.turns.proofs.CrewHands.{crew_steady, other-moved}
+use Rattle.turns.proofs.CrewTurns.{turn-answer, turn_halts, turn-moves, name_halts, named-low}
 
 -- the tables that the picks are taken by
 pub record Tables : Type 0 where
@@ -53,18 +53,18 @@ pub record Tables : Type 0 where
   pub beside : List ℤ
 
 -- both crews' counts
-abbrev countsOf : Two State → Two (List ℕ)
-countsOf S = record { of0 = S.of0.made; of1 = S.of1.made }
+abbrev counts_of : Two State → Two (List ℕ)
+counts_of S = record { of0 = S.of0.made; of1 = S.of1.made }
 
 -- nothing is at hand
 abbrev nobody : Two (List ℕ)
-nobody = record { of0 = replicate maxWorkers maxRows; of1 = replicate maxWorkers maxRows }
+nobody = record { of0 = replicate max_workers max_rows; of1 = replicate max_workers max_rows }
 
-own_put : (S : Two State) (c : Crew) → putFor S c (own_of S c) ≡ S
+own_put : (S : Two State) (c : Crew) → put_for S c (own_of S c) ≡ S
 own_put S crew0 = refl
 own_put S crew1 = refl
 
-put_same : (S T : Two State) (c : Crew) → own_of T (other c) ≡ own_of S (other c) → putFor S c (own_of T c) ≡ T
+put_same : (S T : Two State) (c : Crew) → own_of T (other c) ≡ own_of S (other c) → put_for S c (own_of T c) ≡ T
 put_same S T crew0 e = ap (λ (s : State). record { of0 = T.of0; of1 = s }) (sym e)
 put_same S T crew1 e = ap (λ (s : State). record { of0 = s; of1 = T.of1 }) (sym e)
 
@@ -72,108 +72,108 @@ module _ (T : Tables) where
   -- of every roof that they stand for
   abbrev EachRoof : (Roof → Type 0) → Type 0
   EachRoof P =
-      (q : Roof) → AcceptedRoof q → q.plan.groups ≡ records T.count T.groups → ((c : Crew) → Laid (jobFor q c) T.first T.row T.begins T.leaves T.ends)
-      → ((c : Crew) → Triangle (jobFor q c) T.parts (own_of T.displaced c) T.at T.beside) → P q
+      (q : Roof) → AcceptedRoof q → q.plan.groups ≡ records T.count T.groups → ((c : Crew) → Laid (job_for q c) T.first T.row T.begins T.leaves T.ends)
+      → ((c : Crew) → Triangle (job_for q c) T.parts (own_of T.displaced c) T.at T.beside) → P q
 
   abbrev CurrentOf : (made blocks stops : List ℕ) → Type 0
   CurrentOf made blocks stops = Current T.count T.groups T.ends made blocks stops
 
   -- why a pick of a worker of the plan is refused, for a crew beside the other's counts, and its update
-  abbrev causeOf : (blocks other made : List ℕ) → ℕ → ℕ
-  causeOf blocks other = causeAt T.first T.row T.begins T.leaves blocks other
+  abbrev cause_of : (blocks other made : List ℕ) → ℕ → ℕ
+  cause_of blocks other = cause_at T.first T.row T.begins T.leaves blocks other
 
-  abbrev updateOf : Crew → (made : List ℕ) → ℕ → Update
-  updateOf c = updateNext T.first T.row T.begins T.parts (own_of T.displaced c) T.at T.beside
+  abbrev update_of : Crew → (made : List ℕ) → ℕ → Update
+  update_of c = update_next T.first T.row T.begins T.parts (own_of T.displaced c) T.at T.beside
 
   -- these updates of crew c are at hand
   abbrev Hand : Two State → Crew → (blocks targets : List ℕ) (adds : List ℤ) → Type 0
-  Hand S c blocks targets adds = AtHand (causeOf blocks (own_of S (other c)).made) (updateOf c) (own_of S c).made targets adds
+  Hand S c blocks targets adds = AtHand (cause_of blocks (own_of S (other c)).made) (update_of c) (own_of S c).made targets adds
 
   -- k picks of the schedule, all taken, led from S₀ to S
   pub record Sharing (S₀ : Two State) (schedule : List ℕ) (k : ℕ) (S : Two State) (blocks stops targets : Two (List ℕ)) (adds : Two (List ℤ)) : Type 0 where
-    pub crew : T.workers ≡ (recordAt T.groups 0).workers
+    pub crew : T.workers ≡ (record_at T.groups 0).workers
     pub hand : (c : Crew) → Hand S c (own_of blocks c) (own_of targets c) (own_of adds c)
     pub current : (c : Crew) → CurrentOf (own_of S c).made (own_of blocks c) (own_of stops c)
-    pub left : EachRoof (λ q. Left skipsNone (turn q) S₀ schedule k k S)
+    pub left : EachRoof (λ q. Left skips_none (turn q) S₀ schedule k k S)
 
   -- a pick of worker w for crew c by the tables, with this answer, that leaves this state
   abbrev Made : Two State → Crew → (blocks : List ℕ) (w number : ℕ) → State → Type 0
-  Made S c blocks w number new = PickMade (causeOf blocks (own_of S (other c)).made (own_of S c).made w) (own_of S c) w (updateOf c (own_of S c).made w) number new
+  Made S c blocks w number new = PickMade (cause_of blocks (own_of S (other c)).made (own_of S c).made w) (own_of S c) w (update_of c (own_of S c).made w) number new
 
-  none-for : {S : Two State} {blocks stops : Two (List ℕ)} {adds : Two (List ℤ)} → ((c : Crew) → CurrentOf (own_of S c).made (own_of blocks c) (own_of stops c)) → ((c : Crew) → length (own_of adds c) ≡ maxWorkers)
+  none_for : {S : Two State} {blocks stops : Two (List ℕ)} {adds : Two (List ℤ)} → ((c : Crew) → CurrentOf (own_of S c).made (own_of blocks c) (own_of stops c)) → ((c : Crew) → length (own_of adds c) ≡ max_workers)
       → (c : Crew) → Hand S c (own_of blocks c) (own_of nobody c) (own_of adds c)
-  none-for h f crew0 = none-at-hand (h crew0).long (f crew0)
-  none-for h f crew1 = none-at-hand (h crew1).long (f crew1)
+  none_for h f crew0 = none_at_hand (h crew0).long (f crew0)
+  none_for h f crew1 = none_at_hand (h crew1).long (f crew1)
 
 module _ {T : Tables} {S₀ : Two State} {schedule : List ℕ} where
   -- at first
-  pub sharing-start : {blocks stops : Two (List ℕ)} {adds : Two (List ℤ)} → T.workers ≡ (recordAt T.groups 0).workers → length S₀.of0.made ≡ maxWorkers → length S₀.of1.made ≡ maxWorkers
-      → ((c : Crew) → Blocks T.count T.groups T.ends (own_of (countsOf S₀) c) (own_of blocks c)) → ((c : Crew) → Ahead T.count T.groups T.ends (own_of (countsOf S₀) c) (own_of stops c))
-      → length adds.of0 ≡ maxWorkers → length adds.of1 ≡ maxWorkers → Sharing T S₀ schedule 0 S₀ blocks stops nobody adds
-  sharing-start {blocks} {stops} {adds} e f g b a x y = record { crew = e; current = current; hand = none-for T current long; left = λ q ok is laid t. left-start skipsNone (turn q) S₀ schedule }
+  pub sharing_start : {blocks stops : Two (List ℕ)} {adds : Two (List ℤ)} → T.workers ≡ (record_at T.groups 0).workers → length S₀.of0.made ≡ max_workers → length S₀.of1.made ≡ max_workers
+      → ((c : Crew) → Blocks T.count T.groups T.ends (own_of (counts_of S₀) c) (own_of blocks c)) → ((c : Crew) → Ahead T.count T.groups T.ends (own_of (counts_of S₀) c) (own_of stops c))
+      → length adds.of0 ≡ max_workers → length adds.of1 ≡ max_workers → Sharing T S₀ schedule 0 S₀ blocks stops nobody adds
+  sharing_start {blocks} {stops} {adds} e f g b a x y = record { crew = e; current = current; hand = none_for T current long; left = λ q ok is laid t. left-start skips_none (turn q) S₀ schedule }
     where
       current : (c : Crew) → CurrentOf T (own_of S₀ c).made (own_of blocks c) (own_of stops c)
       current crew0 = record { long = f; blocked = b crew0; ahead = a crew0 }
       current crew1 = record { long = g; blocked = b crew1; ahead = a crew1 }
 
-      long : (c : Crew) → length (own_of adds c) ≡ maxWorkers
+      long : (c : Crew) → length (own_of adds c) ≡ max_workers
       long crew0 = x
       long crew1 = y
 
   module _ {k : ℕ} {S : Two State} {blocks stops targets : Two (List ℕ)} {adds : Two (List ℤ)} (r : Sharing T S₀ schedule k S blocks stops targets adds) where
     -- all picks are taken
-    pub sharing-none : k ≡ length schedule → EachRoof T (λ q. record { state = S; taken = length schedule; met = length schedule; number = 0 } ≡ turns q S₀ schedule)
-    sharing-none l q ok is laid t = ap (λ (y : ℕ). record { state = S; taken = y; met = y; number = 0 }) (sym l) ∙ left-none skipsNone (turn q) S₀ schedule k k S (r.left q ok is laid t) l
+    pub sharing_none : k ≡ length schedule → EachRoof T (λ q. record { state = S; taken = length schedule; met = length schedule; number = 0 } ≡ turns q S₀ schedule)
+    sharing_none l q ok is laid t = ap (λ (y : ℕ). record { state = S; taken = y; met = y; number = 0 }) (sym l) ∙ left-none skips_none (turn q) S₀ schedule k k S (r.left q ok is laid t) l
 
     -- what is at hand
-    pub sharing-hand : (c : Crew) → AtHand (causeOf T (own_of blocks c) (own_of (countsOf S) (other c))) (updateOf T c) (own_of (countsOf S) c) (own_of targets c) (own_of adds c)
-    sharing-hand crew0 = r.hand crew0
-    sharing-hand crew1 = r.hand crew1
+    pub sharing_hand : (c : Crew) → AtHand (cause_of T (own_of blocks c) (own_of (counts_of S) (other c))) (update_of T c) (own_of (counts_of S) c) (own_of targets c) (own_of adds c)
+    sharing_hand crew0 = r.hand crew0
+    sharing_hand crew1 = r.hand crew1
 
-    module _ (R : Recorded T.count T.groups) (few : T.workers ≤ maxWorkers) (l : k < length schedule) where
+    module _ (R : Recorded T.count T.groups) (few : T.workers ≤ max_workers) (l : k < length schedule) where
       abbrev byte : ℕ
       byte = get_or schedule k 0
 
       abbrev w : ℕ
-      w = byte % maxWorkers
+      w = byte % max_workers
 
-      crew-is : (q : Roof) → q.plan.groups ≡ records T.count T.groups → (c : Crew) → T.workers ≡ workers (jobFor q c)
-      crew-is q is c = r.crew ∙ whole-crew (jobFor q c) T.count T.groups R.some is
+      crew_is : (q : Roof) → q.plan.groups ≡ records T.count T.groups → (c : Crew) → T.workers ≡ workers (job_for q c)
+      crew_is q is c = r.crew ∙ whole-crew (job_for q c) T.count T.groups R.some is
 
       -- the next pick is for crew c, of a worker of the plan
-      module _ (c : Crew) (named : byte / maxWorkers ≡ crewNumber c) (low : w < T.workers) {number : ℕ} {new : State} (h : Made T S c (own_of blocks c) w number new) where
-        is-step : EachRoof T (λ q. crewStep q S c w ≡ outcomeOf number new)
+      module _ (c : Crew) (named : byte / max_workers ≡ crew_number c) (low : w < T.workers) {number : ℕ} {new : State} (h : Made T S c (own_of blocks c) w number new) where
+        is-step : EachRoof T (λ q. crew_step q S c w ≡ outcome_of number new)
         is-step q ok is laid t =
-            turn-answer q S c laid (t c) (omega (arith, few, crew-is q is c)) (waits-of (jobFor q c) (ok c) T.count T.groups is (laid c) (own_of S c).made (own_of blocks c) (r.current c).blocked R) w
-            (omega (arith, low, crew-is q is c)) h
+            turn-answer q S c laid (t c) (omega (arith, few, crew_is q is c)) (waits-of (job_for q c) (ok c) T.count T.groups is (laid c) (own_of S c).made (own_of blocks c) (r.current c).blocked R) w
+            (omega (arith, low, crew_is q is c)) h
 
         halts : number ≢ 0 → EachRoof T (λ q. record { state = S; taken = k; met = k; number = number } ≡ turns q S₀ schedule)
-        halts d q ok is laid t = left-halt skipsNone (turn q) S₀ schedule k k S (r.left q ok is laid t) l number (turn-halts q S c byte named new (is-step q ok is laid t) d) refl
+        halts d q ok is laid t = left_halt skips_none (turn q) S₀ schedule k k S (r.left q ok is laid t) l number (turn_halts q S c byte named new (is-step q ok is laid t) d) refl
 
-        moves : number ≡ 0 → EachRoof T (λ q. Left skipsNone (turn q) S₀ schedule (k + 1) (k + 1) (putFor S c new))
+        moves : number ≡ 0 → EachRoof T (λ q. Left skips_none (turn q) S₀ schedule (k + 1) (k + 1) (put_for S c new))
         moves z q ok is laid t =
-            subst (λ (y : ℕ). Left skipsNone (turn q) S₀ schedule y y (putFor S c new)) (sym (add-one k))
-            (left_step skipsNone (turn q) S₀ schedule k k S (r.left q ok is laid t) l (putFor S c new) (turn-moves q S c byte named new (is-step q ok is laid t) z))
+            subst (λ (y : ℕ). Left skips_none (turn q) S₀ schedule y y (put_for S c new)) (sym (add-one k))
+            (left_step skips_none (turn q) S₀ schedule k k S (r.left q ok is laid t) l (put_for S c new) (turn-moves q S c byte named new (is-step q ok is laid t) z))
 
       -- it is looked at
       module _ {number : ℕ} {targets' : Two (List ℕ)} {adds' : Two (List ℤ)}
-          (b : Begun (λ c. causeOf T (own_of blocks c) (own_of (countsOf S) (other c))) (updateOf T) (countsOf S) byte T.workers number targets adds targets' adds') where
-        its : misnamed byte T.workers ≡ 0 → (c : Crew) × (byte / maxWorkers ≡ crewNumber c)
+          (b : Begun (λ c. cause_of T (own_of blocks c) (own_of (counts_of S) (other c))) (update_of T) (counts_of S) byte T.workers number targets adds targets' adds') where
+        its : misnamed byte T.workers ≡ 0 → (c : Crew) × (byte / max_workers ≡ crew_number c)
         its e = crew-of byte (named-low byte T.workers e).0
 
-        own : misnamed byte T.workers ≡ 0 → (c : Crew) → byte / maxWorkers ≡ crewNumber c
-            → Entered (causeOf T (own_of blocks c) (own_of S (other c)).made) (updateOf T c) (own_of S c).made w number (own_of targets' c) (own_of adds' c)
+        own : misnamed byte T.workers ≡ 0 → (c : Crew) → byte / max_workers ≡ crew_number c
+            → Entered (cause_of T (own_of blocks c) (own_of S (other c)).made) (update_of T c) (own_of S c).made w number (own_of targets' c) (own_of adds' c)
         own e crew0 n = b.entered e crew0 n
         own e crew1 n = b.entered e crew1 n
 
         -- .. and refused
-        pub sharing-refused : number ≢ 0 → EachRoof T (λ q. record { state = S; taken = k; met = k; number = number } ≡ turns q S₀ schedule)
-        sharing-refused d = go (same_or (misnamed byte T.workers) 0)
+        pub sharing_refused : number ≢ 0 → EachRoof T (λ q. record { state = S; taken = k; met = k; number = number } ≡ turns q S₀ schedule)
+        sharing_refused d = go (same_or (misnamed byte T.workers) 0)
           where
             go : (misnamed byte T.workers ≡ 0) ⊎ (misnamed byte T.workers ≢ 0) → EachRoof T (λ q. record { state = S; taken = k; met = k; number = number } ≡ turns q S₀ schedule)
-            go (inl e) = let x = its e in halts x.0 x.1 (named-low byte T.workers e).1 (pick-refused _ number _ _ _ (own e x.0 x.1).told d) d
+            go (inl e) = let x = its e in halts x.0 x.1 (named-low byte T.workers e).1 (pick_refused _ number _ _ _ (own e x.0 x.1).told d) d
             go (inr f) = λ q ok is laid t.
-                rw (b.halted f) (left-halt skipsNone (turn q) S₀ schedule k k S (r.left q ok is laid t) l (misnamed byte T.workers) (name-halts q S byte T.workers (crew-is q is) f) refl)
+                rw (b.halted f) (left_halt skips_none (turn q) S₀ schedule k k S (r.left q ok is laid t) l (misnamed byte T.workers) (name_halts q S byte T.workers (crew_is q is) f) refl)
 
         -- .. or its update is at hand
         module _ (z : number ≡ 0) where
@@ -184,88 +184,88 @@ module _ {T : Tables} {S₀ : Two State} {schedule : List ℕ} where
               go (inl e) = e
               go (inr f) = absurd (f (sym (b.halted f) ∙ z))
 
-          pub sharing-named : byte < 2 * maxWorkers
-          sharing-named = (named-low byte T.workers names).0
+          pub sharing_named : byte < 2 * max_workers
+          sharing_named = (named-low byte T.workers names).0
 
           low : w < T.workers
           low = (named-low byte T.workers names).1
 
-          pub sharing-two : 0 < length targets'.of1
-          sharing-two = by (its names).0 (its names).1
+          pub sharing_two : 0 < length targets'.of1
+          sharing_two = by (its names).0 (its names).1
             where
-              by : (c : Crew) → byte / maxWorkers ≡ crewNumber c → 0 < length targets'.of1
-              by crew0 n = rw (b.gone names crew0 n, length-set) (omega (arith, (r.hand crew1).targets-long))
-              by crew1 n = omega (arith, (own names crew1 n).hand.targets-long)
+              by : (c : Crew) → byte / max_workers ≡ crew_number c → 0 < length targets'.of1
+              by crew0 n = rw (b.gone names crew0 n, length-set) (omega (arith, (r.hand crew1).targets_long))
+              by crew1 n = omega (arith, (own names crew1 n).hand.targets_long)
 
           -- what an access needs
-          pub sharing-ready : {n : ℕ} → StepTables n T.first T.row T.begins T.parts T.leaves T.at T.beside → ((c : Crew) → length (own_of S c).sums ≡ n)
-              → (c : Crew) → byte / maxWorkers ≡ crewNumber c → (count (own_of S c).made w < 2 * maxUpdates) × (get_or (own_of targets' c) w 0 < length (own_of S c).sums)
-          sharing-ready t sums c n =
+          pub sharing_ready : {n : ℕ} → StepTables n T.first T.row T.begins T.parts T.leaves T.at T.beside → ((c : Crew) → length (own_of S c).sums ≡ n)
+              → (c : Crew) → byte / max_workers ≡ crew_number c → (count (own_of S c).made w < 2 * max_updates) × (get_or (own_of targets' c) w 0 < length (own_of S c).sums)
+          sharing_ready t sums c n =
               let made : List ℕ = (own_of S c).made in
               let h = own names c n in
               let known = h.hand.is w (omega (arith, low, few)) (h.known z) in
-              let free = (not-away (reasonAt maxWorkers T.first T.row T.leaves (own_of blocks c) made w) (insideAt T.first T.row T.begins (own_of S (other c)).made w) known.free).0 in
+              let free = (not_away (reason_at max_workers T.first T.row T.leaves (own_of blocks c) made w) (inside_at T.first T.row T.begins (own_of S (other c)).made w) known.free).0 in
               rw (sums c)
-              (access-ready maxWorkers T.first T.row T.begins T.parts T.leaves (own_of blocks c) (own_of T.displaced c) T.at T.beside t made w (omega (arith, low, few)) free known.target_is)
+              (access-ready max_workers T.first T.row T.begins T.parts T.leaves (own_of blocks c) (own_of T.displaced c) T.at T.beside t made w (omega (arith, low, few)) free known.target_is)
 
           -- the access is made
           module _ {number' : ℕ} {S' : Two State} {targets'' : Two (List ℕ)} (a : AccessFor byte S targets' adds' number' S' targets'') where
-            steady : (c : Crew) → Steady (causeOf T (own_of blocks c) (own_of S (other c)).made) (updateOf T c)
-            steady c = crew-steady T.first T.row T.begins T.parts T.leaves (own_of blocks c) (own_of T.displaced c) T.at T.beside (own_of S (other c)).made
+            steady : (c : Crew) → Steady (cause_of T (own_of blocks c) (own_of S (other c)).made) (update_of T c)
+            steady c = crew_steady T.first T.row T.begins T.parts T.leaves (own_of blocks c) (own_of T.displaced c) T.at T.beside (own_of S (other c)).made
 
-            made : (c : Crew) → byte / maxWorkers ≡ crewNumber c → Made T S c (own_of blocks c) w number' (own_of S' c)
+            made : (c : Crew) → byte / max_workers ≡ crew_number c → Made T S c (own_of blocks c) w number' (own_of S' c)
             made c n = access-picks (steady c) (omega (arith, low, few)) ((own names c n).known z) (own names c n).hand (a.made c n)
 
-            keeps : (c : Crew) → byte / maxWorkers ≡ crewNumber c → AtHand (causeOf T (own_of blocks c) (own_of S (other c)).made) (updateOf T c) (own_of S' c).made (own_of targets'' c) (own_of adds' c)
+            keeps : (c : Crew) → byte / max_workers ≡ crew_number c → AtHand (cause_of T (own_of blocks c) (own_of S (other c)).made) (update_of T c) (own_of S' c).made (own_of targets'' c) (own_of adds' c)
             keeps c n = access-keeps (steady c) (omega (arith, low, few)) ((own names c n).known z) (own names c n).hand (a.made c n)
 
             -- it is refused
-            pub sharing-halt : number' ≢ 0 → EachRoof T (λ q. record { state = S'; taken = k; met = k; number = number' } ≡ turns q S₀ schedule)
-            sharing-halt d q ok is laid t =
+            pub sharing_halt : number' ≢ 0 → EachRoof T (λ q. record { state = S'; taken = k; met = k; number = number' } ≡ turns q S₀ schedule)
+            sharing_halt d q ok is laid t =
                 let x = its names in
                 let c = x.0 in
                 let h = made c x.1 in
-                ap (λ (s : Two State). record { state = s; taken = k; met = k; number = number' }) (sym (put_same S S' c (a.state-kept c x.1)) ∙ ap (putFor S c) (h.kept d) ∙ own_put S c)
+                ap (λ (s : Two State). record { state = s; taken = k; met = k; number = number' }) (sym (put_same S S' c (a.state_kept c x.1)) ∙ ap (put_for S c) (h.kept d) ∙ own_put S c)
                 ∙ halts c x.1 low h d q ok is laid t
 
             -- it is taken
-            module _ (z' : number' ≡ 0) {renewed : Bool} {blocks' stops' : Two (List ℕ)} (m : RenewedFor T.count T.groups T.ends (countsOf S') byte renewed blocks stops blocks' stops') where
-              next-left : EachRoof T (λ q. Left skipsNone (turn q) S₀ schedule (k + 1) (k + 1) S')
+            module _ (z' : number' ≡ 0) {renewed : Bool} {blocks' stops' : Two (List ℕ)} (m : RenewedFor T.count T.groups T.ends (counts_of S') byte renewed blocks stops blocks' stops') where
+              next-left : EachRoof T (λ q. Left skips_none (turn q) S₀ schedule (k + 1) (k + 1) S')
               next-left q ok is laid t =
                   let x = its names in
-                  subst (λ (s : Two State). Left skipsNone (turn q) S₀ schedule (k + 1) (k + 1) s) (put_same S S' x.0 (a.state-kept x.0 x.1)) (moves x.0 x.1 low (made x.0 x.1) z' q ok is laid t)
+                  subst (λ (s : Two State). Left skips_none (turn q) S₀ schedule (k + 1) (k + 1) s) (put_same S S' x.0 (a.state_kept x.0 x.1)) (moves x.0 x.1 low (made x.0 x.1) z' q ok is laid t)
 
               next-current : (d : Crew) → CurrentOf T (own_of S' d).made (own_of blocks' d) (own_of stops' d)
               next-current = by (its names).0 (its names).1
                 where
-                  by : (c : Crew) → byte / maxWorkers ≡ crewNumber c → (d : Crew) → CurrentOf T (own_of S' d).made (own_of blocks' d) (own_of stops' d)
+                  by : (c : Crew) → byte / max_workers ≡ crew_number c → (d : Crew) → CurrentOf T (own_of S' d).made (own_of blocks' d) (own_of stops' d)
                   by crew0 n crew0 = m.current crew0 n _ ((made crew0 n).counted z') (r.current crew0)
-                  by crew0 n crew1 = rw (a.state-kept crew0 n, m.blocks-kept crew0 n, m.stops-kept crew0 n) (r.current crew1)
-                  by crew1 n crew0 = rw (a.state-kept crew1 n, m.blocks-kept crew1 n, m.stops-kept crew1 n) (r.current crew0)
+                  by crew0 n crew1 = rw (a.state_kept crew0 n, m.blocks_kept crew0 n, m.stops_kept crew0 n) (r.current crew1)
+                  by crew1 n crew0 = rw (a.state_kept crew1 n, m.blocks_kept crew1 n, m.stops_kept crew1 n) (r.current crew0)
                   by crew1 n crew1 = m.current crew1 n _ ((made crew1 n).counted z') (r.current crew1)
 
-              adds-long : (d : Crew) → length (own_of adds' d) ≡ maxWorkers
-              adds-long = by (its names).0 (its names).1
+              adds_long : (d : Crew) → length (own_of adds' d) ≡ max_workers
+              adds_long = by (its names).0 (its names).1
                 where
-                  by : (c : Crew) → byte / maxWorkers ≡ crewNumber c → (d : Crew) → length (own_of adds' d) ≡ maxWorkers
-                  by crew0 n crew0 = (own names crew0 n).hand.adds-long
-                  by crew0 n crew1 = rw (b.adds-kept names crew0 n) (r.hand crew1).adds-long
-                  by crew1 n crew0 = rw (b.adds-kept names crew1 n) (r.hand crew0).adds-long
-                  by crew1 n crew1 = (own names crew1 n).hand.adds-long
+                  by : (c : Crew) → byte / max_workers ≡ crew_number c → (d : Crew) → length (own_of adds' d) ≡ max_workers
+                  by crew0 n crew0 = (own names crew0 n).hand.adds_long
+                  by crew0 n crew1 = rw (b.adds_kept names crew0 n) (r.hand crew1).adds_long
+                  by crew1 n crew0 = rw (b.adds_kept names crew1 n) (r.hand crew0).adds_long
+                  by crew1 n crew1 = (own names crew1 n).hand.adds_long
 
               -- the blocked groups are found anew
-              pub sharing-renewed : Sharing T S₀ schedule (k + 1) S' blocks' stops' nobody adds'
-              sharing-renewed = record { crew = r.crew; current = next-current; hand = none-for T next-current adds-long; left = next-left }
+              pub sharing_renewed : Sharing T S₀ schedule (k + 1) S' blocks' stops' nobody adds'
+              sharing_renewed = record { crew = r.crew; current = next-current; hand = none_for T next-current adds_long; left = next-left }
 
               -- .. or are as they were
-              pub sharing-on : renewed ≡ false → Sharing T S₀ schedule (k + 1) S' blocks' stops' targets'' adds'
-              sharing-on e = record { crew = r.crew; current = next-current; hand = by (its names).0 (its names).1; left = next-left }
+              pub sharing_on : renewed ≡ false → Sharing T S₀ schedule (k + 1) S' blocks' stops' targets'' adds'
+              sharing_on e = record { crew = r.crew; current = next-current; hand = by (its names).0 (its names).1; left = next-left }
                 where
                   -- what was at hand of the worker for the other crew is gone
-                  by : (c : Crew) → byte / maxWorkers ≡ crewNumber c → (d : Crew) → Hand T S' d (own_of blocks' d) (own_of targets'' d) (own_of adds' d)
-                  by crew0 n crew0 = rw (a.state-kept crew0 n, m.same crew0 n e) (keeps crew0 n)
-                  by crew0 n crew1 = rw (a.state-kept crew0 n, m.blocks-kept crew0 n, a.targets-kept crew0 n, b.gone names crew0 n, b.adds-kept names crew0 n)
+                  by : (c : Crew) → byte / max_workers ≡ crew_number c → (d : Crew) → Hand T S' d (own_of blocks' d) (own_of targets'' d) (own_of adds' d)
+                  by crew0 n crew0 = rw (a.state_kept crew0 n, m.same crew0 n e) (keeps crew0 n)
+                  by crew0 n crew1 = rw (a.state_kept crew0 n, m.blocks_kept crew0 n, a.targets_kept crew0 n, b.gone names crew0 n, b.adds_kept names crew0 n)
                       (other-moved T.first T.row T.begins T.leaves blocks.of1 S.of0.made w (omega (arith, low, few)) ((made crew0 n).counted z') (r.hand crew1))
-                  by crew1 n crew0 = rw (a.state-kept crew1 n, m.blocks-kept crew1 n, a.targets-kept crew1 n, b.gone names crew1 n, b.adds-kept names crew1 n)
+                  by crew1 n crew0 = rw (a.state_kept crew1 n, m.blocks_kept crew1 n, a.targets_kept crew1 n, b.gone names crew1 n, b.adds_kept names crew1 n)
                       (other-moved T.first T.row T.begins T.leaves blocks.of0 S.of1.made w (omega (arith, low, few)) ((made crew1 n).counted z') (r.hand crew0))
-                  by crew1 n crew1 = rw (a.state-kept crew1 n, m.same crew1 n e) (keeps crew1 n)
+                  by crew1 n crew1 = rw (a.state_kept crew1 n, m.same crew1 n e) (keeps crew1 n)

@@ -5,8 +5,8 @@ use Rattle.crews.specs.Crews.{Two}
 use Rattle.turns.specs.declared.Crews.{Crews}
 
 -- the record and the sums as the states of both
-abbrev pub statesOf : Crews → (sums0 sums1 : List ℤ) → Two run.State
-statesOf r sums0 sums1 = record {
+abbrev pub states_of : Crews → (sums0 sums1 : List ℤ) → Two run.State
+states_of r sums0 sums1 = record {
   of0 = record { made = r.made0; held = r.held0; sums = sums0 };
   of1 = record { made = r.made1; held = r.held1; sums = sums1 };
 }

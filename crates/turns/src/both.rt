@@ -1,15 +1,15 @@
 // The lists of both crews, one after the other, and a pick on them: its byte is 16 × crew + worker.
 ghost use Rattle.std.specs.Prelude.{◌≡◌, ℕ, ◌*◌, ◌/◌, ◌%◌, ◌<◌, length, get_or};
-ghost use Rattle.plan.specs.Sound.{maxWorkers};
+ghost use Rattle.plan.specs.Sound.{max_workers};
 ghost use Rattle.plan.specs.Groups.{width};
 ghost use Rattle.run.specs.Updates.{count};
-ghost use Rattle.tables.specs.code.Laid.{maxUpdates};
-ghost use Rattle.waits.specs.code.Waits.{Recorded, Blocks, Ahead};
-ghost use Rattle.steps.specs.code.Steps.{updateNext, StepTables};
-ghost use Rattle.steps.specs.code.AtHand.{AtHand};
-ghost use Rattle.crews.specs.Crews.{Crew, other, crewNumber, own_of};
-ghost use Rattle.turns.specs.code.Inside.{causeAt};
-ghost use Rattle.turns.specs.code.Both.{both, statesIn, Begun, AccessFor, RenewedFor};
+ghost use Rattle.tables.specs.Code.Laid.{max_updates};
+ghost use Rattle.waits.specs.Code.Waits.{Recorded, Blocks, Ahead};
+ghost use Rattle.steps.specs.Code.Steps.{update_next, StepTables};
+ghost use Rattle.steps.specs.Code.AtHand.{AtHand};
+ghost use Rattle.crews.specs.Crews.{Crew, other, crew_number, own_of};
+ghost use Rattle.turns.specs.Code.Inside.{cause_at};
+ghost use Rattle.turns.specs.Code.Both.{both, states_in, Begun, AccessFor, RenewedFor};
 
 use crate::turn::begin;
 use base::{CREWLESS, STRANGER};
@@ -57,11 +57,11 @@ pub(crate) fn begin_for(
     adds: &mut [[i64; MAX_WORKERS]; CREWS],
 ) -> u32
     requires { ((n : ℕ) × StepTables n first.now row.now begins.now parts.now leaves.now at.now beside.now)
-        × ((c : Crew) → AtHand (causeAt first.now row.now begins.now leaves.now (own_of (both blocks.now) c) (own_of (both made.now) (other c)))
-        (updateNext first.now row.now begins.now parts.now (own_of (both displaced.now) c) at.now beside.now)
+        × ((c : Crew) → AtHand (cause_at first.now row.now begins.now leaves.now (own_of (both blocks.now) c) (own_of (both made.now) (other c)))
+        (update_next first.now row.now begins.now parts.now (own_of (both displaced.now) c) at.now beside.now)
         (own_of (both made.now) c) (own_of (both targets.old) c) (own_of (both adds.old) c)) }
-    ensures { Begun (λ c. causeAt first.now row.now begins.now leaves.now (own_of (both blocks.now) c) (own_of (both made.now) (other c)))
-        (λ c. updateNext first.now row.now begins.now parts.now (own_of (both displaced.now) c) at.now beside.now)
+    ensures { Begun (λ c. cause_at first.now row.now begins.now leaves.now (own_of (both blocks.now) c) (own_of (both made.now) (other c)))
+        (λ c. update_next first.now row.now begins.now parts.now (own_of (both displaced.now) c) at.now beside.now)
         (both made.now) who workers result (both targets.old) (both adds.old) (both targets.new) (both adds.new) }
 {
     if 2 * MAX_WORKERS <= who {
@@ -104,11 +104,11 @@ pub(crate) fn access_for(
     targets: &mut [[usize; MAX_WORKERS]; CREWS],
     adds: &[[i64; MAX_WORKERS]; CREWS],
 ) -> u32
-    requires { (who < 2 * maxWorkers) × (1 < length made.old) × (1 < length held.old) × (1 < length targets.old) × ((c : Crew) → who / maxWorkers ≡ crewNumber c
-        → (count (own_of (statesIn made.old held.old sums0.old sums1.old) c).made (who % maxWorkers) < 2 * maxUpdates)
-        × (get_or (own_of (both targets.old) c) (who % maxWorkers) 0 < length (own_of (statesIn made.old held.old sums0.old sums1.old) c).sums)) }
-    ensures { AccessFor who (statesIn made.old held.old sums0.old sums1.old) (both targets.old) (both adds.now) result
-        (statesIn made.new held.new sums0.new sums1.new) (both targets.new)
+    requires { (who < 2 * max_workers) × (1 < length made.old) × (1 < length held.old) × (1 < length targets.old) × ((c : Crew) → who / max_workers ≡ crew_number c
+        → (count (own_of (states_in made.old held.old sums0.old sums1.old) c).made (who % max_workers) < 2 * max_updates)
+        × (get_or (own_of (both targets.old) c) (who % max_workers) 0 < length (own_of (states_in made.old held.old sums0.old sums1.old) c).sums)) }
+    ensures { AccessFor who (states_in made.old held.old sums0.old sums1.old) (both targets.old) (both adds.now) result
+        (states_in made.new held.new sums0.new sums1.new) (both targets.new)
         × (length held.new ≡ length held.old) }
 {
     let w = who % MAX_WORKERS;
@@ -141,7 +141,7 @@ pub(crate) fn renew_for(
     blocks: &mut [[u8; MAX_GROUPS]; CREWS],
     stops: &mut [[u32; MAX_WORKERS]; CREWS],
 ) -> bool
-    requires { (who < 2 * maxWorkers) × (1 < length blocks.old) × (1 < length stops.old) × Recorded (length groups.now / width) groups.now }
+    requires { (who < 2 * max_workers) × (1 < length blocks.old) × (1 < length stops.old) × Recorded (length groups.now / width) groups.now }
     ensures { RenewedFor (length groups.now / width) groups.now ends.now (both made.now) who result
         (both blocks.old) (both stops.old) (both blocks.new) (both stops.new) }
 {

@@ -1,9 +1,9 @@
 // Whether a worker is inside a row, and whether it is ready for the other crew.
 ghost use Rattle.std.specs.Prelude.{◌≡◌, List, ℕ, ◌≤◌, ◌<◌, eqb};
-ghost use Rattle.plan.specs.Sound.{maxWorkers};
-ghost use Rattle.crews.specs.Crews.{unlessAway};
-ghost use Rattle.steps.specs.code.Steps.{reasonAt};
-ghost use Rattle.turns.specs.code.Inside.{insideAt, RowTables};
+ghost use Rattle.plan.specs.Sound.{max_workers};
+ghost use Rattle.crews.specs.Crews.{unless_away};
+ghost use Rattle.steps.specs.Code.Steps.{reason_at};
+ghost use Rattle.turns.specs.Code.Inside.{inside_at, RowTables};
 
 use base::shorts::wide;
 use matrix::limits::MAX_ROWS;
@@ -19,8 +19,8 @@ pub fn is_inside(
     row: &[u16; MAX_UPDATES],
     begins: &[u32; MAX_ROWS],
 ) -> bool
-    requires { (w < maxWorkers) × ((n : ℕ) × (leaves : List ℕ) × RowTables n first.now row.now begins.now leaves) }
-    ensures { result ≡ insideAt first.now row.now begins.now made.now w }
+    requires { (w < max_workers) × ((n : ℕ) × (leaves : List ℕ) × RowTables n first.now row.now begins.now leaves) }
+    ensures { result ≡ inside_at first.now row.now begins.now made.now w }
 {
     let done = made[w];
     if accesses(first, w) <= done {
@@ -43,9 +43,9 @@ pub fn is_free(
     leaves: &[u16; MAX_ROWS],
     blocks: &[u8; MAX_GROUPS],
 ) -> bool
-    requires { (w < maxWorkers) × (workers ≤ maxWorkers) × ((n : ℕ) × RowTables n first.now row.now begins.now leaves.now) }
-    ensures { result ≡ eqb (unlessAway (reasonAt workers first.now row.now leaves.now blocks.now made.now w)
-        (insideAt first.now row.now begins.now other.now w)) 0 }
+    requires { (w < max_workers) × (workers ≤ max_workers) × ((n : ℕ) × RowTables n first.now row.now begins.now leaves.now) }
+    ensures { result ≡ eqb (unless_away (reason_at workers first.now row.now leaves.now blocks.now made.now w)
+        (inside_at first.now row.now begins.now other.now w)) 0 }
 {
     if is_inside(other, w, first, row, begins) {
         return false;

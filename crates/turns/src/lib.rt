@@ -1,22 +1,24 @@
 // The machine of two crews: their states, and picks for both taken one by one (document 02, Q-9).
+#![tactic(auto)]
+
 mod both;
 pub mod inside;
 mod turn;
 
 ghost use Rattle.std.specs.Prelude.{◌≡◌, [], ◌∷◌, ◌/◌, ◌≤◌, length};
-ghost use Rattle.plan.specs.Sound.{maxWorkers};
+ghost use Rattle.plan.specs.Sound.{max_workers};
 ghost use Rattle.plan.specs.Groups.{width, records};
-ghost use Rattle.plan.specs.code.Checks.{recordAt};
-ghost use Rattle.tables.specs.code.Laid.{Counted, Laid};
-ghost use Rattle.layout.specs.code.UpdateTable.{Planned};
-ghost use Rattle.waits.specs.code.Waits.{Recorded};
-ghost use Rattle.steps.specs.code.Updates.{Triangle};
-ghost use Rattle.steps.specs.code.Steps.{StepTables};
-ghost use Rattle.crews.specs.Crews.{Crew, crew0, crew1, own_of, Roof, jobFor, turns};
+ghost use Rattle.plan.specs.Code.Checks.{record_at};
+ghost use Rattle.tables.specs.Code.Laid.{Counted, Laid};
+ghost use Rattle.layout.specs.Code.UpdateTable.{Planned};
+ghost use Rattle.waits.specs.Code.Waits.{Recorded};
+ghost use Rattle.steps.specs.Code.Updates.{Triangle};
+ghost use Rattle.steps.specs.Code.Steps.{StepTables};
+ghost use Rattle.crews.specs.Crews.{Crew, crew0, crew1, own_of, Roof, job_for, turns};
 ghost use Rattle.crews.specs.TwoCrews.{AcceptedRoof};
-ghost use Rattle.turns.specs.Records.{statesOf};
-ghost use Rattle.turns.specs.code.Both.{both};
-ghost use Rattle.turns.specs.code.Turned.{crewsIn, turnedWith, turnedOf};
+ghost use Rattle.turns.specs.Records.{states_of};
+ghost use Rattle.turns.specs.Code.Both.{both};
+ghost use Rattle.turns.specs.Code.Turned.{crews_in, turned_with, turned_of};
 
 use both::{CREWS, access_for, begin_for, find_for, renew_for};
 use layout::lay;
@@ -51,7 +53,7 @@ fn ended(
     taken: usize,
     number: u32,
 ) -> Turned
-    ensures { result ≡ turnedWith (crewsIn made held) taken number }
+    ensures { result ≡ turned_with (crews_in made held) taken number }
 {
     let made0 = made[0];
     let held0 = held[0];
@@ -105,12 +107,12 @@ impl Crews {
         at: &[u16],
         beside: &[i32],
     ) -> Turned
-        requires { ((recordAt groups.now 0).workers ≤ maxWorkers) × Recorded (length groups.now / width) groups.now
+        requires { ((record_at groups.now 0).workers ≤ max_workers) × Recorded (length groups.now / width) groups.now
             × StepTables (length sums0.old) first.now row.now begins.now parts.now leaves.now at.now beside.now × (length sums1.old ≡ length sums0.old) }
         ensures { (q : Roof) → AcceptedRoof q → q.plan.groups ≡ records (length groups.now / width) groups.now
-            → ((c : Crew) → Laid (jobFor q c) first.now row.now begins.now leaves.now ends.now)
-            → ((c : Crew) → Triangle (jobFor q c) parts.now (own_of (both displaced.now) c) at.now beside.now)
-            → turnedOf result sums0.new sums1.new ≡ turns q (statesOf self sums0.old sums1.old) schedule.now }
+            → ((c : Crew) → Laid (job_for q c) first.now row.now begins.now leaves.now ends.now)
+            → ((c : Crew) → Triangle (job_for q c) parts.now (own_of (both displaced.now) c) at.now beside.now)
+            → turned_of result sums0.new sums1.new ≡ turns q (states_of self sums0.old sums1.old) schedule.now }
     {
         let mut made = self.counts();
         let mut held = self.numbers();
@@ -167,12 +169,12 @@ impl Crews {
         at: &[u16],
         beside: &[i32],
     ) -> Turned
-        requires { (q : Roof) × ((c : Crew) → Planned (jobFor q c) groups.now (length groups.now / width) sizes.now) × ((c : Crew) → Counted (jobFor q c) first)
-            × Triangle (jobFor q crew0) parts.now displaced0.now at.now beside.now × (length sums0.old ≡ q.matrix.n) × (length sums1.old ≡ q.matrix.n) }
-        ensures { (q : Roof) → ((c : Crew) → Planned (jobFor q c) groups.now (length groups.now / width) sizes.now) → ((c : Crew) → Counted (jobFor q c) first)
-            → Triangle (jobFor q crew0) parts.now displaced0.now at.now beside.now
-            → Triangle (jobFor q crew1) parts.now displaced1.now at.now beside.now
-            → turnedOf result sums0.new sums1.new ≡ turns q (statesOf self sums0.old sums1.old) schedule.now }
+        requires { (q : Roof) × ((c : Crew) → Planned (job_for q c) groups.now (length groups.now / width) sizes.now) × ((c : Crew) → Counted (job_for q c) first)
+            × Triangle (job_for q crew0) parts.now displaced0.now at.now beside.now × (length sums0.old ≡ q.matrix.n) × (length sums1.old ≡ q.matrix.n) }
+        ensures { (q : Roof) → ((c : Crew) → Planned (job_for q c) groups.now (length groups.now / width) sizes.now) → ((c : Crew) → Counted (job_for q c) first)
+            → Triangle (job_for q crew0) parts.now displaced0.now at.now beside.now
+            → Triangle (job_for q crew1) parts.now displaced1.now at.now beside.now
+            → turned_of result sums0.new sums1.new ≡ turns q (states_of self sums0.old sums1.old) schedule.now }
     {
         let of0 = *displaced0;
         let of1 = *displaced1;

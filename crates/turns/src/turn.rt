@@ -1,10 +1,10 @@
 // One pick for one of two crews.
 ghost use Rattle.std.specs.Prelude.{◌≡◌, true, ℕ, ◌<◌};
-ghost use Rattle.plan.specs.Sound.{maxWorkers};
-ghost use Rattle.crews.specs.Crews.{unlessAway};
-ghost use Rattle.steps.specs.code.Steps.{updateNext, StepTables};
-ghost use Rattle.steps.specs.code.AtHand.{AtHand, Entered};
-ghost use Rattle.turns.specs.code.Inside.{causeAt};
+ghost use Rattle.plan.specs.Sound.{max_workers};
+ghost use Rattle.crews.specs.Crews.{unless_away};
+ghost use Rattle.steps.specs.Code.Steps.{update_next, StepTables};
+ghost use Rattle.steps.specs.Code.AtHand.{AtHand, Entered};
+ghost use Rattle.turns.specs.Code.Inside.{cause_at};
 
 use crate::inside::is_inside;
 use base::ELSEWHERE;
@@ -15,7 +15,7 @@ use tables::{FIRSTS, MAX_UPDATES};
 
 // Why a pick of a worker that is inside the other crew's row is refused.
 fn elsewhere(why: u32) -> u32
-    ensures { result ≡ unlessAway why true }
+    ensures { result ≡ unless_away why true }
 {
     if why == 0 { ELSEWHERE } else { why }
 }
@@ -38,11 +38,11 @@ pub(crate) fn begin(
     targets: &mut [usize; MAX_WORKERS],
     adds: &mut [i64; MAX_WORKERS],
 ) -> u32
-    requires { (w < maxWorkers) × ((n : ℕ) × StepTables n first.now row.now begins.now parts.now leaves.now at.now beside.now)
-        × AtHand (causeAt first.now row.now begins.now leaves.now blocks.now other.now)
-        (updateNext first.now row.now begins.now parts.now displaced.now at.now beside.now) made.now targets.old adds.old }
-    ensures { Entered (causeAt first.now row.now begins.now leaves.now blocks.now other.now)
-        (updateNext first.now row.now begins.now parts.now displaced.now at.now beside.now)
+    requires { (w < max_workers) × ((n : ℕ) × StepTables n first.now row.now begins.now parts.now leaves.now at.now beside.now)
+        × AtHand (cause_at first.now row.now begins.now leaves.now blocks.now other.now)
+        (update_next first.now row.now begins.now parts.now displaced.now at.now beside.now) made.now targets.old adds.old }
+    ensures { Entered (cause_at first.now row.now begins.now leaves.now blocks.now other.now)
+        (update_next first.now row.now begins.now parts.now displaced.now at.now beside.now)
         made.now w result targets.new adds.new }
 {
     let why = refusal(made, w, MAX_WORKERS, first, row, leaves, blocks);

@@ -10,12 +10,12 @@ use lib.Seq.{get_or-set_same, get_or-set_other}
 use mir.Syntax.{w64}
 use mir.Val.{SFits}
 use Rattle.base.proofs.Integers.{abs-add, fits-abs}
-use Rattle.upkeep.specs.code.Sums.{BothIn, BothAdded}
+use Rattle.upkeep.specs.Code.Sums.{BothIn, BothAdded}
 
 module _ (fs : List ℤ) (i j : ℕ) (first second : ℤ) (ok : BothIn fs i j first second) where
   -- the forces fit, and so do the sums
-  pub was-fits : (r : ℕ) → SFits w64 (get_or fs r (pos 0))
-  was-fits r = fits-abs (omega (arith, ok.small r))
+  pub was_fits : (r : ℕ) → SFits w64 (get_or fs r (pos 0))
+  was_fits r = fits-abs (omega (arith, ok.small r))
 
   pub first_fits : SFits w64 (get_or fs i (pos 0) +ℤ first)
   first_fits = fits-abs (omega (arith, abs-add (get_or fs i (pos 0)) first, ok.small i, ok.near_first))
@@ -38,11 +38,11 @@ module _ (fs : List ℤ) (i j : ℕ) (first second : ℤ) (ok : BothIn fs i j fi
     pub second-same : get_or once j (pos 0) ≡ get_or fs j (pos 0)
     second-same = get_or-set_other fs i j (get_or fs i (pos 0) +ℤ first) (pos 0) (λ q. d (sym q))
 
-    pub second-was : SFits w64 (get_or once j (pos 0))
-    second-was = rw second-same (was-fits j)
+    pub second_was : SFits w64 (get_or once j (pos 0))
+    second_was = rw second-same (was_fits j)
 
     pub second_fits : SFits w64 (get_or once j (pos 0) +ℤ second)
-    second_fits = rw second-same (fits-abs (omega (arith, abs-add (get_or fs j (pos 0)) second, ok.small j, ok.near-second)))
+    second_fits = rw second-same (fits-abs (omega (arith, abs-add (get_or fs j (pos 0)) second, ok.small j, ok.near_second)))
 
     pub both-added : BothAdded i j first second fs (set once j (get_or once j (pos 0) +ℤ second))
     both-added = record {

@@ -18,30 +18,30 @@ use Rattle.base.specs.Integers.{within}
 use Rattle.base.proofs.Booleans.{and_left, and_right, same_or}
 use Rattle.base.proofs.Lists.{all-get}
 use Rattle.base.proofs.Integers.{abs-add, abs-mul-le, fits-abs}
-use Rattle.matrix.specs.Limits.{max_value, maxDisplacement}
+use Rattle.matrix.specs.Limits.{max_value, max_displacement}
 use Rattle.matrix.specs.Matrix.{lookup, ascending}
-use Rattle.matrix.specs.code.Checks.{isOrdered}
-use Rattle.matrix.proofs.Matrix.{lookup-none, getD-all}
+use Rattle.matrix.specs.Code.Checks.{is_ordered}
+use Rattle.matrix.proofs.Matrix.{lookup-none, get_d_all}
 use Rattle.matrix.proofs.Ascending.{before-place, lookup-next}
-use Rattle.upkeep.specs.code.Sums.{Addable, Added}
+use Rattle.upkeep.specs.Code.Sums.{Addable, Added}
 
 module _ (cs : List ℕ) (vs : List ℤ) (step : ℤ) (old : List ℤ) (ok : Addable cs vs step old) where
   ascends : ascending cs ≡ true
-  unfolding isOrdered
+  unfolding is_ordered
   ascends = and_left (ascending cs) (all (λ j. ltb j (length old)) cs) (and_left (ascending cs && all (λ j. ltb j (length old)) cs) (all (within max_value) vs) ok.order)
 
   below : (k : ℕ) → k < length cs → get_or cs k 0 < length old
-  unfolding isOrdered
+  unfolding is_ordered
   below k l =
       ltb-true (get_or cs k 0) (length old)
       (all-get (λ j. ltb j (length old)) cs k 0 (and_right (ascending cs) (all (λ j. ltb j (length old)) cs) (and_left (ascending cs && all (λ j. ltb j (length old)) cs) (all (within max_value) vs) ok.order)) l)
 
   value-small : (k : ℕ) → nat_abs (get_or vs k (pos 0)) ≤ max_value
-  unfolding isOrdered within
-  value-small k = leb-true (nat_abs (get_or vs k (pos 0))) max_value (getD-all (within max_value) k vs refl (and_right (ascending cs && all (λ j. ltb j (length old)) cs) (all (within max_value) vs) ok.order))
+  unfolding is_ordered within
+  value-small k = leb-true (nat_abs (get_or vs k (pos 0))) max_value (get_d_all (within max_value) k vs refl (and_right (ascending cs && all (λ j. ltb j (length old)) cs) (all (within max_value) vs) ok.order))
 
-  more-small : (k : ℕ) → nat_abs (get_or vs k (pos 0) *ℤ step) ≤ max_value * (2 * maxDisplacement)
-  more-small k = abs-mul-le (get_or vs k (pos 0)) step (value-small k) ok.near
+  more_small : (k : ℕ) → nat_abs (get_or vs k (pos 0) *ℤ step) ≤ max_value * (2 * max_displacement)
+  more_small k = abs-mul-le (get_or vs k (pos 0)) step (value-small k) ok.near
 
   -- the columns before place k are passed
   abbrev Passed : List ℤ → ℕ → Type 0
@@ -67,17 +67,17 @@ module _ (cs : List ℕ) (vs : List ℤ) (step : ℤ) (old : List ℤ) (ok : Add
         p.each (get_or cs k 0)
         ∙ rw (lookup-none (get_or cs k 0) (take k cs) (take k vs) (before-place cs k ascends l), zero-*ℤ step) (+ℤ_idr (get_or old (get_or cs k 0) (pos 0)))
 
-    was-small : nat_abs (get_or new (get_or cs k 0) (pos 0)) ≤ 4096000000000000000
-    was-small = rw here (ok.small (get_or cs k 0))
+    was_small : nat_abs (get_or new (get_or cs k 0) (pos 0)) ≤ 4096000000000000000
+    was_small = rw here (ok.small (get_or cs k 0))
 
     pub turn : Turn new k
     turn = record {
       column = omega (arith, below k l, p.long);
       beside = omega (arith, ok.beside);
       value = fits-abs (omega (arith, value-small k));
-      more = fits-abs (omega (arith, more-small k));
-      was = fits-abs (omega (arith, was-small));
-      sum = fits-abs (omega (arith, abs-add (get_or new (get_or cs k 0) (pos 0)) (get_or vs k (pos 0) *ℤ step), was-small, more-small k));
+      more = fits-abs (omega (arith, more_small k));
+      was = fits-abs (omega (arith, was_small));
+      sum = fits-abs (omega (arith, abs-add (get_or new (get_or cs k 0) (pos 0)) (get_or vs k (pos 0) *ℤ step), was_small, more_small k));
     }
 
     pub one-passed : Passed (set new (get_or cs k 0) (get_or new (get_or cs k 0) (pos 0) +ℤ get_or vs k (pos 0) *ℤ step)) (k + 1)

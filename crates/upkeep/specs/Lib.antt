@@ -1,3 +1,3 @@
 pub mod Upkeep
 pub mod KeptCurrent
-pub mod code
+pub mod Code

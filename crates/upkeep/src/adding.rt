@@ -1,7 +1,7 @@
 // What a change adds to the forces.
 ghost use Rattle.std.specs.Prelude.{◌≡◌, ◌*◌, ◌≤◌, nat_abs, ◌-ℤ◌, ◌*ℤ◌};
 ghost use Rattle.matrix.specs.Limits.{max_value};
-ghost use Rattle.upkeep.specs.code.Sums.{Addable, Added, BothIn, BothAdded};
+ghost use Rattle.upkeep.specs.Code.Sums.{Addable, Added, BothIn, BothAdded};
 
 // How far it is from one number to another.
 pub(crate) fn difference(to: i32, from: i32) -> i64

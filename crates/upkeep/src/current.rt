@@ -2,9 +2,9 @@
 ghost use Rattle.std.specs.Prelude.{◌≡◌, ◌≤◌, pos, length, get_or};
 ghost use Rattle.base.specs.Lists.{all, range};
 ghost use Rattle.base.specs.Integers.{same};
-ghost use Rattle.base.specs.Verdicts.{replyOf};
-ghost use Rattle.matrix.specs.Matrix.{matrixOf};
-ghost use Rattle.upkeep.specs.code.Sums.{currentReply};
+ghost use Rattle.base.specs.Verdicts.{reply_of};
+ghost use Rattle.matrix.specs.Matrix.{matrix_of};
+ghost use Rattle.upkeep.specs.Code.Sums.{current_reply};
 
 use base::{STALE, Verdict};
 use matrix::limits::MAX_ROWS;
@@ -34,7 +34,7 @@ pub(crate) fn check_current(
     displacements: &[i32],
     forces: &[i64],
 ) -> Verdict
-    ensures { replyOf result ≡ currentReply (matrixOf n starts.now columns.now values.now) displacements.now forces.now }
+    ensures { reply_of result ≡ current_reply (matrix_of n starts.now columns.now values.now) displacements.now forces.now }
 {
     let mut full = [0i64; MAX_ROWS];
     let made = product(n, starts, columns, values, displacements, &mut full);

@@ -1,12 +1,14 @@
 // Forces kept current while joints creep (document 02, Q-10): a new displacement, or a new value for an entry and its
 // mirror, is written, and the forces are brought up to date.
+#![tactic(auto)]
+
 mod adding;
 mod current;
 mod stored;
 
 ghost use Rattle.std.specs.Prelude.{◌≡◌};
-ghost use Rattle.base.specs.Verdicts.{replyOf};
-ghost use Rattle.upkeep.specs.Upkeep.{keptIn, newDisplacement, newValue, changeReply, afterChange};
+ghost use Rattle.base.specs.Verdicts.{reply_of};
+ghost use Rattle.upkeep.specs.Upkeep.{kept_in, new_displacement, new_value, change_reply, after_change};
 
 use adding::{add_both, add_row, difference, times};
 use base::{BEYOND, MISSING, Verdict};
@@ -27,9 +29,9 @@ pub fn set_displacement(
     row: u32,
     to: i32,
 ) -> Verdict
-    ensures reply { replyOf result ≡ changeReply (keptIn n starts.now columns.now values.now displacements.old forces.old) (newDisplacement row to) }
-    ensures displacements_left { displacements.new ≡ (afterChange (keptIn n starts.now columns.now values.now displacements.old forces.old) (newDisplacement row to)).displacements }
-    ensures forces_left { forces.new ≡ (afterChange (keptIn n starts.now columns.now values.now displacements.old forces.old) (newDisplacement row to)).forces }
+    ensures reply { reply_of result ≡ change_reply (kept_in n starts.now columns.now values.now displacements.old forces.old) (new_displacement row to) }
+    ensures displacements_left { displacements.new ≡ (after_change (kept_in n starts.now columns.now values.now displacements.old forces.old) (new_displacement row to)).displacements }
+    ensures forces_left { forces.new ≡ (after_change (kept_in n starts.now columns.now values.now displacements.old forces.old) (new_displacement row to)).forces }
 {
     let checked = check_current(n, starts, columns, values, displacements, forces);
     if let Verdict::Refused(number, place) = checked {
@@ -62,9 +64,9 @@ pub fn set_entry(
     column: u32,
     to: i32,
 ) -> Verdict
-    ensures reply { replyOf result ≡ changeReply (keptIn n starts.now columns.now values.old displacements.now forces.old) (newValue row column to) }
-    ensures values_left { values.new ≡ (afterChange (keptIn n starts.now columns.now values.old displacements.now forces.old) (newValue row column to)).matrix.values }
-    ensures forces_left { forces.new ≡ (afterChange (keptIn n starts.now columns.now values.old displacements.now forces.old) (newValue row column to)).forces }
+    ensures reply { reply_of result ≡ change_reply (kept_in n starts.now columns.now values.old displacements.now forces.old) (new_value row column to) }
+    ensures values_left { values.new ≡ (after_change (kept_in n starts.now columns.now values.old displacements.now forces.old) (new_value row column to)).matrix.values }
+    ensures forces_left { forces.new ≡ (after_change (kept_in n starts.now columns.now values.old displacements.now forces.old) (new_value row column to)).forces }
 {
     let checked = check_current(n, starts, columns, values, displacements, forces);
     if let Verdict::Refused(number, place) = checked {

@@ -1,10 +1,10 @@
 // Where an entry is stored.
 ghost use Rattle.std.specs.Prelude.{◌≡◌, ◌+◌, ◌<◌, length, get_or};
 ghost use Rattle.std.proofs.Math.Seq.{slice};
-ghost use Rattle.base.specs.Lists.{isIn, position_of};
-ghost use Rattle.matrix.specs.Matrix.{columnsOf};
-ghost use Rattle.matrix.specs.code.Checks.{RowIn};
-ghost use Rattle.matrix.specs.code.Pattern.{pattern};
+ghost use Rattle.base.specs.Lists.{is_in, position_of};
+ghost use Rattle.matrix.specs.Matrix.{columns_of};
+ghost use Rattle.matrix.specs.Code.Checks.{RowIn};
+ghost use Rattle.matrix.specs.Code.Pattern.{pattern};
 
 use base::numbers::wide;
 use matrix::row::columns_of;
@@ -26,7 +26,7 @@ fn position(list: &[u32], v: u32) -> usize
 // Whether row i of n stores column j.
 pub(crate) fn has_entry(n: u32, starts: &[u32], columns: &[u32], i: u32, j: u32) -> bool
     requires { i < n → RowIn starts.now (length columns.now) i }
-    ensures { result ≡ isIn (columnsOf (pattern n starts.now columns.now) i) j }
+    ensures { result ≡ is_in (columns_of (pattern n starts.now columns.now) i) j }
 {
     if n <= i {
         return false;

@@ -13,12 +13,12 @@ use borrow.Author.Tests.{eq-eqb, ne_eqb, ltb-true, ltb-false}
 use Rattle.base.specs.Lists.{keep, bit}
 use Rattle.base.proofs.Booleans.{same_or}
 use Rattle.base.proofs.Lists.{set-each}
-use Rattle.matrix.specs.Limits.{maxRows}
+use Rattle.matrix.specs.Limits.{max_rows}
 use Rattle.matrix.specs.Matrix.{Matrix, entry}
-use Rattle.plan.proofs.Once.{once, low-at}
-use Rattle.tables.specs.code.Laid.{maxUpdates}
-use Rattle.upper.specs.code.Upper.{Ordered, upperTo, upperOf, Parts, Placed, Upper}
-use Rattle.upper.proofs.UpperRows.{length-keep, upper-before}
+use Rattle.plan.proofs.Once.{once, low_at}
+use Rattle.tables.specs.Code.Laid.{max_updates}
+use Rattle.upper.specs.Code.Upper.{Ordered, upper_to, upper_of, Parts, Placed, Upper}
+use Rattle.upper.proofs.UpperRows.{length-keep, upper_before}
 
 -- ---- one position more
 
@@ -32,7 +32,7 @@ grown L p b q r = cond (eqb r p) (L p ++ keep b q []) (L r)
 
 -- what stands in the order is a row
 pub row_low : (m : Matrix) (order : List ℕ) → Ordered m order → (p : ℕ) → p < m.n → get_or order p 0 < m.n
-row_low m order o p l = let rows = once m.n order o.once in low-at m.n order p rows.low (omega (arith, rows.long))
+row_low m order o p l = let rows = once m.n order o.once in low_at m.n order p rows.low (omega (arith, rows.long))
 
 module _ (m : Matrix) (order begins : List ℕ) (parts : Parts m order begins) where
   -- the part of the row at p
@@ -41,7 +41,7 @@ module _ (m : Matrix) (order begins : List ℕ) (parts : Parts m order begins) w
 
   -- how many entries it has in the end
   abbrev whole : ℕ → ℕ
-  whole p = length (upperOf m order p)
+  whole p = length (upper_of m order p)
 
   module _ (L : ℕ → List ℕ) (p : ℕ) (low : p < m.n) where
     -- the next place of the row at p
@@ -63,8 +63,8 @@ module _ (m : Matrix) (order begins : List ℕ) (parts : Parts m order begins) w
               omega arith
           go (inr e) y = parts.apart r p c (length (L p)) l low e (omega (arith, inside r l)) room y
 
-      holds-grown : (b : Bool) (q : ℕ) → (b ≡ true → get_or xs place d ≡ g p q) → Holds L xs → Holds (grown L p b q) xs
-      holds-grown b q is had r c l h = go (same_or r p)
+      holds_grown : (b : Bool) (q : ℕ) → (b ≡ true → get_or xs place d ≡ g p q) → Holds L xs → Holds (grown L p b q) xs
+      holds_grown b q is had r c l h = go (same_or r p)
         where
           own : c < length (L p ++ keep b q []) → (y : Bool) → ltb c (length (L p)) ≡ y → (z : Bool) → b ≡ z → get_or xs (part p + c) d ≡ g p (get_or (L p ++ keep b q []) c 0)
           own k true e z f = let i = ltb-true c (length (L p)) e in had p c low i ∙ ap (g p) (sym (get_or-append (L p) (keep b q []) 0 c i))
@@ -78,14 +78,14 @@ module _ (m : Matrix) (order begins : List ℕ) (parts : Parts m order begins) w
           go (inr e) = let k : c < length (L r) = rw (ne_eqb r p e) at h in rw (ne_eqb r p e) (had r c l k)
 
     -- .. is one of the tables if the row's part has room
-    pub next-below : length (L p) < whole p → place < maxUpdates
+    pub next-below : length (L p) < whole p → place < max_updates
     next-below h = omega (arith, parts.room p low)
 
     module _ (room : length (L p) < whole p) {next at : List ℕ} {beside : List ℤ} (t : Placed m order begins L next at beside) where
       -- whatever stands in the next place, the lists stay
       pub placed-written : (q : ℕ) (v : ℤ) → q < m.n → Placed m order begins L next (set at place q) (set beside place v)
       placed-written q v l = record {
-        next-long = t.next-long;
+        next_long = t.next_long;
         at_long = length-set at place q ∙ t.at_long;
         beside_long = length-set beside place v ∙ t.beside_long;
         at_low = set-each (λ k x. x < m.n) at place q (omega (arith, next-below room, t.at_long)) l (λ k e. t.at_low k);
@@ -95,10 +95,10 @@ module _ (m : Matrix) (order begins : List ℕ) (parts : Parts m order begins) w
         entries = holds-written (pos 0) (λ r c. entry m (get_or order r 0) (get_or order c 0)) beside t.inside room v t.entries;
       }
 
-      module _ (few : m.n ≤ maxRows) (b : Bool) (q : ℕ) (is : b ≡ true → get_or at place 0 ≡ q) (has : b ≡ true → get_or beside place (pos 0) ≡ entry m (get_or order p 0) (get_or order q 0)) where
+      module _ (few : m.n ≤ max_rows) (b : Bool) (q : ℕ) (is : b ≡ true → get_or at place 0 ≡ q) (has : b ≡ true → get_or beside place (pos 0) ≡ entry m (get_or order p 0) (get_or order q 0)) where
         ends : (r : ℕ) → r < m.n → (r ≡ p) ⊎ (r ≢ p) → get_or (set next p (place + bit b)) r 0 ≡ part r + length (grown L p b q r)
         ends r l (inl e) =
-            rw (eq-eqb r p e, e, length-append (L p) (keep b q []), length-keep b q) (get_or-set_same next p (place + bit b) 0 (omega (arith, t.next-long)) ∙ omega arith)
+            rw (eq-eqb r p e, e, length-append (L p) (keep b q []), length-keep b q) (get_or-set_same next p (place + bit b) 0 (omega (arith, t.next_long)) ∙ omega arith)
         ends r l (inr e) = rw (ne_eqb r p e) (get_or-set_other next p r (place + bit b) 0 e ∙ t.ends r l)
 
         inside : (r : ℕ) → r < m.n → (r ≡ p) ⊎ (r ≢ p) → length (grown L p b q r) ≤ whole r
@@ -106,23 +106,23 @@ module _ (m : Matrix) (order begins : List ℕ) (parts : Parts m order begins) w
         inside r l (inr e) = rw (ne_eqb r p e) (t.inside r l)
 
         -- the list of p takes up q, which stands there, if b holds
-        pub placed-grown : Placed m order begins (grown L p b q) (set next p (place + bit b)) at beside
-        placed-grown = record {
-          next-long = length-set next p (place + bit b) ∙ t.next-long;
+        pub placed_grown : Placed m order begins (grown L p b q) (set next p (place + bit b)) at beside
+        placed_grown = record {
+          next_long = length-set next p (place + bit b) ∙ t.next_long;
           at_long = t.at_long;
           beside_long = t.beside_long;
           at_low = t.at_low;
           ends = λ r l. ends r l (same_or r p);
           inside = λ r l. inside r l (same_or r p);
-          positions = holds-grown 0 (λ r c. c) at b q is t.positions;
-          entries = holds-grown (pos 0) (λ r c. entry m (get_or order r 0) (get_or order c 0)) beside b q has t.entries;
+          positions = holds_grown 0 (λ r c. c) at b q is t.positions;
+          entries = holds_grown (pos 0) (λ r c. entry m (get_or order r 0) (get_or order c 0)) beside b q has t.entries;
         }
 
 -- nothing of the upper triangle stands where the parts begin
-pub upper-none : (m : Matrix) (order : List ℕ) → 1 ≤ m.n → {begins at : List ℕ} {beside : List ℤ} → length begins ≡ maxRows → length at ≡ maxUpdates → ((k : ℕ) → get_or at k 0 ≡ 0)
-    → length beside ≡ maxUpdates → Upper m order begins 0 begins at beside
-upper-none m order some l a y b = record {
-  next-long = l;
+pub upper_none : (m : Matrix) (order : List ℕ) → 1 ≤ m.n → {begins at : List ℕ} {beside : List ℤ} → length begins ≡ max_rows → length at ≡ max_updates → ((k : ℕ) → get_or at k 0 ≡ 0)
+    → length beside ≡ max_updates → Upper m order begins 0 begins at beside
+upper_none m order some l a y b = record {
+  next_long = l;
   at_long = a;
   beside_long = b;
   at_low = λ k. omega (arith, y k);
@@ -132,14 +132,14 @@ upper-none m order some l a y b = record {
   entries = λ p c h k. absurd (omega (arith, ap length (none p)));
 }
   where
-    none : (p : ℕ) → upperTo m order p 0 ≡ []
-    none p = upper-before m order p 0 (omega arith)
+    none : (p : ℕ) → upper_to m order p 0 ≡ []
+    none p = upper_before m order p 0 (omega arith)
 
 -- only the lists count
 pub placed_same : (m : Matrix) (order begins : List ℕ) (L L' : ℕ → List ℕ) {next at : List ℕ} {beside : List ℤ} → ((p : ℕ) → p < m.n → L p ≡ L' p)
     → Placed m order begins L next at beside → Placed m order begins L' next at beside
 placed_same m order begins L L' {next} {at} {beside} e t = record {
-  next-long = t.next-long;
+  next_long = t.next_long;
   at_long = t.at_long;
   beside_long = t.beside_long;
   at_low = t.at_low;

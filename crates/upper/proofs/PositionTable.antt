@@ -10,10 +10,10 @@ use lib.Seq.{get_or-set_same, get_or-set_other}
 use Rattle.base.specs.Lists.{position_of}
 use Rattle.base.proofs.Booleans.{same_or}
 use Rattle.base.proofs.Positions.{position_at}
-use Rattle.matrix.specs.Limits.{maxRows}
+use Rattle.matrix.specs.Limits.{max_rows}
 use Rattle.matrix.specs.Matrix.{displacement}
-use Rattle.plan.proofs.Once.{Once, low-at, injective}
-use Rattle.upper.specs.code.Upper.{Positions, Displaced, part_at, Begun}
+use Rattle.plan.proofs.Once.{Once, low_at, injective}
+use Rattle.upper.specs.Code.Upper.{Positions, Displaced, part_at, Begun}
 
 -- one number more, each in a place of its own
 pub held_next : {A : Type 0} (d : A) (place : ℕ → ℕ) (f : ℕ → A) (k : ℕ) (xs : List A) → place k < length xs → ((p : ℕ) → p < k → place p ≢ place k) → ((p : ℕ) → p < k → get_or xs (place p) d ≡ f p)
@@ -24,13 +24,13 @@ held_next d place f k xs l apart is v e p h = go (same_or p k)
     go (inl q) = rw q (get_or-set_same xs (place k) v d l ∙ e)
     go (inr q) = let i : p < k = omega (arith, q) in get_or-set_other xs (place k) (place p) v d (apart p i) ∙ is p i
 
-pub positions-none : (order position : List ℕ) → length position ≡ maxRows → Positions 0 order position
+pub positions-none : (order position : List ℕ) → length position ≡ max_rows → Positions 0 order position
 positions-none order position e = record { long = e; is = λ p l. absurd (omega arith) }
 
-module _ (n : ℕ) (order : List ℕ) (once : Once n order) (few : n ≤ maxRows) (k : ℕ) (l : k < n) where
+module _ (n : ℕ) (order : List ℕ) (once : Once n order) (few : n ≤ max_rows) (k : ℕ) (l : k < n) where
   -- the row at a position is one of the table's
-  pub row_below : get_or order k 0 < maxRows
-  row_below = omega (arith, low-at n order k once.low (omega (arith, once.long)))
+  pub row_below : get_or order k 0 < max_rows
+  row_below = omega (arith, low_at n order k once.low (omega (arith, once.long)))
 
   -- one position more
   pub positions-next : (position : List ℕ) → Positions k order position → Positions (k + 1) order (set position (get_or order k 0) k)
@@ -40,8 +40,8 @@ module _ (n : ℕ) (order : List ℕ) (once : Once n order) (few : n ≤ maxRows
   }
 
 -- the row at the position of row i is i
-pub position-back : (n : ℕ) (order position : List ℕ) → Once n order → Positions n order position → (i : ℕ) → i < n → (get_or position i 0 < n) × (get_or order (get_or position i 0) 0 ≡ i)
-position-back n order position rows t i l =
+pub position_back : (n : ℕ) (order position : List ℕ) → Once n order → Positions n order position → (i : ℕ) → i < n → (get_or position i 0 < n) × (get_or order (get_or position i 0) 0 ≡ i)
+position_back n order position rows t i l =
     let at = position_at order i (rows.member i l) in
     let e : get_or position i 0 ≡ position_of order i = ap (λ (v : ℕ). get_or position v 0) (sym at.1) ∙ t.is (position_of order i) (omega (arith, at.0, rows.long)) in
     (omega (arith, at.0, rows.long), ap (λ (p : ℕ). get_or order p 0) e ∙ at.1)
@@ -49,24 +49,24 @@ position-back n order position rows t i l =
 -- ---- a table of a number for each position
 
 -- one position more
-pub table-next : {A : Type 0} (d : A) (f : ℕ → A) (k : ℕ) → k < maxRows → (xs : List A) → length xs ≡ maxRows → ((p : ℕ) → p < k → get_or xs p d ≡ f p) → (v : A) → v ≡ f k
-    → (length (set xs k v) ≡ maxRows) × ((p : ℕ) → p < k + 1 → get_or (set xs k v) p d ≡ f p)
+pub table-next : {A : Type 0} (d : A) (f : ℕ → A) (k : ℕ) → k < max_rows → (xs : List A) → length xs ≡ max_rows → ((p : ℕ) → p < k → get_or xs p d ≡ f p) → (v : A) → v ≡ f k
+    → (length (set xs k v) ≡ max_rows) × ((p : ℕ) → p < k + 1 → get_or (set xs k v) p d ≡ f p)
 table-next d f k l xs long is v e = (length-set xs k v ∙ long, held_next d (λ p. p) f k xs (omega (arith, long)) (λ p h e. omega arith) is v e)
 
 -- the displacements in plan order
-pub displaced-none : (x : List ℤ) (order : List ℕ) (displaced : List ℤ) → length displaced ≡ maxRows → Displaced 0 x order displaced
-displaced-none x order displaced l = record { long = l; is = λ p h. absurd (omega arith) }
+pub displaced_none : (x : List ℤ) (order : List ℕ) (displaced : List ℤ) → length displaced ≡ max_rows → Displaced 0 x order displaced
+displaced_none x order displaced l = record { long = l; is = λ p h. absurd (omega arith) }
 
-pub displaced-next : (x : List ℤ) (order : List ℕ) (k : ℕ) → k < maxRows → (displaced : List ℤ) → Displaced k x order displaced → Displaced (k + 1) x order (set displaced k (displacement x (get_or order k 0)))
-displaced-next x order k l displaced d =
+pub displaced_next : (x : List ℤ) (order : List ℕ) (k : ℕ) → k < max_rows → (displaced : List ℤ) → Displaced k x order displaced → Displaced (k + 1) x order (set displaced k (displacement x (get_or order k 0)))
+displaced_next x order k l displaced d =
     let t = table-next (pos 0) (λ p. displacement x (get_or order p 0)) k l displaced d.long d.is _ refl in
     record { long = t.0; is = t.1 }
 
 -- where the parts begin
-pub begun-none : (starts order parts : List ℕ) → length parts ≡ maxRows → Begun 0 starts order parts
+pub begun-none : (starts order parts : List ℕ) → length parts ≡ max_rows → Begun 0 starts order parts
 begun-none starts order parts l = record { long = l; is = λ p h. absurd (omega arith) }
 
-pub begun-next : (starts order : List ℕ) (k : ℕ) → k < maxRows → {v : ℕ} → v ≡ part_at starts (get_or order k 0) → {parts : List ℕ} → Begun k starts order parts → Begun (k + 1) starts order (set parts k v)
+pub begun-next : (starts order : List ℕ) (k : ℕ) → k < max_rows → {v : ℕ} → v ≡ part_at starts (get_or order k 0) → {parts : List ℕ} → Begun k starts order parts → Begun (k + 1) starts order (set parts k v)
 begun-next starts order k l {v} e {parts} b =
     let t = table-next 0 (λ p. part_at starts (get_or order p 0)) k l parts b.long b.is v e in
     record { long = t.0; is = t.1 }

@@ -1,14 +1,16 @@
 // Where rows stand in the order, what lists are in that order, and the upper triangle of the matrix in it.
+#![tactic(auto)]
+
 pub mod order;
 mod parts;
 pub mod row;
 pub mod sizes;
 
 ghost use Rattle.std.specs.Prelude.{◌≡◌, List, ℕ, ◌+◌, ◌<◌, length, get_or, take};
-ghost use Rattle.matrix.specs.Limits.{maxRows};
-ghost use Rattle.matrix.specs.Matrix.{matrixOf};
-ghost use Rattle.tables.specs.code.Laid.{maxUpdates};
-ghost use Rattle.upper.specs.code.Upper.{Positions, Lent, Sizes, Parts, Begun, Upper, UpperLaid};
+ghost use Rattle.matrix.specs.Limits.{max_rows};
+ghost use Rattle.matrix.specs.Matrix.{matrix_of};
+ghost use Rattle.tables.specs.Code.Laid.{max_updates};
+ghost use Rattle.upper.specs.Code.Upper.{Positions, Lent, Sizes, Parts, Begun, Upper, UpperLaid};
 
 use base::slices::wide_at;
 use matrix::limits::MAX_ROWS;
@@ -31,12 +33,12 @@ fn join(
     beside: &mut [i32],
 )
     requires { Lent n starts.now columns.now values.now order.now × Positions n (take n order.now) position.now × (q < n)
-        × ((begins : List ℕ) × Parts (matrixOf n starts.now columns.now values.now) (take n order.now) begins
-        × Upper (matrixOf n starts.now columns.now values.now) (take n order.now) begins q next.old at.old beside.old) }
-    ensures { (begins : List ℕ) → Parts (matrixOf n starts.now columns.now values.now) (take n order.now) begins
-        → Upper (matrixOf n starts.now columns.now values.now) (take n order.now) begins q
+        × ((begins : List ℕ) × Parts (matrix_of n starts.now columns.now values.now) (take n order.now) begins
+        × Upper (matrix_of n starts.now columns.now values.now) (take n order.now) begins q next.old at.old beside.old) }
+    ensures { (begins : List ℕ) → Parts (matrix_of n starts.now columns.now values.now) (take n order.now) begins
+        → Upper (matrix_of n starts.now columns.now values.now) (take n order.now) begins q
         next.old at.old beside.old
-        → Upper (matrixOf n starts.now columns.now values.now) (take n order.now) begins (q + 1)
+        → Upper (matrix_of n starts.now columns.now values.now) (take n order.now) begins (q + 1)
         next.new at.new beside.new }
 {
     let row = wide_at(order, q);
@@ -73,9 +75,9 @@ fn join_all(
     beside: &mut [i32],
 )
     requires { Lent n starts.now columns.now values.now order.now × Begun n starts.now (take n order.now) next.old
-        × Upper (matrixOf n starts.now columns.now values.now) (take n order.now) next.old 0 next.old at.old beside.old }
-    ensures { Parts (matrixOf n starts.now columns.now values.now) (take n order.now) next.old
-        × Upper (matrixOf n starts.now columns.now values.now) (take n order.now) next.old n
+        × Upper (matrix_of n starts.now columns.now values.now) (take n order.now) next.old 0 next.old at.old beside.old }
+    ensures { Parts (matrix_of n starts.now columns.now values.now) (take n order.now) next.old
+        × Upper (matrix_of n starts.now columns.now values.now) (take n order.now) next.old n
         next.new at.new beside.new }
 {
     let mut position = [0u32; MAX_ROWS];
@@ -102,10 +104,10 @@ pub fn upper(
     at: &mut [u16],
     beside: &mut [i32],
 )
-    requires { Lent n starts.now columns.now values.now order.now × (length parts.old ≡ maxRows)
-        × (length at.old ≡ maxUpdates) × ((k : ℕ) → get_or at.old k 0 ≡ 0) × (length beside.old ≡ maxUpdates) }
-    ensures { Sizes (matrixOf n starts.now columns.now values.now) (take n order.now) n sizes.new
-        × UpperLaid (matrixOf n starts.now columns.now values.now) (take n order.now) parts.new at.new beside.new }
+    requires { Lent n starts.now columns.now values.now order.now × (length parts.old ≡ max_rows)
+        × (length at.old ≡ max_updates) × ((k : ℕ) → get_or at.old k 0 ≡ 0) × (length beside.old ≡ max_updates) }
+    ensures { Sizes (matrix_of n starts.now columns.now values.now) (take n order.now) n sizes.new
+        × UpperLaid (matrix_of n starts.now columns.now values.now) (take n order.now) parts.new at.new beside.new }
 {
     begin_parts(n, starts, order, parts);
     *sizes = *parts;

@@ -1,15 +1,15 @@
 // The position of each row, and the displacements in plan order.
 ghost use Rattle.std.specs.Prelude.{◌≡◌, true, ℕ, ◌≤◌, ◌<◌, length, get_or, take};
-ghost use Rattle.matrix.specs.Limits.{maxRows};
-ghost use Rattle.plan.specs.Sound.{eachOnce};
-ghost use Rattle.upper.specs.code.Upper.{Positions, Displaced};
+ghost use Rattle.matrix.specs.Limits.{max_rows};
+ghost use Rattle.plan.specs.Sound.{each_once};
+ghost use Rattle.upper.specs.Code.Upper.{Positions, Displaced};
 
 use base::slices::wide_at;
 use matrix::limits::MAX_ROWS;
 
 // The position of each row.
 pub fn positions(order: &[u32], n: usize, position: &mut [u32; MAX_ROWS])
-    requires { (n ≤ length order.now) × (n ≤ maxRows) × (eachOnce n (take n order.now) ≡ true) × (length position.old ≡ maxRows) }
+    requires { (n ≤ length order.now) × (n ≤ max_rows) × (each_once n (take n order.now) ≡ true) × (length position.old ≡ max_rows) }
     ensures { Positions n (take n order.now) position.new }
 {
     let mut p = 0;
@@ -21,8 +21,8 @@ pub fn positions(order: &[u32], n: usize, position: &mut [u32; MAX_ROWS])
 
 // The displacement of the row at each position.
 pub fn displace(displacements: &[i32], order: &[u32], displaced: &mut [i32; MAX_ROWS])
-    requires { (length displacements.now ≤ length order.now) × (length displacements.now ≤ maxRows)
-        × ((p : ℕ) → p < length displacements.now → get_or order.now p 0 < length displacements.now) × (length displaced.old ≡ maxRows) }
+    requires { (length displacements.now ≤ length order.now) × (length displacements.now ≤ max_rows)
+        × ((p : ℕ) → p < length displacements.now → get_or order.now p 0 < length displacements.now) × (length displaced.old ≡ max_rows) }
     ensures { Displaced (length displacements.now) displacements.now order.now displaced.new }
 {
     let mut p = 0;

@@ -1,14 +1,14 @@
 // The parts of the rows in the tables of the upper triangle: where each begins, and how many entries it has.
 ghost use Rattle.std.specs.Prelude.{◌≡◌, List, ℕ, ◌-◌, ◌≤◌, ◌<◌, ℤ, length, get_or, take};
-ghost use Rattle.matrix.specs.Limits.{maxRows};
-ghost use Rattle.upper.specs.code.Upper.{Lent, Begun};
+ghost use Rattle.matrix.specs.Limits.{max_rows};
+ghost use Rattle.upper.specs.Code.Upper.{Lent, Begun};
 
 use base::slices::wide_at;
 use matrix::limits::MAX_ROWS;
 
 // For each position where the part of its row begins: with room for all its entries, so that none need be counted.
 pub(crate) fn begin_parts(n: usize, starts: &[u32], order: &[u32], parts: &mut [u32; MAX_ROWS])
-    requires { ((columns : List ℕ) × (values : List ℤ) × Lent n starts.now columns values order.now) × (length parts.old ≡ maxRows) }
+    requires { ((columns : List ℕ) × (values : List ℤ) × Lent n starts.now columns values order.now) × (length parts.old ≡ max_rows) }
     ensures { Begun n starts.now (take n order.now) parts.new }
 {
     let mut p = 0;
@@ -21,8 +21,8 @@ pub(crate) fn begin_parts(n: usize, starts: &[u32], order: &[u32], parts: &mut [
 
 // How many entries each part has: where it ends becomes how far that is from where it begins.
 pub(crate) fn part_sizes(n: usize, parts: &[u32; MAX_ROWS], ends: &mut [u32; MAX_ROWS])
-    requires { (n ≤ maxRows) × (length ends.old ≡ maxRows) × ((p : ℕ) → p < n → get_or parts.now p 0 ≤ get_or ends.old p 0) }
-    ensures { (length ends.new ≡ maxRows) × ((p : ℕ) → p < n → get_or ends.new p 0 ≡ get_or ends.old p 0 - get_or parts.now p 0) }
+    requires { (n ≤ max_rows) × (length ends.old ≡ max_rows) × ((p : ℕ) → p < n → get_or parts.now p 0 ≤ get_or ends.old p 0) }
+    ensures { (length ends.new ≡ max_rows) × ((p : ℕ) → p < n → get_or ends.new p 0 ≡ get_or ends.old p 0 - get_or parts.now p 0) }
 {
     let mut p = 0;
     while p < n {

@@ -1,8 +1,8 @@
 // How many entries each row has in the upper triangle.
 ghost use Rattle.std.specs.Prelude.{◌≡◌, List, ℕ, ◌<◌, ℤ, length, get_or, take};
-ghost use Rattle.matrix.specs.Limits.{maxRows};
-ghost use Rattle.matrix.specs.Matrix.{matrixOf};
-ghost use Rattle.upper.specs.code.Upper.{Positions, Lent, laterIn, Sizes};
+ghost use Rattle.matrix.specs.Limits.{max_rows};
+ghost use Rattle.matrix.specs.Matrix.{matrix_of};
+ghost use Rattle.upper.specs.Code.Upper.{Positions, Lent, later_in, Sizes};
 
 use crate::order::positions;
 use base::slices::wide_at;
@@ -11,8 +11,8 @@ use matrix::row::columns_of;
 
 // How many of these columns' rows stand after position p.
 fn later_columns(columns: &[u32], position: &[u32; MAX_ROWS], p: u32) -> usize
-    requires { (k : ℕ) → k < length columns.now → get_or columns.now k 0 < maxRows }
-    ensures { result ≡ length (laterIn position.now p columns.now) }
+    requires { (k : ℕ) → k < length columns.now → get_or columns.now k 0 < max_rows }
+    ensures { result ≡ length (later_in position.now p columns.now) }
 {
     let mut later: usize = 0;
     let mut k = 0;
@@ -33,9 +33,9 @@ pub fn sizes_of(
     sizes: &mut [u32; MAX_ROWS],
     position: &mut [u32; MAX_ROWS],
 )
-    requires { ((values : List ℤ) × Lent n starts.now columns.now values order.now) × (length sizes.old ≡ maxRows) × (length position.old ≡ maxRows) }
+    requires { ((values : List ℤ) × Lent n starts.now columns.now values order.now) × (length sizes.old ≡ max_rows) × (length position.old ≡ max_rows) }
     ensures { ((values : List ℤ) → Lent n starts.now columns.now values order.now
-        → Sizes (matrixOf n starts.now columns.now values) (take n order.now) n sizes.new)
+        → Sizes (matrix_of n starts.now columns.now values) (take n order.now) n sizes.new)
         × Positions n (take n order.now) position.new }
 {
     positions(order, n, position);

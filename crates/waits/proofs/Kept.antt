@@ -8,22 +8,22 @@ use lib.Dec.{leb}
 use lib.ListN.{get_or}
 use borrow.Author.Tests.{le-leb, lt-leb}
 use Rattle.base.proofs.Booleans.{same_or}
-use Rattle.plan.specs.Sound.{maxWorkers}
-use Rattle.plan.specs.code.Checks.{recordAt}
+use Rattle.plan.specs.Sound.{max_workers}
+use Rattle.plan.specs.Code.Checks.{record_at}
 use Rattle.run.specs.Machine.{onward}
-use Rattle.run.proofs.Onward.{onward-length, onward-other, onward-grows}
-use Rattle.waits.specs.code.Waits.{Current}
+use Rattle.run.proofs.Onward.{onward-length, onward-other, onward_grows}
+use Rattle.waits.specs.Code.Waits.{Current}
 
-module _ {count : ℕ} {groups ends made blocks stops : List ℕ} (w : ℕ) (l : w < maxWorkers) (below : get_or (onward made w) w 0 < get_or stops w 0) (h : Current count groups ends made blocks stops) where
+module _ {count : ℕ} {groups ends made blocks stops : List ℕ} (w : ℕ) (l : w < max_workers) (below : get_or (onward made w) w 0 < get_or stops w 0) (h : Current count groups ends made blocks stops) where
   grown : (v : ℕ) → get_or made v 0 ≤ get_or (onward made w) v 0
-  grown v = onward-grows made w (omega (arith, h.long)) v
+  grown v = onward_grows made w (omega (arith, h.long)) v
 
   -- no count has reached an end
-  same : (i : ℕ) → i < count → leb (get_or ends i 0) (get_or (onward made w) (recordAt groups i).first 0) ≡ leb (get_or ends i 0) (get_or made (recordAt groups i).first 0)
-  same i m = go (same_or (recordAt groups i).first w) (h.ahead.is i m)
+  same : (i : ℕ) → i < count → leb (get_or ends i 0) (get_or (onward made w) (record_at groups i).first 0) ≡ leb (get_or ends i 0) (get_or made (record_at groups i).first 0)
+  same i m = go (same_or (record_at groups i).first w) (h.ahead.is i m)
     where
       v : ℕ
-      v = (recordAt groups i).first
+      v = (record_at groups i).first
 
       end : ℕ
       end = get_or ends i 0
@@ -45,7 +45,7 @@ module _ {count : ℕ} {groups ends made blocks stops : List ℕ} (w : ℕ) (l :
     ahead = record { long = h.ahead.long; is = λ i m. go i (h.ahead.is i m) };
   }
     where
-      go : (i : ℕ) → (get_or ends i 0 ≤ get_or made (recordAt groups i).first 0) ⊎ (get_or stops (recordAt groups i).first 0 ≤ get_or ends i 0)
-          → (get_or ends i 0 ≤ get_or (onward made w) (recordAt groups i).first 0) ⊎ (get_or stops (recordAt groups i).first 0 ≤ get_or ends i 0)
-      go i (inl x) = inl (omega (arith, grown (recordAt groups i).first))
+      go : (i : ℕ) → (get_or ends i 0 ≤ get_or made (record_at groups i).first 0) ⊎ (get_or stops (record_at groups i).first 0 ≤ get_or ends i 0)
+          → (get_or ends i 0 ≤ get_or (onward made w) (record_at groups i).first 0) ⊎ (get_or stops (record_at groups i).first 0 ≤ get_or ends i 0)
+      go i (inl x) = inl (omega (arith, grown (record_at groups i).first))
       go i (inr x) = inr x

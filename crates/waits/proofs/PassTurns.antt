@@ -12,15 +12,15 @@ use lib.Seq.{get_or-set_same, get_or-set_other}
 use borrow.Author.Tests.{eq-eqb, ne_eqb, ltb-true, ltb-false, leb-true, leb-false, lt-ltb, le-ltb}
 use Rattle.base.specs.Lists.{bit}
 use Rattle.base.proofs.Booleans.{same_or}
-use Rattle.base.proofs.Lists.{getD-zeros}
+use Rattle.base.proofs.Lists.{get_d_zeros}
 use Rattle.plan.specs.Groups.{Group, red, records}
-use Rattle.plan.specs.Sound.{maxWorkers, maxGroups}
-use Rattle.plan.specs.code.Checks.{recordAt, belowWhole}
-use Rattle.plan.proofs.FlatRecords.{records-at, records-none}
-use Rattle.tables.specs.code.Laid.{hasChild}
-use Rattle.waits.specs.code.Waits.{Recorded, Ended, openIf, openRed, blockedIf, nextEnd, OpenReds, Passed, Ahead}
-use Rattle.tables.proofs.FlatOpen.{openChildren, open_at, openReds, red-flat}
-use Rattle.waits.proofs.Passes.{child-start, open-start, red-start, child-turn, open_turn, red-turn}
+use Rattle.plan.specs.Sound.{max_workers, max_groups}
+use Rattle.plan.specs.Code.Checks.{record_at, below_whole}
+use Rattle.plan.proofs.FlatRecords.{records_at, records-none}
+use Rattle.tables.specs.Code.Laid.{has_child}
+use Rattle.waits.specs.Code.Waits.{Recorded, Ended, open_if, open_red, blocked_if, next_end, OpenReds, Passed, Ahead}
+use Rattle.tables.proofs.FlatOpen.{open_children, open_at, open_reds, red-flat}
+use Rattle.waits.proofs.Passes.{child-start, open_start, red-start, child-turn, open_turn, red-turn}
 
 -- ---- one record's numbers are tests
 
@@ -30,7 +30,7 @@ or-bits true false = refl
 or-bits false true = refl
 or-bits false false = refl
 
-red-bit : (colour : ℕ) (b : Bool) → openRed colour (bit b) ≡ bit (eqb colour red && b)
+red-bit : (colour : ℕ) (b : Bool) → open_red colour (bit b) ≡ bit (eqb colour red && b)
 red-bit colour b = go (eqb colour red)
   where
     go : (t : Bool) → cond t (bit b) 0 ≡ bit (t && b)
@@ -52,26 +52,26 @@ module _ (count : ℕ) (groups ends made : List ℕ) where
 
   -- what the tables have for the group at index up, of the records from index i on
   pub record Found (fin : Group → Bool) (i : ℕ) (parents opens reds : List ℕ) (up : ℕ) : Type 0 where
-    pub isParent : get_or parents up 0 ≡ bit (hasChild up (drop i gs))
-    pub isOpen : get_or opens up 0 ≡ bit (openChildren fin up i (drop i gs))
-    pub hasRed : get_or reds up 0 ≡ bit (openReds fin up i (drop i gs))
+    pub is_parent : get_or parents up 0 ≡ bit (has_child up (drop i gs))
+    pub is_open : get_or opens up 0 ≡ bit (open_children fin up i (drop i gs))
+    pub has_red : get_or reds up 0 ≡ bit (open_reds fin up i (drop i gs))
 
   pub record Backward (i : ℕ) (parents opens reds : List ℕ) : Type 0 where
-    pub parents-long : length parents ≡ maxGroups
-    pub opens-long : length opens ≡ maxGroups
-    pub reds-long : length reds ≡ maxGroups
-    pub found : (fin : Group → Bool) → Ended count groups ends made fin → (up : ℕ) → up < maxGroups → Found fin i parents opens reds up
+    pub parents-long : length parents ≡ max_groups
+    pub opens_long : length opens ≡ max_groups
+    pub reds-long : length reds ≡ max_groups
+    pub found : (fin : Group → Bool) → Ended count groups ends made fin → (up : ℕ) → up < max_groups → Found fin i parents opens reds up
 
   -- no record is treated
-  pub backward-none : Backward count (replicate maxGroups 0) (replicate maxGroups 0) (replicate maxGroups 0)
-  backward-none = record {
-    parents-long = length-replicate {A = ℕ} maxGroups 0;
-    opens-long = length-replicate {A = ℕ} maxGroups 0;
-    reds-long = length-replicate {A = ℕ} maxGroups 0;
+  pub backward_none : Backward count (replicate max_groups 0) (replicate max_groups 0) (replicate max_groups 0)
+  backward_none = record {
+    parents-long = length-replicate {A = ℕ} max_groups 0;
+    opens_long = length-replicate {A = ℕ} max_groups 0;
+    reds-long = length-replicate {A = ℕ} max_groups 0;
     found = λ fin e up l. (record {
-      isParent = getD-zeros maxGroups up ∙ sym (ap (λ (hs : List Group). bit (hasChild up hs)) none ∙ ap bit (child-start fin up count));
-      isOpen = getD-zeros maxGroups up ∙ sym (ap (λ (hs : List Group). bit (openChildren fin up count hs)) none ∙ ap bit (open-start fin up count));
-      hasRed = getD-zeros maxGroups up ∙ sym (ap (λ (hs : List Group). bit (openReds fin up count hs)) none ∙ ap bit (red-start fin up count));
+      is_parent = get_d_zeros max_groups up ∙ sym (ap (λ (hs : List Group). bit (has_child up hs)) none ∙ ap bit (child-start fin up count));
+      is_open = get_d_zeros max_groups up ∙ sym (ap (λ (hs : List Group). bit (open_children fin up count hs)) none ∙ ap bit (open_start fin up count));
+      has_red = get_d_zeros max_groups up ∙ sym (ap (λ (hs : List Group). bit (open_reds fin up count hs)) none ∙ ap bit (red-start fin up count));
     });
   }
     where
@@ -79,7 +79,7 @@ module _ (count : ℕ) (groups ends made : List ℕ) where
       none = records-none count count groups (omega arith)
 
   -- the record g before index i
-  module _ (R : Recorded count groups) (i : ℕ) (some : 1 < i) (within : i ≤ count) (g : Group) (is : g ≡ recordAt groups (i - 1)) where
+  module _ (R : Recorded count groups) (i : ℕ) (some : 1 < i) (within : i ≤ count) (g : Group) (is : g ≡ record_at groups (i - 1)) where
     abbrev k : ℕ
     k = i - 1
 
@@ -87,87 +87,87 @@ module _ (count : ℕ) (groups ends made : List ℕ) where
     rest = drop (suc k) gs
 
     split : drop k gs ≡ g ∷ rest
-    split = records-at count k groups (omega arith) ∙ ap (λ (h : Group). h ∷ rest) (sym is)
+    split = records_at count k groups (omega arith) ∙ ap (λ (h : Group). h ∷ rest) (sym is)
 
     -- it is open or not, by the numbers that the tables have
     opened : (fin : Group → Bool) → Ended count groups ends made fin → (parents opens reds : List ℕ) → Found fin (suc k) parents opens reds k
-        → openIf (get_or parents k 0) (get_or opens k 0) (get_or made g.first 0) (get_or ends k 0) ≡ bit (open_at fin k g rest)
-    opened fin e parents opens reds f = rw (f.isParent, f.isOpen) (go (hasChild k rest) refl)
+        → open_if (get_or parents k 0) (get_or opens k 0) (get_or made g.first 0) (get_or ends k 0) ≡ bit (open_at fin k g rest)
+    opened fin e parents opens reds f = rw (f.is_parent, f.is_open) (go (has_child k rest) refl)
       where
-        go : (b : Bool) → hasChild k rest ≡ b
-            → cond (eqb (bit b) 0) (bit (ltb (get_or made g.first 0) (get_or ends k 0))) (bit (openChildren fin k (suc k) rest)) ≡ bit (cond b (openChildren fin k (suc k) rest) (not (fin g)))
+        go : (b : Bool) → has_child k rest ≡ b
+            → cond (eqb (bit b) 0) (bit (ltb (get_or made g.first 0) (get_or ends k 0))) (bit (open_children fin k (suc k) rest)) ≡ bit (cond b (open_children fin k (suc k) rest) (not (fin g)))
         go true h = refl
         go false h = ap bit (sym (ap not (subst (λ (y : Group). fin y ≡ leb (get_or ends k 0) (get_or made y.first 0)) (sym is) (e k (omega arith) h)) ∙ not-reached (get_or ends k 0) (get_or made g.first 0)))
 
     -- the tables of its parent take it up
-    pub backward-next : (parents opens reds : List ℕ) (o r : ℕ) → o ≡ openIf (get_or parents k 0) (get_or opens k 0) (get_or made g.first 0) (get_or ends k 0) → r ≡ openRed g.colour o
+    pub backward_next : (parents opens reds : List ℕ) (o r : ℕ) → o ≡ open_if (get_or parents k 0) (get_or opens k 0) (get_or made g.first 0) (get_or ends k 0) → r ≡ open_red g.colour o
         → Backward i parents opens reds
         → Backward k (set parents g.parent 1) (set opens g.parent (bit_or (get_or opens g.parent 0) o)) (set reds g.parent (bit_or (get_or reds g.parent 0) r))
-    backward-next parents opens reds o r eo er b = record {
+    backward_next parents opens reds o r eo er b = record {
       parents-long = length-set parents g.parent 1 ∙ b.parents-long;
-      opens-long = length-set opens g.parent (bit_or (get_or opens g.parent 0) o) ∙ b.opens-long;
+      opens_long = length-set opens g.parent (bit_or (get_or opens g.parent 0) o) ∙ b.opens_long;
       reds-long = length-set reds g.parent (bit_or (get_or reds g.parent 0) r) ∙ b.reds-long;
       found = λ fin e up l. at fin e up l (same_or up g.parent);
     }
       where
-        low : g.parent < maxGroups
+        low : g.parent < max_groups
         low = omega (arith, ap (λ (h : Group). h.parent) is, R.parents k (omega arith) (omega arith), R.few)
 
-        before : (fin : Group → Bool) → Ended count groups ends made fin → (up : ℕ) → up < maxGroups → Found fin (suc k) parents opens reds up
+        before : (fin : Group → Bool) → Ended count groups ends made fin → (up : ℕ) → up < max_groups → Found fin (suc k) parents opens reds up
         before fin e up l = let s : i ≡ suc k = omega arith in subst (λ (y : ℕ). Found fin y parents opens reds up) s (b.found fin e up l)
 
         here : (fin : Group → Bool) → Ended count groups ends made fin → o ≡ bit (open_at fin k g rest)
         here fin e = eo ∙ opened fin e parents opens reds (before fin e k (omega (arith, R.few)))
 
-        at : (fin : Group → Bool) → Ended count groups ends made fin → (up : ℕ) → up < maxGroups → (up ≡ g.parent) ⊎ (up ≢ g.parent)
+        at : (fin : Group → Bool) → Ended count groups ends made fin → (up : ℕ) → up < max_groups → (up ≡ g.parent) ⊎ (up ≢ g.parent)
             → Found fin k (set parents g.parent 1) (set opens g.parent (bit_or (get_or opens g.parent 0) o)) (set reds g.parent (bit_or (get_or reds g.parent 0) r)) up
         at fin e up l (inl q) =
             let f = before fin e up l in
             let t : eqb g.parent up ≡ true = eq-eqb g.parent up (sym q) in
             let O : Bool = open_at fin k g rest in
-            let x : bit_or (get_or opens up 0) o ≡ bit (O || openChildren fin up (suc k) rest) = rw (f.isOpen, here fin e) (or-bits (openChildren fin up (suc k) rest) O) in
-            let y : bit_or (get_or reds up 0) r ≡ bit ((eqb g.colour red && O) || openReds fin up (suc k) rest) =
-            rw (f.hasRed, er, here fin e, red-bit g.colour O) (or-bits (openReds fin up (suc k) rest) (eqb g.colour red && O)) in record {
-              isParent = subst (λ (y : ℕ). get_or (set parents y 1) up 0 ≡ 1) q (get_or-set_same parents up 1 0 (omega (arith, b.parents-long)))
-                  ∙ sym (ap (λ (hs : List Group). bit (hasChild up hs)) split ∙ ap bit (child-turn fin up k g rest) ∙ rw t);
-              isOpen = subst (λ (y : ℕ). get_or (set opens y (bit_or (get_or opens y 0) o)) up 0 ≡ bit_or (get_or opens up 0) o) q (get_or-set_same opens up (bit_or (get_or opens up 0) o) 0 (omega (arith, b.opens-long)))
-                  ∙ x ∙ sym (ap (λ (hs : List Group). bit (openChildren fin up k hs)) split ∙ ap bit (open_turn fin up k g rest) ∙ rw t);
-              hasRed = subst (λ (y : ℕ). get_or (set reds y (bit_or (get_or reds y 0) r)) up 0 ≡ bit_or (get_or reds up 0) r) q (get_or-set_same reds up (bit_or (get_or reds up 0) r) 0 (omega (arith, b.reds-long)))
-                  ∙ y ∙ sym (ap (λ (hs : List Group). bit (openReds fin up k hs)) split ∙ ap bit (red-turn fin up k g rest) ∙ rw t);
+            let x : bit_or (get_or opens up 0) o ≡ bit (O || open_children fin up (suc k) rest) = rw (f.is_open, here fin e) (or-bits (open_children fin up (suc k) rest) O) in
+            let y : bit_or (get_or reds up 0) r ≡ bit ((eqb g.colour red && O) || open_reds fin up (suc k) rest) =
+            rw (f.has_red, er, here fin e, red-bit g.colour O) (or-bits (open_reds fin up (suc k) rest) (eqb g.colour red && O)) in record {
+              is_parent = subst (λ (y : ℕ). get_or (set parents y 1) up 0 ≡ 1) q (get_or-set_same parents up 1 0 (omega (arith, b.parents-long)))
+                  ∙ sym (ap (λ (hs : List Group). bit (has_child up hs)) split ∙ ap bit (child-turn fin up k g rest) ∙ rw t);
+              is_open = subst (λ (y : ℕ). get_or (set opens y (bit_or (get_or opens y 0) o)) up 0 ≡ bit_or (get_or opens up 0) o) q (get_or-set_same opens up (bit_or (get_or opens up 0) o) 0 (omega (arith, b.opens_long)))
+                  ∙ x ∙ sym (ap (λ (hs : List Group). bit (open_children fin up k hs)) split ∙ ap bit (open_turn fin up k g rest) ∙ rw t);
+              has_red = subst (λ (y : ℕ). get_or (set reds y (bit_or (get_or reds y 0) r)) up 0 ≡ bit_or (get_or reds up 0) r) q (get_or-set_same reds up (bit_or (get_or reds up 0) r) 0 (omega (arith, b.reds-long)))
+                  ∙ y ∙ sym (ap (λ (hs : List Group). bit (open_reds fin up k hs)) split ∙ ap bit (red-turn fin up k g rest) ∙ rw t);
             }
         at fin e up l (inr d) =
             let f = before fin e up l in
             let t : eqb g.parent up ≡ false = ne_eqb g.parent up (λ q. d (sym q)) in record {
-              isParent = get_or-set_other parents g.parent up 1 0 d ∙ f.isParent ∙ sym (ap (λ (hs : List Group). bit (hasChild up hs)) split ∙ ap bit (child-turn fin up k g rest) ∙ rw t);
-              isOpen = get_or-set_other opens g.parent up (bit_or (get_or opens g.parent 0) o) 0 d ∙ f.isOpen
-                  ∙ sym (ap (λ (hs : List Group). bit (openChildren fin up k hs)) split ∙ ap bit (open_turn fin up k g rest) ∙ rw t);
-              hasRed = get_or-set_other reds g.parent up (bit_or (get_or reds g.parent 0) r) 0 d ∙ f.hasRed
-                  ∙ sym (ap (λ (hs : List Group). bit (openReds fin up k hs)) split ∙ ap bit (red-turn fin up k g rest) ∙ rw t);
+              is_parent = get_or-set_other parents g.parent up 1 0 d ∙ f.is_parent ∙ sym (ap (λ (hs : List Group). bit (has_child up hs)) split ∙ ap bit (child-turn fin up k g rest) ∙ rw t);
+              is_open = get_or-set_other opens g.parent up (bit_or (get_or opens g.parent 0) o) 0 d ∙ f.is_open
+                  ∙ sym (ap (λ (hs : List Group). bit (open_children fin up k hs)) split ∙ ap bit (open_turn fin up k g rest) ∙ rw t);
+              has_red = get_or-set_other reds g.parent up (bit_or (get_or reds g.parent 0) r) 0 d ∙ f.has_red
+                  ∙ sym (ap (λ (hs : List Group). bit (open_reds fin up k hs)) split ∙ ap bit (red-turn fin up k g rest) ∙ rw t);
             }
 
   -- all are
-  pub backward-all : (i : ℕ) → i ≡ 1 → (parents opens reds : List ℕ) → Backward i parents opens reds → OpenReds count groups ends made reds
-  backward-all i e parents opens reds b = record {
+  pub backward_all : (i : ℕ) → i ≡ 1 → (parents opens reds : List ℕ) → Backward i parents opens reds → OpenReds count groups ends made reds
+  backward_all i e parents opens reds b = record {
     long = b.reds-long;
-    is = λ fin f up l. subst (λ (k : ℕ). get_or reds up 0 ≡ bit (openReds fin up k (drop k gs))) e (b.found fin f up l).hasRed ∙ ap bit (sym (red-flat fin up 1 (belowWhole count groups)));
+    is = λ fin f up l. subst (λ (k : ℕ). get_or reds up 0 ≡ bit (open_reds fin up k (drop k gs))) e (b.found fin f up l).has_red ∙ ap bit (sym (red-flat fin up 1 (below_whole count groups)));
   }
 
 -- ---- forwards
 
 -- only the whole is treated
-pub passed_none : (groups reds : List ℕ) → Passed 1 groups reds (replicate maxGroups 0)
-passed_none groups reds = record { long = length-replicate {A = ℕ} maxGroups 0; root = getD-zeros maxGroups 0; is = λ i a b. absurd (omega arith) }
+pub passed_none : (groups reds : List ℕ) → Passed 1 groups reds (replicate max_groups 0)
+passed_none groups reds = record { long = length-replicate {A = ℕ} max_groups 0; root = get_d_zeros max_groups 0; is = λ i a b. absurd (omega arith) }
 
 -- no record is
-pub ahead_none : (groups ends made : List ℕ) (v : ℕ) → Ahead 0 groups ends made (replicate maxWorkers v)
-ahead_none groups ends made v = record { long = length-replicate maxWorkers v; is = λ i l. absurd (omega arith) }
+pub ahead_none : (groups ends made : List ℕ) (v : ℕ) → Ahead 0 groups ends made (replicate max_workers v)
+ahead_none groups ends made v = record { long = length-replicate max_workers v; is = λ i l. absurd (omega arith) }
 
-module _ (count : ℕ) (groups : List ℕ) (R : Recorded count groups) (i : ℕ) (g : Group) (is : g ≡ recordAt groups i) where
+module _ (count : ℕ) (groups : List ℕ) (R : Recorded count groups) (i : ℕ) (g : Group) (is : g ≡ record_at groups i) where
   abbrev own : Group
-  own = recordAt groups i
+  own = record_at groups i
 
   -- one record more: its entry is made of its parent's, which stands before it
-  pub passed-next : 1 ≤ i → i < count → (reds blocks : List ℕ) (v : ℕ) → v ≡ blockedIf (get_or blocks g.parent 0) g.colour (get_or reds g.parent 0)
+  pub passed-next : 1 ≤ i → i < count → (reds blocks : List ℕ) (v : ℕ) → v ≡ blocked_if (get_or blocks g.parent 0) g.colour (get_or reds g.parent 0)
       → Passed i groups reds blocks → Passed (i + 1) groups reds (set blocks i v)
   passed-next some within reds blocks v e p = record {
     long = length-set blocks i v ∙ p.long;
@@ -181,32 +181,32 @@ module _ (count : ℕ) (groups : List ℕ) (R : Recorded count groups) (i : ℕ)
       same : (k : ℕ) → k ≢ i → get_or new k 0 ≡ get_or blocks k 0
       same k d = get_or-set_other blocks i k v 0 d
 
-      parent : (k : ℕ) → 1 ≤ k → k < i + 1 → get_or new (recordAt groups k).parent 0 ≡ get_or blocks (recordAt groups k).parent 0
-      parent k a b = same (recordAt groups k).parent (λ q. omega (arith, R.parents k a (omega arith)))
+      parent : (k : ℕ) → 1 ≤ k → k < i + 1 → get_or new (record_at groups k).parent 0 ≡ get_or blocks (record_at groups k).parent 0
+      parent k a b = same (record_at groups k).parent (λ q. omega (arith, R.parents k a (omega arith)))
 
       value : ℕ → ℕ → ℕ
-      value k above = blockedIf above (recordAt groups k).colour (get_or reds (recordAt groups k).parent 0)
+      value k above = blocked_if above (record_at groups k).colour (get_or reds (record_at groups k).parent 0)
 
       here : v ≡ value i (get_or blocks own.parent 0)
-      here = subst (λ (h : Group). v ≡ blockedIf (get_or blocks h.parent 0) h.colour (get_or reds h.parent 0)) is e
+      here = subst (λ (h : Group). v ≡ blocked_if (get_or blocks h.parent 0) h.colour (get_or reds h.parent 0)) is e
 
-      at : (k : ℕ) → 1 ≤ k → k < i + 1 → (k ≡ i) ⊎ (k ≢ i) → get_or new k 0 ≡ value k (get_or new (recordAt groups k).parent 0)
-      at k a b (inl q) = (at_i ∙ here ∙ subst (λ (y : ℕ). value i (get_or blocks own.parent 0) ≡ value y (get_or blocks (recordAt groups y).parent 0)) (sym q) refl) ∙ ap (value k) (sym (parent k a b))
+      at : (k : ℕ) → 1 ≤ k → k < i + 1 → (k ≡ i) ⊎ (k ≢ i) → get_or new k 0 ≡ value k (get_or new (record_at groups k).parent 0)
+      at k a b (inl q) = (at_i ∙ here ∙ subst (λ (y : ℕ). value i (get_or blocks own.parent 0) ≡ value y (get_or blocks (record_at groups y).parent 0)) (sym q) refl) ∙ ap (value k) (sym (parent k a b))
         where
           at_i : get_or new k 0 ≡ v
           at_i = ap (λ (y : ℕ). get_or new y 0) q ∙ get_or-set_same blocks i v 0 (omega (arith, p.long, R.few))
       at k a b (inr d) = same k d ∙ p.is k a (omega arith) ∙ ap (value k) (sym (parent k a b))
 
   -- .. its worker's stop comes before its end, if the count does
-  pub ahead-next : i < count → (ends made stops : List ℕ) (v : ℕ) → v ≡ nextEnd (get_or made g.first 0) (get_or ends i 0) (get_or stops g.first 0)
+  pub ahead-next : i < count → (ends made stops : List ℕ) (v : ℕ) → v ≡ next_end (get_or made g.first 0) (get_or ends i 0) (get_or stops g.first 0)
       → Ahead i groups ends made stops → Ahead (i + 1) groups ends made (set stops g.first v)
   ahead-next within ends made stops v e₀ a = subst (λ (h : Group). Ahead (i + 1) groups ends made (set stops h.first v)) (sym is) (record {
     long = length-set stops own.first v ∙ a.long;
     is = λ k l. at k (same_or k i) l;
   })
     where
-      e : v ≡ nextEnd (get_or made own.first 0) (get_or ends i 0) (get_or stops own.first 0)
-      e = subst (λ (h : Group). v ≡ nextEnd (get_or made h.first 0) (get_or ends i 0) (get_or stops h.first 0)) is e₀
+      e : v ≡ next_end (get_or made own.first 0) (get_or ends i 0) (get_or stops own.first 0)
+      e = subst (λ (h : Group). v ≡ next_end (get_or made h.first 0) (get_or ends i 0) (get_or stops h.first 0)) is e₀
 
       new : List ℕ
       new = set stops own.first v
@@ -239,14 +239,14 @@ module _ (count : ℕ) (groups : List ℕ) (R : Recorded count groups) (i : ℕ)
           by (inl q) = subst (λ (y : ℕ). get_or new y 0 ≤ get_or stops y 0) (sym q) (omega (arith, here, facts.0))
           by (inr d) = omega (arith, get_or-set_other stops own.first w v 0 d)
 
-      at : (k : ℕ) → (k ≡ i) ⊎ (k ≢ i) → k < i + 1 → (get_or ends k 0 ≤ get_or made (recordAt groups k).first 0) ⊎ (get_or new (recordAt groups k).first 0 ≤ get_or ends k 0)
-      at k (inl q) l = subst (λ (y : ℕ). (get_or ends y 0 ≤ get_or made (recordAt groups y).first 0) ⊎ (get_or new (recordAt groups y).first 0 ≤ get_or ends y 0)) (sym q) (by facts.1)
+      at : (k : ℕ) → (k ≡ i) ⊎ (k ≢ i) → k < i + 1 → (get_or ends k 0 ≤ get_or made (record_at groups k).first 0) ⊎ (get_or new (record_at groups k).first 0 ≤ get_or ends k 0)
+      at k (inl q) l = subst (λ (y : ℕ). (get_or ends y 0 ≤ get_or made (record_at groups y).first 0) ⊎ (get_or new (record_at groups y).first 0 ≤ get_or ends y 0)) (sym q) (by facts.1)
         where
           by : (get_or ends i 0 ≤ get_or made own.first 0) ⊎ (v ≤ get_or ends i 0) → (get_or ends i 0 ≤ get_or made own.first 0) ⊎ (get_or new own.first 0 ≤ get_or ends i 0)
           by (inl x) = inl x
           by (inr x) = inr (omega (arith, here))
       at k (inr d) l = by (a.is k (omega arith))
         where
-          by : (get_or ends k 0 ≤ get_or made (recordAt groups k).first 0) ⊎ (get_or stops (recordAt groups k).first 0 ≤ get_or ends k 0) → (get_or ends k 0 ≤ get_or made (recordAt groups k).first 0) ⊎ (get_or new (recordAt groups k).first 0 ≤ get_or ends k 0)
+          by : (get_or ends k 0 ≤ get_or made (record_at groups k).first 0) ⊎ (get_or stops (record_at groups k).first 0 ≤ get_or ends k 0) → (get_or ends k 0 ≤ get_or made (record_at groups k).first 0) ⊎ (get_or new (record_at groups k).first 0 ≤ get_or ends k 0)
           by (inl x) = inl x
-          by (inr x) = inr (omega (arith, less (recordAt groups k).first))
+          by (inr x) = inr (omega (arith, less (record_at groups k).first))

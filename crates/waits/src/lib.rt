@@ -1,16 +1,18 @@
 // Which leaves are blocked, and up to which counts this stays so: found by passes over the records.
+#![tactic(auto)]
+
 ghost use Rattle.std.specs.Prelude.{◌≡◌, false, List, ℕ, ◌/◌, ◌<◌, length, replicate};
-ghost use Rattle.plan.specs.Sound.{maxWorkers, maxGroups};
+ghost use Rattle.plan.specs.Sound.{max_workers, max_groups};
 ghost use Rattle.plan.specs.Groups.{width};
 ghost use Rattle.run.specs.Machine.{onward};
-ghost use Rattle.waits.specs.code.Waits.{Recorded, openIf, openRed, blockedIf, nextEnd, OpenReds, Passed, Blocks, Ahead, Current};
+ghost use Rattle.waits.specs.Code.Waits.{Recorded, open_if, open_red, blocked_if, next_end, OpenReds, Passed, Blocks, Ahead, Current};
 
 use plan::fields::{BLUE, RED, WIDTH, record_at};
 use plan::{MAX_GROUPS, MAX_WORKERS};
 
 // Whether a group is open, 1 or 0: no parent, so a leaf, with a count below its end; or with an open group below.
 fn open_if(parent: u8, below: u8, made: u32, end: u32) -> u8
-    ensures { result ≡ openIf parent below made end }
+    ensures { result ≡ open_if parent below made end }
 {
     if parent == 0 {
         if made < end { 1 } else { 0 }
@@ -21,14 +23,14 @@ fn open_if(parent: u8, below: u8, made: u32, end: u32) -> u8
 
 // .. and red.
 fn open_red(colour: u32, opened: u8) -> u8
-    ensures { result ≡ openRed colour opened }
+    ensures { result ≡ open_red colour opened }
 {
     if colour == RED { opened } else { 0 }
 }
 
 // A group is blocked if its parent is, or if it is blue and has an open red sibling.
 fn blocked_if(above: u8, colour: u32, red: u8) -> u8
-    ensures { result ≡ blockedIf above colour red }
+    ensures { result ≡ blocked_if above colour red }
 {
     if above == 1 {
         return 1;
@@ -41,7 +43,7 @@ fn blocked_if(above: u8, colour: u32, red: u8) -> u8
 
 // An end past the count that comes before the stop is the stop.
 fn next_end(made: u32, end: u32, stop: u32) -> u32
-    ensures { result ≡ nextEnd made end stop }
+    ensures { result ≡ next_end made end stop }
 {
     if end <= made {
         return stop;
@@ -57,7 +59,7 @@ fn open_reds(
     made: &[u32; MAX_WORKERS],
     reds: &mut [u8; MAX_GROUPS],
 )
-    requires { Recorded count groups.now × (reds.old ≡ replicate maxGroups 0) }
+    requires { Recorded count groups.now × (reds.old ≡ replicate max_groups 0) }
     ensures { OpenReds count groups.now ends.now made.now reds.new }
 {
     let mut parents = [0u8; MAX_GROUPS];
@@ -77,7 +79,7 @@ fn open_reds(
 
 // Marks the groups that are blocked, from the first record to the last. None is marked yet.
 fn pass_down(groups: &[u32], count: usize, reds: &[u8; MAX_GROUPS], blocks: &mut [u8; MAX_GROUPS])
-    requires { Recorded count groups.now × (blocks.old ≡ replicate maxGroups 0) }
+    requires { Recorded count groups.now × (blocks.old ≡ replicate max_groups 0) }
     ensures { Passed count groups.now reds.now blocks.new }
 {
     let mut i = 1;
@@ -97,7 +99,7 @@ pub fn find_blocked(
     made: &[u32; MAX_WORKERS],
     blocks: &mut [u8; MAX_GROUPS],
 )
-    requires { Recorded count groups.now × (blocks.old ≡ replicate maxGroups 0) }
+    requires { Recorded count groups.now × (blocks.old ≡ replicate max_groups 0) }
     ensures { Blocks count groups.now ends.now made.now blocks.new }
 {
     let mut reds = [0u8; MAX_GROUPS];
@@ -154,7 +156,7 @@ pub fn renew(
     blocks: &mut [u8; MAX_GROUPS],
     stops: &mut [u32; MAX_WORKERS],
 ) -> bool
-    requires { (w < maxWorkers) × Recorded (length groups.now / width) groups.now }
+    requires { (w < max_workers) × Recorded (length groups.now / width) groups.now }
     ensures { ((before : List ℕ) → made.now ≡ onward before w
         → Current (length groups.now / width) groups.now ends.now before blocks.old stops.old
         → Current (length groups.now / width) groups.now ends.now made.now blocks.new stops.new)

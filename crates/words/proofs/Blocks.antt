@@ -10,7 +10,7 @@ use lib.ListN.{length, get_or, set, take, drop, length-append, length-set, lengt
 use lib.Seq.{sets, sets-eq, length-sets, drop-drop, drop-append-add, take-suc, length-take-le, take_at}
 use Rattle.base.specs.Lists.{concat}
 use Rattle.base.proofs.Lists.{concat-append}
-use Rattle.words.specs.LittleEndian.{blocks, wholeBlocks, stored}
+use Rattle.words.specs.LittleEndian.{blocks, whole_blocks, stored}
 use Rattle.words.proofs.Copies.{take_min, stored_more}
 
 -- ---- blocks
@@ -32,16 +32,16 @@ blocks_at width (suc count) bytes (suc k) h = blocks_at width count (drop width 
 
 -- the numbers of bytes, where f reads one
 abbrev pub decoded : {A : Type 0} → (List ℕ → A) → (width : ℕ) → List ℕ → List A
-decoded f width bytes = map f (wholeBlocks width bytes)
+decoded f width bytes = map f (whole_blocks width bytes)
 
 module _ {A : Type 0} (f : List ℕ → A) (width : ℕ) (bytes : List ℕ) where
   -- as many as the bytes hold
-  pub length-decoded : length (decoded f width bytes) ≡ length bytes / width
-  length-decoded = length-map (wholeBlocks width bytes) f ∙ length-blocks width (length bytes / width) bytes
+  pub length_decoded : length (decoded f width bytes) ≡ length bytes / width
+  length_decoded = length-map (whole_blocks width bytes) f ∙ length-blocks width (length bytes / width) bytes
 
   -- the number at an index
-  pub decoded-at : (k : ℕ) → k < length bytes / width → get_or (decoded f width bytes) k (f []) ≡ f (take width (drop (k * width) bytes))
-  decoded-at k h = get_or-map f (wholeBlocks width bytes) k [] ∙ ap f (blocks_at width (length bytes / width) bytes k h)
+  pub decoded_at : (k : ℕ) → k < length bytes / width → get_or (decoded f width bytes) k (f []) ≡ f (take width (drop (k * width) bytes))
+  decoded_at k h = get_or-map f (whole_blocks width bytes) k [] ∙ ap f (blocks_at width (length bytes / width) bytes k h)
 
   -- `count` numbers are being loaded over a list, and k are
   pub record Loading (old : List A) (count : ℕ) (now : List A) (k : ℕ) : Type 0 where
@@ -55,12 +55,12 @@ module _ {A : Type 0} (f : List ℕ → A) (width : ℕ) (bytes : List ℕ) wher
     load-none = record { far = omega arith; long = refl; is = refl }
 
     -- a turn
-    pub load-more : (now : List A) (k : ℕ) (v : A) → count ≤ length bytes / width → count ≤ length old → k < count → v ≡ f (take width (drop (k * width) bytes))
+    pub load_more : (now : List A) (k : ℕ) (v : A) → count ≤ length bytes / width → count ≤ length old → k < count → v ≡ f (take width (drop (k * width) bytes))
         → Loading old count now k → Loading old count (set now k v) (k + 1)
-    load-more now k v hb ho h e l = record {
+    load_more now k v hb ho h e l = record {
       far = omega arith;
       long = length-set now k v ∙ l.long;
-      is = rw (l.is, e, ← decoded-at k (omega arith)) (stored_more (decoded f width bytes) old k (f []) (rw length-decoded (omega arith)) (omega arith));
+      is = rw (l.is, e, ← decoded_at k (omega arith)) (stored_more (decoded f width bytes) old k (f []) (rw length_decoded (omega arith)) (omega arith));
     }
 
     -- after the last turn
@@ -77,9 +77,9 @@ encoded f xs = concat (map f xs)
 
 module _ {A : Type 0} (f : A → List ℕ) (width : ℕ) (same : (a : A) → length (f a) ≡ width) where
   -- as many as the numbers' widths together
-  pub length-encoded : (xs : List A) → length (encoded f xs) ≡ length xs * width
-  length-encoded [] = rw zero-mul
-  length-encoded (x ∷ xs) = rw (length-append, same, length-encoded xs, suc-mul) (omega arith)
+  pub length_encoded : (xs : List A) → length (encoded f xs) ≡ length xs * width
+  length_encoded [] = rw zero-mul
+  length_encoded (x ∷ xs) = rw (length-append, same, length_encoded xs, suc-mul) (omega arith)
 
   -- `count` numbers are being stored over bytes, and k are
   pub record Storing (xs : List A) (old : List ℕ) (count : ℕ) (now : List ℕ) (k : ℕ) : Type 0 where
@@ -93,12 +93,12 @@ module _ {A : Type 0} (f : A → List ℕ) (width : ℕ) (same : (a : A) → len
     store-none = record { far = omega arith; long = refl; is = refl }
 
     -- one block more
-    next-block : (k : ℕ) (z : A) → k < length xs → k * width + width ≤ length old
+    next_block : (k : ℕ) (z : A) → k < length xs → k * width + width ≤ length old
         → sets (stored (encoded f (take k xs)) old) (k * width) (f (get_or xs k z)) ≡ stored (encoded f (take (k + 1) xs)) old
-    next-block k z hx ho =
+    next_block k z hx ho =
         let done = encoded f (take k xs) in
         let block = f (get_or xs k z) in
-        let size : length done ≡ k * width = length-encoded (take k xs) ∙ ap (λ (n : ℕ). n * width) (length-take-le k xs (le_of_lt hx)) in
+        let size : length done ≡ k * width = length_encoded (take k xs) ∙ ap (λ (n : ℕ). n * width) (length-take-le k xs (le_of_lt hx)) in
         let all : length (done ++ drop (k * width) old) ≡ length old = rw (length-append, size, length-drop) (omega arith) in
         let next : encoded f (take (k + 1) xs) ≡ done ++ block =
         rw (add-one k, take-suc xs k z, map-append, concat-append (map f (take k xs)) (block ∷ []), append-nil) in
@@ -108,12 +108,12 @@ module _ {A : Type 0} (f : A → List ℕ) (width : ℕ) (same : (a : A) → len
         (sets-eq block (done ++ drop (k * width) old) (k * width) (rw (all, same (get_or xs k z)) ho) ∙ rw (take_at done (drop (k * width) old) (k * width) size, rest, append_assoc))
 
     -- a turn
-    pub store-more : (now later : List ℕ) (k : ℕ) (z : A) → count ≤ length xs → k < count → k * width + width ≤ length old → later ≡ sets now (k * width) (f (get_or xs k z))
+    pub store_more : (now later : List ℕ) (k : ℕ) (z : A) → count ≤ length xs → k < count → k * width + width ≤ length old → later ≡ sets now (k * width) (f (get_or xs k z))
         → Storing xs old count now k → Storing xs old count later (k + 1)
-    store-more now later k z hx h ho e s = record {
+    store_more now later k z hx h ho e s = record {
       far = omega arith;
       long = ap length e ∙ length-sets now (k * width) (f (get_or xs k z)) ∙ s.long;
-      is = e ∙ rw s.is (next-block k z (omega arith) ho);
+      is = e ∙ rw s.is (next_block k z (omega arith) ho);
     }
 
     -- after the last turn; `room`: how many the bytes hold

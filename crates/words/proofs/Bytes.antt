@@ -11,18 +11,18 @@ use lib.ListN.{length, get_or, take, drop, length-take, length-drop}
 use lib.Seq.{drop-drop, take-add, length-take-le}
 use Rattle.base.proofs.Each.{Each, each_take, each-drop}
 use Rattle.base.proofs.Lists.{concat-append}
-use Rattle.words.specs.LittleEndian.{number, bytes_of, to_signed, ofSigned, signedNumber, signedBytesOf, blocks, unsigned, unsignedBytes, signed, signedBytes}
-use Rattle.words.specs.code.Places.{fourAt}
-use Rattle.words.proofs.Digits.{length-bytesOf, four-at}
-use Rattle.words.proofs.Blocks.{decoded-at, encoded, length-encoded}
+use Rattle.words.specs.LittleEndian.{number, bytes_of, to_signed, of_signed, signed_number, signed_bytes_of, blocks, unsigned, unsigned_bytes, signed, signed_bytes}
+use Rattle.words.specs.Code.Places.{four_at}
+use Rattle.words.proofs.Digits.{length-bytes_of, four-at}
+use Rattle.words.proofs.Blocks.{decoded_at, encoded, length_encoded}
 
 -- ---- the bytes of numbers
 
-pub bytes-append : (xs ys : List ℕ) → unsignedBytes 4 (xs ++ ys) ≡ unsignedBytes 4 xs ++ unsignedBytes 4 ys
-bytes-append xs ys = rw (map-append (bytes_of 4) xs ys) (concat-append (map (bytes_of 4) xs) (map (bytes_of 4) ys))
+pub bytes_append : (xs ys : List ℕ) → unsigned_bytes 4 (xs ++ ys) ≡ unsigned_bytes 4 xs ++ unsigned_bytes 4 ys
+bytes_append xs ys = rw (map-append (bytes_of 4) xs ys) (concat-append (map (bytes_of 4) xs) (map (bytes_of 4) ys))
 
-pub length-bytes : (xs : List ℕ) → length (unsignedBytes 4 xs) ≡ 4 * length xs
-length-bytes xs = length-encoded (bytes_of 4) 4 (length-bytesOf 4) xs ∙ omega arith
+pub length_bytes : (xs : List ℕ) → length (unsigned_bytes 4 xs) ≡ 4 * length xs
+length_bytes xs = length_encoded (bytes_of 4) 4 (length-bytes_of 4) xs ∙ omega arith
 
 -- ---- one number of bytes
 
@@ -30,13 +30,13 @@ abbrev pub IsByte : ℕ → Type 0
 IsByte b = b < 256
 
 -- its bytes are those
-bytesOf-number : (bs : List ℕ) → Each IsByte bs → bytes_of (length bs) (number bs) ≡ bs
+bytes_of-number : (bs : List ℕ) → Each IsByte bs → bytes_of (length bs) (number bs) ≡ bs
 unfolding bytes_of number
-bytesOf-number [] h = refl
-bytesOf-number (b ∷ bs) h =
+bytes_of-number [] h = refl
+bytes_of-number (b ∷ bs) h =
     let first : (b + 256 * number bs) % 256 ≡ b = omega (arith, h.0) in
     let rest : (b + 256 * number bs) / 256 ≡ number bs = omega (arith, h.0) in
-    rw (first, rest, bytesOf-number bs h.1)
+    rw (first, rest, bytes_of-number bs h.1)
 
 -- it is small
 pub number_small : (k : ℕ) (bs : List ℕ) → length bs ≤ k → Each IsByte bs → number bs < 256 ^ k
@@ -76,27 +76,27 @@ module _ {A : Type 0} (f : A → List ℕ) (g : List ℕ → A) (width : ℕ) (s
 
 -- numbers of four bytes
 four_same : (bs : List ℕ) → length bs ≡ 4 → Each IsByte bs → bytes_of 4 (number bs) ≡ bs
-four_same bs e h = ap (λ (w : ℕ). bytes_of w (number bs)) (sym e) ∙ bytesOf-number bs h
+four_same bs e h = ap (λ (w : ℕ). bytes_of w (number bs)) (sym e) ∙ bytes_of-number bs h
 
 -- signed numbers of eight: all that such bytes hold
-ofSigned-toSigned : (v : ℕ) → v < 256 ^ 8 → ofSigned 8 (to_signed 8 v) ≡ v
-unfolding ofSigned to_signed
-ofSigned-toSigned v h = go (ltb (2 * v) (256 ^ 8)) refl
+of_signed-to_signed : (v : ℕ) → v < 256 ^ 8 → of_signed 8 (to_signed 8 v) ≡ v
+unfolding of_signed to_signed
+of_signed-to_signed v h = go (ltb (2 * v) (256 ^ 8)) refl
   where
-    go : (b : Bool) → ltb (2 * v) (256 ^ 8) ≡ b → ofSigned 8 (cond b (pos v) (negsuc (256 ^ 8 - suc v))) ≡ v
+    go : (b : Bool) → ltb (2 * v) (256 ^ 8) ≡ b → of_signed 8 (cond b (pos v) (negsuc (256 ^ 8 - suc v))) ≡ v
     go true e = refl
     go false e = omega arith
 
-eight-same : (bs : List ℕ) → length bs ≡ 8 → Each IsByte bs → signedBytesOf 8 (signedNumber 8 bs) ≡ bs
-eight-same bs e h = ap (bytes_of 8) (ofSigned-toSigned (number bs) (number_small 8 bs (omega arith) h)) ∙ ap (λ (w : ℕ). bytes_of w (number bs)) (sym e) ∙ bytesOf-number bs h
+eight_same : (bs : List ℕ) → length bs ≡ 8 → Each IsByte bs → signed_bytes_of 8 (signed_number 8 bs) ≡ bs
+eight_same bs e h = ap (bytes_of 8) (of_signed-to_signed (number bs) (number_small 8 bs (omega arith) h)) ∙ ap (λ (w : ℕ). bytes_of w (number bs)) (sym e) ∙ bytes_of-number bs h
 
 -- the bytes of the signed numbers that bytes hold
-pub signed-bytes : (bytes : List ℕ) → Each IsByte bytes → signedBytes 8 (signed 8 bytes) ≡ take (8 * (length bytes / 8)) bytes
-signed-bytes bytes h = blocks-back (signedBytesOf 8) (signedNumber 8) 8 eight-same (length bytes / 8) bytes (omega arith) h
+pub signed-bytes : (bytes : List ℕ) → Each IsByte bytes → signed_bytes 8 (signed 8 bytes) ≡ take (8 * (length bytes / 8)) bytes
+signed-bytes bytes h = blocks-back (signed_bytes_of 8) (signed_number 8) 8 eight_same (length bytes / 8) bytes (omega arith) h
 
 -- the bytes of k numbers from the i-th on are the bytes that stand there
-pub bytes-part : (i k : ℕ) (bytes : List ℕ) → 4 * (i + k) ≤ length bytes → Each IsByte bytes → unsignedBytes 4 (take k (drop i (unsigned 4 bytes))) ≡ take (4 * k) (drop (4 * i) bytes)
-bytes-part i k bytes l h =
+pub bytes_part : (i k : ℕ) (bytes : List ℕ) → 4 * (i + k) ≤ length bytes → Each IsByte bytes → unsigned_bytes 4 (take k (drop i (unsigned 4 bytes))) ≡ take (4 * k) (drop (4 * i) bytes)
+bytes_part i k bytes l h =
     let more : ℕ = length bytes / 4 - i in
     let split : length bytes / 4 ≡ i + more = omega arith in
     let from : drop i (unsigned 4 bytes) ≡ map number (blocks 4 more (drop (4 * i) bytes)) = ap (λ (m : ℕ). drop i (map number (blocks 4 m bytes))) split ∙ later i more bytes in
@@ -113,6 +113,6 @@ numbers-small bytes h = go (length bytes / 4) bytes h
     go (suc k) bs h = (number_small 4 (take 4 bs) (rw (length-take 4 bs) (omega arith)) (each_take IsByte 4 bs h), go k (drop 4 bs) (each-drop IsByte 4 bs h))
 
 -- the number at an index, by its bytes
-pub four-number : (bytes : List ℕ) (k : ℕ) → k < length bytes / 4 → fourAt bytes (k * 4) ≡ get_or (unsigned 4 bytes) k 0
+pub four_number : (bytes : List ℕ) (k : ℕ) → k < length bytes / 4 → four_at bytes (k * 4) ≡ get_or (unsigned 4 bytes) k 0
 unfolding number
-four-number bytes k h = four-at bytes (k * 4) (omega arith) ∙ sym (decoded-at number 4 bytes k h)
+four_number bytes k h = four-at bytes (k * 4) (omega arith) ∙ sym (decoded_at number 4 bytes k h)

@@ -7,8 +7,8 @@ use native.Mathlib.Omega.{arith}
 use lib.IntN.{ℤ}
 use lib.ListN.{length, take, drop, get_or, length-take, length-drop}
 use lib.Seq.{drop-cons, drop-drop, take-add}
-use Rattle.words.specs.LittleEndian.{number, bytes_of, ofSigned, signedBytesOf}
-use Rattle.words.specs.code.Places.{fourAt, eightAt}
+use Rattle.words.specs.LittleEndian.{number, bytes_of, of_signed, signed_bytes_of}
+use Rattle.words.specs.Code.Places.{four_at, eight_at}
 
 -- the number of the `width` bytes that a function gives
 abbrev pub sum_of : (ℕ → ℕ) → (width : ℕ) → ℕ
@@ -27,23 +27,23 @@ number_at (suc width) bytes at h =
 -- ---- the bytes of a number
 
 -- as many as the width
-pub length-bytesOf : (width v : ℕ) → length (bytes_of width v) ≡ width
+pub length-bytes_of : (width v : ℕ) → length (bytes_of width v) ≡ width
 unfolding bytes_of
-length-bytesOf zero v = refl
-length-bytesOf (suc width) v = ap suc (length-bytesOf width (v / 256))
+length-bytes_of zero v = refl
+length-bytes_of (suc width) v = ap suc (length-bytes_of width (v / 256))
 
 -- .. of a signed number
-pub length-signedBytesOf : (width : ℕ) (z : ℤ) → length (signedBytesOf width z) ≡ width
-length-signedBytesOf width z = length-bytesOf width (ofSigned width z)
+pub length-signed_bytes_of : (width : ℕ) (z : ℤ) → length (signed_bytes_of width z) ≡ width
+length-signed_bytes_of width z = length-bytes_of width (of_signed width z)
 
 -- the number of a number's bytes, if it fits them
-pub number-bytesOf : (width v : ℕ) → v < 256 ^ width → number (bytes_of width v) ≡ v
+pub number-bytes_of : (width v : ℕ) → v < 256 ^ width → number (bytes_of width v) ≡ v
 unfolding number bytes_of
-number-bytesOf zero v h = omega arith
-number-bytesOf (suc width) v h =
+number-bytes_of zero v h = omega arith
+number-bytes_of (suc width) v h =
     let p : v < 256 ^ width * 256 = rw pow-suc at h in
     let q : v / 256 < 256 ^ width = omega arith in
-    omega (arith, number-bytesOf width (v / 256) q)
+    omega (arith, number-bytes_of width (v / 256) q)
 
 -- ---- a low and a high part
 
@@ -54,26 +54,26 @@ number_append [] ys = omega arith
 number_append (x ∷ xs) ys = rw (number_append xs ys, pow-suc, mul_comm (256 ^ length xs) 256, mul_assoc) (omega arith)
 
 -- the bytes of a low part and a high part
-pub bytesOf-append : (a b low high : ℕ) → low < 256 ^ a → bytes_of (a + b) (low + 256 ^ a * high) ≡ bytes_of a low ++ bytes_of b high
+pub bytes_of-append : (a b low high : ℕ) → low < 256 ^ a → bytes_of (a + b) (low + 256 ^ a * high) ≡ bytes_of a low ++ bytes_of b high
 unfolding bytes_of
-bytesOf-append zero b low high h =
+bytes_of-append zero b low high h =
     let none : low + 1 * high ≡ high = omega arith in
     rw (zero-add b, none)
-bytesOf-append (suc a) b low high h =
+bytes_of-append (suc a) b low high h =
     let small : low < 256 ^ a * 256 = rw pow-suc at h in
     let above : 256 ^ a * 256 * high ≡ 256 * (256 ^ a * high) = rw (mul_comm (256 ^ a) 256, mul_assoc) in
     let byte : (low + 256 * (256 ^ a * high)) % 256 ≡ low % 256 = omega arith in
     let rest : (low + 256 * (256 ^ a * high)) / 256 ≡ low / 256 + 256 ^ a * high = omega arith in
-    rw (suc-add a b, pow-suc, above, byte, rest, bytesOf-append a b (low / 256) high (omega arith))
+    rw (suc-add a b, pow-suc, above, byte, rest, bytes_of-append a b (low / 256) high (omega arith))
 
 -- ---- four bytes and eight
 
 -- the number at a place
-pub four-at : (bytes : List ℕ) (at : ℕ) → at + 4 ≤ length bytes → fourAt bytes at ≡ number (take 4 (drop at bytes))
+pub four-at : (bytes : List ℕ) (at : ℕ) → at + 4 ≤ length bytes → four_at bytes at ≡ number (take 4 (drop at bytes))
 four-at bytes at h = omega (arith, rw (add-zero at) at (number_at 4 bytes at h))
 
 -- .. of eight bytes
-pub eight-at : (bytes : List ℕ) (at : ℕ) → at + 8 ≤ length bytes → eightAt bytes at ≡ number (take 8 (drop at bytes))
+pub eight-at : (bytes : List ℕ) (at : ℕ) → at + 8 ≤ length bytes → eight_at bytes at ≡ number (take 8 (drop at bytes))
 eight-at bytes at h =
     let whole : number (take 8 (drop at bytes)) ≡ number (take 4 (drop at bytes)) + 256 ^ length (take 4 (drop at bytes)) * number (take 4 (drop 4 (drop at bytes))) =
     rw (take-add 4 4 (drop at bytes)) (number_append (take 4 (drop at bytes)) (take 4 (drop 4 (drop at bytes)))) in
@@ -89,7 +89,7 @@ four_bytes v =
     rw (square, cube)
 
 -- the eight bytes are those of the low and of the high half
-pub eight-bytes : (v : ℕ) → bytes_of 8 v ≡ bytes_of 4 (v % 4294967296) ++ bytes_of 4 (v / 4294967296)
-eight-bytes v =
+pub eight_bytes : (v : ℕ) → bytes_of 8 v ≡ bytes_of 4 (v % 4294967296) ++ bytes_of 4 (v / 4294967296)
+eight_bytes v =
     let halves : v % 4294967296 + 256 ^ 4 * (v / 4294967296) ≡ v = omega arith in
-    rw halves at (bytesOf-append 4 4 (v % 4294967296) (v / 4294967296) (omega arith))
+    rw halves at (bytes_of-append 4 4 (v % 4294967296) (v / 4294967296) (omega arith))

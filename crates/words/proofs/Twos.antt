@@ -1,4 +1,4 @@
--- Two's complement at every width: `to_signed` and `ofSigned` are the machine's reading of a signed number's bits and
+-- Two's complement at every width: `to_signed` and `of_signed` are the machine's reading of a signed number's bits and
 -- its bits; and each way by -1 - x.
 use mathlib.Core.Path.{◌≡◌, refl, ap, ◌∙◌}
 use mathlib.Core.Bool.{Bool, true, false, cond}
@@ -14,25 +14,25 @@ use mir.Syntax.{Width}
 use mir.Val.{bits, hbits, Fits, SFits, to_z, of_z}
 use mir.ValLaws.{pow-bits, to_z_pos, to_z-of_z}
 use Rattle.base.proofs.Booleans.{clash}
-use Rattle.words.specs.LittleEndian.{to_signed, ofSigned}
+use Rattle.words.specs.LittleEndian.{to_signed, of_signed}
 
 -- ---- the definitions and the machine, where `size` bytes are the machine's width
 
 module _ (w : Width) (size : ℕ) (same : 256 ^ size ≡ 2 ^ bits w) where
   -- the machine's reading
-  pub toSigned-is : (v : ℕ) → to_signed size v ≡ to_z w v
+  pub to_signed-is : (v : ℕ) → to_signed size v ≡ to_z w v
   unfolding to_signed
-  toSigned-is v = rw same (go (ltb v (2 ^ hbits w)) refl)
+  to_signed-is v = rw same (go (ltb v (2 ^ hbits w)) refl)
     where
       go : (b : Bool) → ltb v (2 ^ hbits w) ≡ b → cond (ltb (2 * v) (2 ^ bits w)) (pos v) (negsuc (2 ^ bits w - suc v)) ≡ to_z w v
       go true e = rw (e, lt-ltb (2 * v) (2 ^ bits w) (omega (arith, ltb-true v (2 ^ hbits w) e, pow-bits w)))
       go false e = rw (e, le-ltb (2 * v) (2 ^ bits w) (omega (arith, ltb-false v (2 ^ hbits w) e, pow-bits w)))
 
   -- the machine's bits
-  pub ofSigned-is : (z : ℤ) → ofSigned size z ≡ of_z w z
-  unfolding ofSigned
-  ofSigned-is (pos v) = refl
-  ofSigned-is (negsuc v) = rw same
+  pub of_signed-is : (z : ℤ) → of_signed size z ≡ of_z w z
+  unfolding of_signed
+  of_signed-is (pos v) = refl
+  of_signed-is (negsuc v) = rw same
 
 -- ---- by -1 - x, where `top` is the width's largest number
 
@@ -50,13 +50,13 @@ module _ (w : Width) (top : ℕ) (full : suc top ≡ 2 ^ bits w) where
     flipped = rw (to_z_pos w (top - x) (omega (arith, pow-bits w))) (minus (top - x))
 
     -- it fits
-    pub flipped-fits : SFits w (negsuc 0 -ℤ to_z w (top - x))
-    flipped-fits = rw flipped (sfits_of (omega (arith, pow-bits w)))
+    pub flipped_fits : SFits w (negsuc 0 -ℤ to_z w (top - x))
+    flipped_fits = rw flipped (sfits_of (omega (arith, pow-bits w)))
 
     -- it is the number that the bits stand for
-    pub flipped-is : to_z w (of_z w (negsuc 0 -ℤ to_z w (top - x))) ≡ to_z w x
-    flipped-is =
-        to_z-of_z w (negsuc 0 -ℤ to_z w (top - x)) flipped-fits ∙ flipped
+    pub flipped_is : to_z w (of_z w (negsuc 0 -ℤ to_z w (top - x))) ≡ to_z w x
+    flipped_is =
+        to_z-of_z w (negsuc 0 -ℤ to_z w (top - x)) flipped_fits ∙ flipped
         ∙ rw (le-ltb x (2 ^ hbits w) high) (ap negsuc (omega arith))
 
   -- what a cast of v asks, and gives, where v is not below 0

@@ -1,2 +1,2 @@
 pub mod LittleEndian
-pub mod code
+pub mod Code

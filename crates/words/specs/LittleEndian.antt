@@ -19,16 +19,16 @@ bytes_of (suc width) v = v % 256 ∷ bytes_of width (v / 256)
 unfoldable pub to_signed : (width : ℕ) → ℕ → ℤ
 to_signed width v = cond (ltb (2 * v) (256 ^ width)) (pos v) (negsuc (256 ^ width - suc v))
 
-unfoldable pub ofSigned : (width : ℕ) → ℤ → ℕ
-ofSigned width (pos v) = v
-ofSigned width (negsuc v) = 256 ^ width - suc v
+unfoldable pub of_signed : (width : ℕ) → ℤ → ℕ
+of_signed width (pos v) = v
+of_signed width (negsuc v) = 256 ^ width - suc v
 
 -- the signed number of `width` bytes, and the bytes of a signed number
-abbrev pub signedNumber : (width : ℕ) → List ℕ → ℤ
-signedNumber width bs = to_signed width (number bs)
+abbrev pub signed_number : (width : ℕ) → List ℕ → ℤ
+signed_number width bs = to_signed width (number bs)
 
-abbrev pub signedBytesOf : (width : ℕ) → ℤ → List ℕ
-signedBytesOf width z = bytes_of width (ofSigned width z)
+abbrev pub signed_bytes_of : (width : ℕ) → ℤ → List ℕ
+signed_bytes_of width z = bytes_of width (of_signed width z)
 
 -- ---- a list of numbers
 
@@ -38,22 +38,22 @@ blocks width zero bytes = []
 blocks width (suc count) bytes = take width bytes ∷ blocks width count (drop width bytes)
 
 -- the whole blocks: a shorter trailing part is none
-abbrev pub wholeBlocks : (width : ℕ) → List ℕ → List (List ℕ)
-wholeBlocks width bytes = blocks width (length bytes / width) bytes
+abbrev pub whole_blocks : (width : ℕ) → List ℕ → List (List ℕ)
+whole_blocks width bytes = blocks width (length bytes / width) bytes
 
 -- the numbers that bytes hold, and the bytes of numbers
 abbrev pub unsigned : (width : ℕ) → List ℕ → List ℕ
-unsigned width bytes = map number (wholeBlocks width bytes)
+unsigned width bytes = map number (whole_blocks width bytes)
 
-abbrev pub unsignedBytes : (width : ℕ) → List ℕ → List ℕ
-unsignedBytes width vs = concat (map (bytes_of width) vs)
+abbrev pub unsigned_bytes : (width : ℕ) → List ℕ → List ℕ
+unsigned_bytes width vs = concat (map (bytes_of width) vs)
 
 -- the same of signed numbers
 abbrev pub signed : (width : ℕ) → List ℕ → List ℤ
-signed width bytes = map (signedNumber width) (wholeBlocks width bytes)
+signed width bytes = map (signed_number width) (whole_blocks width bytes)
 
-abbrev pub signedBytes : (width : ℕ) → List ℤ → List ℕ
-signedBytes width zs = concat (map (signedBytesOf width) zs)
+abbrev pub signed_bytes : (width : ℕ) → List ℤ → List ℕ
+signed_bytes width zs = concat (map (signed_bytes_of width) zs)
 
 -- ---- a list that another is copied over
 

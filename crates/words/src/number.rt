@@ -2,14 +2,14 @@
 ghost use Rattle.std.specs.Prelude.{◌≡◌, ◌+◌, ◌≤◌, length};
 ghost use Rattle.std.proofs.lemmas.List.Edits.{sets};
 ghost use Rattle.words.specs.LittleEndian.{bytes_of};
-ghost use Rattle.words.specs.code.Places.{fourAt, eightAt};
+ghost use Rattle.words.specs.Code.Places.{four_at, eight_at};
 
 use base::bytes::wide;
 
 // The number of the four bytes from a place on.
 pub fn read_u32(bytes: &[u8], at: usize) -> u32
     requires { at + 4 ≤ length bytes.now }
-    ensures { result ≡ fourAt bytes.now at }
+    ensures { result ≡ four_at bytes.now at }
 {
     wide(bytes[at])
         + wide(bytes[at + 1]) * 256
@@ -20,7 +20,7 @@ pub fn read_u32(bytes: &[u8], at: usize) -> u32
 // The number of the eight bytes from a place on.
 pub fn read_u64(bytes: &[u8], at: usize) -> u64
     requires { at + 8 ≤ length bytes.now }
-    ensures { result ≡ eightAt bytes.now at }
+    ensures { result ≡ eight_at bytes.now at }
 {
     let low = read_u32(bytes, at);
     let high = read_u32(bytes, at + 4);

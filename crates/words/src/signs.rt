@@ -1,6 +1,6 @@
 // Signed numbers in two's complement.
 ghost use Rattle.std.specs.Prelude.{◌≡◌};
-ghost use Rattle.words.specs.LittleEndian.{to_signed, ofSigned};
+ghost use Rattle.words.specs.LittleEndian.{to_signed, of_signed};
 
 pub fn to_i32(v: u32) -> i32
     ensures { result ≡ to_signed 4 v }
@@ -21,7 +21,7 @@ pub fn to_i64(v: u64) -> i64
 }
 
 pub fn of_i32(z: i32) -> u32
-    ensures { result ≡ ofSigned 4 z }
+    ensures { result ≡ of_signed 4 z }
 {
     if 0 <= z {
         return z as u32;
@@ -30,7 +30,7 @@ pub fn of_i32(z: i32) -> u32
 }
 
 pub fn of_i64(z: i64) -> u64
-    ensures { result ≡ ofSigned 8 z }
+    ensures { result ≡ of_signed 8 z }
 {
     if 0 <= z {
         return z as u64;

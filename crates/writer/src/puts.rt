@@ -1,10 +1,10 @@
 // Numbers and lines, measured and put into a lent text.
 
 ghost use Rattle.std.specs.Prelude.{◌≡◌, [], ◌∷◌, ◌+◌, ◌^◌, ◌≤◌, ◌<◌, nat_abs, length};
-ghost use Rattle.matrix.specs.Limits.{maxRows};
+ghost use Rattle.matrix.specs.Limits.{max_rows};
 ghost use Rattle.market.specs.Bytes.{header};
 ghost use Rattle.market.specs.Text.{natural, integer, line_of};
-ghost use Rattle.writer.specs.code.Puts.{Put, digitAt};
+ghost use Rattle.writer.specs.Code.Puts.{Put, digit_at};
 
 use market::HEADER;
 
@@ -37,8 +37,8 @@ pub fn put_byte(text: &mut [u8], at: usize, b: u8) -> usize
 
 // A digit of a number at a power of ten, if the number has reached it, and the place after it.
 fn put_digit(text: &mut [u8], at: usize, v: u32, power: u32) -> usize
-    requires { (1 ≤ power) × (at + length (digitAt power v) ≤ length text.old) }
-    ensures { Put (digitAt power v) at result text.old text.new }
+    requires { (1 ≤ power) × (at + length (digit_at power v) ≤ length text.old) }
+    ensures { Put (digit_at power v) at result text.old text.new }
 {
     if v < power {
         return at;
@@ -48,7 +48,7 @@ fn put_digit(text: &mut [u8], at: usize, v: u32, power: u32) -> usize
 
 // A row's or column's number, of at most four digits that do not wait for each other, and the place after it.
 fn put_index(text: &mut [u8], at: usize, v: u32) -> usize
-    requires { (v ≤ maxRows) × (at + length (natural v) ≤ length text.old) }
+    requires { (v ≤ max_rows) × (at + length (natural v) ≤ length text.old) }
     ensures { Put (natural v) at result text.old text.new }
 {
     let hundreds = put_digit(text, at, v, 1000);
@@ -105,7 +105,7 @@ fn put_integer(text: &mut [u8], at: usize, v: i32) -> usize
 
 // How many bytes a line takes.
 pub(crate) fn line_width(r: u32, c: u32, v: i32) -> usize
-    requires { (r ≤ maxRows) × (c ≤ maxRows) }
+    requires { (r ≤ max_rows) × (c ≤ max_rows) }
     ensures { result ≡ length (line_of r c v) }
 {
     width(r, 4) + width(c, 4) + integer_width(v) + 3
@@ -113,7 +113,7 @@ pub(crate) fn line_width(r: u32, c: u32, v: i32) -> usize
 
 // A line, and the place after it.
 pub(crate) fn put_line(text: &mut [u8], at: usize, r: u32, c: u32, v: i32) -> usize
-    requires { (r ≤ maxRows) × (c ≤ maxRows) × (at + length (line_of r c v) ≤ length text.old) }
+    requires { (r ≤ max_rows) × (c ≤ max_rows) × (at + length (line_of r c v) ≤ length text.old) }
     ensures { Put (line_of r c v) at result text.old text.new }
 {
     let row = put_index(text, at, r);

@@ -1,10 +1,10 @@
 // A matrix as text: measured first, then put. Column j on and below the diagonal is row j from the diagonal on.
 
 ghost use Rattle.std.specs.Prelude.{◌≡◌, true, ◌+◌, ◌≤◌, ◌<◌, length};
-ghost use Rattle.matrix.specs.Matrix.{isMatrix, matrixOf};
+ghost use Rattle.matrix.specs.Matrix.{is_matrix, matrix_of};
 ghost use Rattle.market.specs.Text.{lower};
-ghost use Rattle.writer.specs.code.Puts.{Put, fromDiagonal, ifLower, lines_of, Row, Tallied};
-ghost use Rattle.matrix.specs.Limits.{maxRows};
+ghost use Rattle.writer.specs.Code.Puts.{Put, from_diagonal, if_lower, lines_of, Row, Tallied};
+ghost use Rattle.matrix.specs.Limits.{max_rows};
 
 use crate::puts::{line_width, put_line};
 use base::numbers::wide;
@@ -18,8 +18,8 @@ pub(crate) struct Tally {
 
 // What the entry of row j and column c, with value v, takes if it is written.
 fn tally_entry(j: u32, c: u32, v: i32) -> Tally
-    requires { (j < maxRows) × (c < maxRows) }
-    ensures { Tallied (ifLower j c v) result.entries result.bytes }
+    requires { (j < max_rows) × (c < max_rows) }
+    ensures { Tallied (if_lower j c v) result.entries result.bytes }
 {
     if c < j {
         return Tally {
@@ -36,7 +36,7 @@ fn tally_entry(j: u32, c: u32, v: i32) -> Tally
 // What row j takes from the diagonal on.
 fn tally_row(j: u32, columns: &[u32], values: &[i32]) -> Tally
     requires { Row j columns.now values.now }
-    ensures { Tallied (fromDiagonal j columns.now values.now) result.entries result.bytes }
+    ensures { Tallied (from_diagonal j columns.now values.now) result.entries result.bytes }
 {
     let mut entries: usize = 0;
     let mut bytes: usize = 0;
@@ -52,8 +52,8 @@ fn tally_row(j: u32, columns: &[u32], values: &[i32]) -> Tally
 
 // What all entries on and below the diagonal take.
 pub(crate) fn tally_rows(n: u32, starts: &[u32], columns: &[u32], values: &[i32]) -> Tally
-    requires { isMatrix (matrixOf n starts.now columns.now values.now) ≡ true }
-    ensures { Tallied (lower (matrixOf n starts.now columns.now values.now)) result.entries result.bytes }
+    requires { is_matrix (matrix_of n starts.now columns.now values.now) ≡ true }
+    ensures { Tallied (lower (matrix_of n starts.now columns.now values.now)) result.entries result.bytes }
 {
     let mut entries: usize = 0;
     let mut bytes: usize = 0;
@@ -72,8 +72,8 @@ pub(crate) fn tally_rows(n: u32, starts: &[u32], columns: &[u32], values: &[i32]
 
 // The line of the entry of row j and column c, if it is written, and the place after it.
 fn put_entry(text: &mut [u8], at: usize, j: u32, c: u32, v: i32) -> usize
-    requires { (j < maxRows) × (c < maxRows) × (at + length (lines_of (ifLower j c v)) ≤ length text.old) }
-    ensures { Put (lines_of (ifLower j c v)) at result text.old text.new }
+    requires { (j < max_rows) × (c < max_rows) × (at + length (lines_of (if_lower j c v)) ≤ length text.old) }
+    ensures { Put (lines_of (if_lower j c v)) at result text.old text.new }
 {
     if c < j {
         return at;
@@ -83,8 +83,8 @@ fn put_entry(text: &mut [u8], at: usize, j: u32, c: u32, v: i32) -> usize
 
 // The lines of row j from the diagonal on, and the place after them.
 fn put_row(text: &mut [u8], at: usize, j: u32, columns: &[u32], values: &[i32]) -> usize
-    requires { Row j columns.now values.now × (at + length (lines_of (fromDiagonal j columns.now values.now)) ≤ length text.old) }
-    ensures { Put (lines_of (fromDiagonal j columns.now values.now)) at result text.old text.new }
+    requires { Row j columns.now values.now × (at + length (lines_of (from_diagonal j columns.now values.now)) ≤ length text.old) }
+    ensures { Put (lines_of (from_diagonal j columns.now values.now)) at result text.old text.new }
 {
     let mut p = at;
     let mut k: usize = 0;
@@ -104,8 +104,8 @@ pub(crate) fn put_rows(
     columns: &[u32],
     values: &[i32],
 ) -> usize
-    requires { (isMatrix (matrixOf n starts.now columns.now values.now) ≡ true) × (at + length (lines_of (lower (matrixOf n starts.now columns.now values.now))) ≤ length text.old) }
-    ensures { Put (lines_of (lower (matrixOf n starts.now columns.now values.now))) at result text.old text.new }
+    requires { (is_matrix (matrix_of n starts.now columns.now values.now) ≡ true) × (at + length (lines_of (lower (matrix_of n starts.now columns.now values.now))) ≤ length text.old) }
+    ensures { Put (lines_of (lower (matrix_of n starts.now columns.now values.now))) at result text.old text.new }
 {
     let mut p = at;
     let mut j: u32 = 0;

@@ -6,12 +6,12 @@ use native.Mathlib.Omega.{arith}
 use lib.IntN.{ℤ}
 use lib.ListN.{length, get_or, take}
 use mathlib.Core.List.{List}
-use Rattle.matrix.specs.Matrix.{matrixOf}
-use Rattle.steps.specs.code.Steps.{placeNext}
-use Rattle.tables.specs.code.Laid.{maxUpdates}
-use Rattle.upper.specs.code.Upper.{Lent}
-use Rattle.ahead.specs.code.Ahead.{Indexed, PartsOf, Sized}
-use Rattle.ahead.proofs.AheadRows.{workers-more, Serving, serving-start, serving-done, upper-ahead}
+use Rattle.matrix.specs.Matrix.{matrix_of}
+use Rattle.steps.specs.Code.Steps.{place_next}
+use Rattle.tables.specs.Code.Laid.{max_updates}
+use Rattle.upper.specs.Code.Upper.{Lent}
+use Rattle.ahead.specs.Code.Ahead.{Indexed, PartsOf, Sized}
+use Rattle.ahead.proofs.AheadRows.{workers_more, Serving, serving_start, serving_done, upper_ahead}
 use Rattle.base.proofs.Booleans.{clash}
 use borrow.Author.Rules.{rules}
 use Rattle.ahead.proofs.lay_ahead.Statement.{statement}
@@ -20,8 +20,8 @@ use Rattle.ahead.proofs.lay_ahead.Tie as tie
 abbrev invariant-loop : tie.invariant-loop
 invariant-loop starts columns values order position sizes row first made picks parts₀ at₀ beside₀ next₀ w₀ parts at beside next w =
     (w ≤ 16) × (next ≤ length at) × (length at ≡ length at₀) × (length beside ≡ length beside₀)
-    × ((n : ℕ) → Indexed n starts columns values order position sizes → ((k : ℕ) → get_or row k 0 < n) → PartsOf (matrixOf n starts columns values) (take n order) (λ q. false) 0 parts₀ at₀ beside₀
-    → Serving (matrixOf n starts columns values) (take n order) first row made picks w next parts at beside)
+    × ((n : ℕ) → Indexed n starts columns values order position sizes → ((k : ℕ) → get_or row k 0 < n) → PartsOf (matrix_of n starts columns values) (take n order) (λ q. false) 0 parts₀ at₀ beside₀
+    → Serving (matrix_of n starts columns values) (take n order) first row made picks w next parts at beside)
 
 abbrev decreases-loop : tie.decreases-loop
 decreases-loop starts columns values order position sizes row first made picks parts₀ at₀ beside₀ next₀ w₀ parts at beside next w = 16 - w
@@ -32,7 +32,7 @@ start l = l.before.before.before.before.before.before
 
 -- the whole upper triangle is there
 returns : tie.Need-returns invariant-loop decreases-loop
-returns c = (λ r n lent s low. upper-ahead low (s.whole c.if1.true), λ e. refl)
+returns c = (λ r n lent s low. upper_ahead low (s.whole c.if1.true), λ e. refl)
 
 -- .. is not
 small : (e : tie.Else1 invariant-loop decreases-loop) → length e.before.before.before.before.before.args.at.now < 69632
@@ -40,11 +40,11 @@ small e = omega (arith, e.if1.false, e.before.before.before.before.before.requir
 
 -- what is laid with the sizes, then
 indexed : {n : ℕ} {starts columns : List ℕ} {values : List ℤ} {order position sizes parts at : List ℕ} {beside : List ℤ} → Lent n starts columns values order
-    → Sized n starts columns values order position sizes parts at beside → length at < maxUpdates → Indexed n starts columns values order position sizes
-indexed lent s l = record { lent = lent; positions = s.positions l; sizes-are = s.sizes-are }
+    → Sized n starts columns values order position sizes parts at beside → length at < max_updates → Indexed n starts columns values order position sizes
+indexed lent s l = record { lent = lent; positions = s.positions l; sizes_are = s.sizes_are }
 
 loop-holds : tie.Need-loop-init invariant-loop decreases-loop
-loop-holds c = (search rules, search rules, refl, refl, λ n x low h. serving-start h)
+loop-holds c = (search rules, search rules, refl, refl, λ n x low h. serving_start h)
 
 -- the last place of a worker's updates is one of the table's
 last : (t : tie.In-loop invariant-loop decreases-loop) → let l = t.before in get_or (start l).args.first.now (l.loop.w + 1) 0 ≤ 69632
@@ -58,7 +58,7 @@ abbrev reach : tie.After-least invariant-loop decreases-loop → tie.After-wide-
 reach e = e.before.before.before
 
 from : (f : tie.After-wide-at2 invariant-loop decreases-loop) → let l = (turn f).before in let a = (start l).args in
-    f.before.before.wide_at.result + f.wide-at2.result / 2 ≡ placeNext a.first.now a.made.now l.loop.w
+    f.before.before.wide_at.result + f.wide-at2.result / 2 ≡ place_next a.first.now a.made.now l.loop.w
 from f = omega (arith, f.before.before.wide_at.ensures.0, f.wide-at2.ensures.0)
 
 low : (f : tie.After-wide-at2 invariant-loop decreases-loop) → f.before.before.wide_at.result + f.wide-at2.result / 2 < 8589934592
@@ -100,15 +100,15 @@ loop-again c =
       λ n x low h.
           let s = i.4 n x low h in
           let r = k.lay-parts.ensures n s.rows x low s.laid (omega (arith, c.if2.false, at)) in
-          record { rows = r.0; reached = workers-more s.reached r.1 (from f) (λ q a b. omega (arith, e.least.ensures, e.before.wide-at3.ensures.0)); laid = r.2 },
+          record { rows = r.0; reached = workers_more s.reached r.1 (from f) (λ q a b. omega (arith, e.least.ensures, e.before.wide-at3.ensures.0)); laid = r.2 },
     )
 
-returns-3 : tie.Need-returns-3 invariant-loop decreases-loop
-returns-3 c =
+returns_3 : tie.Need-returns-3 invariant-loop decreases-loop
+returns_3 c =
     let l = c.before in
     let e : l.loop.w ≡ 16 = search rules in
     let fits = small l.before in
-    (λ r n lent s low. serving-done (rw e at (l.loop.invariant.4 n (indexed lent s fits) low (s.none fits))), λ y. refl)
+    (λ r n lent s low. serving_done (rw e at (l.loop.invariant.4 n (indexed lent s fits) low (s.none fits))), λ y. refl)
 
 pub lay-ahead-spec : {M : Type 1} → statement M
 lay-ahead-spec =
@@ -116,4 +116,4 @@ lay-ahead-spec =
     (tie.spec invariant-loop decreases-loop returns loop-holds (λ c κs. search rules) (λ c κs. search rules) add-from add-least add-least-2
     (λ c. search rules) (λ c κs. search rules) (λ c κs. search rules) lay-parts-requires (λ c. search rules)
     (λ c. search rules) returns-2 (λ c. search rules) (λ c. search rules) loop-again (λ c. search rules)
-    (λ c. search rules) returns-3)
+    (λ c. search rules) returns_3)

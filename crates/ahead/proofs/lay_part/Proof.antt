@@ -36,7 +36,7 @@ lay-row-requires c κs =
     let e = c.before.before in
     let s = start e.before in
     let x = s.pre.0.1 in
-    ((_, x.lent, x.positions, s.pre.0.2, x.sizes-are.is _ s.pre.0.2), omega (arith, e.if1.false), omega (arith, e.if1.false, s.pre.3))
+    ((_, x.lent, x.positions, s.pre.0.2, x.sizes_are.is _ s.pre.0.2), omega (arith, e.if1.false), omega (arith, e.if1.false, s.pre.3))
 
 element-write-parts : tie.Need-element-write-parts
 element-write-parts c = let l = row (start c.before.before.before.before.before.before.before) in search rules
@@ -45,7 +45,7 @@ returns-2 : tie.Need-returns-2
 returns-2 c n rows x l h r =
     let k = c.before.before.before in
     let s = start k.before.before.before.before in
-    let is = x.sizes-are.is s.args.p l in
+    let is = x.sizes_are.is s.args.p l in
     let t = k.lay-row.ensures n x.lent x.positions l is in
     parts_more _ _ h t.0 t.1 (row s) (ap (◌+◌ s.args.place) is) r
 

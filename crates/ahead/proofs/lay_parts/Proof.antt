@@ -5,9 +5,9 @@ use mathlib.Core.Bool.{Bool}
 use Prim.Native.Nat.{ℕ, ◌-◌, ◌≤◌, ◌<◌}
 use native.Mathlib.Omega.{arith}
 use lib.ListN.{length, get_or, take}
-use Rattle.matrix.specs.Matrix.{matrixOf}
-use Rattle.ahead.specs.code.Ahead.{Indexed, PartsOf}
-use Rattle.ahead.proofs.AheadRows.{few-rows, with-fewer, Going, going_start, going-same, going_more}
+use Rattle.matrix.specs.Matrix.{matrix_of}
+use Rattle.ahead.specs.Code.Ahead.{Indexed, PartsOf}
+use Rattle.ahead.proofs.AheadRows.{few-rows, with_fewer, Going, going_start, going_same, going_more}
 use borrow.Author.Rules.{rules}
 use Rattle.ahead.proofs.lay_parts.Statement.{statement}
 use Rattle.ahead.proofs.lay_parts.Tie as tie
@@ -15,8 +15,8 @@ use Rattle.ahead.proofs.lay_parts.Tie as tie
 abbrev invariant-loop : tie.invariant-loop
 invariant-loop starts columns values order position sizes row from to place parts₀ at₀ beside₀ next₀ last₀ k₀ parts at beside next last k =
     (next ≤ length at) × (length at ≡ length at₀) × (length beside ≡ length beside₀)
-    × ((n : ℕ) (rows : ℕ → Bool) → Indexed n starts columns values order position sizes → ((i : ℕ) → get_or row i 0 < n) → PartsOf (matrixOf n starts columns values) (take n order) rows place parts₀ at₀ beside₀
-    → Going (matrixOf n starts columns values) (take n order) row rows from k next last parts at beside)
+    × ((n : ℕ) (rows : ℕ → Bool) → Indexed n starts columns values order position sizes → ((i : ℕ) → get_or row i 0 < n) → PartsOf (matrix_of n starts columns values) (take n order) rows place parts₀ at₀ beside₀
+    → Going (matrix_of n starts columns values) (take n order) row rows from k next last parts at beside)
 
 abbrev decreases-loop : tie.decreases-loop
 decreases-loop starts columns values order position sizes row from to place parts₀ at₀ beside₀ next₀ last₀ k₀ parts at beside next last k =
@@ -77,7 +77,7 @@ loop-again c =
       i.0,
       i.1,
       i.2,
-      λ n rows y low h. going-same (i.3 n rows y low h) (row_is w) (search rules) (omega (arith, row_is w, low l.loop.k, few-rows y)),
+      λ n rows y low h. going_same (i.3 n rows y low h) (row_is w) (search rules) (omega (arith, row_is w, low l.loop.k, few-rows y)),
     ))
     c.if1.branch
 
@@ -85,7 +85,7 @@ returns-2 : tie.Need-returns-2 invariant-loop decreases-loop
 returns-2 c n rows x low h r =
     let l = c.before in
     let g = l.loop.invariant.3 n rows x low h in
-    (g.more, with-fewer g.taken c.loop-test.false, g.laid)
+    (g.more, with_fewer g.taken c.loop-test.false, g.laid)
 
 pub lay-parts-spec : {M : Type 1} → statement M
 lay-parts-spec =

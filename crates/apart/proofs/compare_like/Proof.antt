@@ -6,15 +6,15 @@ use native.Mathlib.Omega.{arith}
 use lib.ListN.{take, drop}
 use borrow.Author.Rules.{rules}
 use borrow.Author.Tests.{eq-eqb, ne_eqb}
-use Rattle.plan.specs.Sound.{stretchOf}
-use Rattle.plan.specs.code.Checks.{ofRecord}
-use Rattle.apart.specs.code.Marks.{around, aroundLike, Compared}
+use Rattle.plan.specs.Sound.{stretch_of}
+use Rattle.plan.specs.Code.Checks.{of_record}
+use Rattle.apart.specs.Code.Marks.{around, around_like, Compared}
 use Rattle.apart.proofs.Stretch.{stretch, part_low}
 use Rattle.apart.proofs.compare_like.Statement.{statement}
 use Rattle.apart.proofs.compare_like.Tie as tie
 
 returns : tie.Need-returns
-unfolding aroundLike
+unfolding around_like
 returns c =
     let s = c.before.before.before.before.before in
     let a = s.args in
@@ -28,14 +28,14 @@ compare-rows-requires c κs =
     (s.requires.0, s.requires.1, s.requires.2, part_low s.args.n e.before.before.least.result e.least2.result s.args.order.now s.requires.5 (omega (arith, e.least2.ensures)), s.requires.6)
 
 returns-2 : tie.Need-returns-2
-unfolding aroundLike stretchOf
+unfolding around_like stretch_of
 returns-2 c =
     let e = c.before.before.before.before in
     let o = e.before.before.before in
     let s = o.before.before.before.before.before in
     let a = s.args in
     let g = a.g in
-    let rows : take (e.least2.result - e.before.before.least.result) (drop e.before.before.least.result a.order.now) ≡ stretchOf (take a.n a.order.now) (ofRecord g)
+    let rows : take (e.least2.result - e.before.before.least.result) (drop e.before.before.least.result a.order.now) ≡ stretch_of (take a.n a.order.now) (of_record g)
     = rw (e.least2.ensures, e.before.before.least.ensures) (stretch a.n g.start g.length a.order.now s.requires.4) in
     rw (eq-eqb g.colour a.colour o.if1.false)
     (subst (λ (l : List ℕ). Compared a.low a.mine (around a.n a.starts.now a.columns.now (a.k / 2) l) (around a.n a.starts.now a.columns.now (a.k - a.k / 2) l)

@@ -5,10 +5,10 @@ use mathlib.Core.List.{List}
 use Prim.Native.Nat.{ℕ, suc, ◌-◌, ◌/◌, ◌≤◌, ◌<◌}
 use native.Mathlib.Omega.{arith}
 use lib.ListN.{get_or}
-use Rattle.base.specs.Lists.{isIn}
+use Rattle.base.specs.Lists.{is_in}
 use Rattle.base.proofs.Booleans.{fails, holds}
-use Rattle.apart.specs.code.Marks.{around, Stamped, Touched}
-use Rattle.apart.proofs.Overlap.{around-more}
+use Rattle.apart.specs.Code.Marks.{around, Stamped, Touched}
+use Rattle.apart.proofs.Overlap.{around_more}
 use Rattle.apart.proofs.Touching.{opened-none, stamped-over, none_above}
 use Rattle.apart.proofs.compare_rows.Statement.{statement}
 use Rattle.apart.proofs.compare_rows.Tie as tie
@@ -37,7 +37,7 @@ module _ (t : tie.After-touch-near) where
   most : t.touch-near.result ≡ true → (v : ℕ) → get_or tested v 0 ≤ start.args.mine
   most e v =
       let a = start.args in
-      subst (λ (m : ℕ). m ≤ a.mine) (sym (((first true e).stamped refl).is v)) (go (isIn (within (a.k / 2)) v) (get_or a.marks.now v 0) (start.pre.1.below v))
+      subst (λ (m : ℕ). m ≤ a.mine) (sym (((first true e).stamped refl).is v)) (go (is_in (within (a.k / 2)) v) (get_or a.marks.now v 0) (start.pre.1.below v))
     where
       go : (b : Bool) (m : ℕ) → m < start.args.mine → cond b start.args.mine m ≤ start.args.mine
       go true m l = omega arith
@@ -65,8 +65,8 @@ touch-near-requires-2 c κs =
     let ok = holds refl c.before.before.before.if1.false in
     (s.pre.0, ((first t true ok).stamped refl).long ∙ s.pre.1.long, t.touch-near.ensures.after ok, s.pre.3, omega (arith, s.pre.4))
 
-returns-3 : tie.Need-returns-3
-returns-3 c =
+returns_3 : tie.Need-returns-3
+returns_3 c =
     let t = c.before.before.before.before.before in
     let a = (start t).args in
     let ok = holds refl c.before.before.before.before.if1.false in
@@ -77,7 +77,7 @@ returns-3 c =
       free = again.touched.free ∙ none_above a.mine (tested t) (within t (a.k - a.k / 2)) (most t ok) ∙ half.free;
       marked = λ h.
           stamped-over a.mine (within t (a.k / 2)) (within t (a.k - a.k / 2)) a.marks.now (tested t) c.touch-near2.new.1.1.1.0
-          (λ v m. subst (λ (j : ℕ). isIn (within t j) v ≡ true) odd (around-more a.n a.starts.now a.columns.now (a.k / 2) a.rows.now v m))
+          (λ v m. subst (λ (j : ℕ). is_in (within t j) v ≡ true) odd (around_more a.n a.starts.now a.columns.now (a.k / 2) a.rows.now v m))
           (half.stamped refl) (again.touched.stamped h);
       done = λ h. let o = again.after h in record { long = o.long; most = o.most };
     }
@@ -86,4 +86,4 @@ pub compare-rows-spec : {M : Type 1} → statement M
 compare-rows-spec =
     tie.close
     (tie.spec touch-near-requires returns (λ c. omega arith) returns-2 (λ c. omega arith) touch-near-requires-2
-    returns-3)
+    returns_3)

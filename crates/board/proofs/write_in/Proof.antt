@@ -3,28 +3,28 @@ use borrow.Author.Rules.{rules}
 use mathlib.Core.Path.{ap, sym, ◌∙◌}
 use Rattle.base.specs.Replies.{accepted, lent}
 use Rattle.lent.specs.Word.{word}
-use Rattle.board.specs.Unit.{writeUnitReply}
-use Rattle.board.proofs.Judged.{no_register, cut_short, in_reach}
+use Rattle.board.specs.Unit.{write_unit_reply}
+use Rattle.board.proofs.Judged.{no_register_lem, cut_short, in_reach}
 use Rattle.board.proofs.write_in.Statement.{statement}
 use Rattle.board.proofs.write_in.Tie as tie
 
 returns : tie.Need-returns
-unfolding writeUnitReply lent
+unfolding write_unit_reply lent
 returns c =
     let a = c.before.before.before.args in
-    let e = no_register a.unit.now a.address (accepted 0) c.before.if1.true in
+    let e = no_register_lem a.unit.now a.address (accepted 0) c.before.if1.true in
     record { returns = c.word_of.ensures ∙ ap word (sym e); leaves = rw e }
 
 returns-2 : tie.Need-returns-2
-unfolding writeUnitReply lent
+unfolding write_unit_reply lent
 returns-2 c =
     let a = c.before.before.before.before.args in
     let e = cut_short a.unit.now a.address (accepted 0) c.before.before.if1.false c.before.if2.true in
     record { returns = c.word-of2.ensures ∙ ap word (sym e); leaves = rw e }
 
-returns-3 : tie.Need-returns-3
-unfolding writeUnitReply lent
-returns-3 c =
+returns_3 : tie.Need-returns-3
+unfolding write_unit_reply lent
+returns_3 c =
     let s = c.before.before.before in
     let w = s.before.before.before in
     let i = w.before.before.before in
@@ -36,4 +36,4 @@ pub write-in-spec : {M : Type 1} → statement M
 write-in-spec =
     tie.close
     (tie.spec (λ c κs. search rules) returns (λ c κs. search rules) returns-2 (λ c κs. search rules)
-    (λ c κs. search rules) (λ c κs. search rules) (λ c κs. search rules) (λ c. search rules) returns-3)
+    (λ c κs. search rules) (λ c κs. search rules) (λ c κs. search rules) (λ c. search rules) returns_3)

@@ -8,10 +8,10 @@ use native.Mathlib.Omega.{arith}
 use lib.IntN.{ℤ}
 use lib.ListN.{length, take}
 use Rattle.words.specs.LittleEndian.{unsigned, signed}
-use Rattle.lent.specs.Bytes.{matrixIn}
-use Rattle.lent.proofs.Loads.{loaded-matrix}
-use Rattle.answers.proofs.RunCalls.{performed-whole}
-use Rattle.answers.proofs.RunForces.{zeros, lent-on, array_long, forces-fit, performed-made}
+use Rattle.lent.specs.Bytes.{matrix_in}
+use Rattle.lent.proofs.Loads.{loaded_matrix}
+use Rattle.answers.proofs.RunCalls.{performed_whole}
+use Rattle.answers.proofs.RunForces.{zeros, lent_on, array_long, forces_fit, performed_made}
 use Rattle.cabinet.proofs.perform_on.Statement.{statement}
 use Rattle.cabinet.proofs.perform_on.Tie as tie
 
@@ -23,7 +23,7 @@ abbrev start : tie.After-load-unsigned3 → tie.Start
 start g = (least g).before.before.before.before.before.before.before.before
 
 slice-aggregate-perform : tie.Need-slice-aggregate-perform
-slice-aggregate-perform c = sym (lent-on _ _ (least c.before.before).least.ensures)
+slice-aggregate-perform c = sym (lent_on _ _ (least c.before.before).least.ensures)
 
 -- the part of the array that was lent on, as the call left it
 abbrev groups : tie.After-perform → tie.After-load-unsigned3
@@ -37,14 +37,14 @@ slice-aggregate-store-forces c = let p = c.before.before.before.before.before.be
 
 -- the room that is lent on
 size : (g : tie.After-load-unsigned3) → length (take (least g).least.result zeros) ≡ (least g).least.result
-size g = lent-on _ _ (least g).least.ensures
+size g = lent_on _ _ (least g).least.ensures
 
 store-forces-requires : tie.Need-store-forces-requires
 store-forces-requires c κs =
     let p = c.before.before.before.before.before.before.before.before in
     let g = groups p in
     let a = (start g).args in
-    forces-fit a.asked.call a.schedule.now _ p.perform.result.answer p.perform.ensures _ a.forces.now (omega (arith, size g, (least g).least.ensures))
+    forces_fit a.asked.call a.schedule.now _ p.perform.result.answer p.perform.ensures _ a.forces.now (omega (arith, size g, (least g).least.ensures))
 
 returns : tie.Need-returns
 returns c cs vs ec ev =
@@ -55,11 +55,11 @@ returns c cs vs ec ev =
     let displacements = order.before.before in
     let starts = displacements.before.before in
     let a = (start g).args in
-    let m = matrixIn a.asked.n a.row-starts.now cs vs in
-    let h = performed-whole m (signed 4 a.movements.now) (unsigned 4 a.order.now) (unsigned 4 a.groups.now)
-    (loaded-matrix m starts.Load-unsigned.ensures ec ev) displacements.load_signed.ensures order.load-unsigned2.ensures g.load-unsigned3.ensures
+    let m = matrix_in a.asked.n a.row-starts.now cs vs in
+    let h = performed_whole m (signed 4 a.movements.now) (unsigned 4 a.order.now) (unsigned 4 a.groups.now)
+    (loaded_matrix m starts.Load-unsigned.ensures ec ev) displacements.load_signed.ensures order.load-unsigned2.ensures g.load-unsigned3.ensures
     a.asked.call a.schedule.now (length a.forces.now / 8) (size g ∙ (least g).least.ensures)
-    (performed-made a.asked.call a.schedule.now _ p.perform.result.answer p.perform.ensures _) in
+    (performed_made a.asked.call a.schedule.now _ p.perform.result.answer p.perform.ensures _) in
     record { made = _; answers = h.answers; leaves = h.leaves; lists = stored.store-forces.ensures }
 
 pub perform-on-spec : {M : Type 1} → statement M

@@ -8,18 +8,18 @@ use lib.IntN.{ℤ}
 use lib.ListN.{length}
 use borrow.Author.Rules.{rules}
 use Rattle.base.proofs.Booleans.{fails, holds}
-use Rattle.matrix.specs.Matrix.{matrixOf}
+use Rattle.matrix.specs.Matrix.{matrix_of}
 use Rattle.plan.specs.Groups.{width}
 use Rattle.run.specs.Job.{Job, job_of}
-use Rattle.run.specs.Machine.{isState}
-use Rattle.tables.specs.code.Laid.{Counted}
-use Rattle.layout.specs.code.UpdateTable.{Given}
+use Rattle.run.specs.Machine.{is_state}
+use Rattle.tables.specs.Code.Laid.{Counted}
+use Rattle.layout.specs.Code.UpdateTable.{Given}
 use Rattle.layout.proofs.GivenRows.{lent_of, few-rows, planned-of}
 use Rattle.layout.proofs.UpdateRoom.{rising-of}
 use Rattle.machine.specs.Record.{state_of}
-use Rattle.machine.proofs.PlannedTables.{planned-record, read-crew, read-few}
+use Rattle.machine.proofs.PlannedTables.{planned_record, read-crew, read-few}
 use Rattle.calls.proofs.Prepared.{job-rows, job-order, given-order, counted-state, counted-over}
-use Rattle.calls.proofs.Performing.{asks-ready, made-refused, made-ready, made-forces}
+use Rattle.calls.proofs.Performing.{asks_ready, made-refused, made-ready, made-forces}
 use Rattle.calls.proofs.report.Statement.{statement}
 use Rattle.calls.proofs.report.Tie as tie
 
@@ -30,7 +30,7 @@ start f = f.before.before.before.before.before.before.before.before.before
 -- the job with these values and displacements
 module _ (s : tie.Start) (values x : List ℤ) where
   abbrev job : Job
-  job = let a = s.args in job_of (matrixOf (length a.sums.now) a.starts.now a.columns.now values) x a.order.now a.groups.now (length a.groups.now / width)
+  job = let a = s.args in job_of (matrix_of (length a.sums.now) a.starts.now a.columns.now values) x a.order.now a.groups.now (length a.groups.now / width)
 
   abbrev Holds : Type 0
   Holds = let a = s.args in Given (length a.sums.now) a.starts.now a.columns.now values x a.order.now a.groups.now (length a.groups.now / width)
@@ -56,7 +56,7 @@ returns c values x schedule g d p =
     made-refused _ _ _ _ (counted-state g (counted f values x g) _ refl ∙ fails c.before.is-fine.ensures c.if1.true)
 
 -- there is a state
-fine : (e : tie.Else1) (values x : List ℤ) → let s = start e.before.before in Holds s values x → isState (job s values x) (state_of s.args.state s.args.sums.now) ≡ true
+fine : (e : tie.Else1) (values x : List ℤ) → let s = start e.before.before in Holds s values x → is_state (job s values x) (state_of s.args.state s.args.sums.now) ≡ true
 fine e values x g = let f = e.before.before in counted-state g (counted f values x g) _ refl ∙ holds e.before.is-fine.ensures e.if1.false
 
 -- ---- the ready set
@@ -72,7 +72,7 @@ returns-2 c values x schedule g d p =
     let m = c.before.before in
     let e = m.before in
     let f = e.before.before in
-    rw (asks-ready _ m.match.keys2 d p)
+    rw (asks_ready _ m.match.keys2 d p)
     (made-ready _ _ _ (fine e values x g) _ (c.ready-set.ensures _ _ (planned-of g (f.before.before.sizes-of.ensures.0 _ (lent_of g))) (counted f values x g)))
 
 -- ---- the force list
@@ -81,7 +81,7 @@ record-at-requires : tie.Need-record-at-requires
 record-at-requires c κs =
     let f = c.before.before.before.before in
     let g = (start f).requires.2 in
-    planned-record (planned-of g (f.before.before.sizes-of.ensures.0 _ (lent_of g)))
+    planned_record (planned-of g (f.before.before.sizes-of.ensures.0 _ (lent_of g)))
 
 is-finished-requires : tie.Need-is-finished-requires
 is-finished-requires c κs =
@@ -95,8 +95,8 @@ cast-force-list c = let h = few-rows (start c.before.before.before.before.before
 force-list-requires : tie.Need-force-list-requires
 force-list-requires c κs = let o = given-order (start c.before.before.before.before.before.before.before).requires.2 in (o.0, o.1, omega arith)
 
-returns-3 : tie.Need-returns-3
-returns-3 c values x schedule g d p =
+returns_3 : tie.Need-returns-3
+returns_3 c values x schedule g d p =
     let o = c.before.before.before in
     let r = o.before in
     let t = r.before in
@@ -112,4 +112,4 @@ report-spec =
     tie.close
     (tie.spec sizes-of-requires first-updates-requires is-fine-requires returns (λ c. search rules) ready-set-requires
     returns-2 record-at-requires is-finished-requires cast-force-list force-list-requires (λ c. search rules)
-    returns-3)
+    returns_3)

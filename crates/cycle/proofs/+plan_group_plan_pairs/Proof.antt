@@ -2,11 +2,11 @@
 mod Base
 mod Group
 mod Pairs
-use Rattle.cycle.proofs.+plan_group_plan_pairs.Proof.Base.{μ-plan-group, μ-plan-pairs}
-use Rattle.cycle.proofs.+plan_group_plan_pairs.Proof.Group.{plan-group-ok}
-use Rattle.cycle.proofs.+plan_group_plan_pairs.Proof.Pairs.{plan-pairs-ok}
+use Rattle.cycle.proofs.+plan_group_plan_pairs.Proof.Base.{μ_plan_group, μ_plan-pairs}
+use Rattle.cycle.proofs.+plan_group_plan_pairs.Proof.Group.{plan_group_ok}
+use Rattle.cycle.proofs.+plan_group_plan_pairs.Proof.Pairs.{plan-pairs_ok}
 use Rattle.cycle.proofs.+plan_group_plan_pairs.{statement}
 use Rattle.cycle.proofs.+plan_group_plan_pairs.Tie.{close}
 
 pub +plan-group-plan-pairs-spec : {M : Type 1} → statement M
-+plan-group-plan-pairs-spec = close μ-plan-group μ-plan-pairs (λ t. plan-group-ok t) (λ t. plan-pairs-ok t)
++plan-group-plan-pairs-spec = close μ_plan_group μ_plan-pairs (λ t. plan_group_ok t) (λ t. plan-pairs_ok t)

@@ -5,10 +5,10 @@ use native.Mathlib.Omega.{arith}
 use borrow.Author.Rules.{rules}
 use lib.ListN.{length}
 use lib.Seq.{length-take-le}
-use Rattle.extents.specs.code.Scans.{policyOf}
+use Rattle.extents.specs.Code.Scans.{policy_of}
 use Rattle.extents.proofs.Ends.{sum-split}
 use Rattle.extents.proofs.Extents.{extent-taken}
-use Rattle.cycle.proofs.PairPlans.{taken-most, Bounds, pair-bounds}
+use Rattle.cycle.proofs.PairPlans.{taken-most, Bounds, pair_bounds}
 use Rattle.cycle.proofs.next_pair.Statement.{statement}
 use Rattle.cycle.proofs.next_pair.Tie as tie
 
@@ -16,14 +16,14 @@ use Rattle.cycle.proofs.next_pair.Tie as tie
 levels-in : (c : tie.After-next-extent) → (2 * c.before.before.before.args.policy.reach ≤ c.next-extent.result.levels) × (c.next-extent.result.levels ≤ length c.before.before.before.args.loads.now)
 levels-in c =
     let a = c.before.before.before.args in
-    let t = extent-taken a.up.workers a.up.load (policyOf a.policy) a.left.free a.loads.now (omega arith) (omega arith) (omega arith) in
+    let t = extent-taken a.up.workers a.up.load (policy_of a.policy) a.left.free a.loads.now (omega arith) (omega arith) (omega arith) in
     (omega (arith, t.long, c.next-extent.ensures.0), omega (arith, taken-most t, c.next-extent.ensures.0))
 
 -- .. and how many are red
 bounds : (c : tie.After-cut) → Bounds c.before.before.before.before.before.args.policy.reach (length c.before.before.before.before.before.args.loads.now) c.before.before.next-extent.result.levels c.cut.result
 bounds c =
     let a = c.before.before.before.before.before.args in
-    pair-bounds a.up.workers a.up.load (policyOf a.policy) a.left.free a.loads.now c.before.before.next-extent.result.levels c.cut.result
+    pair_bounds a.up.workers a.up.load (policy_of a.policy) a.left.free a.loads.now c.before.before.next-extent.result.levels c.cut.result
     (omega arith) (omega arith) (omega arith) c.before.before.next-extent.ensures.0 c.cut.ensures
 
 slice-aggregate-cut : tie.Need-slice-aggregate-cut

@@ -7,7 +7,7 @@ use lib.ListN.{length}
 use lib.Seq.{length-take-le}
 use Rattle.extents.specs.Extents.{serves}
 use Rattle.extents.proofs.Ends.{sum-next, sum-split}
-use Rattle.extents.proofs.FirstEnd.{Seeking, seek-start, seek-next, seek_found, seek-none}
+use Rattle.extents.proofs.FirstEnd.{Seeking, seek_start, seek_next, seek_found, seek_none}
 use Rattle.extents.proofs.first_end.Statement.{statement}
 use Rattle.extents.proofs.first_end.Tie as tie
 
@@ -24,7 +24,7 @@ total-requires : tie.Need-total-requires invariant-loop decreases-loop
 total-requires c κs = let a = c.before.before.args in omega (arith, sum-split (a.least - 1) a.loads.now)
 
 loop-holds : tie.Need-loop-init invariant-loop decreases-loop
-loop-holds c = let a = c.before.before.before.args in seek-start (λ e. serves e.load a.w a.load a.p) a.loads.now a.least c.total.result (omega arith) (omega arith) c.total.ensures
+loop-holds c = let a = c.before.before.before.args in seek_start (λ e. serves e.load a.w a.load a.p) a.loads.now a.least c.total.result (omega arith) (omega arith) c.total.ensures
 
 add-q : tie.Need-overflow-add-q invariant-loop decreases-loop
 add-q c =
@@ -48,13 +48,13 @@ loop-again : tie.Need-loop-preserved invariant-loop decreases-loop
 loop-again c =
     let a = c.before.before.before.before.before.before.before.before.args in
     let l = c.before.before.before.before.loop in
-    seek-next (λ e. serves e.load a.w a.load a.p) a.loads.now a.least l.k l.q l.invariant (omega arith) (sym c.before.serves.ensures ∙ c.if1.false)
+    seek_next (λ e. serves e.load a.w a.load a.p) a.loads.now a.least l.k l.q l.invariant (omega arith) (sym c.before.serves.ensures ∙ c.if1.false)
 
 returns-2 : tie.Need-returns-2 invariant-loop decreases-loop
 returns-2 c =
     let a = c.before.before.before.before.before.args in
     let l = c.before.loop in
-    (seek-none (λ e. serves e.load a.w a.load a.p) a.loads.now a.least l.k l.q l.invariant (omega arith), omega (arith, l.invariant.some))
+    (seek_none (λ e. serves e.load a.w a.load a.p) a.loads.now a.least l.k l.q l.invariant (omega arith), omega (arith, l.invariant.some))
 
 pub first-end-spec : {M : Type 1} → statement M
 first-end-spec =

@@ -6,7 +6,7 @@ use borrow.Author.Rules.{rules}
 use lib.ListN.{length, get_or}
 use lib.Seq.{length-take-le}
 use Rattle.extents.proofs.Ends.{product-few, sum-next, sum-split}
-use Rattle.extents.proofs.NearestEnd.{Nearing, nearing-start, nearing-nearer, nearing-further, nearing-past, nearing-end}
+use Rattle.extents.proofs.NearestEnd.{Nearing, nearing_start, nearing_nearer, nearing_further, nearing_past, nearing_end}
 use Rattle.extents.proofs.nearest_end.Statement.{statement}
 use Rattle.extents.proofs.nearest_end.Tie as tie
 
@@ -30,7 +30,7 @@ mul-off c =
 loop-holds : tie.Need-loop-init invariant-loop decreases-loop
 loop-holds c =
     let a = c.before.before.before.before.args in
-    nearing-start a.loads.now a.k a.x a.y c.before.total.result c.off.result (omega arith) (omega arith) c.before.total.ensures c.off.ensures
+    nearing_start a.loads.now a.k a.x a.y c.before.total.result c.off.result (omega arith) (omega arith) c.before.total.ensures c.off.ensures
 
 mul-if1 : tie.Need-overflow-mul-if1 invariant-loop decreases-loop
 mul-if1 c =
@@ -42,7 +42,7 @@ returns : tie.Need-returns invariant-loop decreases-loop
 returns c =
     let a = c.before.before.before.before.before.before.before.args in
     let l = c.before.before.loop in
-    (nearing-past a.loads.now a.k a.x a.y l.q l.best l.least l.i l.invariant c.if1.true, l.invariant.some, omega (arith, l.invariant.before, l.invariant.within))
+    (nearing_past a.loads.now a.k a.x a.y l.q l.best l.least l.i l.invariant c.if1.true, l.invariant.some, omega (arith, l.invariant.before, l.invariant.within))
 
 add-q : tie.Need-overflow-add-q invariant-loop decreases-loop
 add-q c =
@@ -66,19 +66,19 @@ loop-again c =
     let a = c.before.before.before.before.before.before.before.before.before.before.args in
     let l = c.before.before.before.before.before.loop in
     rw c.before.off2.ensures
-    (nearing-nearer a.loads.now a.k a.x a.y l.q l.best l.least l.i l.invariant (omega arith) (rw c.before.off2.ensures at c.if2.true))
+    (nearing_nearer a.loads.now a.k a.x a.y l.q l.best l.least l.i l.invariant (omega arith) (rw c.before.off2.ensures at c.if2.true))
 
 loop-again-2 : tie.Need-loop-preserved-2 invariant-loop decreases-loop
 loop-again-2 c =
     let a = c.before.before.before.before.before.before.before.before.before.before.args in
     let l = c.before.before.before.before.before.loop in
-    nearing-further a.loads.now a.k a.x a.y l.q l.best l.least l.i l.invariant (omega arith) (rw c.before.off2.ensures at c.if2.false)
+    nearing_further a.loads.now a.k a.x a.y l.q l.best l.least l.i l.invariant (omega arith) (rw c.before.off2.ensures at c.if2.false)
 
 returns-2 : tie.Need-returns-2 invariant-loop decreases-loop
 returns-2 c =
     let a = c.before.before.before.before.before.before.args in
     let l = c.before.loop in
-    (nearing-end a.loads.now a.k a.x a.y l.q l.best l.least l.i l.invariant (omega arith), l.invariant.some, omega (arith, l.invariant.before, l.invariant.within))
+    (nearing_end a.loads.now a.k a.x a.y l.q l.best l.least l.i l.invariant (omega arith), l.invariant.some, omega (arith, l.invariant.before, l.invariant.within))
 
 pub nearest-end-spec : {M : Type 1} → statement M
 nearest-end-spec =

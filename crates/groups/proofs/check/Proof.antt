@@ -37,17 +37,17 @@ use denote.Triple.Clauses.{lasts}
 use denote.Triple.Table.{entered, cited}
 use denote.Triple.Walked.{says, Stays, stay_dropped, walk_of, Walks, ends_at, walked, walk_Meets}
 use denote.Exit.{yes}
-use Rattle.base.specs.Verdicts.{replyOf}
+use Rattle.base.specs.Verdicts.{reply_of}
 use Rattle.base.specs.declared.Verdict.{Verdict}
 use Rattle.base.specs.contracts.Verdict as S
 use Rattle.base.proofs.Verdict.TheLaws as S'
-use Rattle.matrix.specs.Matrix.{matrixOf}
-use Rattle.plan.specs.Sound.{checkReply}
+use Rattle.matrix.specs.Matrix.{matrix_of}
+use Rattle.plan.specs.Sound.{check_reply}
 use Rattle.plan.specs.declared.fields.Group.{Group}
 use Rattle.plan.specs.contracts.fields.Group as T
-use Rattle.groups.specs.code.Flattened.{Flattened}
-use Rattle.groups.proofs.CheckReply.{reply-flattened}
-use Rattle.groups.proofs.Walking.{u32-dropped, slice-dropped, hears, Flat, flat-lawful, at}
+use Rattle.groups.specs.Code.Flattened.{Flattened}
+use Rattle.groups.proofs.CheckReply.{reply_flattened}
+use Rattle.groups.proofs.Walking.{u32_dropped, slice_dropped, hears, Flat, flat_lawful, at}
 use Rattle.groups.specs.contracts.flatten as flatten
 use Rattle.groups.proofs.flatten.Symbol as flatten-def
 use Rattle.groups.proofs.flatten.Symbol.{name as #groups·flatten}
@@ -127,13 +127,13 @@ module _ {M : Type 1} {𝓤 : Ura M} (𝓛 : Logic 𝓤) (memory : Memory → SP
         move ! (2 ∷ 0 ∷ []) $ fjoin ! $ move ! (2 ∷ 0 ∷ []) $ fjoin ! $ owned ! u32 (Is u32) (uint_Makes 𝓛 w32) n _ (refl, n-small) $ fjoin ! $ move ! (1 ∷ 0 ∷ []) $ join ! $ frame ! $ done !
 
     abbrev Said : Verdict → Type 0
-    Said r = replyOf r ≡ checkReply (matrixOf n starts.now columns.now values.now) order.now ns (length groups.now) k
+    Said r = reply_of r ≡ check_reply (matrix_of n starts.now columns.now values.now) order.now ns (length groups.now) k
 
     exits : (r : Verdict) (u : Val) → Flattened groups.now ns → Said r → ent 𝓤 (⋆ 𝓛 (‵ ((S.the_row).own_val r (u ∷ [])) ∷ Four ∷ (‵ (flft κ₄ q₄) ⊛ ‵ ftrue) ∷ [])) (Post u)
     exits r u e said =
         qed 𝓛 (‵ ((S.the_row).own_val r (u ∷ [])) ∷ Four ∷ (‵ (flft κ₄ q₄) ⊛ ‵ ftrue) ∷ []) ∵
         suffices ! _ (ends_at 𝓛 check.ended stayed (check.clauses 𝓛 memory run) ((κs, qs, tt, a, vals), tt) u r (tt, (tt, (tt, (tt, (tt, (tt, (tt, tt))))))) (tt, (tt, (tt, (tt, (tt, (tt, (tt, tt)))))))) $
-        says ! (said ∙ reply-flattened (matrixOf n starts.now columns.now values.now) order.now k groups.now ns e) $
+        says ! (said ∙ reply_flattened (matrix_of n starts.now columns.now values.now) order.now k groups.now ns e) $
         move ! (1 ∷ []) $ split ! $ move ! (1 ∷ []) $ split ! $ move ! (1 ∷ []) $ split ! $ move ! (1 ∷ []) $ split ! $
         move ! (0 ∷ 6 ∷ []) $ join ! $ move ! (2 ∷ 0 ∷ []) $ join ! $ move ! (2 ∷ 0 ∷ []) $ join ! $ move ! (2 ∷ 0 ∷ []) $ join ! $ frame ! $
         drop ! $ nothing ! $ nothing ! $ fjoin ! $ nothing ! $ fjoin ! $ nothing ! $ fjoin ! $ nothing ! $ fjoin ! $ nothing ! $ fjoin ! $ nothing ! $ fjoin ! $ nothing ! $ fjoin ! $ frame ! $ done !
@@ -161,7 +161,7 @@ module _ {M : Type 1} {𝓤 : Ura M} (𝓛 : Logic 𝓤) (memory : Memory → SP
         calls_at ! (fm_of 𝓤 H 𝓛.laws 𝓣) (Flatten 𝓛 memory run) known-flatten to-flatten (and_then ! (load ! (from ! (stop !)) (look ! 15 refl)) (no_more !)) (λ w.
         hears ! tt (‵ (flft κ₄ q₄) ⊛ ‵ ftrue) (λ (ns : List ℕ). Flat.own ns (w ∷ [])) (lasts flatten.ended (κ₄, tt) (groups, tt)) (λ ns _. Flattened groups.now ns) (id⊢ 𝓤 _) (λ ns _ e. drop ! $ split ! $ move ! (1 ∷ []) $ peeks ! Flat (Is Flat) (shows 𝓛 Flat) ns (w ∷ []) (λ is.
         -- [what the list owns; the token of groups; the other tokens; what the others own; _9; …; _8; …; _7; …]
-        land ! (from ! (stop !)) (init ! 12 refl ((flat-lawful 𝓛).typed ns _ is).0) $
+        land ! (from ! (stop !)) (init ! 12 refl ((flat_lawful 𝓛).typed ns _ is).0) $
         assigns ! (of_opd ! (load ! (from ! (fld ! refl (stop !))) (look_in ! 16 (sub ! 1 refl (whole !))))) (from ! (stop !)) (init ! 10 refl (tt, record { fits = is₅.0.1.0 })) $
         move ! (0 ∷ 2 ∷ 3 ∷ 4 ∷ 5 ∷ 6 ∷ 7 ∷ 8 ∷ 9 ∷ []) $ group ! 9 $ use1 𝓛 (raw ((CheckFlat 𝓛 memory run).pre (to-check ns w))) (goes-check ns w is₅.0.1.0) $
         -- [what `check_flat` asks; the token of groups; _9; …; _8; …; _7; …; _6; …; … _1; …; _0; …]
@@ -189,7 +189,7 @@ module _ {M : Type 1} {𝓤 : Ura M} (𝓛 : Logic 𝓤) (memory : Memory → SP
       a.0 a.1.0 a.1.1.0 a.1.1.1.0 a.1.1.1.1.0 a.1.1.1.1.1.0 a.1.1.1.1.1.1.0 are.0.1 are.1.1.1.1.1.1.0.1 𝓣 known-flatten known-check are.1.0 are.1.1.0 are.1.1.1.0 are.1.1.1.1.0 are.1.1.1.1.1.0))
 
   check-meets : Meets 𝓛 check.signature (WpFn 𝓤 H 𝓣.C 𝓣.Λ code.function) (check.spec 𝓛 memory run)
-  check-meets = walk_Meets 𝓛 check.ended stayed (u32-dropped 𝓛 5, (slice-dropped 𝓛 5 0 tt u32, (slice-dropped 𝓛 5 1 tt u32, (slice-dropped 𝓛 5 2 tt i32, (slice-dropped 𝓛 5 3 tt u32, (slice-dropped 𝓛 5 4 tt T.the_row, (u32-dropped 𝓛 5, tt)))))))
+  check-meets = walk_Meets 𝓛 check.ended stayed (u32_dropped 𝓛 5, (slice_dropped 𝓛 5 0 tt u32, (slice_dropped 𝓛 5 1 tt u32, (slice_dropped 𝓛 5 2 tt i32, (slice_dropped 𝓛 5 3 tt u32, (slice_dropped 𝓛 5 4 tt T.the_row, (u32_dropped 𝓛 5, tt)))))))
       (check.clauses 𝓛 memory run) (WpFn 𝓤 H 𝓣.C 𝓣.Λ code.function) (WpFn-mono 𝓤 H 𝓛.laws 𝓣 code.function) check-walks
 
 pub check-spec : {M : Type 1} → stated.statement M

@@ -3,14 +3,14 @@ use mathlib.Core.Path.{◌∙◌}
 use native.Mathlib.Omega.{arith}
 use borrow.Author.Rules.{rules}
 use borrow.Author.Tests.{ltb-true}
-use Rattle.groups.proofs.CheckReply.{reply-too-many}
+use Rattle.groups.proofs.CheckReply.{reply_too_many}
 use Rattle.groups.proofs.check_flat.Statement.{statement}
 use Rattle.groups.proofs.check_flat.Tie as tie
 
 returns : tie.Need-returns
 returns c =
     let a = c.before.before.before.before.before.before.args in
-    c.check.ensures ∙ reply-too-many _ _ a.k _ _ _ a.count (omega arith) (omega (arith, ltb-true))
+    c.check.ensures ∙ reply_too_many _ _ a.k _ _ _ a.count (omega arith) (omega (arith, ltb-true))
 
 pub check-flat-spec : {M : Type 1} → statement M
 check-flat-spec =

@@ -45,14 +45,14 @@ use denote.Triple.Table.{entered, cited}
 use denote.Triple.Walked.{says, Stays, stay_dropped, walk_of, Walks, ends_at, walked, walk_Meets}
 use denote.Exit.{yes}
 use Rattle.plan.specs.Groups.{width, fields_of, group_of}
-use Rattle.plan.specs.Sound.{maxGroups}
-use Rattle.plan.specs.code.Room.{maxFields}
+use Rattle.plan.specs.Sound.{max_groups}
+use Rattle.plan.specs.Code.Room.{max_fields}
 use Rattle.plan.specs.declared.fields.Group.{Group}
 use Rattle.plan.specs.contracts.fields.Group as T
 use Rattle.plan.proofs.fields.Group.TheLaws as T'
-use Rattle.groups.specs.code.Flattened.{few, Flattened}
+use Rattle.groups.specs.Code.Flattened.{few, Flattened}
 use Rattle.groups.proofs.Flattening.{Begun, begin, next, all-begun}
-use Rattle.groups.proofs.Walking.{groupBytes, numbersTy, slice-dropped, hears, Nearer, nearer-wf, Flat, none, group-vals, group-tells, group-copy, group-makes, group-lawful, flat-lawful, after}
+use Rattle.groups.proofs.Walking.{group_bytes, numbers_ty, slice_dropped, hears, Nearer, nearer_wf, Flat, none, group_vals, group_tells, group_copy, group_makes, group_lawful, flat_lawful, after}
 use Rattle.groups.specs.contracts.put as put
 use Rattle.groups.proofs.put.Symbol as put-def
 use Rattle.groups.proofs.put.Symbol.{name as #groups·put}
@@ -71,11 +71,11 @@ abbrev Put : {M : Type 1} {𝓤 : Ura M} (𝓛 : Logic 𝓤) (mem : Memory → S
 Put 𝓛 mem run = triple_of 𝓛 put.signature (put.spec 𝓛 mem run)
 
 -- the types of the locals
-abbrev lentTy : Ty
-lentTy = ty_ref erased mut numbersTy
+abbrev lent_ty : Ty
+lent_ty = ty_ref erased mut numbers_ty
 
-abbrev groupsTy : Ty
-groupsTy = slice_ty (ty_ref (named 0) imm (pointee (T.the_row).written))
+abbrev groups_ty : Ty
+groups_ty = slice_ty (ty_ref (named 0) imm (pointee (T.the_row).written))
 
 module _ {M : Type 1} {𝓤 : Ura M} (𝓛 : Logic 𝓤) (memory : Memory → SProp 𝓤) (run : Routine → Fun 𝓤) (κ : Lft) (q : Share) (b o : ℕ) (γ : GName) (gs : List Group) where
   open 𝓛 use {H, A}
@@ -113,15 +113,15 @@ module _ {M : Type 1} {𝓤 : Ura M} (𝓛 : Logic 𝓤) (memory : Memory → SP
     -- the locals: 0 the result; 1 groups; 2 numbers; 3 k; 4 and 6 the tests; 5 the count, then bytes; 7 what `put`
     -- returns; 8 the list lent; 9 the place of groups[k]; 10 groups[k]
     abbrev En : Env 𝓤 H
-    En = (numbersTy, l₀) ∷ (groupsTy, l₁) ∷ (numbersTy, l₂) ∷ (ty_int w64, l₃) ∷ (ty_bool, l₄) ∷ (ty_int w64, l₅) ∷ (ty_bool, l₆) ∷ (ty_unit, l₇) ∷ (lentTy, l₈) ∷ (ty_ptr, l₉) ∷ (T'.mir, l₁₀) ∷ []
+    En = (numbers_ty, l₀) ∷ (groups_ty, l₁) ∷ (numbers_ty, l₂) ∷ (ty_int w64, l₃) ∷ (ty_bool, l₄) ∷ (ty_int w64, l₅) ∷ (ty_bool, l₆) ∷ (ty_unit, l₇) ∷ (lent_ty, l₈) ∷ (ty_ptr, l₉) ∷ (T'.mir, l₁₀) ∷ []
 
     -- the invariant
     abbrev At : Begun gs → List (Item 𝓤)
-    At t = ‵ (froom T'.mir l₁₀ 0) ∷ ‵ (fdies T'.mir l₁₀) ∷ ‵ (froom ty_ptr l₉ 0) ∷ ‵ (fdies ty_ptr l₉) ∷ ‵ (froom lentTy l₈ 0) ∷ ‵ (fdies lentTy l₈)
+    At t = ‵ (froom T'.mir l₁₀ 0) ∷ ‵ (fdies T'.mir l₁₀) ∷ ‵ (froom ty_ptr l₉ 0) ∷ ‵ (fdies ty_ptr l₉) ∷ ‵ (froom lent_ty l₈ 0) ∷ ‵ (fdies lent_ty l₈)
         ∷ ‵ (froom ty_unit l₇ 0) ∷ ‵ (fdies ty_unit l₇) ∷ ‵ (froom ty_bool l₆ 0) ∷ ‵ (fdies ty_bool l₆) ∷ ‵ (froom (ty_int w64) l₅ 0) ∷ ‵ (fdies (ty_int w64) l₅)
         ∷ ‵ (froom ty_bool l₄ 0) ∷ ‵ (fdies ty_bool l₄) ∷ ‵ (fat full_share (ty_int w64) l₃ 0 (vint w64 t.k)) ∷ ‵ (fdies (ty_int w64) l₃)
-        ∷ ‵ (part_at Flat full_share t.numbers l₂ 0) ∷ ‵ (fdies numbersTy l₂) ∷ ‵ (fat full_share groupsTy l₁ 0 v) ∷ ‵ (fdies groupsTy l₁)
-        ∷ ‵ (froom numbersTy l₀ 0) ∷ ‵ (fdies numbersTy l₀) ∷ ‵ (flft κ q) ∷ ‵ Fractured ∷ []
+        ∷ ‵ (part_at Flat full_share t.numbers l₂ 0) ∷ ‵ (fdies numbers_ty l₂) ∷ ‵ (fat full_share groups_ty l₁ 0 v) ∷ ‵ (fdies groups_ty l₁)
+        ∷ ‵ (froom numbers_ty l₀ 0) ∷ ‵ (fdies numbers_ty l₀) ∷ ‵ (flft κ q) ∷ ‵ Fractured ∷ []
 
     -- the loop is left: the list is copied into the result
     leaves : (t : Begun gs) → few gs ≤ t.k → Sq 𝓛 (At t) (runs C Λ En body.t-4 (at_ret En Post))
@@ -131,7 +131,7 @@ module _ {M : Type 1} {𝓤 : Ura M} (𝓛 : Logic 𝓤) (memory : Memory → SP
         rewrite ! 0 (λ (ws : List Val). ‵ (Flat.own t.numbers ws)) is.1.0.0 refl $ rewrite ! 1 (λ (ws : List Val). ‵ (cell_at full_share Flat.mir ws l₂ 0)) is.1.0.0 refl $
         -- [what the list owns; _2; _10; …; _9; …; _8; …; _7; …; _6; …; _5; …; _4; …; _3; …; …; _1; …; room for _0; …;
         -- the token; the borrow]
-        assigns ! (of_opd ! (load ! (from ! (stop !)) (look ! 1 refl))) (from ! (stop !)) (init ! 21 refl ((flat-lawful 𝓛).typed t.numbers (array_val is.0 ∷ []) (is.0, ((refl, is.1.0.1), is.1.1))).0) $
+        assigns ! (of_opd ! (load ! (from ! (stop !)) (look ! 1 refl))) (from ! (stop !)) (init ! 21 refl ((flat_lawful 𝓛).typed t.numbers (array_val is.0 ∷ []) (is.0, ((refl, is.1.0.1), is.1.1))).0) $
         returns ! (look ! 21 refl) $ forget ! 1 refl $ forget ! 16 refl $ forget ! 19 refl $ forget ! 21 refl $
         move ! (21 ∷ 22 ∷ []) $ free1 ! $ move ! (19 ∷ 20 ∷ []) $ free1 ! $ move ! (1 ∷ 18 ∷ []) $ free1 ! $ move ! (15 ∷ 16 ∷ []) $ free1 ! $ move ! (13 ∷ 14 ∷ []) $ free1 ! $ move ! (11 ∷ 12 ∷ []) $ free1 ! $
         move ! (9 ∷ 10 ∷ []) $ free1 ! $ move ! (7 ∷ 8 ∷ []) $ free1 ! $ move ! (5 ∷ 6 ∷ []) $ free1 ! $ move ! (3 ∷ 4 ∷ []) $ free1 ! $ move ! (1 ∷ 2 ∷ []) $ free1 ! $ free0 ! $
@@ -156,28 +156,28 @@ module _ {M : Type 1} {𝓤 : Ura M} (𝓛 : Logic 𝓤) (memory : Memory → SP
       passed δ = (lent-list δ, (t.k, (g, tt)))
 
       abbrev to-put : ℕ → GName → (Put 𝓛 memory run).Ghost
-      to-put α δ = (((α ∷ [], tt), (full_share, tt), tt, passed δ, (vptr l₂ 0 ∷ [], (vint w64 t.k ∷ [], (group-vals g, tt)))), tt)
+      to-put α δ = (((α ∷ [], tt), (full_share, tt), tt, passed δ, (vptr l₂ 0 ∷ [], (vint w64 t.k ∷ [], (group_vals g, tt)))), tt)
 
-      goes : (α : ℕ) (δ : GName) → t.k < maxGroups → Is T.the_row g (group-vals g)
+      goes : (α : ℕ) (δ : GName) → t.k < max_groups → Is T.the_row g (group_vals g)
           → ent 𝓤 (sep 𝓤 (A.lft (α ∷ []) full_share) (sem 𝓛 ((MutRef (named 0) (α ∷ []) Flat).own_val (lent-list δ) (vptr l₂ 0 ∷ [])))) ((Put 𝓛 memory run).pre (to-put α δ))
       goes α δ less is =
           qed 𝓛 (‵ (flft (α ∷ []) full_share) ∷ ‵ ((MutRef (named 0) (α ∷ []) Flat).own_val (lent-list δ) (vptr l₂ 0 ∷ [])) ∷ []) ∵ says ! less $ nothing ! $ move ! (1 ∷ 0 ∷ []) $ join ! $ frame ! $
-          nothing ! $ owned ! T.the_row (Is T.the_row) (group-makes 𝓛) g _ is $ fjoin ! $ owned ! usize (Is usize) (uint_Makes 𝓛 w64) t.k _ (refl, omega arith) $ fjoin ! $ move ! (1 ∷ 0 ∷ []) $ fjoin ! $ done !
+          nothing ! $ owned ! T.the_row (Is T.the_row) (group_makes 𝓛) g _ is $ fjoin ! $ owned ! usize (Is usize) (uint_Makes 𝓛 w64) t.k _ (refl, omega arith) $ fjoin ! $ move ! (1 ∷ 0 ∷ []) $ fjoin ! $ done !
 
       -- one more group is stored
-      adds : t.k < length gs → t.k < maxGroups → Sq 𝓛 (At t) (runs C Λ En (after (after (after body.turn-1))) (any_q (Turned t)))
+      adds : t.k < length gs → t.k < max_groups → Sq 𝓛 (At t) (runs C Λ En (after (after (after body.turn-1))) (any_q (Turned t)))
       unfolding after_turn
       adds within in-plan =
           assigns ! (addr ! (from ! (stop !))) (from ! (stop !)) (init ! 4 refl (tt, tt)) $
           assigns ! (bin ! (load ! (from ! (stop !)) (look ! 14 refl)) (lit ! tt) (record { fits = small })) (from ! (stop !)) (init ! 10 refl (tt, record { fits = small })) $
           assigns ! (bin ! (load ! (from ! (fld ! refl (stop !))) (look_in ! 18 (sub ! 0 refl (whole !)))) (load ! (from ! (stop !)) (look ! 10 refl)) tt) (from ! (stop !)) (init ! 2 refl (tt, tt)) $
-          rewrite ! 2 (λ (p : ℕ). ‵ (fat full_share ty_ptr l₉ 0 (vptr b p))) (sym (place_is groupBytes o t.k)) refl $
-          move ! (23 ∷ 22 ∷ []) $ looks_slice ! tt T.the_row (Is T.the_row) (shows 𝓛 T.the_row) group-vals group-tells (group-copy 𝓛) gs b o (λ q'.
-          elem_out ! T.the_row (Is T.the_row) (shows 𝓛 T.the_row) group-vals group-tells q' gs t.k none b o within (λ is.
+          rewrite ! 2 (λ (p : ℕ). ‵ (fat full_share ty_ptr l₉ 0 (vptr b p))) (sym (place_is group_bytes o t.k)) refl $
+          move ! (23 ∷ 22 ∷ []) $ looks_slice ! tt T.the_row (Is T.the_row) (shows 𝓛 T.the_row) group_vals group_tells (group_copy 𝓛) gs b o (λ q'.
+          elem_out ! T.the_row (Is T.the_row) (shows 𝓛 T.the_row) group_vals group_tells q' gs t.k none b o within (λ is.
           -- [groups[k]; what it owns; the others; what shuts; the borrow; _10; …; _9; …; _8; …; _7; …; _6; …; _5; …;
           -- _4; …; _3; …; _2; …; _1; …; _0; …]
-          assigns ! (of_opd ! (load ! (from ! (hop ! (look ! 7 refl) (stop !))) (look_raw ! 0 refl))) (from ! (stop !)) (init ! 5 refl ((group-lawful 𝓛).typed g _ is).0) $
-          elem_back ! T.the_row q' gs t.k none (group-vals g) b o within $ shuts_slice ! tt T.the_row q' gs b o $
+          assigns ! (of_opd ! (load ! (from ! (hop ! (look ! 7 refl) (stop !))) (look_raw ! 0 refl))) (from ! (stop !)) (init ! 5 refl ((group_lawful 𝓛).typed g _ is).0) $
+          elem_back ! T.the_row q' gs t.k none (group_vals g) b o within $ shuts_slice ! tt T.the_row q' gs b o $
           -- [the token; the borrow; _10; …]: the list is lent for a lifetime α of the call
           lft_new ! tt (λ α. move ! (19 ∷ []) $
           use1 𝓛 (later (some (λ (δ : GName). ‵ ((MutRef (named 0) (α ∷ []) Flat).own_val (lent-list δ) (vptr l₂ 0 ∷ [])) ⊛ ‵ (flent (α ∷ []) (Body (mem Flat) l₂ 0 δ))))) (lends_ref 𝓛 Flat (named 0) (α ∷ []) t.numbers l₂ 0) $ await ! tt $ pick ! (λ δ. split ! $
@@ -195,7 +195,7 @@ module _ {M : Type 1} {𝓤 : Ura M} (𝓛 : Logic 𝓤) (memory : Memory → SP
           keep ! (5 ∷ 6 ∷ 7 ∷ 8 ∷ 9 ∷ 10 ∷ 11 ∷ 12 ∷ 13 ∷ 14 ∷ 15 ∷ 16 ∷ 17 ∷ 18 ∷ 19 ∷ 20 ∷ 0 ∷ 21 ∷ 22 ∷ 23 ∷ 24 ∷ 25 ∷ 3 ∷ 4 ∷ []) $
           again ! (Nearer left) At t (next t none within in-plan zs.0 e) (omega arith))))))))
         where
-          small : t.k * groupBytes < 2 ^ 64
+          small : t.k * group_bytes < 2 ^ 64
           small = omega arith
 
           next_small : t.k + 1 < 2 ^ 64
@@ -223,19 +223,19 @@ module _ {M : Type 1} {𝓤 : Ura M} (𝓛 : Logic 𝓤) (memory : Memory → SP
       alloc1 ! (λ l₀. alloc1 ! (λ l₁. alloc1 ! (λ l₂. alloc1 ! (λ l₃. alloc1 ! (λ l₄. alloc1 ! (λ l₅. alloc1 ! (λ l₆. alloc1 ! (λ l₇. alloc1 ! (λ l₈. alloc1 ! (λ l₉. alloc1 ! (λ l₁₀. alloc0 ! $ params1 ! $
       pass1 ! (init ! 18 refl (tt, (tt, (record { fits = room.0 }, tt)))) $ pass0 ! $
       owned ! u32 (Is u32) (uint_Makes 𝓛 w32) 0 (vint w32 0 ∷ []) (refl, lit< tt) $
-      use1 𝓛 (‵ (Flat.own zeros (array_val (replicate maxFields (vint w32 0)) ∷ []))) (Array-repeat 𝓛 u32 (uint_copy 𝓛 w32) maxFields 0 (vint w32 0)) $ peeks ! Flat (Is Flat) (shows 𝓛 Flat) zeros _ (λ is.
+      use1 𝓛 (‵ (Flat.own zeros (array_val (replicate max_fields (vint w32 0)) ∷ []))) (Array-repeat 𝓛 u32 (uint_copy 𝓛 w32) max_fields 0 (vint w32 0)) $ peeks ! Flat (Is Flat) (shows 𝓛 Flat) zeros _ (λ is.
       -- [what the list owns; _10; …; _9; …; _8; …; _7; …; _6; …; _5; …; _4; …; _3; …; _2; …; _1; …; _0; …; the token;
       -- what the slice owns]
-      assigns ! (rep ! maxFields (lit ! tt)) (from ! (stop !)) (init ! 17 refl ((flat-lawful 𝓛).typed zeros _ is).0) $
+      assigns ! (rep ! max_fields (lit ! tt)) (from ! (stop !)) (init ! 17 refl ((flat_lawful 𝓛).typed zeros _ is).0) $
       assigns ! (of_opd ! (lit ! tt)) (from ! (stop !)) (init ! 15 refl (tt, record { fits = lit< tt })) $
-      move ! (17 ∷ 0 ∷ []) $ fjoin ! $ fpack ! (List Val) (λ us. fsep (cell_at full_share Flat.mir us l₂ 0) (Flat.own zeros us)) (array_val (replicate maxFields (vint w32 0)) ∷ []) $
+      move ! (17 ∷ 0 ∷ []) $ fjoin ! $ fpack ! (List Val) (λ us. fsep (cell_at full_share Flat.mir us l₂ 0) (Flat.own zeros us)) (array_val (replicate max_fields (vint w32 0)) ∷ []) $
       -- of what the slice owns, the borrow is kept
       move ! (23 ∷ []) $ fsplit ! $ fsplit ! $ drop ! $ fsplit ! $ drop ! $ move ! (24 ∷ []) $ split ! $
       keep ! (5 ∷ 6 ∷ 7 ∷ 8 ∷ 9 ∷ 10 ∷ 11 ∷ 12 ∷ 13 ∷ 14 ∷ 15 ∷ 16 ∷ 17 ∷ 18 ∷ 19 ∷ 20 ∷ 4 ∷ 21 ∷ 22 ∷ 23 ∷ 24 ∷ 25 ∷ 0 ∷ 2 ∷ []) $
-      first ! $ blocks ! $ loops ! 𝓣 (Nearer left) (nearer-wf left) (At 𝓣 known room l₀ l₁ l₂ l₃ l₄ l₅ l₆ l₇ l₈ l₉ l₁₀) (turns 𝓣 known room l₀ l₁ l₂ l₃ l₄ l₅ l₆ l₇ l₈ l₉ l₁₀) (begin gs zeros)))))))))))))
+      first ! $ blocks ! $ loops ! 𝓣 (Nearer left) (nearer_wf left) (At 𝓣 known room l₀ l₁ l₂ l₃ l₄ l₅ l₆ l₇ l₈ l₉ l₁₀) (turns 𝓣 known room l₀ l₁ l₂ l₃ l₄ l₅ l₆ l₇ l₈ l₉ l₁₀) (begin gs zeros)))))))))))))
     where
       zeros : List ℕ
-      zeros = replicate maxFields 0
+      zeros = replicate max_fields 0
 
 module _ {M : Type 1} {𝓤 : Ura M} (𝓛 : Logic 𝓤) (memory : Memory → SProp 𝓤) (run : Routine → Fun 𝓤) (𝓣 : Tables 𝓤 𝓛.H) (known : Triple 𝓤 (𝓣.C #groups·put) (Put 𝓛 memory run)) where
   open 𝓛 use {H}
@@ -245,7 +245,7 @@ module _ {M : Type 1} {𝓤 : Ura M} (𝓛 : Logic 𝓤) (memory : Memory → SP
       (λ κs qs bounds a g are. via 𝓤 _ (fst∗ 𝓤 _ (emp 𝓤)) (walk 𝓛 memory run κs.0 qs.0 a.0.ref_ptr.0 a.0.ref_ptr.1 a.0.ghost_name a.0.now 𝓣 known are.0.0.1))
 
   flatten-meets : Meets 𝓛 flatten.signature (WpFn 𝓤 H 𝓣.C 𝓣.Λ code.function) (flatten.spec 𝓛 memory run)
-  flatten-meets = walk_Meets 𝓛 flatten.ended stayed (slice-dropped 𝓛 1 0 tt T.the_row, tt) (flatten.clauses 𝓛 memory run) (WpFn 𝓤 H 𝓣.C 𝓣.Λ code.function) (WpFn-mono 𝓤 H 𝓛.laws 𝓣 code.function) flatten-walks
+  flatten-meets = walk_Meets 𝓛 flatten.ended stayed (slice_dropped 𝓛 1 0 tt T.the_row, tt) (flatten.clauses 𝓛 memory run) (WpFn 𝓤 H 𝓣.C 𝓣.Λ code.function) (WpFn-mono 𝓤 H 𝓛.laws 𝓣 code.function) flatten-walks
 
 pub flatten-spec : {M : Type 1} → stated.statement M
 unfolding code.routine tables_of

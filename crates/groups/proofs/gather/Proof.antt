@@ -44,16 +44,16 @@ use denote.Triple.Clauses.{lasts}
 use denote.Triple.Table.{entered, cited}
 use denote.Triple.Walked.{says, needs, Stays, stay_dropped, stay_slice, walk_of, Goes-dropped, Goes-slice, Walks, ends_at, walked, walk_Meets}
 use denote.Exit.{yes}
-use Rattle.plan.specs.code.Checks.{recordAt}
-use Rattle.plan.specs.Sound.{maxGroups}
-use Rattle.plan.specs.code.Room.{maxFields}
+use Rattle.plan.specs.Code.Checks.{record_at}
+use Rattle.plan.specs.Sound.{max_groups}
+use Rattle.plan.specs.Code.Room.{max_fields}
 use Rattle.plan.specs.declared.fields.Group.{Group}
 use Rattle.plan.specs.contracts.fields.Group as T
 use Rattle.plan.proofs.fields.Group.TheLaws as T'
-use Rattle.groups.specs.Structs.{ofGroup}
-use Rattle.groups.specs.code.Flattened.{gathered}
+use Rattle.groups.specs.Structs.{of_group}
+use Rattle.groups.specs.Code.Flattened.{gathered}
 use Rattle.groups.proofs.Gathering.{gathered_none, length-gathered, gathered_next}
-use Rattle.groups.proofs.Walking.{groupBytes, numbersTy, hears, Nearer, nearer-wf, Flat, none, group-vals, group-tells, group-lawful, flat-makes, flat-lawful, after}
+use Rattle.groups.proofs.Walking.{group_bytes, numbers_ty, hears, Nearer, nearer_wf, Flat, none, group_vals, group_tells, group_lawful, flat-makes, flat_lawful, after}
 use Rattle.groups.specs.contracts.get as get
 use Rattle.groups.proofs.get.Symbol as get_def
 use Rattle.groups.proofs.get.Symbol.{name as #groups·get}
@@ -72,14 +72,14 @@ abbrev Get : {M : Type 1} {𝓤 : Ura M} (𝓛 : Logic 𝓤) (mem : Memory → S
 Get 𝓛 mem run = triple_of 𝓛 get.signature (get.spec 𝓛 mem run)
 
 -- the types of the locals
-abbrev lentTy : Ty
-lentTy = ty_ref erased imm numbersTy
+abbrev lent_ty : Ty
+lent_ty = ty_ref erased imm numbers_ty
 
-abbrev groupsTy : Ty
-groupsTy = slice_ty (ty_ref (named 0) mut (pointee (T.the_row).written))
+abbrev groups_ty : Ty
+groups_ty = slice_ty (ty_ref (named 0) mut (pointee (T.the_row).written))
 
 module _ {M : Type 1} {𝓤 : Ura M} (𝓛 : Logic 𝓤) (memory : Memory → SProp 𝓤) (run : Routine → Fun 𝓤) (κ : Lft) (q : Share) (b o : ℕ) (γ : GName) (gs : List Group)
-    (ns : List ℕ) (nv : Val) (are-numbers : Is Flat ns (nv ∷ [])) (count : ℕ) (in-plan : count ≤ maxGroups) (within : count ≤ length gs) (room : Room T.the_row (length gs)) where
+    (ns : List ℕ) (nv : Val) (are-numbers : Is Flat ns (nv ∷ [])) (count : ℕ) (in-plan : count ≤ max_groups) (within : count ≤ length gs) (room : Room T.the_row (length gs)) where
   -- the slice, at a list
   open 𝓛 use {H, A}
 
@@ -137,14 +137,14 @@ module _ {M : Type 1} {𝓤 : Ura M} (𝓛 : Logic 𝓤) (memory : Memory → SP
     -- the locals: 0 the result; 1 to 3 the parameters; 4 numbers; 5 k; 6 the test; 7 what `get` returns; 8 the list
     -- lent; 9 bytes; 10 the place of groups[k]
     abbrev En : Env 𝓤 H
-    En = (ty_unit, l₀) ∷ (numbersTy, l₁) ∷ (ty_int w64, l₂) ∷ (groupsTy, l₃) ∷ (numbersTy, l₄) ∷ (ty_int w64, l₅) ∷ (ty_bool, l₆) ∷ (T'.mir, l₇) ∷ (lentTy, l₈) ∷ (ty_int w64, l₉) ∷ (ty_ptr, l₁₀) ∷ []
+    En = (ty_unit, l₀) ∷ (numbers_ty, l₁) ∷ (ty_int w64, l₂) ∷ (groups_ty, l₃) ∷ (numbers_ty, l₄) ∷ (ty_int w64, l₅) ∷ (ty_bool, l₆) ∷ (T'.mir, l₇) ∷ (lent_ty, l₈) ∷ (ty_int w64, l₉) ∷ (ty_ptr, l₁₀) ∷ []
 
     -- the invariant
     abbrev At : Upto → List (Item 𝓤)
-    At t = ‵ (froom ty_ptr l₁₀ 0) ∷ ‵ (fdies ty_ptr l₁₀) ∷ ‵ (froom (ty_int w64) l₉ 0) ∷ ‵ (fdies (ty_int w64) l₉) ∷ ‵ (froom lentTy l₈ 0) ∷ ‵ (fdies lentTy l₈)
+    At t = ‵ (froom ty_ptr l₁₀ 0) ∷ ‵ (fdies ty_ptr l₁₀) ∷ ‵ (froom (ty_int w64) l₉ 0) ∷ ‵ (fdies (ty_int w64) l₉) ∷ ‵ (froom lent_ty l₈ 0) ∷ ‵ (fdies lent_ty l₈)
         ∷ ‵ (froom T'.mir l₇ 0) ∷ ‵ (fdies T'.mir l₇) ∷ ‵ (froom ty_bool l₆ 0) ∷ ‵ (fdies ty_bool l₆) ∷ ‵ (fat full_share (ty_int w64) l₅ 0 (vint w64 t.0)) ∷ ‵ (fdies (ty_int w64) l₅)
-        ∷ ‵ (part_at Flat full_share ns l₄ 0) ∷ ‵ (fdies numbersTy l₄) ∷ ‵ (fat full_share groupsTy l₃ 0 v) ∷ ‵ (fdies groupsTy l₃)
-        ∷ ‵ (fat full_share (ty_int w64) l₂ 0 (vint w64 count)) ∷ ‵ (fdies (ty_int w64) l₂) ∷ ‵ (fat full_share numbersTy l₁ 0 nv) ∷ ‵ (fdies numbersTy l₁) ∷ ‵ (froom ty_unit l₀ 0) ∷ ‵ (fdies ty_unit l₀)
+        ∷ ‵ (part_at Flat full_share ns l₄ 0) ∷ ‵ (fdies numbers_ty l₄) ∷ ‵ (fat full_share groups_ty l₃ 0 v) ∷ ‵ (fdies groups_ty l₃)
+        ∷ ‵ (fat full_share (ty_int w64) l₂ 0 (vint w64 count)) ∷ ‵ (fdies (ty_int w64) l₂) ∷ ‵ (fat full_share numbers_ty l₁ 0 nv) ∷ ‵ (fdies numbers_ty l₁) ∷ ‵ (froom ty_unit l₀ 0) ∷ ‵ (fdies ty_unit l₀)
         ∷ ‵ (row T.the_row full_share (gathered t.0 ns gs) b o) ∷ ‵ (fobor κ q (Held T.the_row (length gs) b o γ))
         ∷ ‵ (fobs γ ((coded_holeys T.the_row).code (heres T.the_row gs))) ∷ ‵ (fauth γ ((coded_holeys T.the_row).code (heres T.the_row gs))) ∷ []
 
@@ -156,14 +156,14 @@ module _ {M : Type 1} {𝓤 : Ura M} (𝓛 : Logic 𝓤) (memory : Memory → SP
         move ! (12 ∷ []) $ fpick ! (λ vs. fsplit ! $ move ! (1 ∷ []) $ peeks ! Flat (Is Flat) (shows 𝓛 Flat) ns vs (λ is. drop ! $ rewrite ! 0 (λ (ws : List Val). ‵ (cell_at full_share Flat.mir ws l₄ 0)) is.1.0.0 refl $
         -- [_4; _10; …; _9; …; _8; …; _7; …; _6; …; _5; …; …; _3; …; _2; …; _1; …; _0; …; the groups; the open borrow;
         -- obs; auth]
-        move ! (22 ∷ 23 ∷ 24 ∷ 25 ∷ []) $ rewrite ! 0 (λ (k : ℕ). ‵ (row T.the_row full_share (gathered k ns gs) b o)) k-is refl $ closes_slice ! tt T.the_row gs all all-long b o $
+        move ! (22 ∷ 23 ∷ 24 ∷ 25 ∷ []) $ rewrite ! 0 (λ (k : ℕ). ‵ (row T.the_row full_share (gathered k ns gs) b o)) k_is refl $ closes_slice ! tt T.the_row gs all all-long b o $
         -- [obs; the borrow; the token; _4; _10; …; _9; …; _8; …; _7; …; _6; …; _5; …; …; _3; …; _2; …; _1; …; _0; …]
         returns ! (look ! 23 refl) $ forget ! 3 refl $ forget ! 14 refl $ forget ! 17 refl $ forget ! 19 refl $ forget ! 21 refl $ forget ! 23 refl $
         move ! (23 ∷ 24 ∷ []) $ free1 ! $ move ! (21 ∷ 22 ∷ []) $ free1 ! $ move ! (19 ∷ 20 ∷ []) $ free1 ! $ move ! (17 ∷ 18 ∷ []) $ free1 ! $ move ! (3 ∷ 16 ∷ []) $ free1 ! $ move ! (13 ∷ 14 ∷ []) $ free1 ! $
         move ! (11 ∷ 12 ∷ []) $ free1 ! $ move ! (9 ∷ 10 ∷ []) $ free1 ! $ move ! (7 ∷ 8 ∷ []) $ free1 ! $ move ! (5 ∷ 6 ∷ []) $ free1 ! $ move ! (3 ∷ 4 ∷ []) $ free1 ! $ free0 ! $ by ! exits))
       where
-        k-is : t.0 ≡ count
-        k-is = omega arith
+        k_is : t.0 ≡ count
+        k_is = omega arith
 
     -- a turn's end: one more group, or the loop is left
     abbrev Turned : Upto → Out → SProp 𝓤
@@ -193,19 +193,19 @@ module _ {M : Type 1} {𝓤 : Ura M} (𝓛 : Logic 𝓤) (memory : Memory → SP
           move ! (2 ∷ 0 ∷ []) $ use2 𝓛 (raw ((Get 𝓛 memory run).pre (to_get α δ))) (goes α δ) $
           -- [what `get` asks; the lender's part; _10; …; _9; …; _8; …; _7; …; _6; …; _5; …]
           calls_at ! (fm_of 𝓤 H 𝓛.laws 𝓣) (Get 𝓛 memory run) known (to_get α δ) (and_then ! (load ! (from ! (stop !)) (look ! 6 refl)) (and_then ! (load ! (from ! (stop !)) (look ! 12 refl)) (no_more !))) (λ w.
-          hears ! tt (‵ (flft (α ∷ []) full_share) ⊛ ‵ ftrue) (λ (r : Group). (T.the_row).own_val r (w ∷ [])) (lasts get.ended (α ∷ [], tt) (lent-list δ, (t.0, tt))) (λ r _. r ≡ ofGroup (recordAt ns t.0)) (id⊢ 𝓤 _) (λ r _ e.
+          hears ! tt (‵ (flft (α ∷ []) full_share) ⊛ ‵ ftrue) (λ (r : Group). (T.the_row).own_val r (w ∷ [])) (lasts get.ended (α ∷ [], tt) (lent-list δ, (t.0, tt))) (λ r _. r ≡ of_group (record_at ns t.0)) (id⊢ 𝓤 _) (λ r _ e.
           drop ! $ split ! $ move ! (1 ∷ []) $ peeks ! T.the_row (Is T.the_row) (shows 𝓛 T.the_row) r (w ∷ []) (λ is.
           -- [what the group owns; the token of α; the lender's part; _10; …; _9; …; _8; …; _7; …]
-          land ! (from ! (stop !)) (init ! 9 refl ((group-lawful 𝓛).typed r _ is).0) $ move ! (1 ∷ []) $ split ! $ lft_end ! tt $ move ! (0 ∷ 3 ∷ []) $ lent_back ! tt $
+          land ! (from ! (stop !)) (init ! 9 refl ((group_lawful 𝓛).typed r _ is).0) $ move ! (1 ∷ []) $ split ! $ lft_end ! tt $ move ! (0 ∷ 3 ∷ []) $ lent_back ! tt $
           -- [_4; …; what the group owns; _10; …; _9; …; _8; …; _7; …; _6; …; _5; …; …; _3; …; _2; …; _1; …; _0; …; the
           -- groups; …]
           assigns ! (bin ! (load ! (from ! (stop !)) (look ! 13 refl)) (lit ! tt) (record { fits = small })) (from ! (stop !)) (init ! 5 refl (tt, record { fits = small })) $
           assigns ! (bin ! (load ! (from ! (fld ! refl (stop !))) (look_in ! 16 (sub ! 0 refl (whole !)))) (load ! (from ! (stop !)) (look ! 5 refl)) tt) (from ! (stop !)) (init ! 3 refl (tt, tt)) $
-          rewrite ! 3 (λ (p : ℕ). ‵ (fat full_share ty_ptr l₁₀ 0 (vptr b p))) (sym (place_is groupBytes o t.0)) refl $
-          move ! (24 ∷ []) $ elem_out ! T.the_row (Is T.the_row) (shows 𝓛 T.the_row) group-vals group-tells full_share (gathered t.0 ns gs) t.0 none b o in-row (λ _.
+          rewrite ! 3 (λ (p : ℕ). ‵ (fat full_share ty_ptr l₁₀ 0 (vptr b p))) (sym (place_is group_bytes o t.0)) refl $
+          move ! (24 ∷ []) $ elem_out ! T.the_row (Is T.the_row) (shows 𝓛 T.the_row) group_vals group_tells full_share (gathered t.0 ns gs) t.0 none b o in-row (λ _.
           -- [groups[k]; what it owns; the others; _4; …; what the group owns; _10; …; _9; …; _8; …; _7; …; _6; …; _5;
           -- …]
-          assigns ! (of_opd ! (load ! (from ! (stop !)) (look ! 12 refl))) (from ! (hop ! (look ! 6 refl) (stop !))) (store_raw ! 0 refl ((group-lawful 𝓛).typed r _ is).0) $
+          assigns ! (of_opd ! (load ! (from ! (stop !)) (look ! 12 refl))) (from ! (hop ! (look ! 6 refl) (stop !))) (store_raw ! 0 refl ((group_lawful 𝓛).typed r _ is).0) $
           move ! (0 ∷ 5 ∷ 2 ∷ []) $ elem_put ! T.the_row full_share (gathered t.0 ns gs) t.0 r (w ∷ []) b o in-row $
           rewrite ! 0 (λ (l : List Group). ‵ (row T.the_row full_share l b o)) (subst (λ (h : Group). set (gathered t.0 ns gs) t.0 h ≡ gathered (t.0 + 1) ns gs) (sym e) (gathered_next ns gs t.0 none (omega arith))) refl $
           -- [the groups; …; _4; …; _10; …; _9; …; _8; …; _7; …; _6; …; _5; …; …; _3; …; _2; …; _1; …; _0; …; the open
@@ -215,7 +215,7 @@ module _ {M : Type 1} {𝓤 : Ura M} (𝓛 : Logic 𝓤) (memory : Memory → SP
           keep ! (4 ∷ 5 ∷ 6 ∷ 7 ∷ 8 ∷ 9 ∷ 10 ∷ 11 ∷ 12 ∷ 13 ∷ 14 ∷ 15 ∷ 2 ∷ 16 ∷ 17 ∷ 18 ∷ 19 ∷ 20 ∷ 21 ∷ 22 ∷ 23 ∷ 24 ∷ 0 ∷ 25 ∷ 26 ∷ 27 ∷ []) $
           again ! (Nearer left) At t (t.0 + 1, omega arith) (omega arith)))))))
         where
-          small : t.0 * groupBytes < 2 ^ 64
+          small : t.0 * group_bytes < 2 ^ 64
           small = omega arith
 
           next_small : t.0 + 1 < 2 ^ 64
@@ -250,18 +250,18 @@ module _ {M : Type 1} {𝓤 : Ura M} (𝓛 : Logic 𝓤) (memory : Memory → SP
       opens_slice ! tt T.the_row gs b o $ rewrite ! 0 (λ (l : List Group). ‵ (row T.the_row full_share l b o)) (sym (gathered_none ns gs)) refl $
       -- [the groups; the open borrow; obs; auth; …; …; _4; _10; …]
       keep ! (7 ∷ 8 ∷ 9 ∷ 10 ∷ 11 ∷ 12 ∷ 13 ∷ 14 ∷ 15 ∷ 16 ∷ 17 ∷ 18 ∷ 6 ∷ 19 ∷ 20 ∷ 21 ∷ 22 ∷ 23 ∷ 24 ∷ 25 ∷ 26 ∷ 27 ∷ 0 ∷ 1 ∷ 2 ∷ 3 ∷ []) $
-      first ! $ blocks ! $ loops ! 𝓣 (Nearer left) (nearer-wf left) (At 𝓣 known l₀ l₁ l₂ l₃ l₄ l₅ l₆ l₇ l₈ l₉ l₁₀) (turns 𝓣 known l₀ l₁ l₂ l₃ l₄ l₅ l₆ l₇ l₈ l₉ l₁₀) (0, omega arith))))))))))))
+      first ! $ blocks ! $ loops ! 𝓣 (Nearer left) (nearer_wf left) (At 𝓣 known l₀ l₁ l₂ l₃ l₄ l₅ l₆ l₇ l₈ l₉ l₁₀) (turns 𝓣 known l₀ l₁ l₂ l₃ l₄ l₅ l₆ l₇ l₈ l₉ l₁₀) (0, omega arith))))))))))))
     where
-      numbers-typed : T (has_ty numbersTy nv) × WT nv
-      numbers-typed = ((flat-lawful 𝓛).typed ns _ are-numbers).0
+      numbers-typed : T (has_ty numbers_ty nv) × WT nv
+      numbers-typed = ((flat_lawful 𝓛).typed ns _ are-numbers).0
 
 module _ {M : Type 1} {𝓤 : Ura M} (𝓛 : Logic 𝓤) (memory : Memory → SProp 𝓤) (run : Routine → Fun 𝓤) (𝓣 : Tables 𝓤 𝓛.H) (known : Triple 𝓤 (𝓣.C #groups·get) (Get 𝓛 memory run)) where
   open 𝓛 use {H}
 
   gather-walks : Walks 𝓛 gather.ended stayed (WpFn 𝓤 H 𝓣.C 𝓣.Λ code.function) (gather.clauses 𝓛 memory run)
   gather-walks = walked 𝓛 gather.ended stayed (gather.clauses 𝓛 memory run) (WpFn 𝓤 H 𝓣.C 𝓣.Λ code.function)
-      (λ κs. (array_vals (uint_vals w32), (uint_vals w64, (mut_slice_vals, tt)))) (λ κs. (Array-Tells u32 (uint_vals w32) (uint_Tells w32) maxFields, (uint_Tells w64, (mut_slice_Tells (named 0) κs.0 T.the_row, tt))))
-      (λ κs qs bounds a g are. needs 𝓤 ((a.1.0 ≤ maxGroups) × (a.1.0 ≤ length a.1.1.0.now)) _ (λ fits.
+      (λ κs. (array_vals (uint_vals w32), (uint_vals w64, (mut_slice_vals, tt)))) (λ κs. (Array-Tells u32 (uint_vals w32) (uint_Tells w32) max_fields, (uint_Tells w64, (mut_slice_Tells (named 0) κs.0 T.the_row, tt))))
+      (λ κs qs bounds a g are. needs 𝓤 ((a.1.0 ≤ max_groups) × (a.1.0 ≤ length a.1.1.0.now)) _ (λ fits.
       walk 𝓛 memory run κs.0 qs.0 a.1.1.0.ref_ptr.0 a.1.1.0.ref_ptr.1 a.1.1.0.ghost_name a.1.1.0.now a.0 _ are.0 a.1.0 fits.0 fits.1 are.1.1.0.0.1 𝓣 known))
 
   gather-meets : Meets 𝓛 gather.signature (WpFn 𝓤 H 𝓣.C 𝓣.Λ code.function) (gather.spec 𝓛 memory run)

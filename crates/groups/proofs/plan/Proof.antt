@@ -42,14 +42,14 @@ use denote.Triple.Walked.{says, Stays, stay_dropped, gave_slice, walk_of, Goes-g
 use denote.Exit.{yes}
 use Rattle.base.specs.contracts.Verdict as S
 use Rattle.base.proofs.Verdict.TheLaws as S'
-use Rattle.matrix.specs.Matrix.{matrixOf, Matrix}
+use Rattle.matrix.specs.Matrix.{matrix_of, Matrix}
 use Rattle.plan.specs.declared.fields.Group.{Group}
 use Rattle.plan.specs.contracts.fields.Group as T
 use Rattle.groups.specs.declared.Made.{Made}
-use Rattle.groups.specs.code.Flattened.{gathered, Planned}
+use Rattle.groups.specs.Code.Flattened.{gathered, Planned}
 use Rattle.groups.specs.contracts.Made as R
 use Rattle.groups.proofs.Made.TheLaws as R'
-use Rattle.groups.proofs.Walking.{u32-dropped, slice-dropped, hears, tells, Flat, flat-makes, at}
+use Rattle.groups.proofs.Walking.{u32_dropped, slice_dropped, hears, tells, Flat, flat-makes, at}
 use Rattle.groups.specs.contracts.plan_flat as plan-flat
 use Rattle.groups.proofs.plan_flat.Symbol as plan-flat-def
 use Rattle.groups.proofs.plan_flat.Symbol.{name as #groups·plan-flat}
@@ -75,20 +75,20 @@ module _ {M : Type 1} {𝓤 : Ura M} (𝓛 : Logic 𝓤) (memory : Memory → SP
   Gather = triple_of 𝓛 gather.signature (gather.spec 𝓛 memory run)
 
 -- the machine values of what `plan_flat` returns: its list, and its answer
-abbrev numbersAt : Made → Val
-numbersAt r = (R'.the_laws).0.val (map (λ x. x) r.numbers)
+abbrev numbers_at : Made → Val
+numbers_at r = (R'.the_laws).0.val (map (λ x. x) r.numbers)
 
-abbrev answerAt : Made → Val
-answerAt r = (R'.the_laws).1.1.0.val ((R.the_type).to r).1.1.0
+abbrev answer_at : Made → Val
+answer_at r = (R'.the_laws).1.1.0.val ((R.the_type).to r).1.1.0
 
 module _ (r : Made) (w : Val) (is : Is R.the_row r (w ∷ [])) where
-  are-numbers : Is Flat r.numbers (numbersAt r ∷ [])
-  are-numbers = subst (λ (l : List ℕ). Is Flat l (numbersAt r ∷ [])) (map-id r.numbers) (LL.owed R.the_type R'.the_laws r (w ∷ []) is).0
+  are-numbers : Is Flat r.numbers (numbers_at r ∷ [])
+  are-numbers = subst (λ (l : List ℕ). Is Flat l (numbers_at r ∷ [])) (map-id r.numbers) (LL.owed R.the_type R'.the_laws r (w ∷ []) is).0
 
   is-count : Is usize r.count (vint w64 r.count ∷ [])
   is-count = (LL.owed R.the_type R'.the_laws r (w ∷ []) is).1.0
 
-  is-answer : Is S.the_row r.answer (answerAt r ∷ [])
+  is-answer : Is S.the_row r.answer (answer_at r ∷ [])
   is-answer = (LL.owed R.the_type R'.the_laws r (w ∷ []) is).1.1.0
 
 module _ {M : Type 1} {𝓤 : Ura M} (𝓛 : Logic 𝓤) (memory : Memory → SProp 𝓤) (run : Routine → Fun 𝓤) (κ₀ κ₁ κ₂ κ₃ κ₄ : Lft) (q₀ q₁ q₂ q₃ q₄ : Share)
@@ -121,16 +121,16 @@ module _ {M : Type 1} {𝓤 : Ura M} (𝓛 : Logic 𝓤) (memory : Memory → SP
   Last = ‵ (flft κ₄ q₄) ⊛ ‵ ftrue
 
   -- the call of `plan_flat`
-  abbrev lent-on : Lfts 4
-  lent-on = (κ₀, (κ₁, (κ₂, (κ₃, tt))))
+  abbrev lent_on : Lfts 4
+  lent_on = (κ₀, (κ₁, (κ₂, (κ₃, tt))))
 
-  abbrev passed : Args plan-flat.signature lent-on
+  abbrev passed : Args plan-flat.signature lent_on
   passed = (n, (starts, (columns, (values, (workers, (p, (k, (order, (room, tt)))))))))
 
   abbrev to-plan : (PlanFlat 𝓛 memory run).Ghost
   to-plan = (
     (
-      lent-on,
+      lent_on,
       (q₀, (q₁, (q₂, (q₃, tt)))),
       tt,
       passed,
@@ -151,10 +151,10 @@ module _ {M : Type 1} {𝓤 : Ura M} (𝓛 : Logic 𝓤) (memory : Memory → SP
       move ! (2 ∷ 0 ∷ []) $ fjoin ! $ move ! (2 ∷ 0 ∷ []) $ fjoin ! $ move ! (2 ∷ 0 ∷ []) $ fjoin ! $ owned ! u32 (Is u32) (uint_Makes 𝓛 w32) n _ (refl, n-small) $ fjoin ! $ move ! (1 ∷ 0 ∷ []) $ join ! $ frame ! $ done !
 
   abbrev m : Matrix
-  m = matrixOf n starts.now columns.now values.now
+  m = matrix_of n starts.now columns.now values.now
 
   -- what `plan_flat` ensures, at the last list of the order
-  abbrev Said : Made → Lasts plan-flat.ended lent-on passed → Type 0
+  abbrev Said : Made → Lasts plan-flat.ended lent_on passed → Type 0
   Said r ws = Planned m workers p k order.now room r ws.1.1.1.1.1.1.1.0
 
   -- the call of `gather`, at the plan made
@@ -163,7 +163,7 @@ module _ {M : Type 1} {𝓤 : Ura M} (𝓛 : Logic 𝓤) (memory : Memory → SP
     given-on = (r.numbers, (r.count, (groups, tt)))
 
     abbrev to-gather : (Gather 𝓛 memory run).Ghost
-    to-gather = (((κ₄, tt), (q₄, tt), tt, given-on, (numbersAt r ∷ [], (vint w64 r.count ∷ [], (at groups ∷ [], tt)))), tt)
+    to-gather = (((κ₄, tt), (q₄, tt), tt, given-on, (numbers_at r ∷ [], (vint w64 r.count ∷ [], (at groups ∷ [], tt)))), tt)
 
     abbrev Got : Lasts gather.ended (κ₄, tt) given-on → Type 0
     Got ws = ws.1.1.0 ≡ gathered r.count r.numbers groups.now
@@ -175,10 +175,10 @@ module _ {M : Type 1} {𝓤 : Ura M} (𝓛 : Logic 𝓤) (memory : Memory → SP
           owned ! usize (Is usize) (uint_Makes 𝓛 w64) r.count _ (is-count r w is) $ fjoin ! $ owned ! Flat (Is Flat) (flat-makes 𝓛) r.numbers _ (are-numbers r w is) $ fjoin ! $ done !
 
       exits : (groups' : List Group) → groups' ≡ gathered r.count r.numbers groups.now → length order' ≡ length order.now → length groups' ≡ room
-          → ent 𝓤 (⋆ 𝓛 (Four ∷ Last ∷ ‵ (finally u32 order.name order') ∷ ‵ (finally T.the_row groups.name groups') ∷ [])) (Post (answerAt r))
+          → ent 𝓤 (⋆ 𝓛 (Four ∷ Last ∷ ‵ (finally u32 order.name order') ∷ ‵ (finally T.the_row groups.name groups') ∷ [])) (Post (answer_at r))
       exits groups' got long long' =
           qed 𝓛 (Four ∷ Last ∷ ‵ (finally u32 order.name order') ∷ ‵ (finally T.the_row groups.name groups') ∷ []) ∵
-          suffices ! _ (ends_at 𝓛 plan.ended stayed (plan.clauses 𝓛 memory run) ((κs, qs, tt, a, vals), tt) (answerAt r) r.answer
+          suffices ! _ (ends_at 𝓛 plan.ended stayed (plan.clauses 𝓛 memory run) ((κs, qs, tt, a, vals), tt) (answer_at r) r.answer
           (tt, (tt, (tt, (tt, (tt, (tt, (tt, (order', (groups', tt))))))))) (tt, (tt, (tt, (tt, (tt, (tt, (tt, (long, (long', tt)))))))))) $
           split ! $ move ! (1 ∷ []) $ split ! $ move ! (1 ∷ []) $ split ! $ move ! (1 ∷ []) $ split ! $
           move ! (0 ∷ 5 ∷ []) $ join ! $ move ! (2 ∷ 0 ∷ []) $ join ! $ move ! (2 ∷ 0 ∷ []) $ join ! $ move ! (2 ∷ 0 ∷ []) $ join ! $
@@ -213,7 +213,7 @@ module _ {M : Type 1} {𝓤 : Ura M} (𝓛 : Logic 𝓤) (memory : Memory → SP
         -- [what `plan_flat` asks; the token of groups; what groups owns; …; _16; …; _15; …; … _1; …; _0; …]
         calls_at ! (fm_of 𝓤 H 𝓛.laws 𝓣) (PlanFlat 𝓛 memory run) known-plan to-plan (and_then ! (load ! (from ! (stop !)) (look ! 34 refl)) (and_then ! (load ! (from ! (stop !)) (look ! 32 refl)) (and_then ! (load ! (from ! (stop !)) (look ! 30 refl))
         (and_then ! (load ! (from ! (stop !)) (look ! 28 refl)) (and_then ! (load ! (from ! (stop !)) (look ! 26 refl)) (and_then ! (load ! (from ! (stop !)) (look ! 24 refl)) (and_then ! (load ! (from ! (stop !)) (look ! 22 refl)) (and_then ! (load ! (from ! (stop !)) (look ! 12 refl)) (and_then ! (load ! (from ! (stop !)) (look ! 10 refl)) (no_more !)))))))))) (λ w.
-        hears ! tt Four (λ (r : Made). (R.the_row).own_val r (w ∷ [])) (lasts plan-flat.ended lent-on passed) Said (id⊢ 𝓤 _) (λ r ws said.
+        hears ! tt Four (λ (r : Made). (R.the_row).own_val r (w ∷ [])) (lasts plan-flat.ended lent_on passed) Said (id⊢ 𝓤 _) (λ r ws said.
         fsplit ! $ drop ! $ fsplit ! $ drop ! $ fsplit ! $ drop ! $ fsplit ! $ drop ! $ fsplit ! $ drop ! $ fsplit ! $ drop ! $ fsplit ! $ drop ! $ fsplit ! $ fsplit ! $ move ! (1 ∷ []) $ feq_l ! (λ long.
         move ! (2 ∷ []) $ split ! $ move ! (1 ∷ []) $ peeks ! R.the_row (Is R.the_row) (shows 𝓛 R.the_row) r (w ∷ []) (λ is.
         -- [what the plan made owns; the tokens; the last order; …; the token of groups; what groups owns; …; _16; …;
@@ -251,7 +251,7 @@ module _ {M : Type 1} {𝓤 : Ura M} (𝓛 : Logic 𝓤) (memory : Memory → SP
       are.1.0 are.1.1.0 are.1.1.1.0 are.1.1.1.1.1.1.1.0 are.1.1.1.1.1.1.1.1.0))
 
   plan-meets : Meets 𝓛 plan.signature (WpFn 𝓤 H 𝓣.C 𝓣.Λ code.function) (plan.spec 𝓛 memory run)
-  plan-meets = walk_Meets 𝓛 plan.ended stayed (u32-dropped 𝓛 5, (slice-dropped 𝓛 5 0 tt u32, (slice-dropped 𝓛 5 1 tt u32, (slice-dropped 𝓛 5 2 tt i32, (u32-dropped 𝓛 5, (u32-dropped 𝓛 5, (u32-dropped 𝓛 5, (Goes-gave_slice 𝓛 5 3 tt (plain (λ _. u32)), (Goes-gave_slice 𝓛 5 4 tt (plain (λ _. T.the_row)), tt)))))))))
+  plan-meets = walk_Meets 𝓛 plan.ended stayed (u32_dropped 𝓛 5, (slice_dropped 𝓛 5 0 tt u32, (slice_dropped 𝓛 5 1 tt u32, (slice_dropped 𝓛 5 2 tt i32, (u32_dropped 𝓛 5, (u32_dropped 𝓛 5, (u32_dropped 𝓛 5, (Goes-gave_slice 𝓛 5 3 tt (plain (λ _. u32)), (Goes-gave_slice 𝓛 5 4 tt (plain (λ _. T.the_row)), tt)))))))))
       (plan.clauses 𝓛 memory run) (WpFn 𝓤 H 𝓣.C 𝓣.Λ code.function) (WpFn-mono 𝓤 H 𝓛.laws 𝓣 code.function) plan-walks
 
 pub plan-spec : {M : Type 1} → stated.statement M

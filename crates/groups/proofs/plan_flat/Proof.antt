@@ -4,20 +4,20 @@ use native.Mathlib.Omega.{arith}
 use lib.ListN.{replicate}
 use lib.Seq.{length-take-le}
 use borrow.Author.Rules.{rules}
-use Rattle.plan.specs.code.Room.{maxFields}
-use Rattle.matrix.specs.Matrix.{matrixOf}
+use Rattle.plan.specs.Code.Room.{max_fields}
+use Rattle.matrix.specs.Matrix.{matrix_of}
 use Rattle.groups.proofs.PlanReply.{made-planned}
 use Rattle.groups.proofs.plan_flat.Statement.{statement}
 use Rattle.groups.proofs.plan_flat.Tie as tie
 
 slice-aggregate-plan : tie.Need-slice-aggregate-plan
-slice-aggregate-plan c = sym (length-take-le c.before.before.size_for_lem.result (replicate maxFields 0) (omega (arith, c.before.before.size_for_lem.ensures)))
+slice-aggregate-plan c = sym (length-take-le c.before.before.size_for_lem.result (replicate max_fields 0) (omega (arith, c.before.before.size_for_lem.ensures)))
 
 returns : tie.Need-returns
 returns c =
     let a = c.before.before.before.before.before.before.before.before.before.before.before.args in
     let made = c.before.before.before.before.plan in
-    made-planned (matrixOf a.n a.starts.now a.columns.now a.values.now) a.workers a.p a.k a.order.now made.new.1.1.1.1.1.1.1.0 (replicate maxFields 0) made.new.1.1.1.1.1.1.1.1.0 a.room
+    made-planned (matrix_of a.n a.starts.now a.columns.now a.values.now) a.workers a.p a.k a.order.now made.new.1.1.1.1.1.1.1.0 (replicate max_fields 0) made.new.1.1.1.1.1.1.1.1.0 a.room
     c.before.before.before.before.before.before.before.size_for_lem.result c.count_of.result made.result refl c.before.before.before.before.before.before.before.size_for_lem.ensures
     made.ensures.0 made.ensures.1.0 made.ensures.1.1 c.count_of.ensures
 

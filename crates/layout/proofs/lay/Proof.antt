@@ -7,13 +7,13 @@ use native.Mathlib.Omega.{arith}
 use lib.ListN.{length, get_or}
 use borrow.Author.Tests.{not-true, not-false}
 use Rattle.base.proofs.Booleans.{fails, holds}
-use Rattle.plan.specs.code.Checks.{belowWhole}
+use Rattle.plan.specs.Code.Checks.{below_whole}
 use Rattle.run.specs.Job.{Job}
-use Rattle.tables.specs.code.Laid.{hasChild, next_of, Counted}
-use Rattle.layout.specs.code.UpdateTable.{Planned, Filled, Walked, Blank, reached}
+use Rattle.tables.specs.Code.Laid.{has_child, next_of, Counted}
+use Rattle.layout.specs.Code.UpdateTable.{Planned, Filled, Walked, Blank, reached}
 use Rattle.layout.proofs.UpdateRoom.{room}
-use Rattle.layout.proofs.LeafRows.{in_order, Read, read}
-use Rattle.layout.proofs.FilledRows.{walked_none, walked-group, walked-read, all_laid}
+use Rattle.layout.proofs.LeafRows.{in_order_lem, Read, read}
+use Rattle.layout.proofs.FilledRows.{walked_none, walked_group, walked-read, all_laid}
 use borrow.Author.Rules.{rules}
 use Rattle.layout.proofs.lay.Statement.{statement}
 use Rattle.layout.proofs.lay.Tie as tie
@@ -30,7 +30,7 @@ abbrev start : tie.In-loop invariant-loop decreases-loop → tie.Start invariant
 start c = c.before.before.before
 
 -- the record is a leaf
-childless : (c : tie.Else1 invariant-loop decreases-loop) → let t = c.before.before in let a = (start t).args in hasChild t.before.loop.i (belowWhole a.count a.groups.now) ≡ false
+childless : (c : tie.Else1 invariant-loop decreases-loop) → let t = c.before.before in let a = (start t).args in has_child t.before.loop.i (below_whole a.count a.groups.now) ≡ false
 childless c = not-true _ (holds c.before.is_IsLeaf.ensures c.if1.false)
 
 leaf : (c : tie.After-record-at invariant-loop decreases-loop) → let t = c.before.before.before in let a = (start t).args in (j : Job) (g : Planned j a.groups.now a.count a.sizes.now)
@@ -64,19 +64,19 @@ loop-holds : tie.Need-loop-init invariant-loop decreases-loop
 loop-holds c = (search rules, λ j g k b. walked_none g k b)
 
 is-leaf-requires : tie.Need-is-leaf-requires invariant-loop decreases-loop
-is-leaf-requires c κs = let g = (start c).requires.1 in (g.groups-long, (in_order g).0, c.loop-test.true)
+is-leaf-requires c κs = let g = (start c).requires.1 in (g.groups_long, (in_order_lem g).0, c.loop-test.true)
 
 loop-again : tie.Need-loop-preserved invariant-loop decreases-loop
 loop-again c =
     let t = c.before.before in
-    (search rules, λ j g k b. walked-group g k t.loop-test.true (t.before.loop.invariant.1 j g k b) (not-false _ (fails c.before.is_IsLeaf.ensures c.if1.true)))
+    (search rules, λ j g k b. walked_group g k t.loop-test.true (t.before.loop.invariant.1 j g k b) (not-false _ (fails c.before.is_IsLeaf.ensures c.if1.true)))
 
 record-at-requires : tie.Need-record-at-requires invariant-loop decreases-loop
-record-at-requires c κs = let t = c.before.before in omega (arith, (start t).requires.1.groups-long, t.loop-test.true)
+record-at-requires c κs = let t = c.before.before in omega (arith, (start t).requires.1.groups_long, t.loop-test.true)
 
 -- the numbers fit, for the job that is given
 record Fits (i w place : ℕ) : Type 0 where
-  record-low : i < 512
+  record_low : i < 512
   low : w < 16
   few : place ≤ 69632
 
@@ -85,7 +85,7 @@ fits c =
     let s = (start c.before.before.before).pre in
     let h = (leaf c s.0 s.1).stretch in
     let u = so_far c s.0 s.1 s.2 s.3 in
-    record { record-low = h.record-low; low = h.worker; few = omega (arith, u.place_is, h.rises, h.inside, room s.0 s.1.sized.accepted c.record-at.result.first c.record-at.result.start h.worker (omega (arith, h.rises, h.inside))) }
+    record { record_low = h.record_low; low = h.worker; few = omega (arith, u.place_is, h.rises, h.inside, room s.0 s.1.sized.accepted c.record-at.result.first c.record-at.result.start h.worker (omega (arith, h.rises, h.inside))) }
 
 mul-place : tie.Need-overflow-mul-place invariant-loop decreases-loop
 mul-place c = let f = fits c in search rules

@@ -4,8 +4,8 @@ use Prim.Native.Nat.{ℕ, ◌+◌, ◌*◌, ◌-◌, ◌≤◌, ◌<◌}
 use native.Mathlib.Omega.{arith}
 use lib.ListN.{length, get_or}
 use Rattle.run.specs.Job.{Job}
-use Rattle.tables.specs.code.Laid.{next_of}
-use Rattle.layout.specs.code.UpdateTable.{Sized, Stretch, Filled}
+use Rattle.tables.specs.Code.Laid.{next_of}
+use Rattle.layout.specs.Code.UpdateTable.{Sized, Stretch, Filled}
 use Rattle.layout.proofs.CountRows.{row_fits}
 use Rattle.layout.proofs.FilledRows.{filled_row}
 use borrow.Author.Rules.{rules}
@@ -38,7 +38,7 @@ fits c =
     let s = l.before.requires in
     let f = row_fits s.2 s.3 l.loop.p l.loop.invariant.0 c.loop-test.true in
     let t = filled l in
-    record { leaf = s.3.record-low; few = f.few; some = f.some; room = omega (arith, f.room_for, t.0); long = t.1.row-long }
+    record { leaf = s.3.record_low; few = f.few; some = f.some; room = omega (arith, f.room_for, t.0); long = t.1.row_long }
 
 loop-holds : tie.Need-loop-init invariant-loop decreases-loop
 loop-holds c = (search rules, c.requires.3.rises, λ j w t h e f. (e, f))

@@ -1,8 +1,8 @@
 -- `put_row` meets its contract: the places before k have the row.
 use mathlib.Core.Path.{◌≡◌, subst}
 use Prim.Native.Nat.{ℕ, ◌+◌, ◌-◌, ◌*◌, ◌≤◌}
-use Rattle.layout.specs.code.UpdateTable.{Put}
-use Rattle.layout.proofs.PutRows.{put-none, put_next}
+use Rattle.layout.specs.Code.UpdateTable.{Put}
+use Rattle.layout.proofs.PutRows.{put_none, put_next}
 use borrow.Author.Rules.{rules}
 use Rattle.layout.proofs.put_row.Statement.{statement}
 use Rattle.layout.proofs.put_row.Tie as tie
@@ -14,7 +14,7 @@ abbrev decreases-loop : tie.decreases-loop
 decreases-loop p size place row₀ end k₀ row k = end - k
 
 loop-holds : tie.Need-loop-init invariant-loop decreases-loop
-loop-holds c = (search rules, search rules, put-none c.args.p c.args.place c.args.row.now)
+loop-holds c = (search rules, search rules, put_none c.args.p c.args.place c.args.row.now)
 
 loop-again : tie.Need-loop-preserved invariant-loop decreases-loop
 loop-again c =

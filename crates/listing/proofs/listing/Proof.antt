@@ -23,8 +23,8 @@ returns-2 c =
     let i = e.before.before.args.input.now in
     put_whole (put_as (sym (listing-short i e.if1.false l.line-length.result l.line-length.ensures)) (rw (rest-taken i (l.line-length.result + 1)) at c.put-judged.ensures))
 
-returns-3 : tie.Need-returns-3
-returns-3 c =
+returns_3 : tie.Need-returns-3
+returns_3 c =
     let l = c.before.before.before.before in
     let e = l.before in
     let i = e.before.before.args.input.now in
@@ -35,4 +35,4 @@ listing-spec =
     tie.close
     (tie.spec (λ c κs. search rules) returns (λ c κs. search rules) (λ c. search rules) slice-aggregate-put-judged
     (λ c. search rules) (λ c. search rules) (λ c. search rules) (λ c κs. search rules) returns-2 (λ c. search rules)
-    (λ c κs. search rules) returns-3)
+    (λ c κs. search rules) returns_3)

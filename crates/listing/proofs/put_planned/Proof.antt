@@ -4,11 +4,11 @@ use mathlib.Core.Path.{sym, ap, ◌∙◌}
 use Prim.Native.Nat.{ℕ}
 use native.Mathlib.Omega.{arith}
 use lib.ListN.{replicate, length-replicate}
-use Rattle.base.specs.Verdicts.{replyOf}
-use Rattle.matrix.specs.Matrix.{Matrix, matrixOf}
-use Rattle.matrix.proofs.Matrix.{matrix-facts}
-use Rattle.matrix.specs.Limits.{maxRows}
-use Rattle.plan.specs.code.Room.{maxFields}
+use Rattle.base.specs.Verdicts.{reply_of}
+use Rattle.matrix.specs.Matrix.{Matrix, matrix_of}
+use Rattle.matrix.proofs.Matrix.{matrix_facts}
+use Rattle.matrix.specs.Limits.{max_rows}
+use Rattle.plan.specs.Code.Room.{max_fields}
 use Rattle.writer.proofs.puts.Putting.{put_as}
 use Rattle.listing.proofs.PlanLists.{Left, planned-refused, planned-accepted}
 use Rattle.listing.proofs.put_planned.Statement.{statement}
@@ -16,7 +16,7 @@ use Rattle.listing.proofs.put_planned.Tie as tie
 
 -- the matrix that the lists hold
 abbrev held : tie.Start → Matrix
-held s = matrixOf s.args.n s.args.starts.now s.args.columns.now s.args.values.now
+held s = matrix_of s.args.n s.args.starts.now s.args.columns.now s.args.values.now
 
 -- the plan that the planner's lists hold
 left : (c : tie.After-made2) → let w = c.before.before.before.before in let s = w.before.before.before.before.before.before in
@@ -24,18 +24,18 @@ left : (c : tie.After-made2) → let w = c.before.before.before.before in let s 
 left c =
     let w = c.before.before.before.before in
     let s = w.before.before.before.before.before.before in
-    planned-accepted (held s) s.args.workers s.args.p s.requires.0 (replicate maxRows 0) (replicate maxFields 0) (length-replicate {A = ℕ} maxRows 0) (length-replicate {A = ℕ} maxFields 0) c.made2.given.0.0
-    (ap replyOf (sym c.made2.given.1) ∙ w.plan.ensures.0) _ _ w.plan.ensures.1.0 w.plan.ensures.1.1
+    planned-accepted (held s) s.args.workers s.args.p s.requires.0 (replicate max_rows 0) (replicate max_fields 0) (length-replicate {A = ℕ} max_rows 0) (length-replicate {A = ℕ} max_fields 0) c.made2.given.0.0
+    (ap reply_of (sym c.made2.given.1) ∙ w.plan.ensures.0) _ _ w.plan.ensures.1.0 w.plan.ensures.1.1
 
 put-plan-requires : tie.Need-put-plan-requires
 put-plan-requires c κs =
     let m = c.before.before.before.before in
     let w = m.before.before.before.before in
     let s = w.before.before.before.before.before.before in
-    let rows = (matrix-facts (held s) s.requires.0).few in
+    let rows = (matrix_facts (held s) s.requires.0).few in
     let count = (left m).few in
     let long = w.plan.auto.1.1.1.1.1.1.1 in
-    (omega (arith, long.0, length-replicate {A = ℕ} maxRows 0), omega (arith, long.1.0, length-replicate {A = ℕ} maxFields 0), omega (arith, s.requires.1))
+    (omega (arith, long.0, length-replicate {A = ℕ} max_rows 0), omega (arith, long.1.0, length-replicate {A = ℕ} max_fields 0), omega (arith, s.requires.1))
 
 returns : tie.Need-returns
 returns c =
@@ -43,8 +43,8 @@ returns c =
     let m = r.before.before.before in
     let w = m.before.before.before.before in
     let s = w.before.before.before.before.before.before in
-    let e = planned-refused (held s) s.args.workers s.args.p s.requires.0 (replicate maxRows 0) (replicate maxFields 0) (length-replicate {A = ℕ} maxRows 0) (length-replicate {A = ℕ} maxFields 0) m.made.given.0.0 m.made.given.0.1.0
-    (ap replyOf (sym m.made.given.1) ∙ w.plan.ensures.0) in
+    let e = planned-refused (held s) s.args.workers s.args.p s.requires.0 (replicate max_rows 0) (replicate max_fields 0) (length-replicate {A = ℕ} max_rows 0) (length-replicate {A = ℕ} max_fields 0) m.made.given.0.0 m.made.given.0.1.0
+    (ap reply_of (sym m.made.given.1) ∙ w.plan.ensures.0) in
     put_as (sym e) r.put-refusal.ensures
 
 returns-2 : tie.Need-returns-2

@@ -3,14 +3,14 @@ use native.Mathlib.Omega.{arith}
 use Prim.Native.Nat.{◌-◌}
 use borrow.Author.Rules.{rules}
 use lib.ListN.{length, get_or}
-use Rattle.loads.specs.code.Stretches.{levelsIn}
+use Rattle.loads.specs.Code.Stretches.{levels_in}
 use Rattle.loads.proofs.Weights.{load_split, weighed-part}
-use Rattle.loads.proofs.LevelLoads.{Loading, loading-start, loading-next, loading-end, level-start, level-end, sum_level}
+use Rattle.loads.proofs.LevelLoads.{Loading, loading_start, loading_next, loading_end, level_start, level_end, sum_level}
 use Rattle.loads.proofs.level_loads.Statement.{statement}
 use Rattle.loads.proofs.level_loads.Tie as tie
 
 abbrev invariant-loop : tie.invariant-loop
-invariant-loop keys stretch ends loads₀ sum₀ from₀ k₀ loads sum from k = Loading keys ends stretch (levelsIn 0 ends stretch) loads sum from k
+invariant-loop keys stretch ends loads₀ sum₀ from₀ k₀ loads sum from k = Loading keys ends stretch (levels_in 0 ends stretch) loads sum from k
 
 abbrev decreases-loop : tie.decreases-loop
 decreases-loop keys stretch ends loads₀ sum₀ from₀ k₀ loads sum from k = length ends - k
@@ -19,7 +19,7 @@ loop-holds : tie.Need-loop-init invariant-loop decreases-loop
 loop-holds c =
     let s = c.before.before in
     let a = s.args in
-    loading-start a.keys.now a.ends.now a.stretch.now (levelsIn 0 a.ends.now a.stretch.now) s.requires.1 s.requires.2 a.loads.now s.requires.3
+    loading_start a.keys.now a.ends.now a.stretch.now (levels_in 0 a.ends.now a.stretch.now) s.requires.1 s.requires.2 a.loads.now s.requires.3
 
 cast-to : tie.Need-overflow-cast-to invariant-loop decreases-loop
 cast-to c = omega (arith, c.shared-slice-known3.given c.before.before.loop.k)
@@ -29,21 +29,21 @@ sub-load c =
     let s = c.before.before.before.before.before in
     let a = s.args in
     let l = c.before.before.loop in
-    level-start a.keys.now a.ends.now a.stretch.now (levelsIn 0 a.ends.now a.stretch.now) s.requires.1 s.requires.2 l.loads l.sum l.from l.k l.invariant (omega arith)
+    level_start a.keys.now a.ends.now a.stretch.now (levels_in 0 a.ends.now a.stretch.now) s.requires.1 s.requires.2 l.loads l.sum l.from l.k l.invariant (omega arith)
 
 part-load-start : tie.Need-slice-bounds-load-start invariant-loop decreases-loop
 part-load-start c =
     let s = c.before.before.before.before.before in
     let a = s.args in
     let l = c.before.before.loop in
-    level-start a.keys.now a.ends.now a.stretch.now (levelsIn 0 a.ends.now a.stretch.now) s.requires.1 s.requires.2 l.loads l.sum l.from l.k l.invariant (omega arith)
+    level_start a.keys.now a.ends.now a.stretch.now (levels_in 0 a.ends.now a.stretch.now) s.requires.1 s.requires.2 l.loads l.sum l.from l.k l.invariant (omega arith)
 
 part-load-end : tie.Need-slice-bounds-load-end invariant-loop decreases-loop
 part-load-end c =
     let s = c.before.before.before.before.before in
     let a = s.args in
     let l = c.before.before.loop in
-    level-end a.keys.now a.ends.now a.stretch.now (levelsIn 0 a.ends.now a.stretch.now) s.requires.1 s.requires.2 l.loads l.sum l.from l.k l.invariant (omega arith)
+    level_end a.keys.now a.ends.now a.stretch.now (levels_in 0 a.ends.now a.stretch.now) s.requires.1 s.requires.2 l.loads l.sum l.from l.k l.invariant (omega arith)
 
 load-requires : tie.Need-load-requires invariant-loop decreases-loop
 load-requires c κs =
@@ -62,7 +62,7 @@ add-sum c =
     let l = c.before.before.before.before.loop in
     omega (
       arith,
-      sum_level a.keys.now a.ends.now a.stretch.now (levelsIn 0 a.ends.now a.stretch.now) s.requires.1 s.requires.2 l.loads l.sum l.from l.k l.invariant (omega arith) c.load.result c.load.ensures,
+      sum_level a.keys.now a.ends.now a.stretch.now (levels_in 0 a.ends.now a.stretch.now) s.requires.1 s.requires.2 l.loads l.sum l.from l.k l.invariant (omega arith) c.load.result c.load.ensures,
       load_split a.keys.now (get_or a.ends.now l.k 0) a.stretch.now,
       s.requires.0.few,
     )
@@ -72,14 +72,14 @@ loop-again c =
     let s = c.before.before.before.before.before.before.before in
     let a = s.args in
     let l = c.before.before.before.before.loop in
-    loading-next a.keys.now a.ends.now a.stretch.now (levelsIn 0 a.ends.now a.stretch.now) s.requires.1 s.requires.2 l.loads l.sum l.from l.k l.invariant (omega arith) c.load.result c.load.ensures
+    loading_next a.keys.now a.ends.now a.stretch.now (levels_in 0 a.ends.now a.stretch.now) s.requires.1 s.requires.2 l.loads l.sum l.from l.k l.invariant (omega arith) c.load.result c.load.ensures
 
 returns : tie.Need-returns invariant-loop decreases-loop
 returns c =
     let s = c.before.before.before.before in
     let a = s.args in
     let l = c.before.loop in
-    loading-end a.keys.now a.ends.now a.stretch.now (levelsIn 0 a.ends.now a.stretch.now) s.requires.1 s.requires.2 l.loads l.sum l.from l.k l.invariant (omega arith)
+    loading_end a.keys.now a.ends.now a.stretch.now (levels_in 0 a.ends.now a.stretch.now) s.requires.1 s.requires.2 l.loads l.sum l.from l.k l.invariant (omega arith)
 
 pub level-loads-spec : {M : Type 1} → statement M
 level-loads-spec =

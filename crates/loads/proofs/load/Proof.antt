@@ -5,14 +5,14 @@ use native.Mathlib.Omega.{arith}
 use borrow.Author.Rules.{rules}
 use lib.ListN.{length, take, get_or}
 use lib.Seq.{take_all}
-use Rattle.base.proofs.Lists.{in-get}
-use Rattle.loads.specs.code.Stretches.{keyLoad}
+use Rattle.base.proofs.Lists.{in_get}
+use Rattle.loads.specs.Code.Stretches.{key_load}
 use Rattle.loads.proofs.Weights.{load_split, load-next}
 use Rattle.loads.proofs.load.Statement.{statement}
 use Rattle.loads.proofs.load.Tie as tie
 
 abbrev invariant-loop : tie.invariant-loop
-invariant-loop keys rows sum₀ i₀ sum i = (i ≤ length rows) × (sum ≡ keyLoad keys (take i rows))
+invariant-loop keys rows sum₀ i₀ sum i = (i ≤ length rows) × (sum ≡ key_load keys (take i rows))
 
 abbrev decreases-loop : tie.decreases-loop
 decreases-loop keys rows sum₀ i₀ sum i = length rows - i
@@ -25,7 +25,7 @@ weight-requires c κs =
     let s = c.before.before.before.before in
     let rows = s.args.rows.now in
     let i = c.before.before.loop.i in
-    s.requires.each (get_or rows i 0) (in-get rows i (omega arith))
+    s.requires.each (get_or rows i 0) (in_get rows i (omega arith))
 
 add-sum : tie.Need-overflow-add-sum invariant-loop decreases-loop
 add-sum c =
@@ -45,7 +45,7 @@ returns : tie.Need-returns invariant-loop decreases-loop
 returns c =
     let a = c.before.before.before.args in
     let l = c.before.loop in
-    l.invariant.1 ∙ ap (keyLoad a.keys.now) (take_all l.i a.rows.now (omega arith))
+    l.invariant.1 ∙ ap (key_load a.keys.now) (take_all l.i a.rows.now (omega arith))
 
 pub load_spec : {M : Type 1} → statement M
 load_spec =

@@ -25,11 +25,11 @@ returns-2 : tie.Need-returns-2
 returns-2 c =
     let t = c.before.before in
     let a = t.before.before.args in
-    ap (refused why.badDisplacement) c.first_past.ensures
+    ap (refused why.bad_displacement) c.first_past.ensures
     ∙ sym (displacements-past a.n a.displacements.now t.before.if1.false (fails t.all-within.ensures c.before.if2.true))
 
-returns-3 : tie.Need-returns-3
-returns-3 c =
+returns_3 : tie.Need-returns-3
+returns_3 c =
     let t = c.before in
     let a = t.before.before.args in
     sym (displacements-fine a.n a.displacements.now t.before.if1.false (holds t.all-within.ensures c.if2.false))
@@ -37,4 +37,4 @@ returns-3 c =
 pub check-displacements-spec : {M : Type 1} → statement M
 check-displacements-spec =
     tie.close
-    (tie.spec returns (λ c κs. search rules) (λ c κs. search rules) cast-t8 returns-2 returns-3)
+    (tie.spec returns (λ c κs. search rules) (λ c κs. search rules) cast-t8 returns-2 returns_3)

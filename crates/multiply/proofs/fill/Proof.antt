@@ -8,26 +8,26 @@ use mir.Syntax.{w64}
 use mir.Val.{SFits}
 use mir.Facts.{to_z-of_z}
 use Rattle.base.proofs.Fill.{filled, length-filled, filled_next}
-use Rattle.matrix.specs.Matrix.{Matrix, columnsOf, valuesOf, matrixOf}
-use Rattle.matrix.specs.Product.{forceAt, product}
-use Rattle.matrix.proofs.Checks.{Tidy, matrix-tidy}
-use Rattle.matrix.proofs.Rows.{columns-part, values-part, columns-in, values-in}
-use Rattle.multiply.proofs.Forces.{row_ok, force-row}
+use Rattle.matrix.specs.Matrix.{Matrix, columns_of, values_of, matrix_of}
+use Rattle.matrix.specs.Product.{force_at, product}
+use Rattle.matrix.proofs.Checks.{Tidy, matrix_tidy}
+use Rattle.matrix.proofs.Rows.{columns-part, values-part, columns-in, values_in}
+use Rattle.multiply.proofs.Forces.{row_ok, force_row}
 use Rattle.multiply.proofs.fill.Statement.{statement}
 use Rattle.multiply.proofs.fill.Tie as tie
 
 abbrev invariant-loop : tie.invariant-loop
 invariant-loop n starts columns values displacements forces₀ i₀ forces i =
-    (i ≤ n) × (forces ≡ filled (forceAt (matrixOf n starts columns values) displacements) forces₀ i)
+    (i ≤ n) × (forces ≡ filled (force_at (matrix_of n starts columns values) displacements) forces₀ i)
 
 abbrev decreases-loop : tie.decreases-loop
 decreases-loop n starts columns values displacements forces₀ i₀ forces i = n - i
 
 abbrev given : tie.Start invariant-loop decreases-loop → Matrix
-given c = let a = c.args in matrixOf a.n a.starts.now a.columns.now a.values.now
+given c = let a = c.args in matrix_of a.n a.starts.now a.columns.now a.values.now
 
 tidy : (c : tie.Start invariant-loop decreases-loop) → Tidy (given c)
-tidy c = matrix-tidy (given c) c.requires.matrix
+tidy c = matrix_tidy (given c) c.requires.matrix
 
 loop-holds : tie.Need-loop-init invariant-loop decreases-loop
 loop-holds c = (omega arith, refl)
@@ -36,12 +36,12 @@ columns-of-requires : tie.Need-columns-of-requires invariant-loop decreases-loop
 columns-of-requires c κs = let a = c.before.before.before.before in columns-in (given a) (tidy a).shape c.before.loop.i c.loop-test.true
 
 values-of-requires : tie.Need-values-of-requires invariant-loop decreases-loop
-values-of-requires c κs = let a = c.before.before.before.before.before in values-in (given a) (tidy a).shape c.before.before.loop.i c.before.loop-test.true
+values-of-requires c κs = let a = c.before.before.before.before.before in values_in (given a) (tidy a).shape c.before.before.loop.i c.before.loop-test.true
 
-columns : (c : tie.After-columns-of invariant-loop decreases-loop) → let l = c.before.before in c.columns_of.result.now ≡ columnsOf (given l.before.before.before) l.loop.i
+columns : (c : tie.After-columns-of invariant-loop decreases-loop) → let l = c.before.before in c.columns_of.result.now ≡ columns_of (given l.before.before.before) l.loop.i
 columns c = let l = c.before.before in c.columns_of.ensures ∙ sym (columns-part (given l.before.before.before) l.loop.i c.before.loop-test.true)
 
-values : (c : tie.After-values-of invariant-loop decreases-loop) → let l = c.before.before.before in c.values_of.result.now ≡ valuesOf (given l.before.before.before) l.loop.i
+values : (c : tie.After-values-of invariant-loop decreases-loop) → let l = c.before.before.before in c.values_of.result.now ≡ values_of (given l.before.before.before) l.loop.i
 values c = let l = c.before.before.before in c.values_of.ensures ∙ sym (values-part (given l.before.before.before) l.loop.i c.before.before.loop-test.true)
 
 force-requires : tie.Need-force-requires invariant-loop decreases-loop
@@ -68,8 +68,8 @@ loop-again c =
     let a = l.before.before.before in
     let f : SFits w64 c.force.result = record { sfits = c.force.type-inv } in
     let x = a.args.displacements.now in
-    let e = c.force.ensures ∙ force-row (given a) x a.requires l.loop.i t.loop-test.true (columns v.before) (values v) in
-    (omega arith, rw (to_z-of_z f, e, l.loop.invariant.1) (filled_next (forceAt (given a) x) a.args.forces.now (pos 0) l.loop.i (omega (arith, a.requires.long))))
+    let e = c.force.ensures ∙ force_row (given a) x a.requires l.loop.i t.loop-test.true (columns v.before) (values v) in
+    (omega arith, rw (to_z-of_z f, e, l.loop.invariant.1) (filled_next (force_at (given a) x) a.args.forces.now (pos 0) l.loop.i (omega (arith, a.requires.long))))
 
 same_length : tie.Need-same-length invariant-loop decreases-loop
 same_length c = kept c.before

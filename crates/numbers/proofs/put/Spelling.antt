@@ -2,8 +2,8 @@
 use Rattle.std.proofs.Common.{◌≡◌, ℕ, suc, ◌+◌, ◌-◌, ◌/◌, ◌%◌, ◌^◌, ◌<◌, ◌≤◌, List, ◌++◌, length, drop, set, sym, refl, ap, ◌∙◌, arith, length-set}
 use lib.Seq.{append_snoc}
 use Rattle.market.specs.Text.{decimal}
-use Rattle.market.proofs.Decimal.{decimal-one, decimal-more, decimal-some}
-use Rattle.numbers.specs.code.Puts.{PutBefore}
+use Rattle.market.proofs.Decimal.{decimal-one, decimal_more, decimal-some}
+use Rattle.numbers.specs.Code.Puts.{PutBefore}
 use Rattle.numbers.proofs.put.Putting.{drop-set}
 use Rattle.numbers.proofs.width.Widths.{length_more}
 
@@ -16,32 +16,32 @@ pub record Spelling (v end : ℕ) (old text : List ℕ) (x i : ℕ) : Type 0 whe
   pub long : length text ≡ length old
   pub after : decimal 19 x ++ drop i text ≡ decimal 19 v ++ drop end old
 
-pub spelling-start : (v end : ℕ) (old : List ℕ) → v < 10 ^ 19 → length (decimal 19 v) ≤ end → end ≤ length old → Spelling v end old old v end
-spelling-start v end old h r l = record { small = h; here = refl; room = r; inside = l; long = refl; after = refl }
+pub spelling_start : (v end : ℕ) (old : List ℕ) → v < 10 ^ 19 → length (decimal 19 v) ≤ end → end ≤ length old → Spelling v end old old v end
+spelling_start v end old h r l = record { small = h; here = refl; room = r; inside = l; long = refl; after = refl }
 
 module _ {v end : ℕ} {old text : List ℕ} {x i : ℕ} (g : Spelling v end old text x i) where
-  pub spelling-some : 1 ≤ i
-  spelling-some = omega (arith, g.here, g.room, decimal-some 18 x)
+  pub spelling_some : 1 ≤ i
+  spelling_some = omega (arith, g.here, g.room, decimal-some 18 x)
 
   step : suc (i - 1) ≡ i
-  step = omega (arith, spelling-some)
+  step = omega (arith, spelling_some)
 
   -- the last digit of x
-  pub spelling-more : 10 ≤ x → Spelling v end old (set text (i - 1) (48 + x % 10)) (x / 10) (i - 1)
-  spelling-more h = record {
+  pub spelling_more : 10 ≤ x → Spelling v end old (set text (i - 1) (48 + x % 10)) (x / 10) (i - 1)
+  spelling_more h = record {
     small = omega (arith, g.small);
-    here = omega (arith, g.here, spelling-some, length_more x h g.small);
+    here = omega (arith, g.here, spelling_some, length_more x h g.small);
     room = g.room;
     inside = omega (arith, g.inside);
     long = length-set text (i - 1) (48 + x % 10) ∙ g.long;
-    after = rw (drop-set text (i - 1) (48 + x % 10) (omega (arith, g.inside, g.long, spelling-some)), step)
-        (sym (append_snoc (decimal 19 (x / 10)) (48 + x % 10) (drop i text)) ∙ ap (λ (ds : List ℕ). ds ++ drop i text) (sym (decimal-more 18 x h g.small)) ∙ g.after);
+    after = rw (drop-set text (i - 1) (48 + x % 10) (omega (arith, g.inside, g.long, spelling_some)), step)
+        (sym (append_snoc (decimal 19 (x / 10)) (48 + x % 10) (drop i text)) ∙ ap (λ (ds : List ℕ). ds ++ drop i text) (sym (decimal_more 18 x h g.small)) ∙ g.after);
   }
 
   -- the first digit
-  pub spelling-last : x < 10 → PutBefore (decimal 19 v) end (i - 1) old (set text (i - 1) (48 + x))
-  spelling-last h = record {
-    begins = omega (arith, g.here, spelling-some, ap length (decimal-one 18 x h));
+  pub spelling_last : x < 10 → PutBefore (decimal 19 v) end (i - 1) old (set text (i - 1) (48 + x))
+  spelling_last h = record {
+    begins = omega (arith, g.here, spelling_some, ap length (decimal-one 18 x h));
     long = length-set text (i - 1) (48 + x) ∙ g.long;
-    text = drop-set text (i - 1) (48 + x) (omega (arith, g.inside, g.long, spelling-some)) ∙ rw step (ap (λ (ds : List ℕ). ds ++ drop i text) (sym (decimal-one 18 x h)) ∙ g.after);
+    text = drop-set text (i - 1) (48 + x) (omega (arith, g.inside, g.long, spelling_some)) ∙ rw step (ap (λ (ds : List ℕ). ds ++ drop i text) (sym (decimal-one 18 x h)) ∙ g.after);
   }

@@ -3,33 +3,33 @@ use Rattle.std.proofs.Common.{◌≡◌, ℕ, ◌+◌, ◌*◌, ◌<◌, ◌≤�
 use lib.Seq.{sets, get_or-append_seam}
 use types.Run.{OneOf}
 use denote.Enum.Declared.{tag_of}
-use Rattle.words.specs.LittleEndian.{bytes_of, signedBytesOf, signedBytes, stored}
-use Rattle.words.proofs.Digits.{length-signedBytesOf}
-use Rattle.words.proofs.Blocks.{Storing, store-none, store-more}
+use Rattle.words.specs.LittleEndian.{bytes_of, signed_bytes_of, signed_bytes, stored}
+use Rattle.words.proofs.Digits.{length-signed_bytes_of}
+use Rattle.words.proofs.Blocks.{Storing, store-none, store_more}
 use Rattle.numbers.specs.declared.line.Line.{Line}
 use Rattle.numbers.specs.declared.line.Line.TheVariants.{Number, Past, Broken}
-use Rattle.numbers.specs.code.Lines.{line_at}
-use Rattle.numbers.specs.Lines.{numberOn, numbers, faulty, listed}
-use Rattle.numbers.specs.Calls.{numbersIn}
+use Rattle.numbers.specs.Code.Lines.{line_at}
+use Rattle.numbers.specs.Lines.{number_on, numbers, faulty, listed}
+use Rattle.numbers.specs.Calls.{numbers_in}
 use Rattle.numbers.specs.contracts.line.Line.{the_type}
 use Rattle.numbers.proofs.NumberLists.{text-only}
 use Rattle.numbers.proofs.read.Told.{IsNumber, past-told, broken-told}
-use Rattle.numbers.proofs.read.Judging.{Judging, judging-start, judging-next, judging-more, judging-past, judging-broken, judging-done}
+use Rattle.numbers.proofs.read.Judging.{Judging, judging_start, judging_next, judging_more, judging_past, judging_broken, judging_done}
 
 -- the numbers of the text
 abbrev pub all : List ℕ → List ℤ
-all s = numbersIn (listed s)
+all s = numbers_in (listed s)
 
 pub record Filling (s old now : List ℕ) (k at : ℕ) : Type 0 where
   pub lines : Judging s k at
-  pub bytes : Storing (signedBytesOf 8) 8 (length-signedBytesOf 8) (numbersIn (listed s)) old (length (numbersIn (listed s))) now k
+  pub bytes : Storing (signed_bytes_of 8) 8 (length-signed_bytes_of 8) (numbers_in (listed s)) old (length (numbers_in (listed s))) now k
 
 -- numbers are read from a text that has no others
-module _ (s : List ℕ) (good : listed s ≡ numbers (numbersIn (listed s))) where
+module _ (s : List ℕ) (good : listed s ≡ numbers (numbers_in (listed s))) where
   -- those so far, and the next
-  next-number : {k at : ℕ} (j : Judging s k at) {bits next : ℕ} (n : IsNumber at bits next (numberOn (drop at s))) → (k < length (all s)) × (get_or (all s) k (pos 0) ≡ n.value)
+  next-number : {k at : ℕ} (j : Judging s k at) {bits next : ℕ} (n : IsNumber at bits next (number_on (drop at s))) → (k < length (all s)) × (get_or (all s) k (pos 0) ≡ n.value)
   next-number {k} {at} j {bits} {next} n =
-      let r = text-only (length (drop next s)) (j.done ++ n.value ∷ []) (drop next s) (all s) (omega arith) (sym (judging-next s j n) ∙ good) in
+      let r = text-only (length (drop next s)) (j.done ++ n.value ∷ []) (drop next s) (all s) (omega arith) (sym (judging_next s j n) ∙ good) in
       let e : all s ≡ j.done ++ n.value ∷ r.list = r.after ∙ append_assoc j.done (n.value ∷ []) r.list in
       (omega (arith, j.many, ap length e, length-append j.done (n.value ∷ r.list)), ap (λ (i : ℕ). get_or (all s) i (pos 0)) (sym j.many) ∙ ap (λ (zs : List ℤ). get_or zs (length j.done) (pos 0)) e ∙ get_or-append_seam j.done n.value r.list (pos 0))
 
@@ -37,31 +37,31 @@ module _ (s : List ℕ) (good : listed s ≡ numbers (numbersIn (listed s))) whe
   never : {X : Type 0} {q p : ℕ} → listed s ≡ faulty q p → X
   never e = let z : ◌≡◌ {A = ℕ} 0 1 = cc in absurd (omega arith)
 
-  pub always-number : {k at : ℕ} → Judging s k at → at < length s → (l : Line) → OneOf (1 ∷ 2 ∷ []) (tag_of the_type l) → l ≡ line_at at (numberOn (drop at s)) → ⊥
-  always-number j h (Number bits next) o e = ⊎_elim (λ y. omega arith) (λ y. omega arith) o
-  always-number {at = at} j h Past o e = never (judging-past s j (past-told at (numberOn (drop at s)) e))
-  always-number {at = at} j h Broken o e = never (judging-broken s j h (broken-told at (numberOn (drop at s)) e))
+  pub always_number : {k at : ℕ} → Judging s k at → at < length s → (l : Line) → OneOf (1 ∷ 2 ∷ []) (tag_of the_type l) → l ≡ line_at at (number_on (drop at s)) → ⊥
+  always_number j h (Number bits next) o e = ⊎_elim (λ y. omega arith) (λ y. omega arith) o
+  always_number {at = at} j h Past o e = never (judging_past s j (past-told at (number_on (drop at s)) e))
+  always_number {at = at} j h Broken o e = never (judging_broken s j h (broken-told at (number_on (drop at s)) e))
 
   module _ (old : List ℕ) where
-    pub filling-start : Filling s old old 0 0
-    filling-start = record { lines = judging-start s; bytes = store-none (signedBytesOf 8) 8 (length-signedBytesOf 8) (all s) old (length (all s)) }
+    pub filling_start : Filling s old old 0 0
+    filling_start = record { lines = judging_start s; bytes = store-none (signed_bytes_of 8) 8 (length-signed_bytes_of 8) (all s) old (length (all s)) }
 
-    module _ (room : length (all s) * 8 ≤ length old) {now : List ℕ} {k at : ℕ} (f : Filling s old now k at) {bits next : ℕ} (n : IsNumber at bits next (numberOn (drop at s))) where
-      pub filling-room : k * 8 + 8 ≤ length now
-      filling-room = omega (arith, room, f.bytes.long, (next-number f.lines n).0)
+    module _ (room : length (all s) * 8 ≤ length old) {now : List ℕ} {k at : ℕ} (f : Filling s old now k at) {bits next : ℕ} (n : IsNumber at bits next (number_on (drop at s))) where
+      pub filling_room : k * 8 + 8 ≤ length now
+      filling_room = omega (arith, room, f.bytes.long, (next-number f.lines n).0)
 
-      pub filling-more : {later : List ℕ} → later ≡ sets now (k * 8) (bytes_of 8 bits) → Filling s old later (k + 1) next
-      filling-more {later} e =
+      pub filling_more : {later : List ℕ} → later ≡ sets now (k * 8) (bytes_of 8 bits) → Filling s old later (k + 1) next
+      filling_more {later} e =
           let x = next-number f.lines n in
           record {
-            lines = judging-more s f.lines n;
-            bytes = store-more (signedBytesOf 8) 8 (length-signedBytesOf 8) (all s) old (length (all s)) now later k (pos 0) (omega arith) x.0 (omega (arith, room, x.0)) (e ∙ rw (n.code, ← x.1)) f.bytes;
+            lines = judging_more s f.lines n;
+            bytes = store_more (signed_bytes_of 8) 8 (length-signed_bytes_of 8) (all s) old (length (all s)) now later k (pos 0) (omega arith) x.0 (omega (arith, room, x.0)) (e ∙ rw (n.code, ← x.1)) f.bytes;
           }
 
     -- no line is left
-    pub filling-done : {now : List ℕ} {k at : ℕ} → length s ≤ at → Filling s old now k at → now ≡ stored (signedBytes 8 (all s)) old
-    filling-done {now} {k} h f =
-        let d = judging-done s f.lines h in
+    pub filling_done : {now : List ℕ} {k at : ℕ} → length s ≤ at → Filling s old now k at → now ≡ stored (signed_bytes 8 (all s)) old
+    filling_done {now} {k} h f =
+        let d = judging_done s f.lines h in
         let e : all s ≡ f.lines.done = cc in
         let full : take k (all s) ≡ all s = take_all k (all s) (omega (arith, ap length e, f.lines.many)) in
         f.bytes.is ∙ rw full

@@ -3,21 +3,21 @@ use mathlib.Core.Path.{◌≡◌, refl, sym}
 use Prim.Native.Nat.{◌/◌}
 use native.Mathlib.Omega.{arith}
 use lib.ListN.{length, get_or}
-use Rattle.base.proofs.Lists.{getD-zeros}
-use Rattle.matrix.specs.Matrix.{matrixOf}
+use Rattle.base.proofs.Lists.{get_d_zeros}
+use Rattle.matrix.specs.Matrix.{matrix_of}
 use Rattle.plan.specs.Groups.{plan_of, width}
-use Rattle.plan.specs.Sound.{maxWorkers}
+use Rattle.plan.specs.Sound.{max_workers}
 use Rattle.run.specs.Job.{Job, job_of}
-use Rattle.tables.specs.code.Laid.{maxUpdates, first_of, Counted}
-use Rattle.layout.specs.code.UpdateTable.{Planned}
+use Rattle.tables.specs.Code.Laid.{max_updates, first_of, Counted}
+use Rattle.layout.specs.Code.UpdateTable.{Planned}
 use Rattle.layout.proofs.GivenRows.{lent_of, few-rows, planned-of}
 use Rattle.layout.proofs.UpdateRoom.{first-room, rising-of}
-use Rattle.steps.specs.code.Updates.{Triangle}
+use Rattle.steps.specs.Code.Updates.{Triangle}
 use Rattle.steps.proofs.GivenTables.{triangle-of}
-use Rattle.machine.proofs.PlannedTables.{planned-record, read-crew, read-few}
-use Rattle.calls.proofs.Prepared.{given-many, given-displaced, given-order}
-use Rattle.prepared.specs.Format.{preparedBytes}
-use Rattle.preparing.proofs.Written.{prepared-long, all-written, prepare-short, prepare-done}
+use Rattle.machine.proofs.PlannedTables.{planned_record, read-crew, read-few}
+use Rattle.calls.proofs.Prepared.{given-many, given_displaced, given-order}
+use Rattle.prepared.specs.Format.{prepared_bytes}
+use Rattle.preparing.proofs.Written.{prepared-long, all-written, prepare_short, prepare_done}
 use borrow.Author.Rules.{rules}
 use Rattle.preparing.proofs.store_job.Statement.{statement}
 use Rattle.preparing.proofs.store_job.Tie as tie
@@ -32,10 +32,10 @@ laid f = f.before.before.before.before
 abbrev job : tie.Start → Job
 job s =
     let a = s.args in
-    job_of (matrixOf a.n a.starts.now a.columns.now a.values.now) a.displacements.now a.order.now a.groups.now (length a.groups.now / width)
+    job_of (matrix_of a.n a.starts.now a.columns.now a.values.now) a.displacements.now a.order.now a.groups.now (length a.groups.now / width)
 
 upper-requires : tie.Need-upper-requires
-upper-requires c κs = (lent_of c.before.before.before.before.before.before.before.before.before.requires, refl, refl, getD-zeros maxUpdates, refl)
+upper-requires c κs = (lent_of c.before.before.before.before.before.before.before.before.before.requires, refl, refl, get_d_zeros max_updates, refl)
 
 first-updates-requires : tie.Need-first-updates-requires
 first-updates-requires c κs = let u = c.before.before.before in (_, planned-of (start u).requires u.upper.ensures.0)
@@ -46,16 +46,16 @@ counted f =
     let u = laid f in
     f.first-updates.ensures _ (planned-of (start u).pre u.upper.ensures.0)
 
-all-counted : (f : tie.After-first-updates) → get_or f.first-updates.result 16 0 ≡ first_of (job (start (laid f))) maxWorkers
-all-counted f = (counted f).is maxWorkers (omega arith)
+all-counted : (f : tie.After-first-updates) → get_or f.first-updates.result 16 0 ≡ first_of (job (start (laid f))) max_workers
+all-counted f = (counted f).is max_workers (omega arith)
 
 size-of-requires : tie.Need-size-of-requires
 size-of-requires c κs =
     let s = start (laid c) in
-    (few-rows s.pre, omega (arith, all-counted c, first-room (job s) s.pre.accepted maxWorkers (omega arith)))
+    (few-rows s.pre, omega (arith, all-counted c, first-room (job s) s.pre.accepted max_workers (omega arith)))
 
 -- the size is the list's
-size_is : (z : tie.After-size-of) → z.size_of.result ≡ length (preparedBytes (job (start (laid z.before))))
+size_is : (z : tie.After-size-of) → z.size_of.result ≡ length (prepared_bytes (job (start (laid z.before))))
 unfolding job_of
 size_is z =
     let s = start (laid z.before) in
@@ -64,10 +64,10 @@ size_is z =
 returns : tie.Need-returns
 returns c =
     let z = c.before in
-    prepare-short (job (start (laid z.before))) _ (size_is z) c.if1.true
+    prepare_short (job (start (laid z.before))) _ (size_is z) c.if1.true
 
 displace-requires : tie.Need-displace-requires
-displace-requires c κs = let d = given-displaced (start (laid c.before.before.before)).requires in (d.0, d.1, d.2, refl)
+displace-requires c κs = let d = given_displaced (start (laid c.before.before.before)).requires in (d.0, d.1, d.2, refl)
 
 -- the job's plan, by the sizes of its parts
 planned : (f : tie.After-first-updates) → let s = start (laid f) in Planned (job s) s.args.groups.now (length s.args.groups.now / width) (laid f).upper.new.1.1.1.1.1.1.0
@@ -76,7 +76,7 @@ planned f =
     planned-of (start u).pre u.upper.ensures.0
 
 record-at-requires : tie.Need-record-at-requires
-record-at-requires c κs = planned-record (planned c.before.before.before.before)
+record-at-requires c κs = planned_record (planned c.before.before.before.before)
 
 cast-store-head : tie.Need-overflow-cast-store-head
 cast-store-head c =
@@ -145,7 +145,7 @@ returns-2 c =
     let s = start (laid f) in
     let r = h.before.before.before in
     let size = size_is z in
-    prepare-done (job s) _ size (room h).if1.left
+    prepare_done (job s) _ size (room h).if1.left
     (all-written (job s) s.pre.accepted _ _ _ _ _ (omega (arith, size, (room h).if1.left)) (omega (arith, z.size_of.ensures.0, all-counted f))
     (h.store-head.ensures (job s) (counted f) refl (read-crew (planned f) r.record-at.result r.record-at.ensures))
     (t.store-tables.ensures (job s) (planned f) (counted f) (triangle h) refl) p.store-places.ensures)

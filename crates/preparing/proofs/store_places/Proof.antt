@@ -6,7 +6,7 @@ use native.Mathlib.Omega.{arith}
 use lib.ListN.{length, take, replicate}
 use lib.Seq.{sets, length-take-le}
 use Rattle.plan.proofs.Once.{once}
-use Rattle.words.specs.LittleEndian.{unsignedBytes}
+use Rattle.words.specs.LittleEndian.{unsigned_bytes}
 use Rattle.preparing.proofs.Heads.{positions-all}
 use borrow.Author.Rules.{rules}
 use Rattle.preparing.proofs.store_places.Statement.{statement}
@@ -31,7 +31,7 @@ returns c =
     let p = x.before.before.before in
     let s = start p in
     let a = s.args in
-    x.store-numbers.ensures ∙ ap (λ (l : List ℕ). sets a.out.now a.from (unsignedBytes 4 l))
+    x.store-numbers.ensures ∙ ap (λ (l : List ℕ). sets a.out.now a.from (unsigned_bytes 4 l))
     (positions-all a.n _ (once _ _ s.pre.3) (replicate 4096 0) (omega (arith, s.pre.2)) p.put-positions.new.1.1.0 p.put-positions.ensures)
 
 pub store-places-spec : {M : Type 1} → statement M

@@ -2,15 +2,15 @@
 use mathlib.Core.Path.{◌≡◌, ◌∙◌}
 use Prim.Native.Nat.{◌≤◌}
 use native.Mathlib.Omega.{arith}
-use Rattle.matrix.proofs.Matrix.{matrix-facts}
-use Rattle.plan.specs.Sound.{maxWorkers}
+use Rattle.matrix.proofs.Matrix.{matrix_facts}
+use Rattle.plan.specs.Sound.{max_workers}
 use Rattle.run.specs.Job.{Job}
-use Rattle.tables.specs.code.Laid.{first_of, Counted}
+use Rattle.tables.specs.Code.Laid.{first_of, Counted}
 use Rattle.layout.proofs.UpdateRoom.{first-room}
-use Rattle.machine.proofs.PlannedTables.{planned-blank, planned-recorded}
-use Rattle.preparing.specs.code.Filled.{gateNumbers, updateNumbers}
+use Rattle.machine.proofs.PlannedTables.{planned-blank, planned_recorded}
+use Rattle.preparing.specs.Code.Filled.{gate_numbers, update_numbers}
 use Rattle.preparing.proofs.Lists.{legible, all-updates, all-gates}
-use Rattle.preparing.proofs.Written.{tables-written}
+use Rattle.preparing.proofs.Written.{tables_written}
 use borrow.Author.Rules.{rules}
 use Rattle.preparing.proofs.store_tables.Statement.{statement}
 use Rattle.preparing.proofs.store_tables.Tie as tie
@@ -23,14 +23,14 @@ abbrev start : tie.After-lay → tie.Start
 start l = l.before.before.before.before.before.before.before.before
 
 all-gates-requires : tie.Need-all-gates-requires
-all-gates-requires c κs = planned-recorded (start c.before).requires.1
+all-gates-requires c κs = planned_recorded (start c.before).requires.1
 
 -- how many updates there are
-count-is : (w : tie.After-wide) (j : Job) → Counted j (start w.before.before.before).args.t5 → w.wide.result ≡ first_of j maxWorkers
-count-is w j k = w.wide.ensures ∙ k.is maxWorkers (omega arith)
+count_is : (w : tie.After-wide) (j : Job) → Counted j (start w.before.before.before).args.t5 → w.wide.result ≡ first_of j max_workers
+count_is w j k = w.wide.ensures ∙ k.is max_workers (omega arith)
 
 few : (w : tie.After-wide) → w.wide.result ≤ 69632
-few w = let s = (start w.before.before.before).requires in omega (arith, count-is w s.0 s.2, first-room s.0 s.1.sized.accepted maxWorkers (omega arith))
+few w = let s = (start w.before.before.before).requires in omega (arith, count_is w s.0 s.2, first-room s.0 s.1.sized.accepted max_workers (omega arith))
 
 store-updates-requires : tie.Need-store-updates-requires
 store-updates-requires c κs =
@@ -38,7 +38,7 @@ store-updates-requires c κs =
     let l = w.before.before.before in
     let s = (start l).requires in
     let t = l.lay.ensures s.0 s.1 s.2 (planned-blank s.1) in
-    let e = count-is w s.0 s.2 in
+    let e = count_is w s.0 s.2 in
     (omega (arith, e, s.5), few w, (s.0.matrix.n, rw e (legible s.0 s.1.sized.accepted t.0 t.1 s.3)))
 
 mul-store-gates : tie.Need-overflow-mul-store-gates
@@ -56,7 +56,7 @@ store-gates-requires c κs =
     let s = (start l).requires in
     let t = l.lay.ensures s.0 s.1 s.2 (planned-blank s.1) in
     let long = o.store-updates.auto.0 in
-    (omega (arith, count-is w s.0 s.2, s.5, long), omega (arith, s.4, (matrix-facts s.0.matrix s.1.sized.accepted.matrix).few), t.1.leaf-low)
+    (omega (arith, count_is w s.0 s.2, s.5, long), omega (arith, s.4, (matrix_facts s.0.matrix s.1.sized.accepted.matrix).few), t.1.leaf_low)
 
 returns : tie.Need-returns
 returns c =
@@ -68,11 +68,11 @@ returns c =
     let l = v.before.before in
     let a = (start l).args in
     let r = l.lay.ensures j g k (planned-blank g) in
-    let q = count-is w j k in
-    tables-written j a.out.now _ _
-    (λ n. updateNumbers n l.lay.new.1.1.1.1.0 l.lay.new.1.1.1.1.1.0 a.parts.now a.displaced.now a.at.now a.beside.now) (λ n. gateNumbers n l.lay.new.1.1.1.1.1.1.0 v.all-gates.result) a.n w.wide.result
+    let q = count_is w j k in
+    tables_written j a.out.now _ _
+    (λ n. update_numbers n l.lay.new.1.1.1.1.0 l.lay.new.1.1.1.1.1.0 a.parts.now a.displaced.now a.at.now a.beside.now) (λ n. gate_numbers n l.lay.new.1.1.1.1.1.1.0 v.all-gates.result) a.n w.wide.result
     o.store-updates.ensures x.store-gates.ensures q e (all-updates j g.sized.accepted r.0 r.1 t)
-    (all-gates j g.sized.accepted r.0 r.1 t _ a.groups.now g.groups-are (planned-recorded g) v.all-gates.result v.all-gates.ensures))
+    (all-gates j g.sized.accepted r.0 r.1 t _ a.groups.now g.groups_are (planned_recorded g) v.all-gates.result v.all-gates.ensures))
 
 pub store-tables-spec : {M : Type 1} → statement M
 store-tables-spec =

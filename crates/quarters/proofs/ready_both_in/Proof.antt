@@ -7,17 +7,17 @@ use lib.Dec.{eqb}
 use lib.IntN.{ℤ}
 use lib.ListN.{length}
 use lib.Seq.{length-take-le}
-use Rattle.words.specs.LittleEndian.{signedNumber, unsigned, signed}
-use Rattle.lent.specs.Bytes.{matrixIn}
+use Rattle.words.specs.LittleEndian.{signed_number, unsigned, signed}
+use Rattle.lent.specs.Bytes.{matrix_in}
 use Rattle.lent.specs.Word.{word}
-use Rattle.lent.proofs.Loads.{loaded-fits, loaded-matrix}
-use Rattle.answers.specs.Runs.{stateBytes}
-use Rattle.answers.proofs.RunCalls.{sums-decoded}
+use Rattle.lent.proofs.Loads.{loaded_fits, loaded_matrix}
+use Rattle.answers.specs.Runs.{state_bytes}
+use Rattle.answers.proofs.RunCalls.{sums_decoded}
 use Rattle.crews.specs.Crews.{Two}
 use Rattle.crews.specs.Calls.{BothAnswer}
-use Rattle.quarters.specs.Both.{replyToBoth}
+use Rattle.quarters.specs.Both.{reply_to_both}
 use Rattle.quarters.proofs.CutRoofs.{sets-whole}
-use Rattle.quarters.proofs.BothIn.{zeros, sets-in}
+use Rattle.quarters.proofs.BothIn.{zeros, sets_in}
 use Rattle.quarters.proofs.ReadyFew.{few-ready}
 use Rattle.quarters.proofs.ready_both_in.Statement.{statement}
 use Rattle.quarters.proofs.ready_both_in.Tie as tie
@@ -34,10 +34,10 @@ start l = (first l).before.before.before.before.before.before.before.before.befo
 
 module _ (l : tie.After-load-unsigned4) where
   fits0 : (first l).load-i64.result ≤ length (first l).load-i64.new.1.0
-  fits0 = let e = (first l).load-i64.ensures in loaded-fits (signedNumber 8) 8 (start l).args.sums0.now zeros e.0 e.1
+  fits0 = let e = (first l).load-i64.ensures in loaded_fits (signed_number 8) 8 (start l).args.sums0.now zeros e.0 e.1
 
   fits1 : (second l).load-i642.result ≤ length (second l).load-i642.last.1.0
-  fits1 = let e = (second l).load-i642.ensures in loaded-fits (signedNumber 8) 8 (start l).args.sums1.now zeros e.0 e.1
+  fits1 = let e = (second l).load-i642.ensures in loaded_fits (signed_number 8) 8 (start l).args.sums1.now zeros e.0 e.1
 
 slice-aggregate-ready-both : tie.Need-slice-aggregate-ready-both
 slice-aggregate-ready-both c = sym (length-take-le _ _ (fits0 c.before))
@@ -53,22 +53,22 @@ returns c b h =
     let p = c.before.before.before.before.before.before.before.before in
     let l = p.before.before.before in
     let a = (start l).args in
-    let m = matrixIn a.n a.row-starts.now a.columns.now a.values.now in
+    let m = matrix_in a.n a.row-starts.now a.columns.now a.values.now in
     let x : Two (List ℤ) = record { of0 = signed 4 a.movements0.now; of1 = signed 4 a.movements1.now } in
     let o = unsigned 4 a.order.now in
     let g = unsigned 4 a.groups.now in
     let e0 = (first l).load-i64.ensures in
     let e1 = (second l).load-i642.ensures in
     c.word-of-sets.ensures
-    ∙ ap (λ (y : BothAnswer). word (replyToBoth y))
+    ∙ ap (λ (y : BothAnswer). word (reply_to_both y))
     (p.ready-both.ensures
     ∙ sets-whole m x o g a.group-count
-    (loaded-matrix m l.before.before.before.before.before.before.before.before.before.before.before.before.Load-unsigned.ensures l.before.before.before.before.before.before.before.before.before.before.load-unsigned2.ensures l.before.before.before.before.before.before.before.before.load_signed.ensures)
+    (loaded_matrix m l.before.before.before.before.before.before.before.before.before.before.before.before.Load-unsigned.ensures l.before.before.before.before.before.before.before.before.before.before.load-unsigned2.ensures l.before.before.before.before.before.before.before.before.load_signed.ensures)
     (λ i. record { of0 = l.before.before.before.before.before.before.load-signed2.ensures i; of1 = l.before.before.before.before.load-signed3.ensures i }) l.before.before.load-unsigned3.ensures l.load-unsigned4.ensures
     _
-    ∙ sets-in m x o g a.group-count b a.crews h.crews
-    (sums-decoded (eqb (length b.of0.state) stateBytes) b.of0.sums a.sums0.now zeros h.sums0 refl e0.0 e0.1)
-    (sums-decoded (eqb (length b.of1.state) stateBytes) b.of1.sums a.sums1.now zeros h.sums1 refl e1.0 e1.1))
+    ∙ sets_in m x o g a.group-count b a.crews h.crews
+    (sums_decoded (eqb (length b.of0.state) state_bytes) b.of0.sums a.sums0.now zeros h.sums0 refl e0.0 e0.1)
+    (sums_decoded (eqb (length b.of1.state) state_bytes) b.of1.sums a.sums1.now zeros h.sums1 refl e1.0 e1.1))
 
 pub ready-both-in-spec : {M : Type 1} → statement M
 ready-both-in-spec =

@@ -1,13 +1,13 @@
 -- `take` meets its contract: refused, or gone through.
 use mathlib.Core.Path.{◌≡◌, sym, ◌∙◌}
 use Rattle.rack.proofs.Refused.{Fine, fine}
-use Rattle.rack.proofs.Takes.{took-refused, took}
+use Rattle.rack.proofs.Takes.{took_refused, took}
 use borrow.Author.Rules.{rules}
 use Rattle.rack.proofs.take.Statement.{statement}
 use Rattle.rack.proofs.take.Tie as tie
 
 returns : tie.Need-returns
-returns c = took-refused _ _ _ _ c.before.refusal-of.ensures c.if1.true
+returns c = took_refused _ _ _ _ c.before.refusal-of.ensures c.if1.true
 
 -- nothing refuses the call
 abbrev start : tie.Else1 → tie.Start

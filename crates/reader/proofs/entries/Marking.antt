@@ -6,26 +6,26 @@ use Prim.Native.Nat.{ℕ, ◌+◌, ◌<◌}
 use lib.IntN.{ℤ}
 use lib.ListN.{set}
 use Rattle.reader.specs.declared.entry.Entry.TheVariants as line
-use Rattle.market.specs.Parse.{triplet, Parsed, isAmong}
-use Rattle.compress.specs.code.Arrays.{tripletsOf}
-use Rattle.reader.specs.code.Entries.{EntryAt, Held, remaining}
-use Rattle.reader.specs.code.Marks.{marked, bit_of, Marks}
-use Rattle.reader.proofs.marks.Triangle.{marks-more}
-use Rattle.reader.proofs.entries.Turns.{one_more, taken-line, held_more}
+use Rattle.market.specs.Parse.{triplet, Parsed, is_among}
+use Rattle.compress.specs.Code.Arrays.{triplets_of}
+use Rattle.reader.specs.Code.Entries.{EntryAt, Held, remaining}
+use Rattle.reader.specs.Code.Marks.{marked, bit_of, Marks}
+use Rattle.reader.proofs.marks.Triangle.{marks_more}
+use Rattle.reader.proofs.entries.Turns.{one_more_lem, taken-line, held_more}
 
 -- the state of the loop: i of the m entries are read and marked, and the lines from p on decide what all of them make
 pub record Going (all : Parsed) (s : List ℕ) (n m k : ℕ) (rs cs : List ℕ) (vs : List ℤ) (ms : List ℕ) (p i : ℕ) : Type 0 where
   pub held : Held n m rs cs vs i
-  pub marks : Marks ms (tripletsOf i rs cs vs)
+  pub marks : Marks ms (triplets_of i rs cs vs)
   pub same : remaining s n m k rs cs vs p i ≡ all
 
 -- one more line: its bit q is set, and its value is w in the array
 pub going_more : {all : Parsed} {s : List ℕ} {n m k : ℕ} {rs cs : List ℕ} {vs : List ℤ} {ms : List ℕ} {p i : ℕ} → Going all s n m k rs cs vs ms p i → i < m
-    → {r c : ℕ} (z : ℕ) {v w : ℤ} → EntryAt s p n (line.At r c v z) → w ≡ v → isAmong (tripletsOf i rs cs vs) r c ≡ false
+    → {r c : ℕ} (z : ℕ) {v w : ℤ} → EntryAt s p n (line.At r c v z) → w ≡ v → is_among (triplets_of i rs cs vs) r c ≡ false
     → {q : ℕ} → q ≡ bit_of r c → q < 8390656 → {ms' : List ℕ} → ms' ≡ marked ms q → Going all s n m k (set rs i r) (set cs i c) (set vs i w) ms' z (i + 1)
 going_more {s = s} {k = k} {p = p} g more {r} {c} z {v} l e new eq small em =
     record {
       held = held_more g.held s p more v z l e;
-      marks = rw (one_more g.held s p more v z l e) (marks-more g.marks (triplet r c v) l.0 eq small em);
+      marks = rw (one_more_lem g.held s p more v z l e) (marks_more g.marks (triplet r c v) l.0 eq small em);
       same = taken-line g.held s p more v z l e new k ∙ g.same;
     }

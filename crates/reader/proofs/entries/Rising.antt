@@ -9,23 +9,23 @@ use lib.IntN.{ℤ, pos}
 use lib.ListN.{length, get_or, set, drop}
 use borrow.Author.Tests.{eqb-true}
 use Rattle.reader.specs.declared.entry.Entry.TheVariants as line
-use Rattle.market.specs.Parse.{triplet, isAmong, entries}
-use Rattle.compress.specs.code.Arrays.{tripletsOf}
-use Rattle.reader.specs.code.Entries.{EntryAt, Held, remaining}
-use Rattle.reader.proofs.marks.Triangle.{among-snoc}
-use Rattle.reader.proofs.entries.Turns.{places-more, taken-line, held_more}
+use Rattle.market.specs.Parse.{triplet, is_among, entries}
+use Rattle.compress.specs.Code.Arrays.{triplets_of}
+use Rattle.reader.specs.Code.Entries.{EntryAt, Held, remaining}
+use Rattle.reader.proofs.marks.Triangle.{among_snoc}
+use Rattle.reader.proofs.entries.Turns.{places_more, taken-line, held_more}
 
 -- the first i places come before a key
 abbrev pub Rising : List ℕ → List ℕ → ℕ → ℕ → Type 0
 Rising rs cs i low = (j : ℕ) → j < i → get_or cs j 0 * 4096 + get_or rs j 0 < low
 
 -- a place that does not come before it is new
-rising-new : (rs cs : List ℕ) (vs : List ℤ) (i : ℕ) {low : ℕ} (r c : ℕ) → Rising rs cs i low → low ≤ c * 4096 + r → isAmong (tripletsOf i rs cs vs) r c ≡ false
-unfolding tripletsOf
-rising-new rs cs vs zero r c g h = refl
-rising-new rs cs vs (suc i) r c g h =
-    among-snoc (tripletsOf i rs cs vs) (triplet (get_or rs i 0) (get_or cs i 0) (get_or vs i (pos 0))) r c
-    ∙ rw (rising-new rs cs vs i r c (λ j l. g j (omega arith)) h) (go (eqb (get_or rs i 0) r) refl (eqb (get_or cs i 0) c) refl)
+rising_new : (rs cs : List ℕ) (vs : List ℤ) (i : ℕ) {low : ℕ} (r c : ℕ) → Rising rs cs i low → low ≤ c * 4096 + r → is_among (triplets_of i rs cs vs) r c ≡ false
+unfolding triplets_of
+rising_new rs cs vs zero r c g h = refl
+rising_new rs cs vs (suc i) r c g h =
+    among_snoc (triplets_of i rs cs vs) (triplet (get_or rs i 0) (get_or cs i 0) (get_or vs i (pos 0))) r c
+    ∙ rw (rising_new rs cs vs i r c (λ j l. g j (omega arith)) h) (go (eqb (get_or rs i 0) r) refl (eqb (get_or cs i 0) c) refl)
   where
     go : (a : Bool) → eqb (get_or rs i 0) r ≡ a → (b : Bool) → eqb (get_or cs i 0) c ≡ b → (a && b) || false ≡ false
     go true e true f = absurd (omega (arith, h, g i (omega arith), eqb-true (get_or rs i 0) r e, eqb-true (get_or cs i 0) c f))
@@ -33,8 +33,8 @@ rising-new rs cs vs (suc i) r c g h =
     go false e b f = refl
 
 -- one more line
-rising-more : (rs cs : List ℕ) {i low : ℕ} (r c : ℕ) → Rising rs cs i low → i < length rs → i < length cs → low ≤ c * 4096 + r → Rising (set rs i r) (set cs i c) (i + 1) (c * 4096 + r + 1)
-rising-more rs cs r c g a b h = places-more (λ x y. y * 4096 + x < c * 4096 + r + 1) rs cs (λ j l. omega (arith, g j l)) (omega arith) a b
+rising_more : (rs cs : List ℕ) {i low : ℕ} (r c : ℕ) → Rising rs cs i low → i < length rs → i < length cs → low ≤ c * 4096 + r → Rising (set rs i r) (set cs i c) (i + 1) (c * 4096 + r + 1)
+rising_more rs cs r c g a b h = places_more (λ x y. y * 4096 + x < c * 4096 + r + 1) rs cs (λ j l. omega (arith, g j l)) (omega arith) a b
 
 -- the state of the loop over such lines: i of the m entries are read, and the lines from p on decide
 pub record Sorted (s : List ℕ) (at n m : ℕ) (rs cs : List ℕ) (vs : List ℤ) (low p i : ℕ) : Type 0 where
@@ -42,9 +42,9 @@ pub record Sorted (s : List ℕ) (at n m : ℕ) (rs cs : List ℕ) (vs : List �
   pub rising : Rising rs cs i low
   pub same : (k : ℕ) → remaining s n m k rs cs vs p i ≡ entries n m k [] (drop at s)
 
-pub sorted-start : (s : List ℕ) (at n m : ℕ) (rs cs : List ℕ) (vs : List ℤ) → Held n m rs cs vs 0 → Sorted s at n m rs cs vs 0 at 0
-unfolding tripletsOf
-sorted-start s at n m rs cs vs g = record { held = g; rising = λ j h. absurd (omega arith); same = λ k. let a : m - 0 ≡ m = omega arith in let b : k + 0 ≡ k = omega arith in rw (a, b) }
+pub sorted_start : (s : List ℕ) (at n m : ℕ) (rs cs : List ℕ) (vs : List ℤ) → Held n m rs cs vs 0 → Sorted s at n m rs cs vs 0 at 0
+unfolding triplets_of
+sorted_start s at n m rs cs vs g = record { held = g; rising = λ j h. absurd (omega arith); same = λ k. let a : m - 0 ≡ m = omega arith in let b : k + 0 ≡ k = omega arith in rw (a, b) }
 
 -- one more line, whose value is w in the array
 pub sorted_more : {s : List ℕ} {at n m : ℕ} {rs cs : List ℕ} {vs : List ℤ} {low p i : ℕ} → Sorted s at n m rs cs vs low p i → i < m
@@ -53,6 +53,6 @@ sorted_more {s} {at} {n} {m} {rs} {cs} {vs} {low} {p} {i} g more r c z {v} l e h
     let a = g.held.arrays in
     record {
       held = held_more g.held s p more v z l e;
-      rising = rising-more rs cs r c g.rising (omega (arith, g.held.total, a.rows)) (omega (arith, g.held.total, a.columns)) h;
-      same = λ k. taken-line g.held s p more v z l e (rising-new rs cs vs i r c g.rising h) k ∙ g.same k;
+      rising = rising_more rs cs r c g.rising (omega (arith, g.held.total, a.rows)) (omega (arith, g.held.total, a.columns)) h;
+      same = λ k. taken-line g.held s p more v z l e (rising_new rs cs vs i r c g.rising h) k ∙ g.same k;
     }

@@ -10,38 +10,38 @@ use lib.IntN.{ℤ, pos}
 use lib.ListN.{length, get_or, set, length-append}
 use lib.Seq.{get_or-set_same, get_or-set_other}
 use Rattle.base.proofs.Each.{Each}
-use Rattle.matrix.specs.Limits.{maxEntries}
+use Rattle.matrix.specs.Limits.{max_entries}
 use Rattle.market.specs.Parse.{Triplet, triplet}
-use Rattle.compress.specs.code.Arrays.{tripletsOf, Arrays}
-use Rattle.compress.specs.code.Rows.{Entries}
+use Rattle.compress.specs.Code.Arrays.{triplets_of, Arrays}
+use Rattle.compress.specs.Code.Rows.{Entries}
 use Rattle.market.proofs.Accepted.{Inner, Accepted}
 
 -- a place past the first k changes nothing of them
-triplets-same : (k i r c : ℕ) (v : ℤ) (rs cs : List ℕ) (vs : List ℤ) → k ≤ i → tripletsOf k (set rs i r) (set cs i c) (set vs i v) ≡ tripletsOf k rs cs vs
-unfolding tripletsOf
-triplets-same zero i r c v rs cs vs h = refl
-triplets-same (suc k) i r c v rs cs vs h =
-    rw (triplets-same k i r c v rs cs vs (omega arith), get_or-set_other rs i k r 0 (λ (e : k ≡ i). omega arith), get_or-set_other cs i k c 0 (λ (e : k ≡ i). omega arith), get_or-set_other vs i k v (pos 0) (λ (e : k ≡ i). omega arith))
+triplets_same : (k i r c : ℕ) (v : ℤ) (rs cs : List ℕ) (vs : List ℤ) → k ≤ i → triplets_of k (set rs i r) (set cs i c) (set vs i v) ≡ triplets_of k rs cs vs
+unfolding triplets_of
+triplets_same zero i r c v rs cs vs h = refl
+triplets_same (suc k) i r c v rs cs vs h =
+    rw (triplets_same k i r c v rs cs vs (omega arith), get_or-set_other rs i k r 0 (λ (e : k ≡ i). omega arith), get_or-set_other cs i k c 0 (λ (e : k ≡ i). omega arith), get_or-set_other vs i k v (pos 0) (λ (e : k ≡ i). omega arith))
 
 -- one entry more
-pub triplets-more : (i r c : ℕ) (v : ℤ) (rs cs : List ℕ) (vs : List ℤ) → i < length rs → i < length cs → i < length vs → tripletsOf (i + 1) (set rs i r) (set cs i c) (set vs i v) ≡ tripletsOf i rs cs vs ++ triplet r c v ∷ []
-unfolding tripletsOf
-triplets-more i r c v rs cs vs h j l =
-    rw (add-one i, triplets-same i i r c v rs cs vs (omega arith), get_or-set_same rs i r 0 h, get_or-set_same cs i c 0 j, get_or-set_same vs i v (pos 0) l)
+pub triplets_more : (i r c : ℕ) (v : ℤ) (rs cs : List ℕ) (vs : List ℤ) → i < length rs → i < length cs → i < length vs → triplets_of (i + 1) (set rs i r) (set cs i c) (set vs i v) ≡ triplets_of i rs cs vs ++ triplet r c v ∷ []
+unfolding triplets_of
+triplets_more i r c v rs cs vs h j l =
+    rw (add-one i, triplets_same i i r c v rs cs vs (omega arith), get_or-set_same rs i r 0 h, get_or-set_same cs i c 0 j, get_or-set_same vs i v (pos 0) l)
 
-pub triplets-none : (rs cs : List ℕ) (vs : List ℤ) → tripletsOf 0 rs cs vs ≡ []
-unfolding tripletsOf
-triplets-none rs cs vs = refl
+pub triplets_none : (rs cs : List ℕ) (vs : List ℤ) → triplets_of 0 rs cs vs ≡ []
+unfolding triplets_of
+triplets_none rs cs vs = refl
 
 -- the next entry of the arrays
-pub triplets-next : (k : ℕ) (rs cs : List ℕ) (vs : List ℤ) → tripletsOf (k + 1) rs cs vs ≡ tripletsOf k rs cs vs ++ triplet (get_or rs k 0) (get_or cs k 0) (get_or vs k (pos 0)) ∷ []
-unfolding tripletsOf
-triplets-next k rs cs vs = rw (add-one k)
+pub triplets_next : (k : ℕ) (rs cs : List ℕ) (vs : List ℤ) → triplets_of (k + 1) rs cs vs ≡ triplets_of k rs cs vs ++ triplet (get_or rs k 0) (get_or cs k 0) (get_or vs k (pos 0)) ∷ []
+unfolding triplets_of
+triplets_next k rs cs vs = rw (add-one k)
 
-length-triplets : (m : ℕ) (rs cs : List ℕ) (vs : List ℤ) → length (tripletsOf m rs cs vs) ≡ m
-unfolding tripletsOf
-length-triplets zero rs cs vs = refl
-length-triplets (suc m) rs cs vs = rw (length-append (tripletsOf m rs cs vs), length-triplets m rs cs vs) (omega arith)
+length_triplets : (m : ℕ) (rs cs : List ℕ) (vs : List ℤ) → length (triplets_of m rs cs vs) ≡ m
+unfolding triplets_of
+length_triplets zero rs cs vs = refl
+length_triplets (suc m) rs cs vs = rw (length-append (triplets_of m rs cs vs), length_triplets m rs cs vs) (omega arith)
 
 -- the two parts of a list whose elements all have a property
 each_left : (P : Triplet → Type 0) (es ds : List Triplet) → Each P (es ++ ds) → Each P es
@@ -52,21 +52,21 @@ each_right : (P : Triplet → Type 0) (es ds : List Triplet) → Each P (es ++ d
 each_right P [] ds a = a
 each_right P (e ∷ es) ds a = each_right P es ds a.1
 
-triplets-inner : (n m : ℕ) (rs cs : List ℕ) (vs : List ℤ) → Each (Inner n) (tripletsOf m rs cs vs) → (k : ℕ) → k < m → (get_or rs k 0 < n) × (get_or cs k 0 < n)
-unfolding tripletsOf
-triplets-inner n zero rs cs vs a k h = absurd (omega arith)
-triplets-inner n (suc m) rs cs vs a k h =
+triplets_inner : (n m : ℕ) (rs cs : List ℕ) (vs : List ℤ) → Each (Inner n) (triplets_of m rs cs vs) → (k : ℕ) → k < m → (get_or rs k 0 < n) × (get_or cs k 0 < n)
+unfolding triplets_of
+triplets_inner n zero rs cs vs a k h = absurd (omega arith)
+triplets_inner n (suc m) rs cs vs a k h =
     let last = triplet (get_or rs m 0) (get_or cs m 0) (get_or vs m (pos 0)) ∷ [] in
     ⊎_elim
-    (λ (e : suc k ≡ suc m). let f : k ≡ m = omega arith in rw f (each_right (Inner n) (tripletsOf m rs cs vs) last a).0)
-    (λ (l : suc k < suc m). triplets-inner n m rs cs vs (each_left (Inner n) (tripletsOf m rs cs vs) last a) k (omega arith))
+    (λ (e : suc k ≡ suc m). let f : k ≡ m = omega arith in rw f (each_right (Inner n) (triplets_of m rs cs vs) last a).0)
+    (λ (l : suc k < suc m). triplets_inner n m rs cs vs (each_left (Inner n) (triplets_of m rs cs vs) last a) k (omega arith))
     (eq-or-lt_of_le h)
 
 -- an accepted text's entries in arrays
-pub accepted-entries : (n m : ℕ) (rs cs : List ℕ) (vs : List ℤ) → Accepted n (tripletsOf m rs cs vs) → Arrays rs cs vs → Entries rs cs vs m n
+pub accepted-entries : (n m : ℕ) (rs cs : List ℕ) (vs : List ℤ) → Accepted n (triplets_of m rs cs vs) → Arrays rs cs vs → Entries rs cs vs m n
 accepted-entries n m rs cs vs ok long =
-    let few : m ≤ maxEntries = omega (arith, length-triplets m rs cs vs, ok.count) in
+    let few : m ≤ max_entries = omega (arith, length_triplets m rs cs vs, ok.count) in
     record {
-      places = record { rows = ok.rows; count = few; long-rows = omega (arith, long.rows); long-columns = omega (arith, long.columns); inside = triplets-inner n m rs cs vs ok.inner };
-      long-values = omega (arith, long.values);
+      places = record { rows = ok.rows; count = few; long_rows = omega (arith, long.rows); long_columns = omega (arith, long.columns); inside = triplets_inner n m rs cs vs ok.inner };
+      long_values = omega (arith, long.values);
     }

@@ -10,17 +10,17 @@ use lib.ListN.{length, get_or, set, drop, drop_of_length-le, length-set}
 use lib.Seq.{get_or-set_same, get_or-set_other}
 use borrow.Author.Tests.{eqb-true, eqb-false}
 use Rattle.base.specs.Refusals as why
-use Rattle.matrix.specs.Limits.{maxRows}
+use Rattle.matrix.specs.Limits.{max_rows}
 use Rattle.reader.specs.declared.entry.Entry.TheVariants as line
-use Rattle.market.specs.Parse.{Triplet, triplet, matrixText, rejected, isAmong, entries}
-use Rattle.compress.specs.code.Arrays.{tripletsOf}
-use Rattle.reader.specs.code.Entries.{EntryAt, Held, remaining}
+use Rattle.market.specs.Parse.{Triplet, triplet, matrix_text, rejected, is_among, entries}
+use Rattle.compress.specs.Code.Arrays.{triplets_of}
+use Rattle.reader.specs.Code.Entries.{EntryAt, Held, remaining}
 use Rattle.scan.proofs.Left.{left-cons}
-use Rattle.reader.proofs.entries.Triplets.{triplets-more}
+use Rattle.reader.proofs.entries.Triplets.{triplets_more}
 
 -- what holds of the first i places and of the next
-pub places-more : (P : ℕ → ℕ → Type 0) (rs cs : List ℕ) {i r c : ℕ} → ((j : ℕ) → j < i → P (get_or rs j 0) (get_or cs j 0)) → P r c → i < length rs → i < length cs → (j : ℕ) → j < i + 1 → P (get_or (set rs i r) j 0) (get_or (set cs i c) j 0)
-places-more P rs cs {i} {r} {c} g o a b j h = go (eqb j i) refl
+pub places_more : (P : ℕ → ℕ → Type 0) (rs cs : List ℕ) {i r c : ℕ} → ((j : ℕ) → j < i → P (get_or rs j 0) (get_or cs j 0)) → P r c → i < length rs → i < length cs → (j : ℕ) → j < i + 1 → P (get_or (set rs i r) j 0) (get_or (set cs i c) j 0)
+places_more P rs cs {i} {r} {c} g o a b j h = go (eqb j i) refl
   where
     go : (t : Bool) → eqb j i ≡ t → P (get_or (set rs i r) j 0) (get_or (set cs i c) j 0)
     go true e = rw (eqb-true j i e, get_or-set_same rs i r 0 a, get_or-set_same cs i c 0 b) o
@@ -30,43 +30,43 @@ places-more P rs cs {i} {r} {c} g o a b j h = go (eqb j i) refl
 
 -- nothing may follow the last line
 module _ (s : List ℕ) (p n k : ℕ) (es : List Triplet) where
-  pub too_many : p < length s → entries n 0 k es (drop p s) ≡ rejected why.badForm k
+  pub too_many : p < length s → entries n 0 k es (drop p s) ≡ rejected why.bad_form k
   unfolding entries
   too_many h = rw (left-cons s p h)
 
-  pub no_more : length s ≤ p → entries n 0 k es (drop p s) ≡ matrixText n es
+  pub no_more : length s ≤ p → entries n 0 k es (drop p s) ≡ matrix_text n es
   unfolding entries
   no_more h = rw (drop_of_length-le s h)
 
 module _ {n m : ℕ} {rs cs : List ℕ} {vs : List ℤ} {i : ℕ} (g : Held n m rs cs vs i) (s : List ℕ) (p : ℕ) where
   -- all lines are read
-  pub all_read : m ≤ i → (k : ℕ) → remaining s n m k rs cs vs p i ≡ entries n 0 (k + m) (tripletsOf m rs cs vs) (drop p s)
+  pub all_read : m ≤ i → (k : ℕ) → remaining s n m k rs cs vs p i ≡ entries n 0 (k + m) (triplets_of m rs cs vs) (drop p s)
   all_read h k =
       let e : m - i ≡ 0 = omega arith in
       let f : i ≡ m = omega (arith, g.count) in
-      rw e (ap (λ (j : ℕ). entries n 0 (k + j) (tripletsOf j rs cs vs) (drop p s)) f)
+      rw e (ap (λ (j : ℕ). entries n 0 (k + j) (triplets_of j rs cs vs) (drop p s)) f)
 
   module _ (more : i < m) where
     turn : m - i ≡ suc (m - (i + 1))
     turn = omega arith
 
     pub refused-line : {q : ℕ} → EntryAt s p n (line.Refused q) → (k : ℕ) → remaining s n m k rs cs vs p i ≡ rejected q (k + i)
-    refused-line l k = rw turn (l (m - (i + 1)) (k + i) (tripletsOf i rs cs vs))
+    refused-line l k = rw turn (l (m - (i + 1)) (k + i) (triplets_of i rs cs vs))
 
     -- a line with a place and a value
     module _ {r c : ℕ} (v : ℤ) (z : ℕ) (l : EntryAt s p n (line.At r c v z)) where
-      pub again-line : isAmong (tripletsOf i rs cs vs) r c ≡ true → (k : ℕ) → remaining s n m k rs cs vs p i ≡ rejected why.badEntry (k + i)
-      again-line t k = rw turn (l.2 (m - (i + 1)) (k + i) (tripletsOf i rs cs vs) ∙ rw t)
+      pub again_line : is_among (triplets_of i rs cs vs) r c ≡ true → (k : ℕ) → remaining s n m k rs cs vs p i ≡ rejected why.bad_entry (k + i)
+      again_line t k = rw turn (l.2 (m - (i + 1)) (k + i) (triplets_of i rs cs vs) ∙ rw t)
 
       -- the value is w in the array
       module _ {w : ℤ} (e : w ≡ v) where
-        pub one_more : tripletsOf (i + 1) (set rs i r) (set cs i c) (set vs i w) ≡ tripletsOf i rs cs vs ++ triplet r c v ∷ []
-        one_more = let a = g.arrays in rw e (triplets-more i r c v rs cs vs (omega (arith, g.total, a.rows)) (omega (arith, g.total, a.columns)) (omega (arith, g.total, a.values)))
+        pub one_more_lem : triplets_of (i + 1) (set rs i r) (set cs i c) (set vs i w) ≡ triplets_of i rs cs vs ++ triplet r c v ∷ []
+        one_more_lem = let a = g.arrays in rw e (triplets_more i r c v rs cs vs (omega (arith, g.total, a.rows)) (omega (arith, g.total, a.columns)) (omega (arith, g.total, a.values)))
 
-        pub taken-line : isAmong (tripletsOf i rs cs vs) r c ≡ false → (k : ℕ) → remaining s n m k (set rs i r) (set cs i c) (set vs i w) z (i + 1) ≡ remaining s n m k rs cs vs p i
+        pub taken-line : is_among (triplets_of i rs cs vs) r c ≡ false → (k : ℕ) → remaining s n m k (set rs i r) (set cs i c) (set vs i w) z (i + 1) ≡ remaining s n m k rs cs vs p i
         taken-line t k =
             let f : k + (i + 1) ≡ suc (k + i) = omega arith in
-            rw (one_more, f, turn) (sym (l.2 (m - (i + 1)) (k + i) (tripletsOf i rs cs vs) ∙ rw t))
+            rw (one_more_lem, f, turn) (sym (l.2 (m - (i + 1)) (k + i) (triplets_of i rs cs vs) ∙ rw t))
 
         pub held_more : Held n m (set rs i r) (set cs i c) (set vs i w) (i + 1)
         held_more =
@@ -76,5 +76,5 @@ module _ {n m : ℕ} {rs cs : List ℕ} {vs : List ℤ} {i : ℕ} (g : Held n m 
               total = g.total;
               count = omega arith;
               arrays = record { rows = length-set rs i r ∙ a.rows; columns = length-set cs i c ∙ a.columns; values = length-set vs i w ∙ a.values };
-              lower = places-more (λ x y. (y ≤ x) × (x < maxRows)) rs cs g.lower (l.0, omega (arith, l.1, g.rows)) (omega (arith, g.total, a.rows)) (omega (arith, g.total, a.columns));
+              lower = places_more (λ x y. (y ≤ x) × (x < max_rows)) rs cs g.lower (l.0, omega (arith, l.1, g.rows)) (omega (arith, g.total, a.rows)) (omega (arith, g.total, a.columns));
             }

@@ -10,31 +10,31 @@ use Rattle.base.specs.Refusals as why
 use Rattle.scan.specs.declared.lines.Fields.TheVariants as fld
 use Rattle.reader.specs.declared.entry.Entry.TheVariants as line
 use Rattle.market.specs.Fields.{fields}
-use Rattle.market.specs.Parse.{Triplet, triplet, rejected, isEntry, isAmong, onLine, entries}
-use Rattle.scan.specs.code.Positions.{fields_at}
-use Rattle.reader.specs.code.Entries.{EntryAt}
+use Rattle.market.specs.Parse.{Triplet, triplet, rejected, is_entry, is_among, on_line, entries}
+use Rattle.scan.specs.Code.Positions.{fields_at}
+use Rattle.reader.specs.Code.Entries.{EntryAt}
 use Rattle.scan.proofs.Left.{left-later}
 use Rattle.scan.proofs.lines.Lines.{line_at, line-no}
 use Rattle.market.proofs.Inside.{inside}
 
 module _ (s : List ℕ) (p n : ℕ) where
-  turn : (m k : ℕ) (es : List Triplet) → entries n (suc m) k es (drop p s) ≡ onLine (fields (drop p s)) (rejected why.badForm k) (λ r c v a.
-      cond (isEntry n r c v && not (isAmong es (r - 1) (c - 1)))
+  turn : (m k : ℕ) (es : List Triplet) → entries n (suc m) k es (drop p s) ≡ on_line (fields (drop p s)) (rejected why.bad_form k) (λ r c v a.
+      cond (is_entry n r c v && not (is_among es (r - 1) (c - 1)))
       (entries n m (suc k) (es ++ triplet (r - 1) (c - 1) v ∷ []) (drop a (drop p s)))
-      (rejected why.badEntry k))
+      (rejected why.bad_entry k))
   unfolding entries
   turn m k es = refl
 
-  pub broken-line : fld.Broken ≡ fields_at p (fields (drop p s)) → EntryAt s p n (line.Refused why.badForm)
+  pub broken-line : fld.Broken ≡ fields_at p (fields (drop p s)) → EntryAt s p n (line.Refused why.bad_form)
   broken-line b m k es = turn m k es ∙ rw (line-no p (fields (drop p s)) b)
 
   module _ {r c z : ℕ} {v : ℤ} (l : fld.Line r c v z ≡ fields_at p (fields (drop p s))) where
-    pub bad-line : isEntry n r c v ≡ false → EntryAt s p n (line.Refused why.badEntry)
-    bad-line f m k es = turn m k es ∙ rw ((line_at p r c z v (fields (drop p s)) l).0, f)
+    pub bad_line : is_entry n r c v ≡ false → EntryAt s p n (line.Refused why.bad_entry)
+    bad_line f m k es = turn m k es ∙ rw ((line_at p r c z v (fields (drop p s)) l).0, f)
 
     -- the value is w in 32 bits
-    pub good-line : isEntry n r c v ≡ true → {w : ℤ} → w ≡ v → EntryAt s p n (line.At (r - 1) (c - 1) w z)
-    good-line f e =
+    pub good_line : is_entry n r c v ≡ true → {w : ℤ} → w ≡ v → EntryAt s p n (line.At (r - 1) (c - 1) w z)
+    good_line f e =
         let a = line_at p r c z v (fields (drop p s)) l in
         let i = inside n r c v f in
         (omega (arith, i.below), omega (arith, i.first, i.below, i.last), λ m k es. turn m k es ∙ rw (a.0, f, left-later s p z a.1, e))

@@ -9,15 +9,15 @@ use borrow.Author.Tests.{ltb-true, ltb-false, le-leb, lt-leb}
 use Rattle.base.specs.Integers.{within}
 use Rattle.matrix.specs.Limits.{max_value}
 
-pub too-low : (v : ℤ) → lt_z v (negsuc 999999999) ≡ true → false ≡ within max_value v
+pub too_low : (v : ℤ) → lt_z v (negsuc 999999999) ≡ true → false ≡ within max_value v
 unfolding within
-too-low (pos n) h = absurd (true≢false (sym h))
-too-low (negsuc n) h = sym (lt-leb (suc n) max_value (omega (arith, ltb-true 999999999 n h)))
+too_low (pos n) h = absurd (true≢false (sym h))
+too_low (negsuc n) h = sym (lt-leb (suc n) max_value (omega (arith, ltb-true 999999999 n h)))
 
-pub too-high : (v : ℤ) → lt_z (pos 1000000000) v ≡ true → false ≡ within max_value v
+pub too_high : (v : ℤ) → lt_z (pos 1000000000) v ≡ true → false ≡ within max_value v
 unfolding within
-too-high (pos n) h = sym (lt-leb n max_value (ltb-true 1000000000 n h))
-too-high (negsuc n) h = absurd (true≢false (sym h))
+too_high (pos n) h = sym (lt-leb n max_value (ltb-true 1000000000 n h))
+too_high (negsuc n) h = absurd (true≢false (sym h))
 
 pub limited : (v : ℤ) → lt_z v (negsuc 999999999) ≡ false → lt_z (pos 1000000000) v ≡ false → true ≡ within max_value v
 unfolding within

@@ -11,10 +11,10 @@ use lib.Pow.{pow_pos, pow-lt, pow-add, shl_exact}
 use lib.ListN.{length, get_or, set, length-set}
 use lib.Seq.{get_or-set_same, get_or-set_other}
 use borrow.Author.Tests.{eqb-true, eqb-false, ltb-true, ltb-false, eq-eqb, ne_eqb}
-use Rattle.reader.specs.code.Marks.{hasBit, isMarked, marked}
+use Rattle.reader.specs.Code.Marks.{has_bit, is_marked, marked}
 
-pow-bit : (k j : ℕ) → 2 ^ k / 2 ^ j % 2 ≡ cond (eqb j k) 1 0
-pow-bit k j = go (eqb j k) refl (ltb j k) refl
+pow_bit : (k j : ℕ) → 2 ^ k / 2 ^ j % 2 ≡ cond (eqb j k) 1 0
+pow_bit k j = go (eqb j k) refl (ltb j k) refl
   where
     go : (b : Bool) → eqb j k ≡ b → (l : Bool) → ltb j k ≡ l → 2 ^ k / 2 ^ j % 2 ≡ cond b 1 0
     go true e l f = rw (eqb-true j k e, div_self {n = 2 ^ k} (pow_pos k))
@@ -39,27 +39,27 @@ cond-one : (b : Bool) → eqb (cond b 1 0) 1 ≡ b
 cond-one true = refl
 cond-one false = refl
 
-pub bit-or : (x k j : ℕ) → hasBit (bit_or x (2 ^ k)) j ≡ eqb j k || hasBit x j
+pub bit-or : (x k j : ℕ) → has_bit (bit_or x (2 ^ k)) j ≡ eqb j k || has_bit x j
 bit-or x k j =
     let o : bit_or x (2 ^ k) / 2 ^ j % 2 ≡ bit_or (x / 2 ^ j % 2) (2 ^ k / 2 ^ j % 2) = rw (or_shr x (2 ^ k) j) (or_mod (x / 2 ^ j) (2 ^ k / 2 ^ j) 1) in
-    let s : eqb (bit_or (x / 2 ^ j % 2) (2 ^ k / 2 ^ j % 2)) 1 ≡ eqb (2 ^ k / 2 ^ j % 2) 1 || hasBit x j = or-bits (x / 2 ^ j % 2) (2 ^ k / 2 ^ j % 2) (omega arith) (omega arith) in
-    let t : eqb (2 ^ k / 2 ^ j % 2) 1 ≡ eqb j k = rw (pow-bit k j) (cond-one (eqb j k)) in
-    rw o (s ∙ ap (λ (b : Bool). b || hasBit x j) t)
+    let s : eqb (bit_or (x / 2 ^ j % 2) (2 ^ k / 2 ^ j % 2)) 1 ≡ eqb (2 ^ k / 2 ^ j % 2) 1 || has_bit x j = or-bits (x / 2 ^ j % 2) (2 ^ k / 2 ^ j % 2) (omega arith) (omega arith) in
+    let t : eqb (2 ^ k / 2 ^ j % 2) 1 ≡ eqb j k = rw (pow_bit k j) (cond-one (eqb j k)) in
+    rw o (s ∙ ap (λ (b : Bool). b || has_bit x j) t)
 
 pub length_marked : (ms : List ℕ) (q : ℕ) → length (marked ms q) ≡ length ms
 unfolding marked
 length_marked ms q = length-set ms (q / 64) (bit_or (get_or ms (q / 64) 0) (2 ^ (q % 64)))
 
 -- after q is marked, p is marked if it is q or was
-pub marked-is : (ms : List ℕ) (q p : ℕ) → q / 64 < length ms → isMarked (marked ms q) p ≡ eqb p q || isMarked ms p
-unfolding isMarked marked
+pub marked-is : (ms : List ℕ) (q p : ℕ) → q / 64 < length ms → is_marked (marked ms q) p ≡ eqb p q || is_marked ms p
+unfolding is_marked marked
 marked-is ms q p h = go (eqb (p / 64) (q / 64)) refl
   where
-    go : (b : Bool) → eqb (p / 64) (q / 64) ≡ b → hasBit (get_or (set ms (q / 64) (bit_or (get_or ms (q / 64) 0) (2 ^ (q % 64)))) (p / 64) 0) (p % 64) ≡ eqb p q || hasBit (get_or ms (p / 64) 0) (p % 64)
+    go : (b : Bool) → eqb (p / 64) (q / 64) ≡ b → has_bit (get_or (set ms (q / 64) (bit_or (get_or ms (q / 64) 0) (2 ^ (q % 64)))) (p / 64) 0) (p % 64) ≡ eqb p q || has_bit (get_or ms (p / 64) 0) (p % 64)
     go true e =
         let w = eqb-true (p / 64) (q / 64) e in
         rw (w, get_or-set_same ms (q / 64) (bit_or (get_or ms (q / 64) 0) (2 ^ (q % 64))) 0 h)
-        (bit-or (get_or ms (q / 64) 0) (q % 64) (p % 64) ∙ ap (λ (b : Bool). b || hasBit (get_or ms (q / 64) 0) (p % 64)) (same (eqb (p % 64) (q % 64)) refl w))
+        (bit-or (get_or ms (q / 64) 0) (q % 64) (p % 64) ∙ ap (λ (b : Bool). b || has_bit (get_or ms (q / 64) 0) (p % 64)) (same (eqb (p % 64) (q % 64)) refl w))
       where
         same : (b : Bool) → eqb (p % 64) (q % 64) ≡ b → p / 64 ≡ q / 64 → b ≡ eqb p q
         same true f w = sym (eq-eqb p q (omega (arith, eqb-true (p % 64) (q % 64) f)))

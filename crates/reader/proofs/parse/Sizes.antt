@@ -15,12 +15,12 @@ use borrow.Author.Tests.{le-ltb, lt-ltb, ltb-true, leb-true}
 use Rattle.base.specs.Lists.{begins}
 use Rattle.base.specs.Refusals as why
 use Rattle.base.proofs.Booleans.{and_left, and_right}
-use Rattle.matrix.specs.Limits.{maxRows, maxEntries, maxText}
+use Rattle.matrix.specs.Limits.{max_rows, max_entries, max_text}
 use Rattle.scan.specs.declared.lines.Fields.TheVariants as fld
 use Rattle.market.specs.Bytes.{header}
 use Rattle.market.specs.Fields.{fields}
-use Rattle.market.specs.Parse.{rejected, entries, sized, sizeLine, Place, place, comments, parse}
-use Rattle.scan.specs.code.Positions.{fields_at}
+use Rattle.market.specs.Parse.{rejected, entries, sized, size_line, Place, place, comments, parse}
+use Rattle.scan.specs.Code.Positions.{fields_at}
 use Rattle.scan.proofs.Left.{left-later}
 use Rattle.scan.proofs.lines.Lines.{line_at, line-no}
 use Rattle.base.proofs.Begins.{begins-length}
@@ -30,50 +30,50 @@ fits-natural (pos n) f = record { fits = omega (arith, f.sfits) }
 fits-natural (negsuc n) f = record { fits = omega (arith, f.sfits) }
 
 module _ (s : List ℕ) (p k : ℕ) where
-  pub size-broken : fld.Broken ≡ fields_at p (fields (drop p s)) → sizeLine k (drop p s) ≡ rejected why.badForm k
-  unfolding sizeLine
+  pub size-broken : fld.Broken ≡ fields_at p (fields (drop p s)) → size_line k (drop p s) ≡ rejected why.bad_form k
+  unfolding size_line
   size-broken b = rw (line-no p (fields (drop p s)) b)
 
   module _ {r c z : ℕ} {v : ℤ} (l : fld.Line r c v z ≡ fields_at p (fields (drop p s))) where
-    size_is : sizeLine k (drop p s) ≡ sized k r c v (drop z s)
-    unfolding sizeLine
+    size_is : size_line k (drop p s) ≡ sized k r c v (drop z s)
+    unfolding size_line
     size_is = let a = line_at p r c z v (fields (drop p s)) l in rw (a.0, left-later s p z a.1)
 
-    pub size-negative : lt_z v (pos 0) ≡ true → sizeLine k (drop p s) ≡ rejected why.badForm k
+    pub size-negative : lt_z v (pos 0) ≡ true → size_line k (drop p s) ≡ rejected why.bad_form k
     size-negative h = size_is ∙ go v h
       where
-        go : (v : ℤ) → lt_z v (pos 0) ≡ true → sized k r c v (drop z s) ≡ rejected why.badForm k
+        go : (v : ℤ) → lt_z v (pos 0) ≡ true → sized k r c v (drop z s) ≡ rejected why.bad_form k
         go (pos n) h = absurd (omega (arith, ltb-true n 0 h))
         go (negsuc n) h = refl
 
     -- the size is tested, m being the entry count
-    pub size-tested : lt_z v (pos 0) ≡ false → {m : ℕ} → m ≡ nat_abs v → {t : Bool} → t ≡ eqb r c && leb 1 r && leb r maxRows && leb m maxEntries → sizeLine k (drop p s) ≡ cond t (entries r m (k + 1) [] (drop z s)) (rejected why.badSize k)
-    size-tested h em e = size_is ∙ rw (e, em) (go v h)
+    pub size_tested : lt_z v (pos 0) ≡ false → {m : ℕ} → m ≡ nat_abs v → {t : Bool} → t ≡ eqb r c && leb 1 r && leb r max_rows && leb m max_entries → size_line k (drop p s) ≡ cond t (entries r m (k + 1) [] (drop z s)) (rejected why.bad_size k)
+    size_tested h em e = size_is ∙ rw (e, em) (go v h)
       where
-        go : (v : ℤ) → lt_z v (pos 0) ≡ false → sized k r c v (drop z s) ≡ cond (eqb r c && leb 1 r && leb r maxRows && leb (nat_abs v) maxEntries) (entries r (nat_abs v) (k + 1) [] (drop z s)) (rejected why.badSize k)
+        go : (v : ℤ) → lt_z v (pos 0) ≡ false → sized k r c v (drop z s) ≡ cond (eqb r c && leb 1 r && leb r max_rows && leb (nat_abs v) max_entries) (entries r (nat_abs v) (k + 1) [] (drop z s)) (rejected why.bad_size k)
         go (pos n) h = rw (add-one k)
         go (negsuc n) h = absurd (true≢false h)
 
 -- what the test of the size says
-pub size-limits : (r c m : ℕ) → eqb r c && leb 1 r && leb r maxRows && leb m maxEntries ≡ true → (r ≤ maxRows) × (m ≤ maxEntries)
-size-limits r c m h =
-    let q = and_left (eqb r c && leb 1 r && leb r maxRows) (leb m maxEntries) h in
-    (leb-true r maxRows (and_right (eqb r c && leb 1 r) (leb r maxRows) q), leb-true m maxEntries (and_right (eqb r c && leb 1 r && leb r maxRows) (leb m maxEntries) h))
+pub size_limits : (r c m : ℕ) → eqb r c && leb 1 r && leb r max_rows && leb m max_entries ≡ true → (r ≤ max_rows) × (m ≤ max_entries)
+size_limits r c m h =
+    let q = and_left (eqb r c && leb 1 r && leb r max_rows) (leb m max_entries) h in
+    (leb-true r max_rows (and_right (eqb r c && leb 1 r) (leb r max_rows) q), leb-true m max_entries (and_right (eqb r c && leb 1 r && leb r max_rows) (leb m max_entries) h))
 
 module _ (s : List ℕ) where
-  pub too_long : maxText < length s → parse s ≡ rejected why.badForm 0
+  pub too_long : max_text < length s → parse s ≡ rejected why.bad_form 0
   unfolding parse
-  too_long h = rw (lt-ltb maxText (length s) h)
+  too_long h = rw (lt-ltb max_text (length s) h)
 
   pub header-there : begins s header ≡ true → 51 ≤ length s
   unfolding header
   header-there b = begins-length s header b
 
-  module _ (short : length s ≤ maxText) where
-    pub no_header : begins s header ≡ false → parse s ≡ rejected why.badHeader 1
+  module _ (short : length s ≤ max_text) where
+    pub no_header : begins s header ≡ false → parse s ≡ rejected why.bad_header 1
     unfolding parse
-    no_header b = rw (le-ltb maxText (length s) short, b)
+    no_header b = rw (le-ltb max_text (length s) short, b)
 
-    pub then-size : begins s header ≡ true → (k p : ℕ) → comments false 2 (drop 51 s) ≡ place k (drop p s) → parse s ≡ sizeLine k (drop p s)
+    pub then_size : begins s header ≡ true → (k p : ℕ) → comments false 2 (drop 51 s) ≡ place k (drop p s) → parse s ≡ size_line k (drop p s)
     unfolding parse header
-    then-size b k p e = rw (le-ltb maxText (length s) short, b) (ap (λ (a : Place). sizeLine a.number a.text) e)
+    then_size b k p e = rw (le-ltb max_text (length s) short, b) (ap (λ (a : Place). size_line a.number a.text) e)

@@ -2,10 +2,10 @@
 use borrow.Author.Rules.{rules}
 use mathlib.Core.Path.{◌≡◌, sym, ap, subst, ◌∙◌}
 use Rattle.reader.specs.declared.entries.Scanned.{Scanned}
-use Rattle.market.specs.Parse.{Parsed, matrixText, parse}
-use Rattle.compress.specs.code.Arrays.{tripletsOf}
-use Rattle.reader.specs.code.Scanned.{parsed}
-use Rattle.compress.specs.code.Rows.{Placed}
+use Rattle.market.specs.Parse.{Parsed, matrix_text, parse}
+use Rattle.compress.specs.Code.Arrays.{triplets_of}
+use Rattle.reader.specs.Code.Scanned.{parsed}
+use Rattle.compress.specs.Code.Rows.{Placed}
 use Rattle.market.proofs.Accepted.{parse-accepted}
 use Rattle.reader.proofs.entries.Triplets.{accepted-entries}
 use Rattle.compress.proofs.rows.Replies.{placed-rejected}
@@ -13,7 +13,7 @@ use Rattle.reader.proofs.read.Statement.{statement}
 use Rattle.reader.proofs.read.Tie as tie
 
 -- the text is accepted, with n and the entries that the arrays hold
-good : (c : tie.After-found2) → let k = c.before.before in let a = k.before.before.before.before.before.before.before.args in parse a.text.now ≡ matrixText c.found2.given.0.0 (tripletsOf c.found2.given.0.1.0 k.parse-text.new.1.0 k.parse-text.new.1.1.0 k.parse-text.new.1.1.1.0)
+good : (c : tie.After-found2) → let k = c.before.before in let a = k.before.before.before.before.before.before.before.args in parse a.text.now ≡ matrix_text c.found2.given.0.0 (triplets_of c.found2.given.0.1.0 k.parse-text.new.1.0 k.parse-text.new.1.1.0 k.parse-text.new.1.1.1.0)
 good c =
     let k = c.before.before in
     k.parse-text.ensures.0 ∙ ap (λ (r : Scanned). parsed r k.parse-text.new.1.0 k.parse-text.new.1.1.0 k.parse-text.new.1.1.1.0) c.found2.given.1

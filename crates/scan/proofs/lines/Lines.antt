@@ -11,59 +11,59 @@ use borrow.Author.Tests.{ne_eqb}
 use Rattle.scan.specs.declared.numbers.Number.TheVariants as num
 use Rattle.scan.specs.declared.lines.Value.TheVariants as val
 use Rattle.scan.specs.declared.lines.Fields.TheVariants as fld
-use Rattle.market.specs.Bytes.{classOf}
-use Rattle.market.specs.Fields.{Line, line, broken, numeral, field, valueField, fields}
-use Rattle.scan.specs.code.Positions.{number_at, value_at, fields_at}
+use Rattle.market.specs.Bytes.{class_of}
+use Rattle.market.specs.Fields.{Line, line, broken, numeral, field, value_field, fields}
+use Rattle.scan.specs.Code.Positions.{number_at, value_at, fields_at}
 use Rattle.scan.proofs.Left.{left-cons, left-later}
-use Rattle.scan.proofs.numbers.Answers.{scan-at, scan-no}
+use Rattle.scan.proofs.numbers.Answers.{scan_at, scan_no}
 use Rattle.scan.proofs.lines.Values.{value-at, value-no}
 
 -- a line, field by field
 module _ (s : List ℕ) (at : ℕ) where
   pub line-one : num.No ≡ number_at at (numeral (drop at s)) → fld.Broken ≡ fields_at at (fields (drop at s))
   unfolding fields
-  line-one n = rw (scan-no at (numeral (drop at s)) n)
+  line-one n = rw (scan_no at (numeral (drop at s)) n)
 
   module _ (r p : ℕ) (e1 : num.At r p ≡ number_at at (numeral (drop at s))) where
     pub line-two : num.No ≡ number_at p (field (drop p s)) → fld.Broken ≡ fields_at at (fields (drop at s))
     unfolding fields
     line-two n =
-        let a = scan-at at r p (numeral (drop at s)) e1 in
-        rw (a.0, left-later s at p a.1, scan-no p (field (drop p s)) n)
+        let a = scan_at at r p (numeral (drop at s)) e1 in
+        rw (a.0, left-later s at p a.1, scan_no p (field (drop p s)) n)
 
     module _ (c q : ℕ) (e2 : num.At c q ≡ number_at p (field (drop p s))) where
-      pub line-three : val.No ≡ value_at q (valueField (drop q s)) → fld.Broken ≡ fields_at at (fields (drop at s))
+      pub line_three : val.No ≡ value_at q (value_field (drop q s)) → fld.Broken ≡ fields_at at (fields (drop at s))
       unfolding fields
-      line-three n =
-          let a = scan-at at r p (numeral (drop at s)) e1 in
-          let b = scan-at p c q (field (drop p s)) e2 in
+      line_three n =
+          let a = scan_at at r p (numeral (drop at s)) e1 in
+          let b = scan_at p c q (field (drop p s)) e2 in
           let ab : p - at + (q - p) ≡ q - at = omega (arith, a.1, b.1) in
-          rw (a.0, left-later s at p a.1, b.0, ab, left-later s at q (omega (arith, a.1, b.1)), value-no q (valueField (drop q s)) n)
+          rw (a.0, left-later s at p a.1, b.0, ab, left-later s at q (omega (arith, a.1, b.1)), value-no q (value_field (drop q s)) n)
 
-      module _ (v : ℤ) (z : ℕ) (e3 : val.At v z ≡ value_at q (valueField (drop q s))) where
-        line-end : fields (drop at s) ≡ cond (eqb (classOf (get_or (drop z s) 0 0)) 4) (line r c v (z - at + 1)) broken
+      module _ (v : ℤ) (z : ℕ) (e3 : val.At v z ≡ value_at q (value_field (drop q s))) where
+        line_end : fields (drop at s) ≡ cond (eqb (class_of (get_or (drop z s) 0 0)) 4) (line r c v (z - at + 1)) broken
         unfolding fields
-        line-end =
-            let a = scan-at at r p (numeral (drop at s)) e1 in
-            let b = scan-at p c q (field (drop p s)) e2 in
-            let d = value-at q z v (valueField (drop q s)) e3 in
+        line_end =
+            let a = scan_at at r p (numeral (drop at s)) e1 in
+            let b = scan_at p c q (field (drop p s)) e2 in
+            let d = value-at q z v (value_field (drop q s)) e3 in
             let ab : p - at + (q - p) ≡ q - at = omega (arith, a.1, b.1) in
             let abd : q - at + (z - q) ≡ z - at = omega (arith, a.1, b.1, d.1) in
             rw (a.0, left-later s at p a.1, b.0, ab, left-later s at q (omega (arith, a.1, b.1)), d.0, abd, left-later s at z (omega (arith, a.1, b.1, d.1)))
 
         pub line-short : length s ≤ z → fld.Broken ≡ fields_at at (fields (drop at s))
-        unfolding classOf
-        line-short h = rw (line-end, drop_of_length-le s h)
+        unfolding class_of
+        line-short h = rw (line_end, drop_of_length-le s h)
 
-        pub line-bad : z < length s → (classOf (get_or s z 0) ≡ 4 → ⊥) → fld.Broken ≡ fields_at at (fields (drop at s))
-        line-bad h n = rw (line-end, left-cons s z h, ne_eqb (classOf (get_or s z 0)) 4 n)
+        pub line_bad : z < length s → (class_of (get_or s z 0) ≡ 4 → ⊥) → fld.Broken ≡ fields_at at (fields (drop at s))
+        line_bad h n = rw (line_end, left-cons s z h, ne_eqb (class_of (get_or s z 0)) 4 n)
 
-        pub line-good : z < length s → classOf (get_or s z 0) ≡ 4 → fld.Line r c v (z + 1) ≡ fields_at at (fields (drop at s))
-        line-good h n =
-            let a = scan-at at r p (numeral (drop at s)) e1 in
-            let b = scan-at p c q (field (drop p s)) e2 in
-            let d = value-at q z v (valueField (drop q s)) e3 in
-            rw (line-end, left-cons s z h, n) (ap (λ (i : ℕ). fld.Line r c v i) (omega (arith, a.1, b.1, d.1)))
+        pub line_good : z < length s → class_of (get_or s z 0) ≡ 4 → fld.Line r c v (z + 1) ≡ fields_at at (fields (drop at s))
+        line_good h n =
+            let a = scan_at at r p (numeral (drop at s)) e1 in
+            let b = scan_at p c q (field (drop p s)) e2 in
+            let d = value-at q z v (value_field (drop q s)) e3 in
+            rw (line_end, left-cons s z h, n) (ap (λ (i : ℕ). fld.Line r c v i) (omega (arith, a.1, b.1, d.1)))
 
 -- what an answer at a position says of the line
 pub line_at : (at r c z : ℕ) (v : ℤ) (l : Line) → fld.Line r c v z ≡ fields_at at l → (l ≡ line r c v (z - at)) × (at ≤ z)

@@ -9,24 +9,24 @@ use lib.Dec.{leb}
 use lib.ListN.{length, drop}
 use borrow.Author.Tests.{leb-true, le-leb, eqb-true}
 use Rattle.scan.specs.declared.numbers.Number.TheVariants as num
-use Rattle.market.specs.Bytes.{classOf, isDigit}
+use Rattle.market.specs.Bytes.{class_of, is_digit}
 use Rattle.market.specs.Fields.{Scan, got, none, digits, is_number, value_of, numeral, spaces, field, shifted}
-use Rattle.scan.specs.code.Positions.{number_at}
+use Rattle.scan.specs.Code.Positions.{number_at}
 use Rattle.scan.proofs.Left.{left-later}
-use Rattle.scan.proofs.numbers.Scanning.{digit-range}
+use Rattle.scan.proofs.numbers.Scanning.{digit_range}
 
 -- what an answer at a position says of the scan
-pub scan-at : (at v p : ℕ) (sc : Scan) → num.At v p ≡ number_at at sc → (sc ≡ got v (p - at)) × (at ≤ p)
-scan-at at v p (got w k) e =
+pub scan_at : (at v p : ℕ) (sc : Scan) → num.At v p ≡ number_at at sc → (sc ≡ got v (p - at)) × (at ≤ p)
+scan_at at v p (got w k) e =
     let f : v ≡ w = cc in
     let g : p ≡ at + k = cc in
     let h : k ≡ p - at = omega arith in
     (rw (f, ← h), omega arith)
-scan-at at v p none e = let z : ◌≡◌ {A = ℕ} 0 1 = cc in absurd (omega arith)
+scan_at at v p none e = let z : ◌≡◌ {A = ℕ} 0 1 = cc in absurd (omega arith)
 
-pub scan-no : (at : ℕ) (sc : Scan) → num.No ≡ number_at at sc → sc ≡ none
-scan-no at (got w k) e = let z : ◌≡◌ {A = ℕ} 0 1 = cc in absurd (omega arith)
-scan-no at none e = refl
+pub scan_no : (at : ℕ) (sc : Scan) → num.No ≡ number_at at sc → sc ≡ none
+scan_no at (got w k) e = let z : ◌≡◌ {A = ℕ} 0 1 = cc in absurd (omega arith)
+scan_no at none e = refl
 
 pub field-none : (s : List ℕ) (at : ℕ) → spaces (drop at s) ≡ 0 → num.No ≡ number_at at (field (drop at s))
 unfolding field
@@ -44,15 +44,15 @@ module _ (s : List ℕ) (at p : ℕ) (ep : p ≡ at + spaces (drop at s)) where
       go none = refl
 
 -- a number is below 10 ^ 10
-value-bound : (v : ℕ) (xs : List ℕ) → value_of v (digits xs) < (v + 1) * 10 ^ length (digits xs)
+value_bound : (v : ℕ) (xs : List ℕ) → value_of v (digits xs) < (v + 1) * 10 ^ length (digits xs)
 unfolding digits value_of
-value-bound v [] = omega arith
-value-bound v (b ∷ bs) = go (isDigit b) refl (value-bound (v * 10 + (b - 48)) bs)
+value_bound v [] = omega arith
+value_bound v (b ∷ bs) = go (is_digit b) refl (value_bound (v * 10 + (b - 48)) bs)
   where
-    go : (t : Bool) → isDigit b ≡ t → value_of (v * 10 + (b - 48)) (digits bs) < (v * 10 + (b - 48) + 1) * 10 ^ length (digits bs)
+    go : (t : Bool) → is_digit b ≡ t → value_of (v * 10 + (b - 48)) (digits bs) < (v * 10 + (b - 48) + 1) * 10 ^ length (digits bs)
         → value_of v (cond t (b ∷ digits bs) []) < (v + 1) * 10 ^ length (cond t (b ∷ digits bs) [])
     go true e ih =
-        let r = digit-range b (eqb-true (classOf b) 1 e) in
+        let r = digit_range b (eqb-true (class_of b) 1 e) in
         let m : (v * 10 + (b - 48) + 1) * 10 ^ length (digits bs) ≤ (v * 10 + 10) * 10 ^ length (digits bs) = mul-le-mul_right (10 ^ length (digits bs)) (omega arith) in
         rw pow-suc (omega arith)
     go false e ih = omega arith
@@ -64,7 +64,7 @@ number_bound xs v k e = go (leb (length (digits xs)) 10) refl (leb 1 (length (di
     go : (b : Bool) → leb (length (digits xs)) 10 ≡ b → (a c : Bool) → cond (a && b && c) (got (value_of 0 (digits xs)) (length (digits xs))) none ≡ got v k → v < 10000000000
     go true t true true e =
         let f : value_of 0 (digits xs) ≡ v = cc in
-        omega (arith, value-bound 0 xs, pow-le-pow_right {n = 10} (omega arith) (leb-true (length (digits xs)) 10 t))
+        omega (arith, value_bound 0 xs, pow-le-pow_right {n = 10} (omega arith) (leb-true (length (digits xs)) 10 t))
     go true t true false e = let z : ◌≡◌ {A = ℕ} 0 1 = cc in absurd (omega arith)
     go true t false c e = let z : ◌≡◌ {A = ℕ} 0 1 = cc in absurd (omega arith)
     go false t true c e = let z : ◌≡◌ {A = ℕ} 0 1 = cc in absurd (omega arith)

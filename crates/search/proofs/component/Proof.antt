@@ -3,7 +3,7 @@ use native.Mathlib.Omega.{arith}
 use Prim.Native.Nat.{◌<◌}
 use borrow.Author.Rules.{rules}
 use Rattle.search.proofs.Frontiers.{kept_refl}
-use Rattle.search.proofs.AllComponents.{between-old, root-frontier, between-new}
+use Rattle.search.proofs.AllComponents.{between_old, root-frontier, between_new}
 use Rattle.search.proofs.component.Statement.{statement}
 use Rattle.search.proofs.component.Tie as tie
 
@@ -20,7 +20,7 @@ element-copy-out-if1 c = omega (arith, below c, c.before.before.before.before.be
 returns : tie.Need-returns
 returns c =
     let a = c.before.before.before.before.before.before.before in
-    (between-old a.requires.3 (rw c.before.before.wide.ensures at c.if1.true), kept_refl a.args.marks.now)
+    (between_old a.requires.3 (rw c.before.before.wide.ensures at c.if1.true), kept_refl a.args.marks.now)
 
 visit-requires : tie.Need-visit-requires
 visit-requires c κs =
@@ -37,7 +37,7 @@ returns-2 : tie.Need-returns-2
 returns-2 c =
     let a = c.before.before.before.before.before.before.before.before.before.before.before.before.before in
     let v = c.before.before.before.before.before.before.before.before.wide.ensures in
-    between-new a.requires.3 a.requires.1 a.requires.2 (rw v at c.before.before.before.before.before.before.if1.false) (rw v at c.before.before.before.visit.ensures) c.spread.ensures
+    between_new a.requires.3 a.requires.1 a.requires.2 (rw v at c.before.before.before.before.before.before.if1.false) (rw v at c.before.before.before.visit.ensures) c.spread.ensures
 
 pub component-spec : {M : Type 1} → statement M
 component-spec =

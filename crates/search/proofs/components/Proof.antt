@@ -3,15 +3,15 @@ use Prim.Native.Nat.{◌-◌, ◌≤◌}
 use native.Mathlib.Omega.{arith}
 use lib.ListN.{length}
 use borrow.Author.Rules.{rules}
-use Rattle.levels.specs.code.Rows.{adjOf}
-use Rattle.search.specs.code.Search.{Between, Kept}
+use Rattle.levels.specs.Code.Rows.{adj_of}
+use Rattle.search.specs.Code.Search.{Between, Kept}
 use Rattle.search.proofs.Frontiers.{kept_refl, kept_trans}
-use Rattle.search.proofs.AllComponents.{roots-below, between_start, levelled}
+use Rattle.search.proofs.AllComponents.{roots_below, between_start, levelled}
 use Rattle.search.proofs.components.Statement.{statement}
 use Rattle.search.proofs.components.Tie as tie
 
 abbrev invariant-loop : tie.invariant-loop
-invariant-loop starts columns own marks₀ queue₀ n reach k₀ i₀ i-end marks queue k i = Between (adjOf n starts columns) reach n own own k i marks queue × Kept marks₀ marks × (i ≤ length own)
+invariant-loop starts columns own marks₀ queue₀ n reach k₀ i₀ i-end marks queue k i = Between (adj_of n starts columns) reach n own own k i marks queue × Kept marks₀ marks × (i ≤ length own)
 
 abbrev decreases-loop : tie.decreases-loop
 decreases-loop starts columns own marks₀ queue₀ n reach k₀ i₀ i-end marks queue k i = length own - i
@@ -19,7 +19,7 @@ decreases-loop starts columns own marks₀ queue₀ n reach k₀ i₀ i-end mark
 loop-holds : tie.Need-loop-init invariant-loop decreases-loop
 loop-holds c =
     let a = c.before.before.before in
-    let adj = adjOf a.args.n a.args.starts.now a.args.columns.now in (
+    let adj = adj_of a.args.n a.args.starts.now a.args.columns.now in (
       between_start adj a.args.reach a.args.n a.args.own.now a.args.own.now a.args.marks.now a.args.queue.now a.requires.0.small a.requires.2 a.requires.3 a.requires.4 a.requires.5,
       kept_refl a.args.marks.now,
       omega arith,
@@ -43,7 +43,7 @@ returns : tie.Need-returns invariant-loop decreases-loop
 returns c =
     let a = c.before.before.before.before.before in
     let l = c.before.loop in
-    (levelled a.args.marks.now a.requires.1 (omega arith) l.invariant.0 l.invariant.1 a.requires.4 (roots-below a.requires.1), l.invariant.0.frontier.ready.queue_long)
+    (levelled a.args.marks.now a.requires.1 (omega arith) l.invariant.0 l.invariant.1 a.requires.4 (roots_below a.requires.1), l.invariant.0.frontier.ready.queue_long)
 
 pub components-spec : {M : Type 1} → statement M
 components-spec =

@@ -3,10 +3,10 @@ use mathlib.Core.Path.{◌≡◌, ap, ◌∙◌, sym}
 use native.Mathlib.Omega.{arith}
 use lib.ListN.{length, get_or}
 use borrow.Author.Rules.{rules}
-use Rattle.base.specs.Lists.{filter, isIn, range}
-use Rattle.base.proofs.Lists.{in-get}
+use Rattle.base.specs.Lists.{filter, is_in, range}
+use Rattle.base.proofs.Lists.{in_get}
 use Rattle.levels.proofs.Members.{own-length}
-use Rattle.search.specs.code.Marks.{atMark}
+use Rattle.search.specs.Code.Marks.{at_mark}
 use Rattle.search.proofs.Searched.{marked-are, marked-bit}
 use Rattle.search.proofs.gather.Statement.{statement}
 use Rattle.search.proofs.gather.Tie as tie
@@ -14,10 +14,10 @@ use Rattle.search.proofs.gather.Tie as tie
 mark-requires : tie.Need-mark-requires
 mark-requires c κs =
     let a = c.before.before.before in
-    (a.requires.3, λ i l. omega (arith, a.requires.1.inside (get_or a.args.order.now i 0) (in-get a.args.order.now i l), a.requires.0))
+    (a.requires.3, λ i l. omega (arith, a.requires.1.inside (get_or a.args.order.now i 0) (in_get a.args.order.now i l), a.requires.0))
 
 -- the rows marked
-marked : (c : tie.After-mark) → let a = c.before.before.before.before in atMark a.args.n c.mark.new.1.0 1 ≡ filter (isIn a.args.order.now) (range 0 a.args.n)
+marked : (c : tie.After-mark) → let a = c.before.before.before.before in at_mark a.args.n c.mark.new.1.0 1 ≡ filter (is_in a.args.order.now) (range 0 a.args.n)
 marked c =
     let a = c.before.before.before.before in
     marked-are a.args.n a.args.order.now a.args.marks.now c.mark.new.1.0 a.requires.4 c.mark.ensures

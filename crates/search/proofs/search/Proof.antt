@@ -2,7 +2,7 @@
 use mathlib.Core.Path.{refl}
 use Prim.Native.Nat.{◌-◌}
 use borrow.Author.Rules.{rules}
-use Rattle.levels.specs.code.Rows.{adjOf}
+use Rattle.levels.specs.Code.Rows.{adj_of}
 use Rattle.search.proofs.MarkedRegion.{region-is, region-small}
 use Rattle.search.proofs.search.Statement.{statement}
 use Rattle.search.proofs.search.Tie as tie
@@ -15,7 +15,7 @@ components-requires c κs =
     let a = c.before.before.before.before.before.before.before.before in
     let m = c.before.before.mark-region in
     let (long, queue_long, within) = m.ensures in
-    let adj = adjOf a.args.n a.args.starts.now a.args.columns.now in
+    let adj = adj_of a.args.n a.args.starts.now a.args.columns.now in
     let rows = a.args.rows.now in (
       a.requires.0,
       a.requires.1,

@@ -1,15 +1,15 @@
 -- After each turn one level more is done.
 use Prim.Native.Nat.{◌+◌, ◌*◌, ◌-◌}
 use native.Mathlib.Omega.{arith}
-use Rattle.levels.specs.code.Rows.{adjOf}
-use Rattle.search.specs.code.Marks.{unreached}
-use Rattle.levels.proofs.Rows.{rows-graph}
-use Rattle.search.proofs.Frontiers.{frontier-front, Spreading, spreading-start, spreading-step, spreading-less, spreading-end}
+use Rattle.levels.specs.Code.Rows.{adj_of}
+use Rattle.search.specs.Code.Marks.{unreached}
+use Rattle.levels.proofs.Rows.{rows_graph}
+use Rattle.search.proofs.Frontiers.{frontier-front, Spreading, spreading_start, spreading_step, spreading_less, spreading_end}
 use Rattle.search.proofs.spread.Statement.{statement}
 use Rattle.search.proofs.spread.Tie as tie
 
 abbrev invariant-loop : tie.invariant-loop
-invariant-loop starts columns marks₀ queue₀ n k end d₀ lo₀ hi₀ marks queue d lo hi = Spreading (adjOf n starts columns) n k d marks₀ marks queue lo hi
+invariant-loop starts columns marks₀ queue₀ n k end d₀ lo₀ hi₀ marks queue d lo hi = Spreading (adj_of n starts columns) n k d marks₀ marks queue lo hi
 
 abbrev decreases-loop : tie.decreases-loop
 decreases-loop starts columns marks₀ queue₀ n k end d₀ lo₀ hi₀ marks queue d lo hi = 2 * unreached n marks + (1 - (1 - (hi - lo)))
@@ -17,7 +17,7 @@ decreases-loop starts columns marks₀ queue₀ n k end d₀ lo₀ hi₀ marks q
 loop-holds : tie.Need-loop-init invariant-loop decreases-loop
 loop-holds c =
     let a = c.before.before in
-    spreading-start (adjOf a.args.n a.args.starts.now a.args.columns.now) a.requires.1
+    spreading_start (adj_of a.args.n a.args.starts.now a.args.columns.now) a.requires.1
 
 add-next-level : tie.Need-overflow-add-next-level invariant-loop decreases-loop
 add-next-level c =
@@ -35,13 +35,13 @@ add-d c =
     record { fits = omega (arith, f.enough, f.ready.small) }
 
 loop-less : tie.Need-loop-smaller invariant-loop decreases-loop
-loop-less c = spreading-less (rows-graph c.before.before.before.before.before.before.before.requires.0) c.before.before.before.before.loop.invariant (omega arith) c.next_level.ensures
+loop-less c = spreading_less (rows_graph c.before.before.before.before.before.before.before.requires.0) c.before.before.before.before.loop.invariant (omega arith) c.next_level.ensures
 
 loop-again : tie.Need-loop-preserved invariant-loop decreases-loop
-loop-again c = spreading-step (rows-graph c.before.before.before.before.before.before.before.requires.0) c.before.before.before.before.loop.invariant (omega arith) c.next_level.ensures
+loop-again c = spreading_step (rows_graph c.before.before.before.before.before.before.before.requires.0) c.before.before.before.before.loop.invariant (omega arith) c.next_level.ensures
 
 returns : tie.Need-returns invariant-loop decreases-loop
-returns c = spreading-end c.before.loop.invariant (omega arith)
+returns c = spreading_end c.before.loop.invariant (omega arith)
 
 pub spread-spec : {M : Type 1} → statement M
 spread-spec =

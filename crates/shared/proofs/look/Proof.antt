@@ -6,21 +6,21 @@ use Prim.Native.Nat.{ℕ, ◌/◌}
 use lib.IntN.{ℤ}
 use lib.ListN.{length, take}
 use Rattle.base.proofs.Booleans.{fails, holds}
-use Rattle.matrix.specs.Matrix.{matrixOf}
+use Rattle.matrix.specs.Matrix.{matrix_of}
 use Rattle.plan.specs.Groups.{width}
-use Rattle.plan.specs.Sound.{maxWorkers}
+use Rattle.plan.specs.Sound.{max_workers}
 use Rattle.run.specs.Job.{job_of}
-use Rattle.tables.specs.code.Laid.{Counted}
-use Rattle.upper.specs.code.Upper.{Sizes}
-use Rattle.layout.specs.code.UpdateTable.{Given, Planned}
+use Rattle.tables.specs.Code.Laid.{Counted}
+use Rattle.upper.specs.Code.Upper.{Sizes}
+use Rattle.layout.specs.Code.UpdateTable.{Given, Planned}
 use Rattle.layout.proofs.GivenRows.{lent_of, planned-of}
 use Rattle.layout.proofs.UpdateRoom.{rising-of}
-use Rattle.machine.specs.code.Tests.{all_below, fine}
+use Rattle.machine.specs.Code.Tests.{all_below, fine}
 use Rattle.calls.proofs.Prepared.{counted-state}
-use Rattle.crews.specs.Crews.{Crew, crew0, crew1, Two, own_of, Roof, jobFor}
-use Rattle.crews.specs.Calls.{roofOf}
-use Rattle.turns.specs.Records.{statesOf}
-use Rattle.shared.proofs.Sharing.{areStates, sets-refused, sets-answered}
+use Rattle.crews.specs.Crews.{Crew, crew0, crew1, Two, own_of, Roof, job_for}
+use Rattle.crews.specs.Calls.{roof_of}
+use Rattle.turns.specs.Records.{states_of}
+use Rattle.shared.proofs.Sharing.{are_states, sets-refused, sets-answered}
 use Rattle.shared.proofs.look.Statement.{statement}
 use Rattle.shared.proofs.look.Tie as tie
 
@@ -31,14 +31,14 @@ start f = f.before.before.before.before.before.before.before.before.before
 -- the roof with these values and displacements
 module _ (s : tie.Start) (values : List ℤ) (x : Two (List ℤ)) where
   abbrev roof : Roof
-  roof = let a = s.args in roofOf (matrixOf a.rows a.starts.now a.columns.now values) x a.order.now a.groups.now (length a.groups.now / width)
+  roof = let a = s.args in roof_of (matrix_of a.rows a.starts.now a.columns.now values) x a.order.now a.groups.now (length a.groups.now / width)
 
   abbrev Holds : Type 0
   Holds = (c : Crew) → let a = s.args in Given a.rows a.starts.now a.columns.now values (own_of x c) a.order.now a.groups.now (length a.groups.now / width)
 
-  planned : Holds → {sizes : List ℕ} → let a = s.args in Sizes (matrixOf a.rows a.starts.now a.columns.now values) (take a.rows a.order.now) a.rows sizes
-      → (d : Crew) → Planned (jobFor roof d) a.groups.now (length a.groups.now / width) sizes
-  unfolding roofOf job_of
+  planned : Holds → {sizes : List ℕ} → let a = s.args in Sizes (matrix_of a.rows a.starts.now a.columns.now values) (take a.rows a.order.now) a.rows sizes
+      → (d : Crew) → Planned (job_for roof d) a.groups.now (length a.groups.now / width) sizes
+  unfolding roof_of job_of
   planned g h d = planned-of (g d) h
 
 sizes-of-requires : tie.Need-sizes-of-requires
@@ -51,16 +51,16 @@ first-updates-requires c κs =
     (_, planned-of g (z.sizes-of.ensures.0 _ (lent_of g)))
 
 module _ (f : tie.After-first-updates) (values : List ℤ) (x : Two (List ℤ)) (g : Holds (start f) values x) where
-  counted : (d : Crew) → Counted (jobFor (roof (start f) values x) d) f.first-updates.result
+  counted : (d : Crew) → Counted (job_for (roof (start f) values x) d) f.first-updates.result
   counted d = f.first-updates.ensures _ (planned (start f) values x g (f.before.before.sizes-of.ensures.0 _ (lent_of (g crew0))) d)
 
   states : (sums0 sums1 : List ℤ) → let a = (start f).args in length sums0 ≡ a.rows → length sums1 ≡ a.rows
-      → areStates (roof (start f) values x) (statesOf a.crews sums0 sums1) ≡ all_below (fine f.first-updates.result a.crews.made0) maxWorkers && all_below (fine f.first-updates.result a.crews.made1) maxWorkers
-  unfolding roofOf job_of
+      → are_states (roof (start f) values x) (states_of a.crews sums0 sums1) ≡ all_below (fine f.first-updates.result a.crews.made0) max_workers && all_below (fine f.first-updates.result a.crews.made1) max_workers
+  unfolding roof_of job_of
   states sums0 sums1 l0 l1 = ap₂ ◌&&◌ (counted-state (g crew0) (counted crew0) _ l0) (counted-state (g crew1) (counted crew1) _ l1)
 
 are-fine-requires : tie.Need-are-fine-requires
-unfolding roofOf job_of
+unfolding roof_of job_of
 are-fine-requires c κs = let g = (start c).requires.2 in rising-of _ (g crew0).accepted (counted c _ _ g crew0)
 
 returns : tie.Need-returns

@@ -5,10 +5,10 @@ use native.Mathlib.Omega.{arith}
 use lib.IntN.{ℤ}
 use borrow.Author.Rules.{rules}
 use Rattle.base.proofs.Booleans.{fails, holds}
-use Rattle.plan.specs.Sound.{isPlanAt}
-use Rattle.plan.specs.code.Checks.{recordAt}
-use Rattle.sound.specs.code.Whole.{isWhole}
-use Rattle.matrix.specs.Matrix.{matrixOf}
+use Rattle.plan.specs.Sound.{is_plan_at}
+use Rattle.plan.specs.Code.Checks.{record_at}
+use Rattle.sound.specs.Code.Whole.{is_whole}
+use Rattle.matrix.specs.Matrix.{matrix_of}
 use Rattle.apart.proofs.RowsOf.{rows_few}
 use Rattle.sound.proofs.PlanTests.{passes, order-short, no-groups, many-groups, groups-short, plan-passes}
 use Rattle.sound.proofs.is_plan_at.Statement.{statement}
@@ -28,13 +28,13 @@ returns-2 c values =
     let a = (start c.before).args in
     sym (no-groups a.k a.n a.starts.now a.columns.now values a.order.now a.groups.now a.count c.if2.true)
 
-returns-3 : tie.Need-returns-3
-returns-3 c values =
+returns_3 : tie.Need-returns-3
+returns_3 c values =
     let a = (start c.before.before).args in
     sym (many-groups a.k a.n a.starts.now a.columns.now values a.order.now a.groups.now a.count c.if3.true)
 
-returns-4 : tie.Need-returns-4
-returns-4 c values =
+returns_4 : tie.Need-returns-4
+returns_4 c values =
     let a = (start c.before.before.before).args in
     sym (groups-short a.k a.n a.starts.now a.columns.now values a.order.now a.groups.now a.count c.if4.true)
 
@@ -43,14 +43,14 @@ is-whole-requires c κs = tt
 
 -- the lists are long enough: the passes decide
 long : (c : tie.Else4) → let a = (start c.before.before.before).args in (values : List ℤ)
-    → isPlanAt a.k (matrixOf a.n a.starts.now a.columns.now values) a.order.now a.groups.now a.count ≡ passes a.k a.n a.starts.now a.columns.now a.order.now a.groups.now a.count
+    → is_plan_at a.k (matrix_of a.n a.starts.now a.columns.now values) a.order.now a.groups.now a.count ≡ passes a.k a.n a.starts.now a.columns.now a.order.now a.groups.now a.count
 long c values =
     let a = (start c.before.before.before).args in
     plan-passes a.k a.n a.starts.now a.columns.now values a.order.now a.groups.now a.count c.before.before.before.if1.false c.before.before.if2.false c.before.if3.false c.if4.false
 
 -- what is_whole answers of the first record
-whole_is : (c : tie.After-is-whole) → let a = (start c.before.before.before.before.before).args in c.is_whole.result ≡ isWhole a.n (recordAt a.groups.now 0)
-whole_is c = let a = (start c.before.before.before.before.before).args in c.is_whole.ensures ∙ ap (isWhole a.n) c.before.record-at.ensures.is
+whole_is : (c : tie.After-is-whole) → let a = (start c.before.before.before.before.before).args in c.is_whole.result ≡ is_whole a.n (record_at a.groups.now 0)
+whole_is c = let a = (start c.before.before.before.before.before).args in c.is_whole.ensures ∙ ap (is_whole a.n) c.before.record-at.ensures.is
 
 returns-5 : tie.Need-returns-5
 returns-5 c values = sym (long c.before.before.before values ∙ rw (fails (whole_is c.before) c.if5.true))
@@ -83,9 +83,9 @@ all-sound-requires c κs =
     let l = o.before.before.before.before in (
       (start l.before.before.before).requires.0,
       record {
-        order-long = l.before.before.before.if1.false;
+        order_long = l.before.before.before.if1.false;
         once = sym o.each-once.ensures ∙ holds refl d.before.if6.false;
-        groups-long = l.if4.false;
+        groups_long = l.if4.false;
         few = l.before.if3.false;
         nested = sym d.depth-first.ensures ∙ holds refl c.if7.false;
       },
@@ -103,5 +103,5 @@ returns-8 c values =
 pub is-plan-at-spec : {M : Type 1} → statement M
 is-plan-at-spec =
     tie.close
-    (tie.spec returns returns-2 returns-3 (λ c. search rules) returns-4 (λ c κs. omega arith) is-whole-requires
+    (tie.spec returns returns-2 returns_3 (λ c. search rules) returns_4 (λ c κs. omega arith) is-whole-requires
     returns-5 each-once-requires returns-6 depth-first-requires returns-7 all-sound-requires returns-8)

@@ -6,9 +6,9 @@ use lib.ListN.{get_or}
 use borrow.Author.Tests.{le-ltb}
 use borrow.Author.Rules.{rules}
 use Rattle.run.specs.Machine.{reason}
-use Rattle.tables.specs.code.Laid.{updatesIn}
+use Rattle.tables.specs.Code.Laid.{updates_in}
 use Rattle.steps.proofs.TableSteps.{reason-none}
-use Rattle.steps.proofs.UpdatesAtHand.{put-at-hand, put-known, target-low}
+use Rattle.steps.proofs.UpdatesAtHand.{put_at_hand, put_known, target-low}
 use Rattle.steps.proofs.enter.Statement.{statement}
 use Rattle.steps.proofs.enter.Tie as tie
 
@@ -43,24 +43,24 @@ test c = c.before.before.before
 refusal-requires : tie.Need-refusal-requires
 refusal-requires c κs = let s = start c.before.before in (s.pre.0, (_, s.pre.1.1.bounded))
 
-returns-3 : tie.Need-returns-3
-returns-3 c = record { told = c.before.refusal.ensures; known = λ q. absurd (c.if3.true q); hand = (start (test c.before)).requires.2 }
+returns_3 : tie.Need-returns-3
+returns_3 c = record { told = c.before.refusal.ensures; known = λ q. absurd (c.if3.true q); hand = (start (test c.before)).requires.2 }
 
 -- nothing refuses the step
 none : (c : tie.Else3) → c.before.refusal.result ≡ 0
 none c = search rules
 
 -- so there is an update left
-left : (c : tie.Else3) → let a = (start (test c.before)).args in get_or a.made.now a.w 0 < 2 * updatesIn a.first.now a.w
+left : (c : tie.Else3) → let a = (start (test c.before)).args in get_or a.made.now a.w 0 < 2 * updates_in a.first.now a.w
 left c =
     let a = (start (test c.before)).args in
-    (reason-none a.w a.workers (get_or a.made.now a.w 0) (2 * updatesIn a.first.now a.w) _ (sym c.before.refusal.ensures ∙ none c)).1
+    (reason-none a.w a.workers (get_or a.made.now a.w 0) (2 * updates_in a.first.now a.w) _ (sym c.before.refusal.ensures ∙ none c)).1
 
 look-up-requires : tie.Need-look-up-requires
 look-up-requires c κs = let e = c.before.before in let o = test e.before in (worker o, left e, (_, _, (start o).pre.1.1))
 
-returns-4 : tie.Need-returns-4
-returns-4 c =
+returns_4 : tie.Need-returns-4
+returns_4 c =
     let e = c.before.before.before in
     let o = test e.before in
     let s = start o in
@@ -71,11 +71,11 @@ returns-4 c =
     rw (c.look_up.ensures.0, c.look_up.ensures.1)
     (record {
       told = sym free;
-      known = λ q. put-known a.w (worker o) s.pre.2 (omega (arith, low, t.bounded.rows_few));
-      hand = put-at-hand a.w (worker o) s.pre.2 free;
+      known = λ q. put_known a.w (worker o) s.pre.2 (omega (arith, low, t.bounded.rows_few));
+      hand = put_at_hand a.w (worker o) s.pre.2 free;
     })
 
 pub enter_spec : {M : Type 1} → statement M
 enter_spec =
     tie.close
-    (tie.spec returns mul-if2 element-copy-out-if2 returns-2 refusal-requires returns-3 look-up-requires returns-4)
+    (tie.spec returns mul-if2 element-copy-out-if2 returns-2 refusal-requires returns_3 look-up-requires returns_4)

@@ -7,14 +7,14 @@ use mir.Syntax.{w64}
 use mir.Val.{SFits}
 use mir.Facts.{to_z-of_z}
 use borrow.Author.Rules.{rules}
-use Rattle.tables.specs.code.Laid.{updatesIn}
-use Rattle.steps.specs.code.Steps.{placeNext, rowNext}
-use Rattle.steps.specs.code.Updates.{entryPlace}
+use Rattle.tables.specs.Code.Laid.{updates_in}
+use Rattle.steps.specs.Code.Steps.{place_next, row_next}
+use Rattle.steps.specs.Code.Updates.{entry_place}
 use Rattle.steps.proofs.look_up.Statement.{statement}
 use Rattle.steps.proofs.look_up.Tie as tie
 
 -- the update stands inside the table
-left : (c : tie.Start) → let a = c.args in placeNext a.first.now a.made.now a.w < 69632
+left : (c : tie.Start) → let a = c.args in place_next a.first.now a.made.now a.w < 69632
 left c =
     let a = c.args in
     let r = c.requires.2.2.bounded.rising in
@@ -33,14 +33,14 @@ record RowNext (n p next begin place entry room : ℕ) : Type 0 where
   inside : entry < room
 
 row : (c : tie.After-wide) → let p = c.before.before in let s = p.before.before in let a = s.args in
-    RowNext s.requires.2.0 c.wide.result (rowNext a.first.now a.row.now a.made.now a.w) (get_or a.begins.now c.wide.result 0) p.next_place.result
-    (entryPlace a.parts.now c.wide.result (p.next_place.result - get_or a.begins.now c.wide.result 0)) (length a.at.now)
+    RowNext s.requires.2.0 c.wide.result (row_next a.first.now a.row.now a.made.now a.w) (get_or a.begins.now c.wide.result 0) p.next_place.result
+    (entry_place a.parts.now c.wide.result (p.next_place.result - get_or a.begins.now c.wide.result 0)) (length a.at.now)
 row c =
     let p = c.before.before in
     let s = p.before.before in
     let a = s.args in
     let t = s.requires.2.2 in
-    let next : get_or a.made.now a.w 0 / 2 < updatesIn a.first.now a.w = omega (arith, s.requires.1) in
+    let next : get_or a.made.now a.w 0 / 2 < updates_in a.first.now a.w = omega (arith, s.requires.1) in
     let e = c.wide.ensures ∙ ap (λ (k : ℕ). get_or a.row.now k 0) p.next_place.ensures in
     record {
       is = e;

@@ -46,29 +46,29 @@ use denote.Triple.Clauses.{lasts}
 use denote.Triple.Table.{entered, cited}
 use denote.Triple.Walked.{says, Stays, stay_dropped, Goes-dropped, walk_of, Walks, ends_at, walked, walk_Meets}
 use denote.Exit.{yes}
-use Rattle.base.specs.Verdicts.{replyOf}
+use Rattle.base.specs.Verdicts.{reply_of}
 use Rattle.base.specs.declared.Verdict.{Verdict}
 use Rattle.base.specs.contracts.Verdict as S
 use Rattle.base.proofs.Verdict.TheLaws as S'
-use Rattle.matrix.specs.Matrix.{matrixOf}
+use Rattle.matrix.specs.Matrix.{matrix_of}
 use Rattle.plan.specs.Groups.{flat, group_of}
-use Rattle.plan.specs.Sound.{checkReply}
+use Rattle.plan.specs.Sound.{check_reply}
 use Rattle.plan.specs.declared.fields.Group.{Group}
 use Rattle.plan.specs.contracts.fields.Group as T
-use Rattle.groups.proofs.Walking.{u32-dropped, slice-dropped, hears, group-vals, group-tells, at}
+use Rattle.groups.proofs.Walking.{u32_dropped, slice_dropped, hears, group_vals, group_tells, at}
 use Rattle.groups.specs.contracts.check as check
 use Rattle.groups.proofs.check.Symbol as check-def
 use Rattle.groups.proofs.check.Symbol.{name as #groups·check}
 use Rattle.groups.proofs.check.Met as check-thm
-use Rattle.structs.proofs.Lending.{Places, placesTy, five, room, places-typed, places-makes}
+use Rattle.structs.proofs.Lending.{Places, places_ty, five, room, places_typed, places-makes}
 use Rattle.structs.specs.contracts.check_in.Key.{name as #structs·check-in}
 use Rattle.structs.specs.contracts.check_in as check-in
 use Rattle.structs.proofs.check_in.Statement as stated
 use Rattle.structs.proofs.check_in.Code as code
 
 -- the type of the slice that the array is lent as
-abbrev lentTy : Ty
-lentTy = slice_ty (ty_ref erased imm (pointee (T.the_row).written))
+abbrev lent_ty : Ty
+lent_ty = slice_ty (ty_ref erased imm (pointee (T.the_row).written))
 
 abbrev stayed : Stays (check-in.ended).signature.params (check-in.ended).kept
 stayed = (stay_dropped _ yes, (stay_dropped _ yes, (stay_dropped _ yes, (stay_dropped _ yes, (stay_dropped _ yes, (stay_dropped _ yes, tt))))))
@@ -97,23 +97,23 @@ module _ {M : Type 1} {𝓤 : Ura M} (𝓛 : Logic 𝓤) (memory : Memory → SP
   Post = (walk_of 𝓛 check-in.ended stayed (check-in.clauses 𝓛 memory run)).post ((κs, qs, tt, a, vals), tt)
 
   abbrev Said : Verdict → Type 0
-  Said r = replyOf r ≡ checkReply (matrixOf n starts.now columns.now values.now) order.now (flat (map group_of list)) (length list) 2
+  Said r = reply_of r ≡ check_reply (matrix_of n starts.now columns.now values.now) order.now (flat (map group_of list)) (length list) 2
 
   -- the call, for a lifetime α of its own, with the array at l
   module _ (l α : ℕ) (δ : GName) where
     abbrev slice : Bor (List Group)
     slice = record { ref_ptr = (l, 0); now = list }
 
-    abbrev lent-on : Lfts 5
-    lent-on = (κ₀, (κ₁, (κ₂, (κ₃, (α ∷ [], tt)))))
+    abbrev lent_on : Lfts 5
+    lent_on = (κ₀, (κ₁, (κ₂, (κ₃, (α ∷ [], tt)))))
 
-    abbrev passed : Args check.signature lent-on
+    abbrev passed : Args check.signature lent_on
     passed = (n, (starts, (columns, (values, (order, (slice, (2, tt)))))))
 
     abbrev to-check : (Check 𝓛 memory run).Ghost
     to-check = (
       (
-        lent-on,
+        lent_on,
         (q₀, (q₁, (q₂, (q₃, (full_share, tt))))),
         tt,
         passed,
@@ -157,13 +157,13 @@ module _ {M : Type 1} {𝓤 : Ura M} (𝓛 : Logic 𝓤) (memory : Memory → SP
         alloc1 ! (λ l₀. alloc1 ! (λ l₁. alloc1 ! (λ l₂. alloc1 ! (λ l₃. alloc1 ! (λ l₄. alloc1 ! (λ l₅. alloc1 ! (λ l₆. alloc1 ! (λ l₇. alloc1 ! (λ l₈. alloc1 ! (λ l₉. alloc0 ! $ params1 ! $
         pass1 ! (init ! 16 refl (tt, record { fits = n-small })) $ pass1 ! (init ! 14 refl ((shr_slice_Lawful 𝓛 (named 0) κ₀ u32).typed starts _ is₁).0) $
         pass1 ! (init ! 12 refl ((shr_slice_Lawful 𝓛 (named 1) κ₁ u32).typed columns _ is₂).0) $ pass1 ! (init ! 10 refl ((shr_slice_Lawful 𝓛 (named 2) κ₂ i32).typed values _ is₃).0) $
-        pass1 ! (init ! 8 refl ((shr_slice_Lawful 𝓛 (named 3) κ₃ u32).typed order _ is₄).0) $ pass1 ! (init ! 6 refl (places-typed list lv are 𝓛)) $ pass0 ! $
+        pass1 ! (init ! 8 refl ((shr_slice_Lawful 𝓛 (named 3) κ₃ u32).typed order _ is₄).0) $ pass1 ! (init ! 6 refl (places_typed list lv are 𝓛)) $ pass0 ! $
         -- the locals: 0 the answer; 1 to 6 the parameters; 7 the array; 8 and 9 the array lent
-        assigns ! (of_opd ! (load ! (from ! (stop !)) (look ! 6 refl))) (from ! (stop !)) (init ! 4 refl (places-typed list lv are 𝓛)) $
+        assigns ! (of_opd ! (load ! (from ! (stop !)) (look ! 6 refl))) (from ! (stop !)) (init ! 4 refl (places_typed list lv are 𝓛)) $
         assigns ! (addr ! (from ! (stop !))) (from ! (stop !)) (init ! 2 refl (tt, tt)) $
         assigns ! (agg ! (and_then ! (load ! (from ! (stop !)) (look ! 2 refl)) (and_then ! (lit ! tt) (no_more !)))) (from ! (stop !)) (init ! 0 refl (tt, (tt, (record { fits = lit< tt }, tt)))) $
         owned ! Places (Is Places) (places-makes 𝓛) list _ are $ move ! (5 ∷ 0 ∷ []) $
-        use1 𝓛 (‵ (cell_at full_share Places.mir (lv ∷ []) l₇ 0)) (𝓛.laws.at_raw full_share placesTy l₇ 0 lv) $ fjoin ! $
+        use1 𝓛 (‵ (cell_at full_share Places.mir (lv ∷ []) l₇ 0)) (𝓛.laws.at_raw full_share places_ty l₇ 0 lv) $ fjoin ! $
         fpack ! (List Val) (λ us. fsep (cell_at full_share Places.mir us l₇ 0) (Places.own list us)) (lv ∷ []) $
         -- [_7; _9; …; _8; …; …; _6; …; _5; …; … _1; …; _0; …; the tokens; what the parameters own]
         use1 𝓛 (‵ ((arr_parts (shares T.the_row) 5).part full_share list l₇ 0)) (Array-apart 𝓛 T.the_row full_share tt 5 list l₇ 0) $
@@ -172,7 +172,7 @@ module _ {M : Type 1} {𝓤 : Ura M} (𝓛 : Logic 𝓤) (memory : Memory → SP
         lft_new ! tt (λ α. move ! (1 ∷ []) $
         use1 𝓛 (later (some (λ (δ : GName). ‵ ((ShrSlice (named 4) (α ∷ []) T.the_row).own_val (slice l₇ α δ) (at (slice l₇ α δ) ∷ [])) ⊛ ‵ (flent (α ∷ []) ((arr_parts (shares T.the_row) (length list)).part full_share list l₇ 0)))))
         (lends_shr_slice 𝓛 T.the_row (named 4) (α ∷ []) full_share list l₇ 0 (room list lv are)) $ await ! tt $ pick ! (λ δ. split ! $
-        rewrite ! 3 (λ (m : ℕ). ‵ (fat full_share lentTy l₉ 0 (slice_val (l₇, 0) m))) (sym (five list lv are)) refl $
+        rewrite ! 3 (λ (m : ℕ). ‵ (fat full_share lent_ty l₉ 0 (slice_val (l₇, 0) m))) (sym (five list lv are)) refl $
         -- [the slice; the lender's part; the token of α; _9; …; … _0; …; the tokens; what the parameters own]
         move ! (23 ∷ []) $ fsplit ! $ drop ! $ fsplit ! $ move ! (1 ∷ []) $ fsplit ! $ move ! (1 ∷ []) $ fsplit ! $ move ! (1 ∷ []) $ fsplit ! $ move ! (1 ∷ []) $ drop ! $
         -- [order's; values'; columns'; starts'; the slice; the lender's part; the token of α; _9; …; the tokens]
@@ -181,7 +181,7 @@ module _ {M : Type 1} {𝓤 : Ura M} (𝓛 : Logic 𝓤) (memory : Memory → SP
         -- [what `check` asks; …; the lender's part; _9; …; _8; …; …; _6; …; _5; …; _4; …; _3; …; _2; …; _1; …; _0; …]
         calls_at ! (fm_of 𝓤 H 𝓛.laws 𝓣) (Check 𝓛 memory run) known (to-check l₇ α δ) (and_then ! (load ! (from ! (stop !)) (look ! 18 refl)) (and_then ! (load ! (from ! (stop !)) (look ! 16 refl))
         (and_then ! (load ! (from ! (stop !)) (look ! 14 refl)) (and_then ! (load ! (from ! (stop !)) (look ! 12 refl)) (and_then ! (load ! (from ! (stop !)) (look ! 10 refl)) (and_then ! (load ! (from ! (stop !)) (look ! 3 refl)) (and_then ! (lit ! tt) (no_more !)))))))) (λ u.
-        hears ! tt (Five l₇ α δ) (λ (r : Verdict). (S.the_row).own_val r (u ∷ [])) (lasts check.ended (lent-on l₇ α δ) (passed l₇ α δ)) (λ r _. Said r) (id⊢ 𝓤 _) (λ r _ said. drop ! $ split ! $
+        hears ! tt (Five l₇ α δ) (λ (r : Verdict). (S.the_row).own_val r (u ∷ [])) (lasts check.ended (lent_on l₇ α δ) (passed l₇ α δ)) (λ r _. Said r) (id⊢ 𝓤 _) (λ r _ said. drop ! $ split ! $
         move ! (1 ∷ []) $ peeks ! S.the_row (Is S.the_row) (shows 𝓛 S.the_row) r (u ∷ []) (λ is.
         -- [what the answer owns; the tokens; …; the lender's part; _9; …; _8; …; …; _6; …; … _1; …; _0; …]
         land ! (from ! (stop !)) (init ! 21 refl ((EL.lawful S.the_type S'.the_laws 𝓛 tt).typed r _ is).0) $
@@ -190,7 +190,7 @@ module _ {M : Type 1} {𝓤 : Ura M} (𝓛 : Logic 𝓤) (memory : Memory → SP
         rewrite ! 0 (λ (m : ℕ). ‵ ((arr_parts (shares T.the_row) m).part full_share list l₇ 0)) (five list lv are) refl $
         use1 𝓛 (‵ (part_at Places full_share list l₇ 0)) (Array-whole 𝓛 T.the_row full_share 5 list l₇ 0) $
         fpick ! (λ vs. fsplit ! $ move ! (1 ∷ []) $ peeks ! Places (Is Places) (shows 𝓛 Places) list vs (λ is'. drop ! $ rewrite ! 0 (λ (ws : List Val). ‵ (cell_at full_share Places.mir ws l₇ 0)) is'.1.0.0 refl $
-        use1 𝓛 (‵ (fat full_share placesTy l₇ 0 (array_val is'.0))) (𝓛.laws.raw_at full_share placesTy l₇ 0 (array_val is'.0)) $
+        use1 𝓛 (‵ (fat full_share places_ty l₇ 0 (array_val is'.0))) (𝓛.laws.raw_at full_share places_ty l₇ 0 (array_val is'.0)) $
         returns ! (look ! 25 refl) $ forget ! 0 refl $ forget ! 8 refl $ forget ! 10 refl $ forget ! 13 refl $ forget ! 15 refl $ forget ! 17 refl $ forget ! 19 refl $ forget ! 21 refl $ forget ! 23 refl $ forget ! 25 refl $
         move ! (25 ∷ 26 ∷ []) $ free1 ! $ move ! (23 ∷ 24 ∷ []) $ free1 ! $ move ! (21 ∷ 22 ∷ []) $ free1 ! $ move ! (19 ∷ 20 ∷ []) $ free1 ! $ move ! (17 ∷ 18 ∷ []) $ free1 ! $ move ! (15 ∷ 16 ∷ []) $ free1 ! $
         move ! (13 ∷ 14 ∷ []) $ free1 ! $ move ! (0 ∷ 12 ∷ []) $ free1 ! $ move ! (9 ∷ 10 ∷ []) $ free1 ! $ move ! (7 ∷ 8 ∷ []) $ free1 ! $ free0 ! $
@@ -202,14 +202,14 @@ module _ {M : Type 1} {𝓤 : Ura M} (𝓛 : Logic 𝓤) (memory : Memory → SP
 
   check-in-walks : Walks 𝓛 check-in.ended stayed (WpFn 𝓤 H 𝓣.C 𝓣.Λ code.function) (check-in.clauses 𝓛 memory run)
   check-in-walks = walked 𝓛 check-in.ended stayed (check-in.clauses 𝓛 memory run) (WpFn 𝓤 H 𝓣.C 𝓣.Λ code.function)
-      (λ κs. (uint_vals w32, (shr_slice_vals, (shr_slice_vals, (shr_slice_vals, (shr_slice_vals, (array_vals group-vals, tt)))))))
-      (λ κs. (uint_Tells w32, (shr_slice_Tells (named 0) κs.0 u32, (shr_slice_Tells (named 1) κs.1.0 u32, (shr_slice_Tells (named 2) κs.1.1.0 i32, (shr_slice_Tells (named 3) κs.1.1.1.0 u32, (Array-Tells T.the_row group-vals group-tells 5, tt)))))))
+      (λ κs. (uint_vals w32, (shr_slice_vals, (shr_slice_vals, (shr_slice_vals, (shr_slice_vals, (array_vals group_vals, tt)))))))
+      (λ κs. (uint_Tells w32, (shr_slice_Tells (named 0) κs.0 u32, (shr_slice_Tells (named 1) κs.1.0 u32, (shr_slice_Tells (named 2) κs.1.1.0 i32, (shr_slice_Tells (named 3) κs.1.1.1.0 u32, (Array-Tells T.the_row group_vals group_tells 5, tt)))))))
       (λ κs qs bounds a g are. via 𝓤 _ (fst∗ 𝓤 _ (emp 𝓤))
       (walk 𝓛 memory run κs.0 κs.1.0 κs.1.1.0 κs.1.1.1.0 qs.0 qs.1.0 qs.1.1.0 qs.1.1.1.0
       a.0 a.1.0 a.1.1.0 a.1.1.1.0 a.1.1.1.1.0 a.1.1.1.1.1.0 _ are.1.1.1.1.1.0 are.0.1 𝓣 known are.1.0 are.1.1.0 are.1.1.1.0 are.1.1.1.1.0))
 
   check-in-meets : Meets 𝓛 check-in.signature (WpFn 𝓤 H 𝓣.C 𝓣.Λ code.function) (check-in.spec 𝓛 memory run)
-  check-in-meets = walk_Meets 𝓛 check-in.ended stayed (u32-dropped 𝓛 4, (slice-dropped 𝓛 4 0 tt u32, (slice-dropped 𝓛 4 1 tt u32, (slice-dropped 𝓛 4 2 tt i32, (slice-dropped 𝓛 4 3 tt u32, (Goes-dropped 𝓛 4 (plain (λ _. Places)) yes (λ κs x f. refl), tt))))))
+  check-in-meets = walk_Meets 𝓛 check-in.ended stayed (u32_dropped 𝓛 4, (slice_dropped 𝓛 4 0 tt u32, (slice_dropped 𝓛 4 1 tt u32, (slice_dropped 𝓛 4 2 tt i32, (slice_dropped 𝓛 4 3 tt u32, (Goes-dropped 𝓛 4 (plain (λ _. Places)) yes (λ κs x f. refl), tt))))))
       (check-in.clauses 𝓛 memory run) (WpFn 𝓤 H 𝓣.C 𝓣.Λ code.function) (WpFn-mono 𝓤 H 𝓛.laws 𝓣 code.function) check-in-walks
 
 pub check-in-spec : {M : Type 1} → stated.statement M

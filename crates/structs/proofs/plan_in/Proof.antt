@@ -51,19 +51,19 @@ use denote.Triple.Table.{entered, cited}
 use denote.Triple.Walked.{says, Stays, stay_dropped, gave_slice, Goes-dropped, Goes-gave_slice, walk_of, Walks, ends_at, walked, walk_Meets}
 use denote.Exit.{yes}
 use borrow.Rule.Slice.Shared.{parts-cells}
-use Rattle.base.specs.Verdicts.{replyOf}
+use Rattle.base.specs.Verdicts.{reply_of}
 use Rattle.base.specs.Replies.{Reply, lent}
 use Rattle.base.specs.declared.Verdict.{Verdict}
 use Rattle.base.specs.contracts.Verdict as S
 use Rattle.base.proofs.Verdict.TheLaws as S'
-use Rattle.matrix.specs.Matrix.{Matrix, matrixOf}
+use Rattle.matrix.specs.Matrix.{Matrix, matrix_of}
 use Rattle.plan.specs.Groups.{width}
 use Rattle.plan.specs.declared.fields.Group.{Group}
 use Rattle.plan.specs.contracts.fields.Group as T
 use Rattle.race.specs.Planner as planner
-use Rattle.race.specs.Planner.{planReply}
-use Rattle.groups.specs.Structs.{ofGroup}
-use Rattle.groups.proofs.Walking.{u32-dropped, slice-dropped, group-vals, group-tells, at}
+use Rattle.race.specs.Planner.{plan_reply}
+use Rattle.groups.specs.Structs.{of_group}
+use Rattle.groups.proofs.Walking.{u32_dropped, slice_dropped, group_vals, group_tells, at}
 use Rattle.groups.specs.contracts.plan as plan
 use Rattle.groups.proofs.plan.Symbol as plan-def
 use Rattle.groups.proofs.plan.Symbol.{name as #groups·plan}
@@ -71,15 +71,15 @@ use Rattle.groups.proofs.plan.Met as plan-thm
 use Rattle.structs.specs.declared.Five.{Five}
 use Rattle.structs.specs.contracts.Five as R
 use Rattle.structs.proofs.Five.TheLaws as R'
-use Rattle.structs.proofs.Lending.{Places, placesTy, five, room, places-typed, places-makes}
+use Rattle.structs.proofs.Lending.{Places, places_ty, five, room, places_typed, places-makes}
 use Rattle.structs.specs.contracts.plan_in.Key.{name as #structs·plan-in}
 use Rattle.structs.specs.contracts.plan_in as plan-in
 use Rattle.structs.proofs.plan_in.Statement as stated
 use Rattle.structs.proofs.plan_in.Code as code
 
 -- the type of the slice that the array is lent as
-abbrev lentTy : Ty
-lentTy = slice_ty (ty_ref erased mut (pointee (T.the_row).written))
+abbrev lent_ty : Ty
+lent_ty = slice_ty (ty_ref erased mut (pointee (T.the_row).written))
 
 abbrev stayed : Stays (plan-in.ended).signature.params (plan-in.ended).kept
 stayed = (stay_dropped _ yes, (stay_dropped _ yes, (stay_dropped _ yes, (stay_dropped _ yes, (stay_dropped _ yes, (stay_dropped _ yes, (gave_slice (3 ∷ []) tt (plain (λ _. u32)), (stay_dropped _ yes, tt))))))))
@@ -91,11 +91,11 @@ Plan 𝓛 memory run = triple_of 𝓛 plan.signature (plan.spec 𝓛 memory run)
 -- ---- what is returned
 
 -- the machine values of the groups and of the answer
-abbrev groupsAt : Five → Val
-groupsAt d = (R'.the_laws).0.val ((R.the_type).to d).0
+abbrev groups_at : Five → Val
+groups_at d = (R'.the_laws).0.val ((R.the_type).to d).0
 
-abbrev answerAt : Five → Val
-answerAt d = (R'.the_laws).1.0.val ((R.the_type).to d).1.0
+abbrev answer_at : Five → Val
+answer_at d = (R'.the_laws).1.0.val ((R.the_type).to d).1.0
 
 -- groups by value are the tuples of their fields
 as-tuples : (gs : List Group) (us : List Val) → shadow (each Group (T.the_row).own_val gs us) → shadow (each (T.the_field).row.Denot (T.the_field).row.own_val (map (T.the_field).into gs) us)
@@ -111,20 +111,20 @@ module _ (d : Five) (vs : List Val) (is : Is Places d.groups vs) where
   are-tuples : Is (array_field T.the_field 5).row ((R.the_type).to d).0 vs
   are-tuples = (is.0, ((is.1.0.0, length-map d.groups (T.the_field).into ∙ is.1.0.1), as-tuples d.groups is.0 is.1.1))
 
-  groups-tell : vs ≡ groupsAt d ∷ []
+  groups-tell : vs ≡ groups_at d ∷ []
   groups-tell = (R'.the_laws).0.tells ((R.the_type).to d).0 vs are-tuples
 
-  are-groups : Is Places d.groups (groupsAt d ∷ [])
+  are-groups : Is Places d.groups (groups_at d ∷ [])
   are-groups = subst (Is Places d.groups) groups-tell is
 
 module _ (d : Five) (u : Val) (is : Is S.the_row d.answer (u ∷ [])) where
-  answer-tells : u ∷ [] ≡ answerAt d ∷ []
-  answer-tells = (R'.the_laws).1.0.tells ((R.the_type).to d).1.0 (u ∷ []) is
+  answer_tells : u ∷ [] ≡ answer_at d ∷ []
+  answer_tells = (R'.the_laws).1.0.tells ((R.the_type).to d).1.0 (u ∷ []) is
 
 is-five : (d : Five) (vs : List Val) (u : Val) → Is Places d.groups vs → Is S.the_row d.answer (u ∷ []) → Is R.the_row d (LL.vals R.the_type R'.the_laws d)
 is-five d vs u are is =
     LL.owes R.the_type R'.the_laws d
-    (are-tuples d (groupsAt d ∷ []) (are-groups d vs are), (subst (λ (us : List Val). Is S.the_row d.answer us) (answer-tells d u is) is, tt))
+    (are-tuples d (groups_at d ∷ []) (are-groups d vs are), (subst (λ (us : List Val). Is S.the_row d.answer us) (answer_tells d u is) is, tt))
 
 module _ {M : Type 1} {𝓤 : Ura M} (𝓛 : Logic 𝓤) (memory : Memory → SProp 𝓤) (run : Routine → Fun 𝓤) (κ₀ κ₁ κ₂ κ₃ : Lft) (q₀ q₁ q₂ q₃ : Share)
     (n : ℕ) (starts columns : Bor (List ℕ)) (values : Bor (List ℤ)) (workers p : ℕ) (order : Bor (List ℕ)) (list : List Group) (lv : Val) (are : Is Places list (lv ∷ []))
@@ -147,33 +147,33 @@ module _ {M : Type 1} {𝓤 : Ura M} (𝓛 : Logic 𝓤) (memory : Memory → SP
   Post = (walk_of 𝓛 plan-in.ended stayed (plan-in.clauses 𝓛 memory run)).post ((κs, qs, tt, a, vals), tt)
 
   abbrev m : Matrix
-  m = matrixOf n starts.now columns.now values.now
+  m = matrix_of n starts.now columns.now values.now
 
   abbrev reply : Reply
-  reply = planReply m workers p 2 (length order.now) (width * length list)
+  reply = plan_reply m workers p 2 (length order.now) (width * length list)
 
   -- what `plan` ensures of the answer, and of the last groups
   abbrev Said : Verdict → Type 0
-  Said r = replyOf r ≡ reply
+  Said r = reply_of r ≡ reply
 
   abbrev Kept : List Group → Type 0
-  Kept gs = gs ≡ lent reply (map ofGroup (planner.plan m workers p 2).groups) list
+  Kept gs = gs ≡ lent reply (map of_group (planner.plan m workers p 2).groups) list
 
   -- the call, for a lifetime α of its own, with the array at l
   module _ (l α : ℕ) (δ : GName) where
     abbrev slice : MutBor (List Group)
     slice = record { ref_ptr = (l, 0); ghost_name = δ; now = list }
 
-    abbrev lent-on : Lfts 5
-    lent-on = (κ₀, (κ₁, (κ₂, (κ₃, (α ∷ [], tt)))))
+    abbrev lent_on : Lfts 5
+    lent_on = (κ₀, (κ₁, (κ₂, (κ₃, (α ∷ [], tt)))))
 
-    abbrev passed : Args plan.signature lent-on
+    abbrev passed : Args plan.signature lent_on
     passed = (n, (starts, (columns, (values, (workers, (p, (2, (order, (slice, tt)))))))))
 
     abbrev to-plan : (Plan 𝓛 memory run).Ghost
     to-plan = (
       (
-        lent-on,
+        lent_on,
         (q₀, (q₁, (q₂, (q₃, (full_share, tt))))),
         tt,
         passed,
@@ -199,15 +199,15 @@ module _ {M : Type 1} {𝓤 : Ura M} (𝓛 : Logic 𝓤) (memory : Memory → SP
     Tokens = ‵ (flft κ₀ q₀) ⊛ ‵ (flft κ₁ q₁) ⊛ ‵ (flft κ₂ q₂) ⊛ ‵ (flft κ₃ q₃) ⊛ ‵ (flft (α ∷ []) full_share) ⊛ ‵ ftrue
 
     -- the last lists of the order and of the slice
-    abbrev order-last : Lasts plan.ended lent-on passed → List ℕ
+    abbrev order-last : Lasts plan.ended lent_on passed → List ℕ
     order-last ws = ws.1.1.1.1.1.1.1.0
 
-    abbrev groups-last : Lasts plan.ended lent-on passed → List Group
+    abbrev groups-last : Lasts plan.ended lent_on passed → List Group
     groups-last ws = ws.1.1.1.1.1.1.1.1.0
 
     -- what the call leaves
     abbrev Left : Val → Item 𝓤
-    Left u = later (some (λ (r : Verdict). (Tokens ⊛ ‵ ((S.the_row).own_val r (u ∷ []))) ⊛ some (λ (ws : Lasts plan.ended lent-on passed). ‵ (lasts plan.ended lent-on passed ws)
+    Left u = later (some (λ (r : Verdict). (Tokens ⊛ ‵ ((S.the_row).own_val r (u ∷ []))) ⊛ some (λ (ws : Lasts plan.ended lent_on passed). ‵ (lasts plan.ended lent_on passed ws)
         ⊛ (raw (fact 𝓤 (Said r)) ⊛ (raw (fact 𝓤 (order-last ws ≡ lent reply (planner.plan m workers p 2).order order.now)) ⊛ raw (fact 𝓤 (Kept (groups-last ws))))))))
 
   exits : (d : Five) → Is R.the_row d (LL.vals R.the_type R'.the_laws d) → Said d.answer → Kept d.groups → (order' : List ℕ) → length order' ≡ length order.now
@@ -235,16 +235,16 @@ module _ {M : Type 1} {𝓤 : Ura M} (𝓛 : Logic 𝓤) (memory : Memory → SP
         pass1 ! (init ! 28 refl (tt, record { fits = n-small })) $ pass1 ! (init ! 26 refl ((shr_slice_Lawful 𝓛 (named 0) κ₀ u32).typed starts _ is₁).0) $
         pass1 ! (init ! 24 refl ((shr_slice_Lawful 𝓛 (named 1) κ₁ u32).typed columns _ is₂).0) $ pass1 ! (init ! 22 refl ((shr_slice_Lawful 𝓛 (named 2) κ₂ i32).typed values _ is₃).0) $
         pass1 ! (init ! 20 refl (tt, record { fits = workers-small })) $ pass1 ! (init ! 18 refl (tt, record { fits = p-small })) $
-        pass1 ! (init ! 16 refl ((mut_slice_Lawful 𝓛 (named 3) κ₃ u32).typed order _ is₄).0) $ pass1 ! (init ! 14 refl (places-typed list lv are 𝓛)) $ pass0 ! $
+        pass1 ! (init ! 16 refl ((mut_slice_Lawful 𝓛 (named 3) κ₃ u32).typed order _ is₄).0) $ pass1 ! (init ! 14 refl (places_typed list lv are 𝓛)) $ pass0 ! $
         -- the locals: 0 what is returned; 1 to 8 the parameters; 9 the array; 10 the answer;
         -- 11 and 12 the order lent on; 13 and 14 the array lent; 15 the array after the call
-        assigns ! (of_opd ! (load ! (from ! (stop !)) (look ! 14 refl))) (from ! (stop !)) (init ! 12 refl (places-typed list lv are 𝓛)) $
+        assigns ! (of_opd ! (load ! (from ! (stop !)) (look ! 14 refl))) (from ! (stop !)) (init ! 12 refl (places_typed list lv are 𝓛)) $
         assigns ! (addr ! (from ! (fld ! refl (hop ! (look_in ! 16 (sub ! 0 refl (whole !))) (stop !))))) (from ! (stop !)) (init ! 8 refl (tt, tt)) $
         assigns ! (agg ! (and_then ! (load ! (from ! (stop !)) (look ! 8 refl)) (and_then ! (load ! (from ! (fld ! refl (stop !))) (look_in ! 16 (sub ! 1 refl (whole !)))) (no_more !)))) (from ! (stop !)) (init ! 6 refl (tt, (tt, (record { fits = is₄.0.1.0 }, tt)))) $
         assigns ! (addr ! (from ! (stop !))) (from ! (stop !)) (init ! 4 refl (tt, tt)) $
         assigns ! (agg ! (and_then ! (load ! (from ! (stop !)) (look ! 4 refl)) (and_then ! (lit ! tt) (no_more !)))) (from ! (stop !)) (init ! 2 refl (tt, (tt, (record { fits = lit< tt }, tt)))) $
         owned ! Places (Is Places) (places-makes 𝓛) list _ are $ move ! (13 ∷ 0 ∷ []) $
-        use1 𝓛 (‵ (cell_at full_share Places.mir (lv ∷ []) l₉ 0)) (𝓛.laws.at_raw full_share placesTy l₉ 0 lv) $ fjoin ! $
+        use1 𝓛 (‵ (cell_at full_share Places.mir (lv ∷ []) l₉ 0)) (𝓛.laws.at_raw full_share places_ty l₉ 0 lv) $ fjoin ! $
         fpack ! (List Val) (λ us. fsep (cell_at full_share Places.mir us l₉ 0) (Places.own list us)) (lv ∷ []) $
         -- [_9; _15; …; … _10; …; …; _8; …; … _0; …; the tokens; what the parameters own]
         use1 𝓛 (‵ ((arr_parts (shares T.the_row) 5).part full_share list l₉ 0)) (Array-apart 𝓛 T.the_row full_share tt 5 list l₉ 0) $ fsplit ! $ feq_l ! (λ _.
@@ -253,7 +253,7 @@ module _ {M : Type 1} {𝓤 : Ura M} (𝓛 : Logic 𝓤) (memory : Memory → SP
         lft_new ! tt (λ α. move ! (1 ∷ []) $
         use1 𝓛 (later (some (λ (δ : GName). ‵ ((MutSlice (named 4) (α ∷ []) T.the_row).own_val (slice l₉ α δ) (at (slice l₉ α δ) ∷ [])) ⊛ ‵ (flent (α ∷ []) (Held T.the_row (length list) l₉ 0 δ)))))
         (lends_slice 𝓛 T.the_row (named 4) (α ∷ []) list l₉ 0 (room list lv are)) $ await ! tt $ pick ! (λ δ. split ! $
-        rewrite ! 5 (λ (k : ℕ). ‵ (fat full_share lentTy l₁₄ 0 (slice_val (l₉, 0) k))) (sym (five list lv are)) refl $
+        rewrite ! 5 (λ (k : ℕ). ‵ (fat full_share lent_ty l₁₄ 0 (slice_val (l₉, 0) k))) (sym (five list lv are)) refl $
         -- [the slice; the lender's part; the token of α; _15; …; … _0; …; the tokens; what the parameters own]
         move ! (35 ∷ []) $ fsplit ! $ drop ! $ fsplit ! $ move ! (1 ∷ []) $ fsplit ! $ move ! (1 ∷ []) $ fsplit ! $ move ! (1 ∷ []) $ fsplit ! $ drop ! $ fsplit ! $ drop ! $ fsplit ! $ move ! (1 ∷ []) $ drop ! $
         -- [order's; values'; columns'; starts'; the slice; the lender's part; the token of α; _15; …; the tokens]
@@ -267,7 +267,7 @@ module _ {M : Type 1} {𝓤 : Ura M} (𝓛 : Logic 𝓤) (memory : Memory → SP
         move ! (1 ∷ []) $ fsplit ! $ fsplit ! $ move ! (1 ∷ []) $ feq_l ! (λ _. move ! (3 ∷ []) $ split ! $ move ! (1 ∷ []) $ peeks ! S.the_row (Is S.the_row) (shows 𝓛 S.the_row) r (u ∷ []) (λ is.
         -- [the answer's; the tokens; the last groups; …; the last order; …; the lender's part; _15; …; … _0; …]
         land ! (from ! (stop !)) (init ! 17 refl ((EL.lawful S.the_type S'.the_laws 𝓛 tt).typed r _ is).0) $
-        rewrite ! 17 (λ (v : Val). ‵ (fat full_share S'.mir l₁₀ 0 v)) (ap only (answer-tells (made (groups-last l₉ α δ ws) r) u is)) refl $
+        rewrite ! 17 (λ (v : Val). ‵ (fat full_share S'.mir l₁₀ 0 v)) (ap only (answer_tells (made (groups-last l₉ α δ ws) r) u is)) refl $
         move ! (1 ∷ []) $ split ! $ move ! (1 ∷ []) $ split ! $ move ! (1 ∷ []) $ split ! $ move ! (1 ∷ []) $ split ! $ move ! (1 ∷ []) $ split ! $ lft_end ! tt $
         -- [α is over; …; κ₃ to κ₀; the answer's; the last groups; …; the last order; …; the lender's part; _15; …]
         move ! (0 ∷ 11 ∷ 7 ∷ []) $ use3 𝓛 (later (‵ ((Arr (mem T.the_row) (length list)).own_at (groups-last l₉ α δ ws) l₉ 0))) (slice_back 𝓛 T.the_row (α ∷ []) δ (groups-last l₉ α δ ws) (length list) l₉ 0) $ await ! tt $
@@ -275,9 +275,9 @@ module _ {M : Type 1} {𝓤 : Ura M} (𝓛 : Logic 𝓤) (memory : Memory → SP
         use1 𝓛 (‵ (part_at Places full_share (groups-last l₉ α δ ws) l₉ 0)) (Array-whole 𝓛 T.the_row full_share 5 (groups-last l₉ α δ ws) l₉ 0) $
         fpick ! (λ vs. fsplit ! $ move ! (1 ∷ []) $ peeks ! Places (Is Places) (shows 𝓛 Places) (groups-last l₉ α δ ws) vs (λ is'. drop ! $
         rewrite ! 0 (λ (us : List Val). ‵ (cell_at full_share Places.mir us l₉ 0)) (groups-tell (made (groups-last l₉ α δ ws) r) vs is') refl $
-        use1 𝓛 (‵ (fat full_share placesTy l₉ 0 (groupsAt (made (groups-last l₉ α δ ws) r)))) (𝓛.laws.raw_at full_share placesTy l₉ 0 (groupsAt (made (groups-last l₉ α δ ws) r))) $
+        use1 𝓛 (‵ (fat full_share places_ty l₉ 0 (groups_at (made (groups-last l₉ α δ ws) r)))) (𝓛.laws.raw_at full_share places_ty l₉ 0 (groups_at (made (groups-last l₉ α δ ws) r))) $
         -- [_9; …; κ₃, κ₂, κ₁, κ₀; the answer's; …; the last order; …; _15; …; … _10; …; …; _8; …; … _0; …]
-        assigns ! (of_opd ! (load ! (from ! (stop !)) (look ! 0 refl))) (from ! (stop !)) (init ! 10 refl (places-typed (groups-last l₉ α δ ws) (groupsAt (made (groups-last l₉ α δ ws) r)) (are-groups (made (groups-last l₉ α δ ws) r) vs is') 𝓛)) $
+        assigns ! (of_opd ! (load ! (from ! (stop !)) (look ! 0 refl))) (from ! (stop !)) (init ! 10 refl (places_typed (groups-last l₉ α δ ws) (groups_at (made (groups-last l₉ α δ ws) r)) (are-groups (made (groups-last l₉ α δ ws) r) vs is') 𝓛)) $
         assigns ! (agg ! (and_then ! (load ! (from ! (stop !)) (look ! 10 refl)) (and_then ! (load ! (from ! (stop !)) (look ! 20 refl)) (no_more !)))) (from ! (stop !))
         (init ! 39 refl ((LL.lawful R.the_type R'.the_laws 𝓛).typed (made (groups-last l₉ α δ ws) r) _ (is-five (made (groups-last l₉ α δ ws) r) vs u is' is)).0) $
         returns ! (look ! 39 refl) $ forget ! 0 refl $ forget ! 10 refl $ forget ! 12 refl $ forget ! 14 refl $ forget ! 16 refl $ forget ! 18 refl $ forget ! 20 refl $ forget ! 23 refl $ forget ! 25 refl $ forget ! 27 refl $
@@ -294,15 +294,15 @@ module _ {M : Type 1} {𝓤 : Ura M} (𝓛 : Logic 𝓤) (memory : Memory → SP
 
   plan-in-walks : Walks 𝓛 plan-in.ended stayed (WpFn 𝓤 H 𝓣.C 𝓣.Λ code.function) (plan-in.clauses 𝓛 memory run)
   plan-in-walks = walked 𝓛 plan-in.ended stayed (plan-in.clauses 𝓛 memory run) (WpFn 𝓤 H 𝓣.C 𝓣.Λ code.function)
-      (λ κs. (uint_vals w32, (shr_slice_vals, (shr_slice_vals, (shr_slice_vals, (uint_vals w32, (uint_vals w32, (shr_slice_vals, (array_vals group-vals, tt)))))))))
-      (λ κs. (uint_Tells w32, (shr_slice_Tells (named 0) κs.0 u32, (shr_slice_Tells (named 1) κs.1.0 u32, (shr_slice_Tells (named 2) κs.1.1.0 i32, (uint_Tells w32, (uint_Tells w32, (mut_slice_Tells (named 3) κs.1.1.1.0 u32, (Array-Tells T.the_row group-vals group-tells 5, tt)))))))))
+      (λ κs. (uint_vals w32, (shr_slice_vals, (shr_slice_vals, (shr_slice_vals, (uint_vals w32, (uint_vals w32, (shr_slice_vals, (array_vals group_vals, tt)))))))))
+      (λ κs. (uint_Tells w32, (shr_slice_Tells (named 0) κs.0 u32, (shr_slice_Tells (named 1) κs.1.0 u32, (shr_slice_Tells (named 2) κs.1.1.0 i32, (uint_Tells w32, (uint_Tells w32, (mut_slice_Tells (named 3) κs.1.1.1.0 u32, (Array-Tells T.the_row group_vals group_tells 5, tt)))))))))
       (λ κs qs bounds a g are. via 𝓤 _ (fst∗ 𝓤 _ (emp 𝓤))
       (walk 𝓛 memory run κs.0 κs.1.0 κs.1.1.0 κs.1.1.1.0 qs.0 qs.1.0 qs.1.1.0 qs.1.1.1.0
       a.0 a.1.0 a.1.1.0 a.1.1.1.0 a.1.1.1.1.0 a.1.1.1.1.1.0 a.1.1.1.1.1.1.0 a.1.1.1.1.1.1.1.0 _ are.1.1.1.1.1.1.1.0
       are.0.1 are.1.1.1.1.0.1 are.1.1.1.1.1.0.1 𝓣 known are.1.0 are.1.1.0 are.1.1.1.0 are.1.1.1.1.1.1.0))
 
   plan-in-meets : Meets 𝓛 plan-in.signature (WpFn 𝓤 H 𝓣.C 𝓣.Λ code.function) (plan-in.spec 𝓛 memory run)
-  plan-in-meets = walk_Meets 𝓛 plan-in.ended stayed (u32-dropped 𝓛 4, (slice-dropped 𝓛 4 0 tt u32, (slice-dropped 𝓛 4 1 tt u32, (slice-dropped 𝓛 4 2 tt i32, (u32-dropped 𝓛 4, (u32-dropped 𝓛 4, (Goes-gave_slice 𝓛 4 3 tt (plain (λ _. u32)), (Goes-dropped 𝓛 4 (plain (λ _. Places)) yes (λ κs x f. refl), tt))))))))
+  plan-in-meets = walk_Meets 𝓛 plan-in.ended stayed (u32_dropped 𝓛 4, (slice_dropped 𝓛 4 0 tt u32, (slice_dropped 𝓛 4 1 tt u32, (slice_dropped 𝓛 4 2 tt i32, (u32_dropped 𝓛 4, (u32_dropped 𝓛 4, (Goes-gave_slice 𝓛 4 3 tt (plain (λ _. u32)), (Goes-dropped 𝓛 4 (plain (λ _. Places)) yes (λ κs x f. refl), tt))))))))
       (plan-in.clauses 𝓛 memory run) (WpFn 𝓤 H 𝓣.C 𝓣.Λ code.function) (WpFn-mono 𝓤 H 𝓛.laws 𝓣 code.function) plan-in-walks
 
 pub plan-in-spec : {M : Type 1} → stated.statement M

@@ -10,32 +10,32 @@ use mir.Syntax.{w32, w64}
 use mir.Val.{SFits}
 use mir.Facts.{to_z-of_z}
 use borrow.Author.Tests.{leb-true}
-use Rattle.base.specs.Verdicts.{replyOf}
-use Rattle.base.specs.Lists.{isIn}
+use Rattle.base.specs.Verdicts.{reply_of}
+use Rattle.base.specs.Lists.{is_in}
 use Rattle.base.specs.Integers.{within}
 use Rattle.base.proofs.Booleans.{fails, holds}
 use Rattle.base.proofs.Integers.{abs-sub, fits-abs}
-use Rattle.matrix.specs.Limits.{max_value, maxDisplacement}
-use Rattle.matrix.specs.Matrix.{Matrix, columnsOf, entry, displacement}
-use Rattle.matrix.specs.code.Checks.{RowIn}
-use Rattle.matrix.proofs.Checks.{matrix-tidy}
-use Rattle.matrix.proofs.Matrix.{matrix-facts, column-row, column-low, small-entry, small-displacement}
+use Rattle.matrix.specs.Limits.{max_value, max_displacement}
+use Rattle.matrix.specs.Matrix.{Matrix, columns_of, entry, displacement}
+use Rattle.matrix.specs.Code.Checks.{RowIn}
+use Rattle.matrix.proofs.Checks.{matrix_tidy}
+use Rattle.matrix.proofs.Matrix.{matrix_facts, column-row, column-low, small-entry, small-displacement}
 use Rattle.matrix.proofs.Rows.{columns-in}
-use Rattle.upkeep.specs.Upkeep.{KeptForces, Change, keptIn, newValue, entryPlace}
+use Rattle.upkeep.specs.Upkeep.{KeptForces, Change, kept_in, new_value, entry_place}
 use Rattle.upkeep.specs.KeptCurrent.{Current}
-use Rattle.upkeep.specs.code.Sums.{BothIn}
+use Rattle.upkeep.specs.Code.Sums.{BothIn}
 use Rattle.upkeep.proofs.BothSums.{both-same}
 use Rattle.upkeep.proofs.Displacing.{current, unchecked, unnamed, unsmall, fine, refused-answers, accepted-answers}
-use Rattle.upkeep.proofs.Altering.{alter-named, alter-is-small, pattern-columns, place_is, place-low, value-at, both-moved, both-in, altered-forces, alter-values, alter-forces}
+use Rattle.upkeep.proofs.Altering.{alter_named, alter_is-small, pattern-columns, place_is, place_low, value-at, both-moved, both_in, altered-forces, alter_values, alter_forces}
 use borrow.Author.Rules.{rules}
 use Rattle.upkeep.proofs.set_entry.Statement.{statement}
 use Rattle.upkeep.proofs.set_entry.Tie as tie
 
 abbrev given : tie.Start → KeptForces
-given c = let a = c.args in keptIn a.n a.starts.now a.columns.now a.values.now a.displacements.now a.forces.now
+given c = let a = c.args in kept_in a.n a.starts.now a.columns.now a.values.now a.displacements.now a.forces.now
 
 abbrev change : tie.Start → Change
-change c = newValue c.args.row c.args.column c.args.to
+change c = new_value c.args.row c.args.column c.args.to
 
 abbrev valued : KeptForces → List ℤ
 valued k = k.matrix.values
@@ -45,16 +45,16 @@ abbrev begun : tie.After-enum-told → tie.Start
 begun t = t.before.before.before.before.before.before.before
 
 is-current : (t : tie.After-enum-told) → Current (given (begun t))
-is-current t = current (given (begun t)) _ (ap replyOf (sym t.enum_told.given.1) ∙ t.before.before.check-current.ensures)
+is-current t = current (given (begun t)) _ (ap reply_of (sym t.enum_told.given.1) ∙ t.before.before.check-current.ensures)
 
 rows : (t : tie.After-enum-told) (i : ℕ) → i < (begun t).args.n → RowIn (begun t).args.starts.now (length (begun t).args.columns.now) i
-rows t i l = columns-in (given (begun t)).matrix (matrix-tidy (given (begun t)).matrix (is-current t).matrix).shape i l
+rows t i l = columns-in (given (begun t)).matrix (matrix_tidy (given (begun t)).matrix (is-current t).matrix).shape i l
 
 -- what the call tests
-asked : (c : tie.After-has-entry) → let s = begun c.before in c.has-entry.result ≡ isIn (columnsOf (given s).matrix s.args.row) s.args.column
-asked c = let s = begun c.before in c.has-entry.ensures ∙ ap (λ (cs : List ℕ). isIn cs s.args.column) (pattern-columns (given s).matrix s.args.row)
+asked : (c : tie.After-has-entry) → let s = begun c.before in c.has-entry.result ≡ is_in (columns_of (given s).matrix s.args.row) s.args.column
+asked c = let s = begun c.before in c.has-entry.ensures ∙ ap (λ (cs : List ℕ). is_in cs s.args.column) (pattern-columns (given s).matrix s.args.row)
 
-stored : (c : tie.Else1) → let s = begun c.before.before in isIn (columnsOf (given s).matrix s.args.row) s.args.column ≡ true
+stored : (c : tie.Else1) → let s = begun c.before.before in is_in (columns_of (given s).matrix s.args.row) s.args.column ≡ true
 stored c = holds (asked c.before) c.if1.false
 
 tested : (c : tie.After-is-within) → let s = begun c.before.before.before in c.is_Within.result ≡ within max_value s.args.to
@@ -64,7 +64,7 @@ returns : tie.Need-returns
 returns c =
     let d = c.before.before.before in
     let s = d.before.before.before.before.before in
-    refused-answers (given s) (change s) valued _ _ (unchecked (given s) (change s) _ _ (ap replyOf (sym c.before.checked.given.1) ∙ d.check-current.ensures))
+    refused-answers (given s) (change s) valued _ _ (unchecked (given s) (change s) _ _ (ap reply_of (sym c.before.checked.given.1) ∙ d.check-current.ensures))
 
 has-entry-requires : tie.Need-has-entry-requires
 has-entry-requires c κs = λ l. rows c _ l
@@ -73,15 +73,15 @@ returns-2 : tie.Need-returns-2
 returns-2 c =
     let t = c.before.before in
     let s = begun t in
-    refused-answers (given s) (change s) valued _ _ (unnamed (given s) (change s) (is-current t) (alter-named (given s).matrix _ _ _ (fails (asked c.before) c.if1.true)))
+    refused-answers (given s) (change s) valued _ _ (unnamed (given s) (change s) (is-current t) (alter_named (given s).matrix _ _ _ (fails (asked c.before) c.if1.true)))
 
-returns-3 : tie.Need-returns-3
-returns-3 c =
+returns_3 : tie.Need-returns-3
+returns_3 c =
     let e = c.before.before in
     let t = e.before.before in
     let s = begun t in
     refused-answers (given s) (change s) valued _ _
-    (unsmall (given s) (change s) (is-current t) (alter-named (given s).matrix _ _ _ (stored e)) (alter-is-small (given s).matrix _ _ _ (fails (tested c.before) c.if2.true)))
+    (unsmall (given s) (change s) (is-current t) (alter_named (given s).matrix _ _ _ (stored e)) (alter_is-small (given s).matrix _ _ _ (fails (tested c.before) c.if2.true)))
 
 -- what the call knows of the entry, from where the value is accepted
 abbrev told : tie.Else2 → tie.After-enum-told
@@ -96,7 +96,7 @@ net e = (given (origin e)).matrix
 kept : (e : tie.Else2) → Current (given (origin e))
 kept e = is-current (told e)
 
-named : (e : tie.Else2) → isIn (columnsOf (net e) (origin e).args.row) (origin e).args.column ≡ true
+named : (e : tie.Else2) → is_in (columns_of (net e) (origin e).args.row) (origin e).args.column ≡ true
 named e = stored e.before.before
 
 first-row : (e : tie.Else2) → (origin e).args.row < (origin e).args.n
@@ -105,8 +105,8 @@ first-row e = column-row (net e) (origin e).args.row (origin e).args.column (nam
 second-row : (e : tie.Else2) → (origin e).args.column < (origin e).args.n
 second-row e = column-low (net e) (kept e).matrix (origin e).args.row (origin e).args.column (named e)
 
-mirror-named : (e : tie.Else2) → isIn (columnsOf (net e) (origin e).args.column) (origin e).args.row ≡ true
-mirror-named e = (((matrix-facts (net e) (kept e).matrix).row (origin e).args.row (first-row e)).mirror (origin e).args.column (named e)).0
+mirror-named : (e : tie.Else2) → is_in (columns_of (net e) (origin e).args.column) (origin e).args.row ≡ true
+mirror-named e = (((matrix_facts (net e) (kept e).matrix).row (origin e).args.row (first-row e)).mirror (origin e).args.column (named e)).0
 
 within-limit : (e : tie.Else2) → within max_value (origin e).args.to ≡ true
 within-limit e = holds (tested e.before) e.if2.false
@@ -123,18 +123,18 @@ entry-place-requires-2 c κs = rows (told c.before) _ (second-row c.before)
 
 -- the entry's places
 module _ (c : tie.After-entry-place) where
-  first-is : c.entry_IsPlace.result ≡ entryPlace (net c.before) (origin c.before).args.row (origin c.before).args.column
-  first-is = place_is (net c.before) (kept c.before).matrix (origin c.before).args.row (origin c.before).args.column (named c.before) c.entry_IsPlace.ensures
+  first_is : c.entry_IsPlace.result ≡ entry_place (net c.before) (origin c.before).args.row (origin c.before).args.column
+  first_is = place_is (net c.before) (kept c.before).matrix (origin c.before).args.row (origin c.before).args.column (named c.before) c.entry_IsPlace.ensures
 
   first-low : c.entry_IsPlace.result < length (origin c.before).args.values.now
-  first-low = rw first-is (place-low (net c.before) (kept c.before).matrix (origin c.before).args.row (origin c.before).args.column (named c.before))
+  first-low = rw first_is (place_low (net c.before) (kept c.before).matrix (origin c.before).args.row (origin c.before).args.column (named c.before))
 
   -- the value there
   abbrev old : ℤ
   old = get_or (origin c.before).args.values.now c.entry_IsPlace.result (pos 0)
 
   old-is : old ≡ entry (net c.before) (origin c.before).args.row (origin c.before).args.column
-  old-is = rw first-is (value-at (net c.before) (kept c.before).matrix (origin c.before).args.row (origin c.before).args.column (named c.before))
+  old-is = rw first_is (value-at (net c.before) (kept c.before).matrix (origin c.before).args.row (origin c.before).args.column (named c.before))
 
   old-small : nat_abs old ≤ max_value
   old-small = rw old-is (small-entry (net c.before) (kept c.before).matrix (origin c.before).args.row (origin c.before).args.column)
@@ -154,16 +154,16 @@ module _ (c : tie.After-entry-place) where
   moved-fits r = fits-abs (omega (arith, small-displacement (origin c.before).args.n (origin c.before).args.displacements.now (kept c.before).moved r))
 
   both_ok : BothIn (origin c.before).args.forces.now (origin c.before).args.row (origin c.before).args.column (step *ℤ moved (origin c.before).args.column) (step *ℤ moved (origin c.before).args.row)
-  both_ok = rw old-is (both-in (net c.before) _ _ (kept c.before) (origin c.before).args.row (origin c.before).args.column (origin c.before).args.to (named c.before) (near c.before))
+  both_ok = rw old-is (both_in (net c.before) _ _ (kept c.before) (origin c.before).args.row (origin c.before).args.column (origin c.before).args.to (named c.before) (near c.before))
 
   inside : ((origin c.before).args.row < length (origin c.before).args.displacements.now) × ((origin c.before).args.column < length (origin c.before).args.displacements.now)
   inside = both-moved (net c.before) _ _ (kept c.before) (origin c.before).args.row (origin c.before).args.column (origin c.before).args.to (named c.before)
 
-second_is : (c : tie.After-entry-place2) → let e = c.before.before in c.entry-place2.result ≡ entryPlace (net e) (origin e).args.column (origin e).args.row
+second_is : (c : tie.After-entry-place2) → let e = c.before.before in c.entry-place2.result ≡ entry_place (net e) (origin e).args.column (origin e).args.row
 second_is c = let e = c.before.before in place_is (net e) (kept e).matrix (origin e).args.column (origin e).args.row (mirror-named e) c.entry-place2.ensures
 
 second-low : (c : tie.After-entry-place2) → c.entry-place2.result < length (origin c.before.before).args.values.now
-second-low c = let e = c.before.before in rw (second_is c) (place-low (net e) (kept e).matrix (origin e).args.column (origin e).args.row (mirror-named e))
+second-low c = let e = c.before.before in rw (second_is c) (place_low (net e) (kept e).matrix (origin e).args.column (origin e).args.row (mirror-named e))
 
 -- both places, counted in bytes
 scaled : (c : tie.After-entry-place2) → (c.before.entry_IsPlace.result * 4 < 2 ^ 64) × (c.entry-place2.result * 4 < 2 ^ 64)
@@ -238,8 +238,8 @@ mul-to-2 c = let l = scaled (summed c).before.before.before.before.before.before
 slice-set-from-to-2 : tie.Need-slice-set-from-to-2
 slice-set-from-to-2 c = rw length-set (second-low (summed c).before.before.before.before.before.before)
 
-returns-4 : tie.Need-returns-4
-returns-4 c =
+returns_4 : tie.Need-returns-4
+returns_4 c =
     let t = summed c in
     let f = t.before.before in
     let d = f.before.before in
@@ -250,17 +250,17 @@ returns-4 c =
     both-same (to_z-of_z (first_fits f) ∙ first-sum f ∙ ap (λ (z : ℤ). (o.args.to -ℤ z) *ℤ moved p o.args.column) (old-is p))
     (to_z-of_z (second_fits t) ∙ second-sum t ∙ ap (λ (z : ℤ). (o.args.to -ℤ z) *ℤ moved p o.args.row) (old-is p)) c.before.add-both.ensures in
     accepted-answers (given o) (change o) valued
-    (fine (given o) (change o) (kept e) (alter-named (net e) _ _ _ (named e)) (alter-is-small (net e) _ _ _ (within-limit e)))
-    (simp (to_z-of_z o.fits.to) (alter-values (net e) _ _ (kept e) o.args.row o.args.column o.args.to (named e) (first-is p) (second_is d.before.before)))
+    (fine (given o) (change o) (kept e) (alter_named (net e) _ _ _ (named e)) (alter_is-small (net e) _ _ _ (within-limit e)))
+    (simp (to_z-of_z o.fits.to) (alter_values (net e) _ _ (kept e) o.args.row o.args.column o.args.to (named e) (first_is p) (second_is d.before.before)))
     (altered-forces (net e) _ _ (kept e) o.args.row o.args.column o.args.to (named e) added
-    ∙ sym (alter-forces (net e) _ _ (kept e) o.args.row o.args.column o.args.to (named e)))
+    ∙ sym (alter_forces (net e) _ _ (kept e) o.args.row o.args.column o.args.to (named e)))
 
 pub set-entry-spec : {M : Type 1} → statement M
 set-entry-spec =
     tie.close
     (tie.spec (λ c. search rules) (λ c. search rules) (λ c. search rules) (λ c. search rules) returns
     (λ c. search rules) has-entry-requires (λ c. search rules) (λ c. search rules) returns-2 (λ c. search rules)
-    (λ c. search rules) (λ c. search rules) returns-3 entry-place-requires entry-place-requires-2 mul-difference
+    (λ c. search rules) (λ c. search rules) returns_3 entry-place-requires entry-place-requires-2 mul-difference
     slice-copy-out-difference (λ c. search rules) (λ c. search rules) shared-slice-copy-out-times times-requires
     (λ c. search rules) shared-slice-copy-out-times-2 times-requires-2 add-both-requires mul-to slice-set-from-to
-    mul-to-2 slice-set-from-to-2 (λ c. search rules) (λ c. search rules) returns-4)
+    mul-to-2 slice-set-from-to-2 (λ c. search rules) (λ c. search rules) returns_4)

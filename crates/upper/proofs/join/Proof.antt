@@ -9,14 +9,14 @@ use lib.Dec.{ltb}
 use lib.IntN.{ℤ, pos}
 use mir.Syntax.{w32}
 use mir.Facts.{to_z-of_z}
-use Rattle.matrix.specs.Matrix.{matrixOf, Matrix, columnsOf, valuesOf}
-use Rattle.upper.specs.code.Upper.{Parts, Upper}
+use Rattle.matrix.specs.Matrix.{matrix_of, Matrix, columns_of, values_of}
+use Rattle.upper.specs.Code.Upper.{Parts, Upper}
 use Rattle.upper.proofs.JoinRows.{Joined, Turn, join-past, join-turn, column-inside, own-next, join-begun, join-ended}
 use Rattle.upper.proofs.PlacedRows.{row_low}
 use Rattle.upper.proofs.SizeRows.{byte_le}
-use Rattle.matrix.proofs.Matrix.{matrix-facts}
-use Rattle.matrix.proofs.Checks.{matrix-tidy}
-use Rattle.matrix.proofs.Rows.{columns-part, values-part, columns-in, values-in}
+use Rattle.matrix.proofs.Matrix.{matrix_facts}
+use Rattle.matrix.proofs.Checks.{matrix_tidy}
+use Rattle.matrix.proofs.Rows.{columns-part, values-part, columns-in, values_in}
 use borrow.Author.Rules.{rules, sfits_of}
 use Rattle.upper.proofs.join.Statement.{statement}
 use Rattle.upper.proofs.join.Tie as tie
@@ -24,8 +24,8 @@ use Rattle.upper.proofs.join.Tie as tie
 abbrev invariant-loop : tie.invariant-loop
 invariant-loop n starts columns values order position q next₀ at₀ beside₀ row own row-columns row-values k₀ next at beside k =
     (k ≤ length row-columns)
-    × ((begins : List ℕ) → Parts (matrixOf n starts columns values) (take n order) begins → Joined (matrixOf n starts columns values) (take n order) begins q row-columns 0 next₀ at₀ beside₀
-    → Joined (matrixOf n starts columns values) (take n order) begins q row-columns k next at beside)
+    × ((begins : List ℕ) → Parts (matrix_of n starts columns values) (take n order) begins → Joined (matrix_of n starts columns values) (take n order) begins q row-columns 0 next₀ at₀ beside₀
+    → Joined (matrix_of n starts columns values) (take n order) begins q row-columns k next at beside)
 
 abbrev decreases-loop : tie.decreases-loop
 decreases-loop n starts columns values order position q next₀ at₀ beside₀ row own row-columns row-values k₀ next at beside k =
@@ -36,7 +36,7 @@ abbrev given : tie.After-own invariant-loop decreases-loop → tie.Start invaria
 given c = c.before.before.before.before.before.before
 
 abbrev matrix : tie.Start invariant-loop decreases-loop → Matrix
-matrix s = matrixOf s.args.n s.args.starts.now s.args.columns.now s.args.values.now
+matrix s = matrix_of s.args.n s.args.starts.now s.args.columns.now s.args.values.now
 
 abbrev order : tie.Start invariant-loop decreases-loop → List ℕ
 order s = take s.args.n s.args.order.now
@@ -60,20 +60,20 @@ record Bounds (n q p place : ℕ) (at : List ℕ) (beside : List ℤ) : Type 0 w
   beside-inside : place < length beside
 
 few-rows : (s : tie.Start invariant-loop decreases-loop) → s.args.n ≤ 4096
-few-rows s = (matrix-facts (matrix s) s.requires.0.ordered.matrix).few
+few-rows s = (matrix_facts (matrix s) s.requires.0.ordered.matrix).few
 
 -- .. its columns and values
-columns : (c : tie.After-values-of invariant-loop decreases-loop) → let s = given c.before.before in c.before.columns_of.result.now ≡ columnsOf (matrix s) (get_or (order s) s.args.q 0)
+columns : (c : tie.After-values-of invariant-loop decreases-loop) → let s = given c.before.before in c.before.columns_of.result.now ≡ columns_of (matrix s) (get_or (order s) s.args.q 0)
 columns c =
     let o = c.before.before in
     let m = matrix (given o) in
-    c.before.columns_of.ensures ∙ sym (columns-part m o.before.wide_at.result (below o)) ∙ ap (columnsOf m) (row o)
+    c.before.columns_of.ensures ∙ sym (columns-part m o.before.wide_at.result (below o)) ∙ ap (columns_of m) (row o)
 
-values : (c : tie.After-values-of invariant-loop decreases-loop) → let s = given c.before.before in c.values_of.result.now ≡ valuesOf (matrix s) (get_or (order s) s.args.q 0)
+values : (c : tie.After-values-of invariant-loop decreases-loop) → let s = given c.before.before in c.values_of.result.now ≡ values_of (matrix s) (get_or (order s) s.args.q 0)
 values c =
     let o = c.before.before in
     let m = matrix (given o) in
-    c.values_of.ensures ∙ sym (values-part m o.before.wide_at.result (below o)) ∙ ap (valuesOf m) (row o)
+    c.values_of.ensures ∙ sym (values-part m o.before.wide_at.result (below o)) ∙ ap (values_of m) (row o)
 
 -- q's own next place
 own : (s : tie.Start invariant-loop decreases-loop) (begins : List ℕ) → Parts (matrix s) (order s) begins → Upper (matrix s) (order s) begins s.args.q s.args.next.now s.args.at.now s.args.beside.now
@@ -170,13 +170,13 @@ slice-set-of-beside c = (own-bounds (given c)).beside-inside
 columns-of-requires : tie.Need-columns-of-requires invariant-loop decreases-loop
 columns-of-requires c κs =
     let m = matrix (given c) in
-    columns-in m (matrix-tidy m (given c).requires.0.ordered.matrix).shape c.before.wide_at.result (below c)
+    columns-in m (matrix_tidy m (given c).requires.0.ordered.matrix).shape c.before.wide_at.result (below c)
 
 values-of-requires : tie.Need-values-of-requires invariant-loop decreases-loop
 values-of-requires c κs =
     let o = c.before in
     let m = matrix (given o) in
-    values-in m (matrix-tidy m (given o).requires.0.ordered.matrix).shape o.before.wide_at.result (below o)
+    values_in m (matrix_tidy m (given o).requires.0.ordered.matrix).shape o.before.wide_at.result (below o)
 
 loop-holds : tie.Need-loop-init invariant-loop decreases-loop
 loop-holds c = (search rules, λ begins parts u. u)
@@ -268,8 +268,8 @@ element-write-next-2 c = let b = own-bounds (given c.before.before.before.before
 same_length : tie.Need-same-length invariant-loop decreases-loop
 same_length c = let l = c.before in (joined-given l).placed.at_long ∙ sym (given l.before.before.before).pre.3.2.at_long
 
-same-length-2 : tie.Need-same-length-2 invariant-loop decreases-loop
-same-length-2 c = let l = c.before in (joined-given l).placed.beside_long ∙ sym (given l.before.before.before).pre.3.2.beside_long
+same-length_2 : tie.Need-same-length-2 invariant-loop decreases-loop
+same-length_2 c = let l = c.before in (joined-given l).placed.beside_long ∙ sym (given l.before.before.before).pre.3.2.beside_long
 
 returns : tie.Need-returns invariant-loop decreases-loop
 returns c =
@@ -291,4 +291,4 @@ join-spec =
     mul-place element-copy-out-place cast-place cast-at-2 mul-at-2 slice-write-at-2 (λ c. search rules)
     shared-slice-copy-out-beside mul-t27 slice-set-from-beside cast-next (λ c. search rules) add-next mul_next
     element-write-next (λ c. search rules) (λ c. search rules) loop-again-2 cast-next-3 add-next-2 mul-next-2
-    element-write-next-2 same_length same-length-2 returns)
+    element-write-next-2 same_length same-length_2 returns)

@@ -2,9 +2,9 @@
 use mathlib.Core.Path.{◌≡◌, refl, sym, ◌∙◌, subst}
 use Prim.Native.Nat.{ℕ, ◌-◌, ◌≤◌}
 use lib.ListN.{take}
-use Rattle.matrix.specs.Matrix.{matrixOf}
-use Rattle.matrix.proofs.Matrix.{matrix-facts}
-use Rattle.upper.specs.code.Upper.{Parts, Upper}
+use Rattle.matrix.specs.Matrix.{matrix_of}
+use Rattle.matrix.proofs.Matrix.{matrix_facts}
+use Rattle.upper.specs.Code.Upper.{Parts, Upper}
 use Rattle.upper.proofs.PartRows.{parts-begun}
 use borrow.Author.Rules.{rules}
 use Rattle.upper.proofs.join_all.Statement.{statement}
@@ -12,7 +12,7 @@ use Rattle.upper.proofs.join_all.Tie as tie
 
 abbrev invariant-loop : tie.invariant-loop
 invariant-loop n starts columns values order next₀ at₀ beside₀ position q₀ next at beside q =
-    (q ≤ n) × Upper (matrixOf n starts columns values) (take n order) next₀ q next at beside
+    (q ≤ n) × Upper (matrix_of n starts columns values) (take n order) next₀ q next at beside
 
 abbrev decreases-loop : tie.decreases-loop
 decreases-loop n starts columns values order next₀ at₀ beside₀ position q₀ next at beside q = n - q
@@ -22,11 +22,11 @@ abbrev start : tie.After-positions invariant-loop decreases-loop → tie.Start i
 start c = c.before.before.before.before.before.before
 
 -- where the parts begin they have room
-parts : (c : tie.After-positions invariant-loop decreases-loop) → let a = (start c).args in Parts (matrixOf a.n a.starts.now a.columns.now a.values.now) (take a.n a.order.now) a.next.now
+parts : (c : tie.After-positions invariant-loop decreases-loop) → let a = (start c).args in Parts (matrix_of a.n a.starts.now a.columns.now a.values.now) (take a.n a.order.now) a.next.now
 parts c = let s = start c in parts-begun _ _ _ s.pre.0.ordered c.positions.ensures s.pre.1
 
 positions-requires : tie.Need-positions-requires invariant-loop decreases-loop
-positions-requires c κs = let g = c.before.before.before.before.before.requires.0 in (g.long, (matrix-facts _ g.ordered.matrix).few, g.ordered.once, refl)
+positions-requires c κs = let g = c.before.before.before.before.before.requires.0 in (g.long, (matrix_facts _ g.ordered.matrix).few, g.ordered.once, refl)
 
 loop-holds : tie.Need-loop-init invariant-loop decreases-loop
 loop-holds c = (search rules, (start c).requires.2)
@@ -46,18 +46,18 @@ loop-again c =
 same_length : tie.Need-same-length invariant-loop decreases-loop
 same_length c = let l = c.before in l.loop.invariant.1.at_long ∙ sym (start l.before).pre.2.at_long
 
-same-length-2 : tie.Need-same-length-2 invariant-loop decreases-loop
-same-length-2 c = let l = c.before in l.loop.invariant.1.beside_long ∙ sym (start l.before).pre.2.beside_long
+same-length_2 : tie.Need-same-length-2 invariant-loop decreases-loop
+same-length_2 c = let l = c.before in l.loop.invariant.1.beside_long ∙ sym (start l.before).pre.2.beside_long
 
 returns : tie.Need-returns invariant-loop decreases-loop
 returns c =
     let l = c.before in
     let a = (start l.before).args in
     let e : l.loop.q ≡ a.n = search rules in
-    (parts l.before, subst (λ (k : ℕ). Upper (matrixOf a.n a.starts.now a.columns.now a.values.now) (take a.n a.order.now) a.next.now k l.loop.next l.loop.at l.loop.beside) e l.loop.invariant.1)
+    (parts l.before, subst (λ (k : ℕ). Upper (matrix_of a.n a.starts.now a.columns.now a.values.now) (take a.n a.order.now) a.next.now k l.loop.next l.loop.at l.loop.beside) e l.loop.invariant.1)
 
 pub join-all-spec : {M : Type 1} → statement M
 join-all-spec =
     tie.close
     (tie.spec invariant-loop decreases-loop positions-requires loop-holds join-requires (λ c. search rules) (λ c. search rules)
-    loop-again same_length same-length-2 returns)
+    loop-again same_length same-length_2 returns)

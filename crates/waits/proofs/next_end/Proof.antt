@@ -9,8 +9,8 @@ returns c = rw (le-ltb _ _ c.if1.true)
 returns-2 : tie.Need-returns-2
 returns-2 c = rw (lt-ltb _ _ c.before.if1.false, lt-ltb _ _ c.if2.true)
 
-returns-3 : tie.Need-returns-3
-returns-3 c = rw (lt-ltb _ _ c.before.if1.false, le-ltb _ _ c.if2.false)
+returns_3 : tie.Need-returns-3
+returns_3 c = rw (lt-ltb _ _ c.before.if1.false, le-ltb _ _ c.if2.false)
 
 pub next-end-spec : {M : Type 1} → statement M
-next-end-spec = tie.close (tie.spec returns returns-2 returns-3)
+next-end-spec = tie.close (tie.spec returns returns-2 returns_3)

@@ -3,8 +3,8 @@ use mathlib.Core.Path.{◌≡◌, ap, subst}
 use Prim.Native.Nat.{ℕ, ◌-◌, ◌≤◌, ◌<◌}
 use native.Mathlib.Omega.{arith}
 use Rattle.plan.specs.Groups.{Group}
-use Rattle.plan.specs.code.Checks.{ofRecord}
-use Rattle.waits.specs.code.Waits.{Ahead}
+use Rattle.plan.specs.Code.Checks.{of_record}
+use Rattle.waits.specs.Code.Waits.{Ahead}
 use Rattle.waits.proofs.PassTurns.{ahead_none, ahead-next}
 use borrow.Author.Rules.{rules}
 use Rattle.waits.proofs.next_ends.Statement.{statement}
@@ -43,7 +43,7 @@ loop-again c =
     let s = l.before.before in
     let a = s.args in (
       search rules,
-      ahead-next a.count a.groups.now s.requires l.loop.i (ofRecord r.record-at.result) r.record-at.ensures.is t.loop-test.true a.ends.now a.made.now l.loop.stops c.next-end.result c.next-end.ensures l.loop.invariant.1,
+      ahead-next a.count a.groups.now s.requires l.loop.i (of_record r.record-at.result) r.record-at.ensures.is t.loop-test.true a.ends.now a.made.now l.loop.stops c.next-end.result c.next-end.ensures l.loop.invariant.1,
     )
 
 returns : tie.Need-returns invariant-loop decreases-loop

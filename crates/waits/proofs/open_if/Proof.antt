@@ -9,8 +9,8 @@ returns c = rw (eq-eqb _ _ c.before.if1.true, lt-ltb _ _ c.if2.true)
 returns-2 : tie.Need-returns-2
 returns-2 c = rw (eq-eqb _ _ c.before.if1.true, le-ltb _ _ c.if2.false)
 
-returns-3 : tie.Need-returns-3
-returns-3 c = rw (ne_eqb _ _ c.if1.false)
+returns_3 : tie.Need-returns-3
+returns_3 c = rw (ne_eqb _ _ c.if1.false)
 
 pub open-if-spec : {M : Type 1} → statement M
-open-if-spec = tie.close (tie.spec returns returns-2 returns-3)
+open-if-spec = tie.close (tie.spec returns returns-2 returns_3)

@@ -3,8 +3,8 @@ use mathlib.Core.Path.{ap}
 use Prim.Native.Nat.{◌-◌, ◌≤◌, ◌<◌}
 use native.Mathlib.Omega.{arith}
 use Rattle.plan.specs.Groups.{Group}
-use Rattle.plan.specs.code.Checks.{ofRecord}
-use Rattle.waits.proofs.PassTurns.{Backward, backward-none, backward-next, backward-all}
+use Rattle.plan.specs.Code.Checks.{of_record}
+use Rattle.waits.proofs.PassTurns.{Backward, backward_none, backward_next, backward_all}
 use borrow.Author.Rules.{rules}
 use Rattle.waits.proofs.open_reds.Statement.{statement}
 use Rattle.waits.proofs.open_reds.Tie as tie
@@ -19,7 +19,7 @@ loop-holds : tie.Need-loop-init invariant-loop decreases-loop
 loop-holds c =
     let s = c.before in
     let a = s.args in
-    (s.requires.0.some, search rules, rw s.requires.1 (backward-none a.count a.groups.now a.ends.now a.made.now))
+    (s.requires.0.some, search rules, rw s.requires.1 (backward_none a.count a.groups.now a.ends.now a.made.now))
 
 -- the record's numbers are indices
 parent-low : (c : tie.After-record-at invariant-loop decreases-loop) → c.record-at.result.parent < 512
@@ -62,7 +62,7 @@ loop-again c =
     let a = s.args in (
       search rules,
       search rules,
-      backward-next a.count a.groups.now a.ends.now a.made.now s.requires.0 l.loop.i t.loop-test.true l.loop.invariant.1 (ofRecord r.record-at.result) r.record-at.ensures.is
+      backward_next a.count a.groups.now a.ends.now a.made.now s.requires.0 l.loop.i t.loop-test.true l.loop.invariant.1 (of_record r.record-at.result) r.record-at.ensures.is
           l.loop.parents l.loop.opens l.loop.reds o.result c.open-red.result o.ensures c.open-red.ensures l.loop.invariant.2,
     )
 
@@ -70,7 +70,7 @@ returns : tie.Need-returns invariant-loop decreases-loop
 returns c =
     let l = c.before in
     let a = l.before.before.args in
-    backward-all a.count a.groups.now a.ends.now a.made.now l.loop.i (search rules) l.loop.parents l.loop.opens l.loop.reds l.loop.invariant.2
+    backward_all a.count a.groups.now a.ends.now a.made.now l.loop.i (search rules) l.loop.parents l.loop.opens l.loop.reds l.loop.invariant.2
 
 pub open-reds-spec : {M : Type 1} → statement M
 open-reds-spec =

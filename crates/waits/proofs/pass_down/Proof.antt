@@ -3,8 +3,8 @@ use mathlib.Core.Path.{◌≡◌, ap, subst}
 use Prim.Native.Nat.{ℕ, ◌-◌, ◌≤◌, ◌<◌}
 use native.Mathlib.Omega.{arith}
 use Rattle.plan.specs.Groups.{Group}
-use Rattle.plan.specs.code.Checks.{ofRecord}
-use Rattle.waits.specs.code.Waits.{Passed}
+use Rattle.plan.specs.Code.Checks.{of_record}
+use Rattle.waits.specs.Code.Waits.{Passed}
 use Rattle.waits.proofs.PassTurns.{passed_none, passed-next}
 use borrow.Author.Rules.{rules}
 use Rattle.waits.proofs.pass_down.Statement.{statement}
@@ -41,7 +41,7 @@ loop-again c =
     let a = s.args in (
       search rules,
       search rules,
-      passed-next a.count a.groups.now s.requires.0 l.loop.i (ofRecord r.record-at.result) r.record-at.ensures.is l.loop.invariant.0 t.loop-test.true a.reds.now l.loop.blocks c.blocked-if.result c.blocked-if.ensures l.loop.invariant.2,
+      passed-next a.count a.groups.now s.requires.0 l.loop.i (of_record r.record-at.result) r.record-at.ensures.is l.loop.invariant.0 t.loop-test.true a.reds.now l.loop.blocks c.blocked-if.result c.blocked-if.ensures l.loop.invariant.2,
     )
 
 returns : tie.Need-returns invariant-loop decreases-loop

@@ -6,19 +6,19 @@ use native.Mathlib.Omega.{arith}
 use lib.IntN.{ℤ, pos, negsuc}
 use lib.ListN.{length, length-append}
 use Rattle.market.specs.Text.{natural, integer, line_of}
-use Rattle.market.proofs.Decimal.{decimal-one, decimal-more, decimal-few}
+use Rattle.market.proofs.Decimal.{decimal-one, decimal_more, decimal-few}
 
 -- one digit
-pub natural-digit : (x : ℕ) → x < 10 → natural x ≡ (48 + x) ∷ []
-natural-digit = decimal-one 9
+pub natural_digit : (x : ℕ) → x < 10 → natural x ≡ (48 + x) ∷ []
+natural_digit = decimal-one 9
 
 -- more digits
 pub natural-digits : (x : ℕ) → 10 ≤ x → x < 10000000000 → natural x ≡ natural (x / 10) ++ (48 + x % 10) ∷ []
-natural-digits = decimal-more 9
+natural-digits = decimal_more 9
 
 -- how many they are
-pub length-digit : (x : ℕ) → x < 10 → length (natural x) ≡ 1
-length-digit x h = ap length (natural-digit x h)
+pub length_digit : (x : ℕ) → x < 10 → length (natural x) ≡ 1
+length_digit x h = ap length (natural_digit x h)
 
 pub length_digits : (x : ℕ) → 10 ≤ x → x < 10000000000 → length (natural x) ≡ length (natural (x / 10)) + 1
 length_digits x t h = ap length (natural-digits x t h) ∙ length-append (natural (x / 10)) ((48 + x % 10) ∷ [])

@@ -6,8 +6,8 @@ use native.Mathlib.Numerals.{add-one}
 use native.Mathlib.Omega.{arith}
 use lib.ListN.{length, get_or, set, take, drop, length-append, length-set, take-append-drop}
 use lib.Seq.{set_split, take-length, length-take-le, take_at, drop_at, drop-drop, take-set-le, drop-set-lt}
-use Rattle.writer.specs.code.Puts.{Put}
-use Rattle.base.proofs.Fill.{copy-one}
+use Rattle.writer.specs.Code.Puts.{Put}
+use Rattle.base.proofs.Fill.{copy_one}
 
 -- one byte
 pub put_one : (old : List ℕ) (at b : ℕ) → at < length old → Put (b ∷ []) at (at + 1) old (set old at b)
@@ -29,16 +29,16 @@ put_then {xs} {ys} {at} {p} {q} {old} {mid} {new} h a b =
     }
 
 -- xs over a byte
-pub put-over : (b : ℕ) {xs : List ℕ} {at r : ℕ} {old new : List ℕ} → 1 ≤ length xs → Put xs at r (set old at b) new → Put xs at r old new
-put-over b {xs} {at} {r} {old} {new} h a = record {
+pub put_over : (b : ℕ) {xs : List ℕ} {at r : ℕ} {old new : List ℕ} → 1 ≤ length xs → Put xs at r (set old at b) new → Put xs at r old new
+put_over b {xs} {at} {r} {old} {new} h a = record {
   next = a.next;
   long = a.long ∙ length-set old at b;
   text = a.text ∙ rw (take-set-le at old at b (omega arith), drop-set-lt (at + length xs) old at b (omega arith));
 }
 
 -- nothing
-pub put-none : (old : List ℕ) (at : ℕ) → Put [] at at old old
-put-none old at = let e : at ≡ at + 0 = omega arith in record { next = e; long = refl; text = sym (take-append-drop at old) ∙ rw (← e) }
+pub put_none : (old : List ℕ) (at : ℕ) → Put [] at at old old
+put_none old at = let e : at ≡ at + 0 = omega arith in record { next = e; long = refl; text = sym (take-append-drop at old) ∙ rw (← e) }
 
 -- the same bytes
 pub put_as : {xs ys : List ℕ} {at r : ℕ} {old new : List ℕ} → xs ≡ ys → Put xs at r old new → Put ys at r old new
@@ -51,20 +51,20 @@ pub record Copying (hs old text : List ℕ) (i : ℕ) : Type 0 where
   pub long : length text ≡ length old
   pub text-is : text ≡ take i hs ++ drop i old
 
-pub copying-start : (hs old : List ℕ) → length hs ≤ length old → Copying hs old old 0
-copying-start hs old h = record { count = omega arith; room = h; long = refl; text-is = refl }
+pub copying_start : (hs old : List ℕ) → length hs ≤ length old → Copying hs old old 0
+copying_start hs old h = record { count = omega arith; room = h; long = refl; text-is = refl }
 
 module _ {hs old text : List ℕ} {i : ℕ} (g : Copying hs old text i) where
-  pub copying-more : i < length hs → Copying hs old (set text i (get_or hs i 0)) (i + 1)
-  copying-more h = record {
+  pub copying_more : i < length hs → Copying hs old (set text i (get_or hs i 0)) (i + 1)
+  copying_more h = record {
     count = omega arith;
     room = g.room;
     long = length-set text i (get_or hs i 0) ∙ g.long;
-    text-is = rw g.text-is (copy-one hs old 0 i h (omega (arith, g.room)));
+    text-is = rw g.text-is (copy_one hs old 0 i h (omega (arith, g.room)));
   }
 
-  pub copying-end : length hs ≤ i → {r : ℕ} → r ≡ length hs → Put hs 0 r old text
-  copying-end h er =
+  pub copying_end : length hs ≤ i → {r : ℕ} → r ≡ length hs → Put hs 0 r old text
+  copying_end h er =
       let e : i ≡ length hs = omega (arith, g.count) in
       let z : 0 + length hs ≡ length hs = omega arith in
       record { next = er ∙ sym z; long = g.long; text = g.text-is ∙ rw (e, take-length hs, z) }
@@ -80,17 +80,17 @@ pub record Putting (whole left : List ℕ) (at p : ℕ) (old text : List ℕ) : 
   pub put : Put done at p old text
   pub room : at + length whole ≤ length old
 
-pub putting-start : (whole : List ℕ) (at : ℕ) (old : List ℕ) → at + length whole ≤ length old → Putting whole whole at at old old
-putting-start whole at old h = record { done = []; split = refl; put = put-none old at; room = h }
+pub putting_start : (whole : List ℕ) (at : ℕ) (old : List ℕ) → at + length whole ≤ length old → Putting whole whole at at old old
+putting_start whole at old h = record { done = []; split = refl; put = put_none old at; room = h }
 
 module _ {whole left : List ℕ} {at p : ℕ} {old text : List ℕ} (g : Putting whole left at p old text) where
   -- xs are next, and there is room for them
   module _ {xs left' : List ℕ} (n : Next left xs left') where
-    pub putting-room : p + length xs ≤ length text
-    putting-room = omega (arith, g.put.next, g.put.long, g.room, ap length g.split, length-append g.done left, ap length n.is, length-append xs left')
+    pub putting_room : p + length xs ≤ length text
+    putting_room = omega (arith, g.put.next, g.put.long, g.room, ap length g.split, length-append g.done left, ap length n.is, length-append xs left')
 
-    pub putting-more : {q : ℕ} {new : List ℕ} → Put xs p q text new → Putting whole left' at q old new
-    putting-more a = record {
+    pub putting_more : {q : ℕ} {new : List ℕ} → Put xs p q text new → Putting whole left' at q old new
+    putting_more a = record {
       done = g.done ++ xs;
       split = append_assoc g.done xs left' ∙ ap (λ (l : List ℕ). g.done ++ l) (sym n.is) ∙ g.split;
       put = put_then (omega (arith, g.room)) g.put a;
@@ -98,5 +98,5 @@ module _ {whole left : List ℕ} {at p : ℕ} {old text : List ℕ} (g : Putting
     }
 
   -- nothing is left
-  pub putting-end : left ≡ [] → Put whole at p old text
-  putting-end e = put_as (sym (append-nil g.done) ∙ ap (λ (l : List ℕ). g.done ++ l) (sym e) ∙ g.split) g.put
+  pub putting_end : left ≡ [] → Put whole at p old text
+  putting_end e = put_as (sym (append-nil g.done) ∙ ap (λ (l : List ℕ). g.done ++ l) (sym e) ∙ g.split) g.put

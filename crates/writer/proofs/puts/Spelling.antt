@@ -6,8 +6,8 @@ use native.Mathlib.Omega.{arith}
 use lib.ListN.{length, set, take, drop, length-set, take-append-drop}
 use lib.Seq.{drop-cons, get_or-set_same, drop-set-lt, take-set-le, append_snoc}
 use Rattle.market.specs.Text.{natural}
-use Rattle.writer.specs.code.Puts.{Put}
-use Rattle.writer.proofs.puts.Digits.{natural-digit, natural-digits, length-digit, length_digits}
+use Rattle.writer.specs.Code.Puts.{Put}
+use Rattle.writer.proofs.puts.Digits.{natural_digit, natural-digits, length_digit, length_digits}
 
 -- the digits of v but those of x are there, from place i on
 pub record Spelling (v at : ℕ) (old text : List ℕ) (x i : ℕ) : Type 0 where
@@ -18,8 +18,8 @@ pub record Spelling (v at : ℕ) (old text : List ℕ) (x i : ℕ) : Type 0 wher
   pub before : take at text ≡ take at old
   pub after : natural x ++ drop i text ≡ natural v ++ drop (at + length (natural v)) old
 
-pub spelling-start : (v at : ℕ) (old : List ℕ) → v < 10000000000 → at + length (natural v) ≤ length old → {i : ℕ} → i ≡ at + length (natural v) → Spelling v at old old v i
-spelling-start v at old h l e = record { small = h; here = e; inside = rw e l; long = refl; before = refl; after = rw e }
+pub spelling_start : (v at : ℕ) (old : List ℕ) → v < 10000000000 → at + length (natural v) ≤ length old → {i : ℕ} → i ≡ at + length (natural v) → Spelling v at old old v i
+spelling_start v at old h l e = record { small = h; here = e; inside = rw e l; long = refl; before = refl; after = rw e }
 
 -- a byte stored in front of what is left
 store-front : (bytes : List ℕ) (j d : ℕ) → j < length bytes → drop j (set bytes j d) ≡ d ∷ drop (suc j) bytes
@@ -29,8 +29,8 @@ store-front bytes j d h =
 
 module _ {v at : ℕ} {old text : List ℕ} {x i : ℕ} (g : Spelling v at old text x i) where
   -- the last digit of x
-  pub spelling-more : 10 ≤ x → Spelling v at old (set text (i - 1) (48 + x % 10)) (x / 10) (i - 1)
-  spelling-more h =
+  pub spelling_more : 10 ≤ x → Spelling v at old (set text (i - 1) (48 + x % 10)) (x / 10) (i - 1)
+  spelling_more h =
       let l = length_digits x h g.small in
       let e : suc (i - 1) ≡ i = omega (arith, g.here) in
       record {
@@ -44,12 +44,12 @@ module _ {v at : ℕ} {old text : List ℕ} {x i : ℕ} (g : Spelling v at old t
       }
 
   -- the first digit
-  pub spelling-last : x < 10 → {r : ℕ} → r ≡ at + length (natural v) → Put (natural v) at r old (set text (i - 1) (48 + x))
-  spelling-last h er =
-      let l = length-digit x h in
+  pub spelling_last : x < 10 → {r : ℕ} → r ≡ at + length (natural v) → Put (natural v) at r old (set text (i - 1) (48 + x))
+  spelling_last h er =
+      let l = length_digit x h in
       let e : i - 1 ≡ at = omega (arith, g.here) in
       let f : suc at ≡ i = omega (arith, g.here) in
-      let tail : drop at (set text at (48 + x)) ≡ natural v ++ drop (at + length (natural v)) old = store-front text at (48 + x) (omega (arith, g.inside, g.long, g.here)) ∙ rw f (ap (λ (ds : List ℕ). ds ++ drop i text) (sym (natural-digit x h)) ∙ g.after) in
+      let tail : drop at (set text at (48 + x)) ≡ natural v ++ drop (at + length (natural v)) old = store-front text at (48 + x) (omega (arith, g.inside, g.long, g.here)) ∙ rw f (ap (λ (ds : List ℕ). ds ++ drop i text) (sym (natural_digit x h)) ∙ g.after) in
       rw e record {
         next = er;
         long = length-set text at (48 + x) ∙ g.long;

@@ -10,11 +10,11 @@ use lib.ListN.{length}
 use mir.Val.{bool_byte}
 use borrow.Author.Tests.{leb-true, leb-false}
 use Rattle.market.specs.Text.{natural}
-use Rattle.writer.proofs.puts.Digits.{length-digit, length_digits}
+use Rattle.writer.proofs.puts.Digits.{length_digit, length_digits}
 
 -- from 10 ^ k to below 10 ^ (k + 1): k + 1 digits
 between : (k v : ℕ) → 10 ^ k ≤ v → v < 10 ^ suc k → v < 10000000000 → length (natural v) ≡ suc k
-between zero v l h b = length-digit v (omega arith)
+between zero v l h b = length_digit v (omega arith)
 between (suc k) v l h b =
     let ls = rw pow-suc at l in
     let hs = rw pow-suc at h in
@@ -29,10 +29,10 @@ pub record Reached (v k power digits : ℕ) : Type 0 where
   pub more : power ≤ v → digits ≡ k
 
 pub reached-start : (v : ℕ) → v < 10000000000 → Reached v 1 10 1
-reached-start v b = record { small = b; is = omega arith; few = omega arith; done = λ h. omega (arith, length-digit v h); more = λ h. omega arith }
+reached-start v b = record { small = b; is = omega arith; few = omega arith; done = λ h. omega (arith, length_digit v h); more = λ h. omega arith }
 
-pub reached-more : {v k power digits : ℕ} → Reached v k power digits → Reached v (k + 1) (power * 10) (digits + bool_byte (leb power v))
-reached-more {v} {k} {power} {digits} g = go (leb power v) refl
+pub reached_more : {v k power digits : ℕ} → Reached v k power digits → Reached v (k + 1) (power * 10) (digits + bool_byte (leb power v))
+reached_more {v} {k} {power} {digits} g = go (leb power v) refl
   where
     next : power * 10 ≡ 10 ^ suc k
     next = rw (g.is, pow-suc)

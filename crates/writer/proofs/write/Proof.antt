@@ -10,31 +10,31 @@ use mir.Syntax.{w32}
 use mir.Val.{to_z}
 use mir.ValLaws.{to_z_pos}
 use borrow.Author.Tests.{not-true, not-false}
-use Rattle.matrix.specs.Matrix.{Matrix, isMatrix, matrixOf}
-use Rattle.matrix.specs.Limits.{maxRows}
+use Rattle.matrix.specs.Matrix.{Matrix, is_matrix, matrix_of}
+use Rattle.matrix.specs.Limits.{max_rows}
 use Rattle.market.specs.Text.{line_of, lower, written}
-use Rattle.writer.specs.code.Puts.{Put}
+use Rattle.writer.specs.Code.Puts.{Put}
 use Rattle.base.proofs.Replies.{lent-refused}
-use Rattle.matrix.proofs.Matrix.{matrix-facts}
+use Rattle.matrix.proofs.Matrix.{matrix_facts}
 use Rattle.market.proofs.Lower.Count.{lower-few}
 use Rattle.market.proofs.Written.{header-length}
 use Rattle.writer.proofs.puts.Digits.{natural-few, integer-few, length-line}
 use Rattle.writer.proofs.rows.Entries.{lines-few}
-use Rattle.writer.proofs.rows.Replies.{write-unmade, write-short, write-reply, write-text, needed-is, put_written}
+use Rattle.writer.proofs.rows.Replies.{write_unmade, write-short, write-reply, write-text, needed_is, put_written}
 use Rattle.writer.proofs.write.Statement.{statement}
 use Rattle.writer.proofs.write.Tie as tie
 
 -- the matrix that the lists hold
 abbrev held : tie.Start → Matrix
-held s = matrixOf s.args.n s.args.starts.now s.args.columns.now s.args.values.now
+held s = matrix_of s.args.n s.args.starts.now s.args.columns.now s.args.values.now
 
 -- it is one
-is_one : (c : tie.Else1) → isMatrix (held c.before.before.before.before.before) ≡ true
+is_one : (c : tie.Else1) → is_matrix (held c.before.before.before.before.before) ≡ true
 is_one c = sym c.before.is-matrix.ensures ∙ not-false c.before.is-matrix.result c.if1.false
 
 -- its rows are few
-low : (c : tie.Else1) → c.before.before.before.before.before.args.n ≤ maxRows
-low c = (matrix-facts (held c.before.before.before.before.before) (is_one c)).few
+low : (c : tie.Else1) → c.before.before.before.before.before.args.n ≤ max_rows
+low c = (matrix_facts (held c.before.before.before.before.before) (is_one c)).few
 
 -- its entries and bytes are few
 few : (c : tie.After-tally-rows) → (c.tally-rows.result.entries ≤ 32768) × (c.tally-rows.result.bytes ≤ 34 * 32768)
@@ -42,7 +42,7 @@ few c =
     let s = c.before.before.before.before.before.before in
     let t = c.tally-rows.ensures in
     let l = lower-few (held s) (is_one c.before) in
-    (omega (arith, t.entries-are), omega (arith, t.bytes-are, lines-few (lower (held s))))
+    (omega (arith, t.entries_are), omega (arith, t.bytes_are, lines-few (lower (held s))))
 
 count : (c : tie.After-tally-rows) → to_z w32 c.tally-rows.result.entries ≡ pos c.tally-rows.result.entries
 count c = let f = few c in to_z_pos w32 c.tally-rows.result.entries (omega arith)
@@ -52,7 +52,7 @@ width : (c : tie.After-line-width) → let n = c.before.before.before.before.bef
 width c = rw (count c.before) at c.line-width.ensures
 
 needed : (c : tie.After-line-width) → 51 + c.line-width.result + c.before.tally-rows.result.bytes ≡ length (written (held c.before.before.before.before.before.before.before))
-needed c = needed-is (held c.before.before.before.before.before.before.before) c.before.tally-rows.ensures (width c)
+needed c = needed_is (held c.before.before.before.before.before.before.before) c.before.tally-rows.ensures (width c)
 
 short : (c : tie.After-line-width) → c.line-width.result ≤ 34
 short c =
@@ -76,7 +76,7 @@ returns : tie.Need-returns
 returns c =
     let k = c.before in
     let s = k.before.before.before.before in
-    let e = write-unmade (held s) (length s.args.text.now) (sym k.is-matrix.ensures ∙ not-true k.is-matrix.result c.if1.true) in
+    let e = write_unmade (held s) (length s.args.text.now) (sym k.is-matrix.ensures ∙ not-true k.is-matrix.result c.if1.true) in
     (sym e, sym (lent-refused (written (held s)) s.args.text.now _ _ _ e))
 
 tally-rows-requires : tie.Need-tally-rows-requires
@@ -117,7 +117,7 @@ put-rows-requires c κs =
     let w = h.before.before.before in
     let s = w.before.before.before.before.before.before.before in
     let p = rw (count w.before) at l.put-line.ensures in
-    (is_one w.before.before, omega (arith, h.before.before.if2.false, width w, h.put-header.ensures.next, h.put-header.ensures.long, header-length, p.next, p.long, w.before.tally-rows.ensures.bytes-are))
+    (is_one w.before.before, omega (arith, h.before.before.if2.false, width w, h.put-header.ensures.next, h.put-header.ensures.long, header-length, p.next, p.long, w.before.tally-rows.ensures.bytes_are))
 
 cast-t25 : tie.Need-overflow-cast-t25
 cast-t25 c =
@@ -126,8 +126,8 @@ cast-t25 c =
     let f = few w.before in
     omega (arith, (whole r).next, needed w, short w)
 
-returns-3 : tie.Need-returns-3
-returns-3 c =
+returns_3 : tie.Need-returns-3
+returns_3 c =
     let r = c.before.before in
     let w = r.before.before.before.before.before.before.before.before.before.before.before in
     let s = w.before.before.before.before.before.before.before in
@@ -139,4 +139,4 @@ write_spec =
     tie.close
     (tie.spec (λ c κs. search rules) returns tally-rows-requires cast-count line-width-requires add-needed
     add-needed-2 cast-t18 returns-2 (λ c κs. search rules) put-line-requires put-rows-requires cast-t25
-    (λ c. search rules) returns-3)
+    (λ c. search rules) returns_3)

@@ -5,8 +5,8 @@ use Prim.Native.Nat.{◌-◌}
 use native.Mathlib.Omega.{arith}
 use lib.ListN.{length, take, drop, length-drop}
 use lib.Seq.{take_all, length-take-le}
-use Rattle.words.specs.LittleEndian.{number, signed, signedNumber}
-use Rattle.lent.proofs.Loads.{loaded-whole}
+use Rattle.words.specs.LittleEndian.{number, signed, signed_number}
+use Rattle.lent.proofs.Loads.{loaded_whole}
 use Rattle.answers.proofs.state.load_state.Statement.{statement}
 use Rattle.answers.proofs.state.load_state.Tie as tie
 
@@ -24,8 +24,8 @@ returns-2 c whole =
     let held : take (length bytes - 64) (drop 64 bytes) ≡ drop 64 bytes = take_all (length bytes - 64) (drop 64 bytes) (rw length-drop (omega arith)) in
     let numbers : length (take (length bytes - 64) (drop 64 bytes)) ≡ 128 = rw (held, length-drop) (omega (arith, whole)) in
     record {
-      made = loaded-whole number 4 (take 64 bytes) _ load.load-u32.ensures.0 load.load-u32.ensures.1 (rw counts);
-      held = loaded-whole (signedNumber 8) 8 (take (length bytes - 64) (drop 64 bytes)) _ c.before.load-i64.ensures.0 c.before.load-i64.ensures.1 (rw numbers) ∙ ap (signed 8) held;
+      made = loaded_whole number 4 (take 64 bytes) _ load.load-u32.ensures.0 load.load-u32.ensures.1 (rw counts);
+      held = loaded_whole (signed_number 8) 8 (take (length bytes - 64) (drop 64 bytes)) _ c.before.load-i64.ensures.0 c.before.load-i64.ensures.1 (rw numbers) ∙ ap (signed 8) held;
     }
 
 pub load-state-spec : {M : Type 1} → statement M

@@ -4,7 +4,7 @@ use mathlib.Core.Path.{sym}
 use native.Mathlib.Omega.{arith}
 use lib.ListN.{take, length-take}
 use lib.Seq.{length-take-le}
-use Rattle.answers.specs.Runs.{leftBy}
+use Rattle.answers.specs.Runs.{left_by}
 use Rattle.answers.proofs.RunPicks.{picks-kept, sums-stored}
 use Rattle.answers.proofs.stored.store_picks.Statement.{statement}
 use Rattle.answers.proofs.stored.store_picks.Tie as tie
@@ -26,7 +26,7 @@ slice-aggregate-store-i64 c =
     sym (length-take-le s.args.n s.args.new.now (s.requires _ _ _ t.enum_told.given.1).1)
 
 returns-2 : tie.Need-returns-2
-unfolding leftBy
+unfolding left_by
 returns-2 c =
     let stored = c.before.before.before.before.before.before.before in
     let t = stored.before.before in

@@ -2,13 +2,13 @@
 use borrow.Author.Rules.{rules}
 use mathlib.Core.Path.{sym, ap, ◌∙◌}
 use Rattle.lent.specs.Word.{word}
-use Rattle.answers.specs.Runs.{replyTo}
+use Rattle.answers.specs.Runs.{reply_to}
 use Rattle.answers.proofs.RunPicks.{ended}
 use Rattle.answers.proofs.word.word_of_end.Statement.{statement}
 use Rattle.answers.proofs.word.word_of_end.Tie as tie
 
 returns : tie.Need-returns
-unfolding word replyTo
+unfolding word reply_to
 returns c = rw c.if1.true
 
 returns-2 : tie.Need-returns-2

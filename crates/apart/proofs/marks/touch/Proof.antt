@@ -5,7 +5,7 @@ use native.Mathlib.Omega.{arith}
 use lib.ListN.{get_or, set}
 use lib.Seq.{set-get_or}
 use borrow.Author.Rules.{rules}
-use Rattle.apart.proofs.Touching.{touched-clash, touched-free}
+use Rattle.apart.proofs.Touching.{touched_clash, touched-free}
 use Rattle.apart.proofs.marks.touch.Statement.{statement}
 use Rattle.apart.proofs.marks.touch.Tie as tie
 
@@ -21,10 +21,10 @@ returns c =
 returns-2 : tie.Need-returns-2
 returns-2 c =
     let a = c.before.before.before.args in
-    touched-clash a.low a.mine a.marks.now a.marks.now a.z c.if2.true c.before.if1.false
+    touched_clash a.low a.mine a.marks.now a.marks.now a.z c.if2.true c.before.if1.false
 
-returns-3 : tie.Need-returns-3
-returns-3 c =
+returns_3 : tie.Need-returns-3
+returns_3 c =
     let s = c.before.before.before in
     let a = s.args in
     touched-free a.low a.mine a.marks.now a.z (omega (arith, s.requires.0)) (inl c.if2.false)
@@ -33,4 +33,4 @@ pub touch-spec : {M : Type 1} → statement M
 touch-spec =
     tie.close
     (tie.spec (λ c. search rules) (λ c. search rules) returns returns-2 (λ c. search rules) (λ c. search rules)
-    returns-3)
+    returns_3)

@@ -7,7 +7,7 @@ use native.Mathlib.Omega.{arith}
 use lib.ListN.{length, get_or, take}
 use lib.Seq.{take_all}
 use Rattle.base.proofs.Booleans.{fails, holds}
-use Rattle.apart.specs.code.Marks.{Touched}
+use Rattle.apart.specs.Code.Marks.{Touched}
 use Rattle.apart.proofs.Touching.{touched_none, touched-next, touched-stops}
 use Rattle.apart.proofs.marks.touch_all.Statement.{statement}
 use Rattle.apart.proofs.marks.touch_all.Tie as tie
@@ -92,16 +92,16 @@ touch-at-requires-3 c κs =
     let s = l.before.before in
     ((l.loop.invariant.0.stamped refl).long ∙ s.requires.0, omega arith, s.requires.1 l.loop.j (omega arith))
 
-returns-3 : tie.Need-returns-3 invariant-loop decreases-loop
-returns-3 c =
+returns_3 : tie.Need-returns-3 invariant-loop decreases-loop
+returns_3 c =
     let l = c.before.before.before.before in
     let a = l.before.before.args in
     let after : List ℕ → Type 0 = λ zs. Touched a.low a.mine zs a.marks.now c.touch-at3.new.0 c.touch-at3.result in
     subst after (take_all (l.loop.j + 1) a.rows.now (omega arith))
     (touched-next a.low a.mine a.rows.now l.loop.j (omega arith) a.marks.now l.loop.marks c.touch-at3.new.0 c.touch-at3.result l.loop.invariant.0 c.touch-at3.ensures)
 
-returns-4 : tie.Need-returns-4 invariant-loop decreases-loop
-returns-4 c =
+returns_4 : tie.Need-returns-4 invariant-loop decreases-loop
+returns_4 c =
     let l = c.before.before in
     let a = l.before.before.args in
     subst (λ (zs : List ℕ). Touched a.low a.mine zs a.marks.now l.loop.marks true) (take_all l.loop.j a.rows.now c.if3.false) l.loop.invariant.0
@@ -110,4 +110,4 @@ pub touch-all-spec : {M : Type 1} → statement M
 touch-all-spec =
     tie.close
     (tie.spec invariant-loop decreases-loop loop-holds (λ c. omega arith) touch-at-requires returns (λ c. omega arith) touch-at-requires-2
-    returns-2 (λ c. omega arith) (λ c. omega arith) loop-again touch-at-requires-3 returns-3 returns-4)
+    returns-2 (λ c. omega arith) (λ c. omega arith) loop-again touch-at-requires-3 returns_3 returns_4)

@@ -4,7 +4,7 @@ use mathlib.Core.List.{[], ◌∷◌}
 use Prim.Native.Nat.{ℕ}
 use native.Mathlib.Omega.{arith}
 use borrow.Author.Rules.{rules}
-use Rattle.apart.specs.code.Marks.{Touched}
+use Rattle.apart.specs.Code.Marks.{Touched}
 use Rattle.apart.proofs.marks.touch_at.Statement.{statement}
 use Rattle.apart.proofs.marks.touch_at.Tie as tie
 

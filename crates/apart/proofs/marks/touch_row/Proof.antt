@@ -6,9 +6,9 @@ use Prim.Native.Nat.{ℕ, ◌<◌}
 use native.Mathlib.Omega.{arith}
 use lib.ListN.{length, get_or}
 use Rattle.base.proofs.Booleans.{fails, holds}
-use Rattle.matrix.specs.Matrix.{columnsOf}
-use Rattle.matrix.specs.code.Pattern.{pattern}
-use Rattle.apart.specs.code.Marks.{Touched}
+use Rattle.matrix.specs.Matrix.{columns_of}
+use Rattle.matrix.specs.Code.Pattern.{pattern}
+use Rattle.apart.specs.Code.Marks.{Touched}
 use Rattle.apart.proofs.RowsOf.{rows_few, row_in, row_is, row_low}
 use Rattle.apart.proofs.Touching.{touched-append, touched-part}
 use Rattle.apart.proofs.marks.touch_row.Statement.{statement}
@@ -25,14 +25,14 @@ returns : tie.Need-returns
 returns c =
     let t = c.before in
     let a = t.before.before.before.before.args in
-    touched-part a.low a.mine (a.u ∷ []) (columnsOf (pattern a.n a.starts.now a.columns.now) a.u) a.marks.now t.touch.new.0 (touched t false (fails refl c.if1.true))
+    touched-part a.low a.mine (a.u ∷ []) (columns_of (pattern a.n a.starts.now a.columns.now) a.u) a.marks.now t.touch.new.0 (touched t false (fails refl c.if1.true))
 
 columns-of-requires : tie.Need-columns-of-requires
 columns-of-requires c κs = let s = c.before.before.before.before.before.before in row_in s.requires.0 s.args.u s.requires.2
 
 -- the columns that were read
 columns : (c : tie.After-columns-of) → let a = c.before.before.before.before.before.before.before.args in
-    c.columns_of.result.now ≡ columnsOf (pattern a.n a.starts.now a.columns.now) a.u
+    c.columns_of.result.now ≡ columns_of (pattern a.n a.starts.now a.columns.now) a.u
 columns c = let s = c.before.before.before.before.before.before.before in c.columns_of.ensures ∙ row_is s.requires.0 s.args.u s.requires.2
 
 touch-all-requires : tie.Need-touch-all-requires
@@ -47,7 +47,7 @@ returns-2 c =
     let k = c.before in
     let t = k.before.before.before in
     let a = t.before.before.before.before.args in
-    let zs = columnsOf (pattern a.n a.starts.now a.columns.now) a.u in
+    let zs = columns_of (pattern a.n a.starts.now a.columns.now) a.u in
     touched-append a.low a.mine (a.u ∷ []) zs a.marks.now t.touch.new.0 c.touch-all.new.0 c.touch-all.result
     (touched t true (holds refl k.before.before.if1.false))
     (subst (λ (l : List ℕ). Touched a.low a.mine l t.touch.new.0 c.touch-all.new.0 c.touch-all.result) (columns k) c.touch-all.ensures)

@@ -7,13 +7,13 @@ use native.Mathlib.Omega.{arith}
 use lib.ListN.{length, get_or, take}
 use lib.Seq.{take_all}
 use Rattle.base.proofs.Booleans.{fails, holds}
-use Rattle.apart.specs.code.Marks.{closed, touchedBy, Touched}
+use Rattle.apart.specs.Code.Marks.{closed, touched_by, Touched}
 use Rattle.apart.proofs.Touching.{touched_none, touched-all-next, touched-all-stops}
 use Rattle.apart.proofs.marks.touch_rows.Statement.{statement}
 use Rattle.apart.proofs.marks.touch_rows.Tie as tie
 
 abbrev invariant-loop : tie.invariant-loop
-invariant-loop n starts columns marks₀ rows low mine j₀ marks j = Touched low mine (touchedBy n starts columns (take j rows)) marks₀ marks true × (j ≤ length rows)
+invariant-loop n starts columns marks₀ rows low mine j₀ marks j = Touched low mine (touched_by n starts columns (take j rows)) marks₀ marks true × (j ≤ length rows)
 
 abbrev decreases-loop : tie.decreases-loop
 decreases-loop n starts columns marks₀ rows low mine j₀ marks j = length rows - j
@@ -58,7 +58,7 @@ returns-2 : tie.Need-returns-2 invariant-loop decreases-loop
 returns-2 c =
     let l = c.before in
     let a = l.before.before.before.before.args in
-    subst (λ (rows : List ℕ). Touched a.low a.mine (touchedBy a.n a.starts.now a.columns.now rows) a.marks.now l.loop.marks true)
+    subst (λ (rows : List ℕ). Touched a.low a.mine (touched_by a.n a.starts.now a.columns.now rows) a.marks.now l.loop.marks true)
     (take_all l.loop.j a.rows.now c.loop-test.false) l.loop.invariant.0
 
 pub touch-rows-spec : {M : Type 1} → statement M

@@ -5,9 +5,9 @@ use mathlib.Core.List.{List}
 use Prim.Native.Nat.{ℕ, ◌<◌}
 use lib.ListN.{length, get_or}
 use Rattle.base.proofs.Booleans.{fails, holds}
-use Rattle.matrix.specs.Matrix.{columnsOf}
-use Rattle.matrix.specs.code.Pattern.{pattern}
-use Rattle.apart.specs.code.Marks.{closed, touchedBy, Touched, Widened}
+use Rattle.matrix.specs.Matrix.{columns_of}
+use Rattle.matrix.specs.Code.Pattern.{pattern}
+use Rattle.apart.specs.Code.Marks.{closed, touched_by, Touched, Widened}
 use Rattle.apart.proofs.RowsOf.{row_in, row_is, row_low}
 use Rattle.apart.proofs.Touching.{touched-append, touched-part}
 use Rattle.apart.proofs.wide.touch_around.Statement.{statement}
@@ -32,7 +32,7 @@ returns c =
     let t = c.before in
     let a = (start t).args in
     record {
-      touched = touched-part a.low a.mine (closed a.n a.starts.now a.columns.now a.u) (touchedBy a.n a.starts.now a.columns.now (columnsOf (pattern a.n a.starts.now a.columns.now) a.u))
+      touched = touched-part a.low a.mine (closed a.n a.starts.now a.columns.now a.u) (touched_by a.n a.starts.now a.columns.now (columns_of (pattern a.n a.starts.now a.columns.now) a.u))
           a.marks.now t.touch-once.new.1.1.1.0 (touched t false (fails refl c.if1.true));
       after = λ h. absurd (true≢false (sym h));
     }
@@ -41,7 +41,7 @@ columns-of-requires : tie.Need-columns-of-requires
 columns-of-requires c κs = let s = start c.before.before.before in row_in s.pre.0 s.args.u s.pre.3
 
 -- the columns that were read
-columns : (c : tie.After-columns-of) → let a = (start c.before.before.before.before).args in c.columns_of.result.now ≡ columnsOf (pattern a.n a.starts.now a.columns.now) a.u
+columns : (c : tie.After-columns-of) → let a = (start c.before.before.before.before).args in c.columns_of.result.now ≡ columns_of (pattern a.n a.starts.now a.columns.now) a.u
 columns c = let s = start c.before.before.before.before in c.columns_of.ensures ∙ row_is s.pre.0 s.args.u s.pre.3
 
 touch-each-requires : tie.Need-touch-each-requires
@@ -60,11 +60,11 @@ returns-2 c =
     let k = c.before in
     let t = k.before.before.before.before in
     let a = (start t).args in
-    let zs = columnsOf (pattern a.n a.starts.now a.columns.now) a.u in
-    let rows = subst (λ (l : List ℕ). Widened a.n a.starts.now a.columns.now a.low a.mine (touchedBy a.n a.starts.now a.columns.now l) t.touch-once.new.1.1.1.0
+    let zs = columns_of (pattern a.n a.starts.now a.columns.now) a.u in
+    let rows = subst (λ (l : List ℕ). Widened a.n a.starts.now a.columns.now a.low a.mine (touched_by a.n a.starts.now a.columns.now l) t.touch-once.new.1.1.1.0
     c.touch-each.new.1.1.1.1.0 c.touch-each.new.1.1.1.0 c.touch-each.result) (columns k) c.touch-each.ensures in
     record {
-      touched = touched-append a.low a.mine (closed a.n a.starts.now a.columns.now a.u) (touchedBy a.n a.starts.now a.columns.now zs)
+      touched = touched-append a.low a.mine (closed a.n a.starts.now a.columns.now a.u) (touched_by a.n a.starts.now a.columns.now zs)
           a.marks.now t.touch-once.new.1.1.1.0 c.touch-each.new.1.1.1.0 c.touch-each.result (touched t true (holds refl k.before.before.before.if1.false)) rows.touched;
       after = rows.after;
     }

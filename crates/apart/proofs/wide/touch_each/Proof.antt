@@ -4,8 +4,8 @@ use Prim.Native.Nat.{◌-◌}
 use native.Mathlib.Omega.{arith}
 use lib.ListN.{length}
 use Rattle.base.proofs.Booleans.{fails, holds}
-use Rattle.apart.specs.code.Marks.{closed}
-use Rattle.apart.proofs.Widening.{Widening, widening-start, widening-long, widening-stops, widening-next, widening-end}
+use Rattle.apart.specs.Code.Marks.{closed}
+use Rattle.apart.proofs.Widening.{Widening, widening_start, widening_long, widening_stops, widening_next, widening_end}
 use Rattle.apart.proofs.wide.touch_each.Statement.{statement}
 use Rattle.apart.proofs.wide.touch_each.Tie as tie
 
@@ -23,7 +23,7 @@ abbrev loop : tie.After-touch-once invariant-loop decreases-loop → tie.At-loop
 loop t = t.before.before.before.before.before
 
 loop-holds : tie.Need-loop-init invariant-loop decreases-loop
-loop-holds c = widening-start c.before.before.before.requires.2
+loop-holds c = widening_start c.before.before.before.requires.2
 
 touch-once-requires : tie.Need-touch-once-requires invariant-loop decreases-loop
 touch-once-requires c κs =
@@ -31,22 +31,22 @@ touch-once-requires c κs =
     let l = i.before in
     let g = (start l).requires in
     let w = l.loop.invariant in
-    (g.0, widening-long w ∙ g.1, w.opened, omega (arith, g.3 l.loop.j i.loop-test.true, c.before.before.wide_at.ensures.0))
+    (g.0, widening_long w ∙ g.1, w.opened, omega (arith, g.3 l.loop.j i.loop-test.true, c.before.before.wide_at.ensures.0))
 
 returns : tie.Need-returns invariant-loop decreases-loop
 returns c =
     let t = c.before in
     let u = t.before.before.before in
-    widening-stops (loop t).loop.invariant u.before.loop-test.true u.wide_at.ensures.0 t.touch-once.ensures (fails refl c.if1.true) refl
+    widening_stops (loop t).loop.invariant u.before.loop-test.true u.wide_at.ensures.0 t.touch-once.ensures (fails refl c.if1.true) refl
 
 loop-again : tie.Need-loop-preserved invariant-loop decreases-loop
 loop-again c =
     let t = c.before in
     let u = t.before.before.before in
-    widening-next (loop t).loop.invariant u.before.loop-test.true u.wide_at.ensures.0 t.touch-once.ensures (holds refl c.if1.false)
+    widening_next (loop t).loop.invariant u.before.loop-test.true u.wide_at.ensures.0 t.touch-once.ensures (holds refl c.if1.false)
 
 returns-2 : tie.Need-returns-2 invariant-loop decreases-loop
-returns-2 c = widening-end c.before.loop.invariant c.loop-test.false refl
+returns-2 c = widening_end c.before.loop.invariant c.loop-test.false refl
 
 pub touch-each-spec : {M : Type 1} → statement M
 touch-each-spec =

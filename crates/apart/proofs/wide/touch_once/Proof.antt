@@ -2,14 +2,14 @@
 use Prim.Native.Nat.{◌<◌}
 use native.Mathlib.Omega.{arith}
 use borrow.Author.Rules.{rules}
-use Rattle.matrix.specs.Limits.{maxRows}
+use Rattle.matrix.specs.Limits.{max_rows}
 use Rattle.apart.proofs.RowsOf.{rows_few}
-use Rattle.apart.proofs.Touching.{touched-before, opened-more}
+use Rattle.apart.proofs.Touching.{touched-before, opened_more}
 use Rattle.apart.proofs.wide.touch_once.Statement.{statement}
 use Rattle.apart.proofs.wide.touch_once.Tie as tie
 
 -- the row has a mark
-low : (s : tie.Start) → s.args.u < maxRows
+low : (s : tie.Start) → s.args.u < max_rows
 low s = omega (arith, s.requires.3, rows_few s.requires.0)
 
 mul-if1 : tie.Need-overflow-mul-if1
@@ -34,7 +34,7 @@ returns-2 : tie.Need-returns-2
 returns-2 c =
     let s = c.before.before.before.before.before.before in
     let a = s.args in
-    opened-more a.low a.done.now a.marks.now c.touch-row.new.1.1.1.0 a.u c.touch-row.result (omega (arith, low s, s.requires.2.long)) s.requires.2 c.touch-row.ensures
+    opened_more a.low a.done.now a.marks.now c.touch-row.new.1.1.1.0 a.u c.touch-row.result (omega (arith, low s, s.requires.2.long)) s.requires.2 c.touch-row.ensures
 
 pub touch-once-spec : {M : Type 1} → statement M
 touch-once-spec =

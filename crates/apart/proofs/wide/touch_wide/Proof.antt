@@ -4,14 +4,14 @@ use Prim.Native.Nat.{◌-◌}
 use native.Mathlib.Omega.{arith}
 use lib.ListN.{length}
 use Rattle.base.proofs.Booleans.{fails, holds}
-use Rattle.apart.specs.code.Marks.{closed, touchedBy}
+use Rattle.apart.specs.Code.Marks.{closed, touched_by}
 use Rattle.apart.proofs.Touching.{around-two}
-use Rattle.apart.proofs.Widening.{Widening, widening-start, widening-long, widening-stops, widening-next, widening-end}
+use Rattle.apart.proofs.Widening.{Widening, widening_start, widening_long, widening_stops, widening_next, widening_end}
 use Rattle.apart.proofs.wide.touch_wide.Statement.{statement}
 use Rattle.apart.proofs.wide.touch_wide.Tie as tie
 
 abbrev invariant-loop : tie.invariant-loop
-invariant-loop n starts columns marks₀ done₀ rows low mine j₀ marks done j = Widening n starts columns low mine (λ u. touchedBy n starts columns (closed n starts columns u)) rows marks₀ done marks j
+invariant-loop n starts columns marks₀ done₀ rows low mine j₀ marks done j = Widening n starts columns low mine (λ u. touched_by n starts columns (closed n starts columns u)) rows marks₀ done marks j
 
 abbrev decreases-loop : tie.decreases-loop
 decreases-loop n starts columns marks₀ done₀ rows low mine j₀ marks done j = length rows - j
@@ -24,7 +24,7 @@ abbrev loop : tie.After-touch-around invariant-loop decreases-loop → tie.At-lo
 loop t = t.before.before.before.before.before
 
 loop-holds : tie.Need-loop-init invariant-loop decreases-loop
-loop-holds c = widening-start c.before.before.before.requires.2
+loop-holds c = widening_start c.before.before.before.requires.2
 
 touch-around-requires : tie.Need-touch-around-requires invariant-loop decreases-loop
 touch-around-requires c κs =
@@ -32,22 +32,22 @@ touch-around-requires c κs =
     let l = i.before in
     let g = (start l).requires in
     let w = l.loop.invariant in
-    (g.0, widening-long w ∙ g.1, w.opened, omega (arith, g.3 l.loop.j i.loop-test.true, c.before.before.wide_at.ensures.0))
+    (g.0, widening_long w ∙ g.1, w.opened, omega (arith, g.3 l.loop.j i.loop-test.true, c.before.before.wide_at.ensures.0))
 
 returns : tie.Need-returns invariant-loop decreases-loop
 returns c =
     let t = c.before in
     let u = t.before.before.before in
-    widening-stops (loop t).loop.invariant u.before.loop-test.true u.wide_at.ensures.0 t.touch-around.ensures (fails refl c.if1.true) (around-two _ _ _ (start (loop t)).args.rows.now)
+    widening_stops (loop t).loop.invariant u.before.loop-test.true u.wide_at.ensures.0 t.touch-around.ensures (fails refl c.if1.true) (around-two _ _ _ (start (loop t)).args.rows.now)
 
 loop-again : tie.Need-loop-preserved invariant-loop decreases-loop
 loop-again c =
     let t = c.before in
     let u = t.before.before.before in
-    widening-next (loop t).loop.invariant u.before.loop-test.true u.wide_at.ensures.0 t.touch-around.ensures (holds refl c.if1.false)
+    widening_next (loop t).loop.invariant u.before.loop-test.true u.wide_at.ensures.0 t.touch-around.ensures (holds refl c.if1.false)
 
 returns-2 : tie.Need-returns-2 invariant-loop decreases-loop
-returns-2 c = widening-end c.before.loop.invariant c.loop-test.false (around-two _ _ _ (start c.before).args.rows.now)
+returns-2 c = widening_end c.before.loop.invariant c.loop-test.false (around-two _ _ _ (start c.before).args.rows.now)
 
 pub touch-wide-spec : {M : Type 1} → statement M
 touch-wide-spec =

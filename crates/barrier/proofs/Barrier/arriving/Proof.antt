@@ -13,8 +13,8 @@ returns-2 c =
     let a = c.before.before.before.args in
     rw (ne_eqb a.self.members 0 c.before.if1.true, ne_eqb _ _ c.if2.false)
 
-returns-3 : tie.Need-returns-3
-returns-3 c = rw (eq-eqb c.before.before.args.self.members 0 c.if1.false)
+returns_3 : tie.Need-returns-3
+returns_3 c = rw (eq-eqb c.before.before.args.self.members 0 c.if1.false)
 
 pub arriving-spec : {M : Type 1} → statement M
-arriving-spec = tie.close (tie.spec (λ c κs. search rules) returns returns-2 returns-3)
+arriving-spec = tie.close (tie.spec (λ c κs. search rules) returns returns-2 returns_3)

@@ -14,13 +14,13 @@ returns-2 : tie.Need-returns-2
 unfolding register
 returns-2 c = rw (c.before.match.keys2, c.high.ensures)
 
-returns-3 : tie.Need-returns-3
+returns_3 : tie.Need-returns-3
 unfolding register
-returns-3 c = rw (c.before.match.keys3, c.low2.ensures)
+returns_3 c = rw (c.before.match.keys3, c.low2.ensures)
 
-returns-4 : tie.Need-returns-4
+returns_4 : tie.Need-returns-4
 unfolding register
-returns-4 c = rw (c.before.match.keys4, c.high2.ensures)
+returns_4 c = rw (c.before.match.keys4, c.high2.ensures)
 
 returns-5 : tie.Need-returns-5
 unfolding register
@@ -33,4 +33,4 @@ pub register-spec : {M : Type 1} → statement M
 register-spec =
     tie.close
     (tie.spec (λ c κs. search rules) (λ c κs. search rules) (λ c κs. search rules) (λ c κs. search rules)
-    (λ c. search rules) (λ c. search rules) returns returns-2 returns-3 returns-4 returns-5 returns-6)
+    (λ c. search rules) (λ c. search rules) returns returns-2 returns_3 returns_4 returns-5 returns-6)

@@ -6,7 +6,7 @@ use native.Mathlib.Omega.{arith}
 use borrow.Author.Rules.{rules}
 use lib.ListN.{length, drop}
 use lib.Seq.{take-length}
-use Rattle.base.proofs.Stored.{copied, copied_next, length-copied}
+use Rattle.base.proofs.Stored.{copied, copied_next, length_copied}
 use Rattle.base.proofs.slices.copy.Statement.{statement}
 use Rattle.base.proofs.slices.copy.Tie as tie
 
@@ -23,7 +23,7 @@ slice-write-to : tie.Need-slice-write-to invariant-loop decreases-loop
 slice-write-to c =
     let a = c.before.before.before.args in
     let l = c.before.before.loop in
-    omega (arith, ap length l.invariant.1, length-copied a.from.now a.to.now l.i (omega arith) (omega arith))
+    omega (arith, ap length l.invariant.1, length_copied a.from.now a.to.now l.i (omega arith) (omega arith))
 
 loop-again : tie.Need-loop-preserved invariant-loop decreases-loop
 loop-again c =
@@ -35,7 +35,7 @@ same_length : tie.Need-same-length invariant-loop decreases-loop
 same_length c =
     let a = c.before.before.args in
     let l = c.before.loop in
-    ap length l.invariant.1 ∙ length-copied a.from.now a.to.now l.i (omega arith) (omega arith)
+    ap length l.invariant.1 ∙ length_copied a.from.now a.to.now l.i (omega arith) (omega arith)
 
 returns : tie.Need-returns invariant-loop decreases-loop
 returns c =

@@ -9,8 +9,8 @@ use mir.Val.{SFits}
 use mir.Facts.{to_z-of_z}
 use borrow.Author.Rules.{rules}
 use Rattle.plan.proofs.Once.{once}
-use Rattle.calls.specs.code.Scatter.{Scattered}
-use Rattle.calls.proofs.Scattering.{scattered-none, scattered-next, place-below}
+use Rattle.calls.specs.Code.Scatter.{Scattered}
+use Rattle.calls.proofs.Scattering.{scattered_none, scattered_next, place-below}
 use Rattle.calls.proofs.force_list.scatter.Statement.{statement}
 use Rattle.calls.proofs.force_list.scatter.Tie as tie
 
@@ -21,7 +21,7 @@ abbrev decreases-loop : tie.decreases-loop
 decreases-loop n order sums forces₀ p₀ forces p = n - p
 
 loop-holds : tie.Need-loop-init invariant-loop decreases-loop
-loop-holds c = let a = c.before.args in (search rules, scattered-none a.n _ (once _ _ c.before.requires.1) _ _ c.before.requires.3)
+loop-holds c = let a = c.before.args in (search rules, scattered_none a.n _ (once _ _ c.before.requires.1) _ _ c.before.requires.3)
 
 -- the row at p
 row : (c : tie.After-wide-at invariant-loop decreases-loop) → let l = c.before.before.before in let a = l.before.before.args in c.wide_at.result ≡ get_or (take a.n a.order.now) l.loop.p 0
@@ -47,7 +47,7 @@ loop-again c =
     let fits : SFits w64 (get_or a.sums.now l.loop.p (pos 0)) = search rules in (
       search rules,
       rw (row c, to_z-of_z fits)
-          (scattered-next a.n (take a.n a.order.now) (once _ _ s.requires.1) a.sums.now a.forces.now s.requires.3 l.loop.p c.before.before.loop-test.true l.loop.forces l.loop.invariant.1),
+          (scattered_next a.n (take a.n a.order.now) (once _ _ s.requires.1) a.sums.now a.forces.now s.requires.3 l.loop.p c.before.before.loop-test.true l.loop.forces l.loop.invariant.1),
     )
 
 same_length : tie.Need-same-length invariant-loop decreases-loop

@@ -4,19 +4,19 @@ use Prim.Native.Nat.{◌/◌}
 use native.Mathlib.Omega.{arith}
 use lib.ListN.{length}
 use Rattle.base.proofs.Booleans.{clash, fails, holds}
-use Rattle.base.proofs.Lists.{getD-zeros}
-use Rattle.matrix.specs.Limits.{maxRows}
-use Rattle.matrix.specs.Matrix.{matrixOf}
+use Rattle.base.proofs.Lists.{get_d_zeros}
+use Rattle.matrix.specs.Limits.{max_rows}
+use Rattle.matrix.specs.Matrix.{matrix_of}
 use Rattle.plan.specs.Groups.{width, plan_of}
 use Rattle.run.specs.Job.{Job, job_of}
-use Rattle.tables.specs.code.Laid.{Counted}
-use Rattle.layout.specs.code.UpdateTable.{Planned}
+use Rattle.tables.specs.Code.Laid.{Counted}
+use Rattle.layout.specs.Code.UpdateTable.{Planned}
 use Rattle.layout.proofs.GivenRows.{lent_of, planned-of}
 use Rattle.layout.proofs.UpdateRoom.{rising-of}
-use Rattle.steps.proofs.GivenTables.{job-displaced}
-use Rattle.ahead.proofs.StepsAhead.{ahead-tables, ahead-updates}
-use Rattle.machine.proofs.PlannedTables.{planned-blank, planned-recorded, whole-few}
-use Rattle.calls.proofs.Prepared.{given-many, given-displaced, counted-state}
+use Rattle.steps.proofs.GivenTables.{job_displaced}
+use Rattle.ahead.proofs.StepsAhead.{ahead_tables, ahead-updates}
+use Rattle.machine.proofs.PlannedTables.{planned-blank, planned_recorded, whole-few}
+use Rattle.calls.proofs.Prepared.{given-many, given_displaced, counted-state}
 use Rattle.calls.proofs.Performing.{taken_refused, taken-picks}
 use borrow.Author.Rules.{rules}
 use Rattle.calls.proofs.laid.laid_picks.Statement.{statement}
@@ -32,16 +32,16 @@ sized f = f.before.before.before.before.before
 abbrev job : tie.Start → Job
 job s =
     let a = s.args in
-    job_of (matrixOf (length a.sums.now) a.starts.now a.columns.now a.values.now) a.displacements.now a.order.now a.groups.now (length a.groups.now / width)
+    job_of (matrix_of (length a.sums.now) a.starts.now a.columns.now a.values.now) a.displacements.now a.order.now a.groups.now (length a.groups.now / width)
 
 lay-sizes-requires : tie.Need-lay-sizes-requires
 lay-sizes-requires c κs =
     let p = c.before.before.before.before.before.before.before.before.before.before.before.requires in
     let r = p.1 in
-    (lent_of p.0, refl, refl, refl, getD-zeros maxRows, r.blank, r.some, r.most, r.even)
+    (lent_of p.0, refl, refl, refl, get_d_zeros max_rows, r.blank, r.some, r.most, r.even)
 
 planned : (u : tie.After-lay-sizes) → let a = (start u).args in Planned (job (start u)) a.groups.now (length a.groups.now / width) u.lay-sizes.new.1.1.1.1.1.1.1.0
-planned u = planned-of (start u).requires.0 u.lay-sizes.ensures.sizes-are
+planned u = planned-of (start u).requires.0 u.lay-sizes.ensures.sizes_are
 
 first-updates-requires : tie.Need-first-updates-requires
 first-updates-requires c κs = (_, planned c.before.before.before.before)
@@ -95,11 +95,11 @@ lay-ahead-requires c κs =
     ((_, lent_of g, u.lay-sizes.ensures, (_, t.1)), λ s. r.few (omega (arith, at)), omega (arith, at, r.most), omega (arith, at, beside, r.even))
 
 -- the tables are as long as they were
-same-length-3 : tie.Need-same-length-3
-same-length-3 c = let h = c.before.before.before.before.before in h.lay-ahead.auto.1.1.1.1.1.1.1.1.1.1.1.0 ∙ (sized (counts (rows h))).lay-sizes.auto.1.1.1.1.1.1.1.1.0
+same-length_3 : tie.Need-same-length-3
+same-length_3 c = let h = c.before.before.before.before.before in h.lay-ahead.auto.1.1.1.1.1.1.1.1.1.1.1.0 ∙ (sized (counts (rows h))).lay-sizes.auto.1.1.1.1.1.1.1.1.0
 
-same-length-4 : tie.Need-same-length-4
-same-length-4 c = let h = c.before.before.before.before.before in h.lay-ahead.auto.1.1.1.1.1.1.1.1.1.1.1.1.0 ∙ (sized (counts (rows h))).lay-sizes.auto.1.1.1.1.1.1.1.1.1.0
+same-length_4 : tie.Need-same-length-4
+same-length_4 c = let h = c.before.before.before.before.before in h.lay-ahead.auto.1.1.1.1.1.1.1.1.1.1.1.1.0 ∙ (sized (counts (rows h))).lay-sizes.auto.1.1.1.1.1.1.1.1.1.0
 
 -- there is no room
 returns-2 : tie.Need-returns-2
@@ -126,7 +126,7 @@ abbrev walked : tie.After-came-to3 → tie.After-walk
 walked c = c.before.before.before.before.before.before.before.before.before.before.before.before
 
 displace-requires : tie.Need-displace-requires
-displace-requires c κs = let d = given-displaced (start (sized (counts (rows (reached c.before))))).requires.0 in (d.0, d.1, d.2, refl)
+displace-requires c κs = let d = given_displaced (start (sized (counts (rows (reached c.before))))).requires.0 in (d.0, d.1, d.2, refl)
 
 walk-requires : tie.Need-walk-requires
 unfolding job_of plan_of
@@ -142,7 +142,7 @@ walk-requires c κs =
     let beside = h.lay-ahead.kept.1.1.1.1.1.1.1.1.1.1.1.1.0 ∙ u.lay-sizes.kept.1.1.1.1.1.1.1.1.1.0 in
     let t = l.lay.ensures _ (planned u) (counted f) (planned-blank (planned u)) in
     let r = h.lay-ahead.ensures.0 (holds refl e.if2.false) _ (lent_of g) u.lay-sizes.ensures t.1.row_low in
-    (whole-few (planned u), planned-recorded (planned u), ahead-tables _ t.0 r t.1 (omega (arith, at, beside, room.even)) (omega (arith, at, room.most)))
+    (whole-few (planned u), planned_recorded (planned u), ahead_tables _ t.0 r t.1 (omega (arith, at, beside, room.even)) (omega (arith, at, room.most)))
 
 ready-workers-requires : tie.Need-ready-workers-requires
 ready-workers-requires c κs =
@@ -150,17 +150,17 @@ ready-workers-requires c κs =
     let f = counts l in
     let u = sized f in
     let t = l.lay.ensures _ (planned u) (counted f) (planned-blank (planned u)) in
-    (whole-few (planned u), planned-recorded (planned u), (_, t.1))
+    (whole-few (planned u), planned_recorded (planned u), (_, t.1))
 
-same-length-6 : tie.Need-same-length-6
-same-length-6 c = let h = reached (fitted (moved (walked c))) in h.lay-ahead.kept.1.1.1.1.1.1.1.1.1.1.1.0 ∙ (sized (counts (rows h))).lay-sizes.auto.1.1.1.1.1.1.1.1.0
+same-length_6 : tie.Need-same-length-6
+same-length_6 c = let h = reached (fitted (moved (walked c))) in h.lay-ahead.kept.1.1.1.1.1.1.1.1.1.1.1.0 ∙ (sized (counts (rows h))).lay-sizes.auto.1.1.1.1.1.1.1.1.0
 
-same-length-7 : tie.Need-same-length-7
-same-length-7 c = let h = reached (fitted (moved (walked c))) in h.lay-ahead.kept.1.1.1.1.1.1.1.1.1.1.1.1.0 ∙ (sized (counts (rows h))).lay-sizes.auto.1.1.1.1.1.1.1.1.1.0
+same-length_7 : tie.Need-same-length-7
+same-length_7 c = let h = reached (fitted (moved (walked c))) in h.lay-ahead.kept.1.1.1.1.1.1.1.1.1.1.1.1.0 ∙ (sized (counts (rows h))).lay-sizes.auto.1.1.1.1.1.1.1.1.1.0
 
-returns-3 : tie.Need-returns-3
+returns_3 : tie.Need-returns-3
 unfolding job_of plan_of
-returns-3 c =
+returns_3 c =
     let k = walked c in
     let d = moved k in
     let e = fitted d in
@@ -171,7 +171,7 @@ returns-3 c =
     let g = (start u).pre.0 in
     let t = l.lay.ensures _ (planned u) (counted f) (planned-blank (planned u)) in
     let r = h.lay-ahead.ensures.0 (holds refl e.if2.left) _ (lent_of g) u.lay-sizes.ensures t.1.row_low in
-    let ahead = ahead-updates _ t.0 r (job-displaced _ _ _ _ _ _ _ (rw (given-many g) at d.displace.ensures)) in
+    let ahead = ahead-updates _ t.0 r (job_displaced _ _ _ _ _ _ _ (rw (given-many g) at d.displace.ensures)) in
     let fine = counted-state g (counted f) _ refl ∙ holds (tested l).before.is-fine.ensures (tested l).if1.left in
     let a = c.before in
     let taken = k.walk.ensures _ g.accepted refl t.0 ahead in
@@ -187,6 +187,6 @@ laid-picks-spec =
     tie.close
     (tie.spec lay-sizes-requires first-updates-requires (λ c κs. search rules) is-fine-requires (λ c κs. search rules)
     (λ c. search rules) (λ c. search rules) returns lay-requires lay-ahead-requires (λ c κs. search rules)
-    same-length-3 same-length-4 returns-2 displace-requires (λ c κs. search rules) walk-requires ready-workers-requires
-    (λ c κs. search rules) (λ c κs. search rules) (λ c κs. search rules) (λ c. search rules) same-length-6
-    same-length-7 returns-3)
+    same-length_3 same-length_4 returns-2 displace-requires (λ c κs. search rules) walk-requires ready-workers-requires
+    (λ c κs. search rules) (λ c κs. search rules) (λ c κs. search rules) (λ c. search rules) same-length_6
+    same-length_7 returns_3)

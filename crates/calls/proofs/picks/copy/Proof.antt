@@ -10,7 +10,7 @@ use mir.Facts.{to_z-of_z}
 use lib.IntN.{pos}
 use lib.ListN.{length, get_or, take, drop}
 use lib.Seq.{take-length}
-use Rattle.base.proofs.Fill.{copy-one}
+use Rattle.base.proofs.Fill.{copy_one}
 use Rattle.calls.proofs.picks.copy.Statement.{statement}
 use Rattle.calls.proofs.picks.copy.Tie as tie
 
@@ -28,7 +28,7 @@ loop-again c =
     let l = c.before.before in
     let a = l.before.args in
     let fits : SFits w64 (get_or a.from.now l.loop.i (pos 0)) = search rules in
-    (omega arith, rw (l.loop.invariant.1, to_z-of_z fits) (copy-one a.from.now a.to.now (pos 0) l.loop.i (omega arith) (omega arith)))
+    (omega arith, rw (l.loop.invariant.1, to_z-of_z fits) (copy_one a.from.now a.to.now (pos 0) l.loop.i (omega arith) (omega arith)))
 
 returns : tie.Need-returns invariant-loop decreases-loop
 returns c =

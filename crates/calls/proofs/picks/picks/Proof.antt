@@ -3,11 +3,11 @@ use mathlib.Core.Path.{◌≡◌, refl, ap, ◌∙◌}
 use mathlib.Core.Logic.{⊎_elim}
 use native.Mathlib.Omega.{arith}
 use lib.ListN.{length}
-use Rattle.base.proofs.Lists.{getD-zeros}
-use Rattle.matrix.specs.Limits.{maxRows}
-use Rattle.matrix.proofs.Checks.{shape, matrix-tidy}
+use Rattle.base.proofs.Lists.{get_d_zeros}
+use Rattle.matrix.specs.Limits.{max_rows}
+use Rattle.matrix.proofs.Checks.{shape, matrix_tidy}
 use Rattle.run.specs.Job.{job_of}
-use Rattle.tables.specs.code.Laid.{maxUpdates}
+use Rattle.tables.specs.Code.Laid.{max_updates}
 use borrow.Author.Rules.{rules}
 use Rattle.calls.proofs.picks.picks.Statement.{statement}
 use Rattle.calls.proofs.picks.picks.Tie as tie
@@ -18,12 +18,12 @@ start i = i.before.before.before.before.before.before
 
 is-short-requires : tie.Need-is-short-requires
 unfolding job_of
-is-short-requires c κs = let g = c.before.before.before.before.before.requires in (shape _ (matrix-tidy _ g.accepted.matrix).shape).starts-long
+is-short-requires c κs = let g = c.before.before.before.before.before.requires in (shape _ (matrix_tidy _ g.accepted.matrix).shape).starts-long
 
 laid-picks-requires : tie.Need-laid-picks-requires
 laid-picks-requires c κs =
     let t = c.before.before.before in
-    ((start t.before).requires, record { blank = getD-zeros maxRows; even = refl; some = search rules; most = search rules; few = λ l. t.before.is-short.ensures t.if1.true })
+    ((start t.before).requires, record { blank = get_d_zeros max_rows; even = refl; some = search rules; most = search rules; few = λ l. t.before.is-short.ensures t.if1.true })
 
 returns : tie.Need-returns
 returns c zs = let t = c.before in t.before.before.before.before.laid-picks.ensures.0 t.if2.true zs
@@ -35,7 +35,7 @@ same j = ⊎_elim (λ x. x.9 ∙ x.4.ensures.1 x.8.left) (λ x. x.1) j.if1.branc
 laid-picks-requires-2 : tie.Need-laid-picks-requires-2
 laid-picks-requires-2 c κs =
     let j = c.before.before.before in
-    (rw (same j) (start j.before).requires, record { blank = getD-zeros maxUpdates; even = refl; some = search rules; most = search rules; few = λ l. absurd (omega arith) })
+    (rw (same j) (start j.before).requires, record { blank = get_d_zeros max_updates; even = refl; some = search rules; most = search rules; few = λ l. absurd (omega arith) })
 
 same_length : tie.Need-same-length-2
 same_length c = c.before.before.before.before.laid-picks2.auto.1.1.1.1.1.1.0 ∙ ap length (same c.before.before.before.before.before.before.before.before)

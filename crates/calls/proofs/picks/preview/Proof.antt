@@ -6,27 +6,27 @@ use native.Mathlib.Omega.{arith}
 use lib.IntN.{ℤ, pos}
 use lib.ListN.{length, take, drop, replicate, length-append, length-drop}
 use lib.Seq.{take_at}
-use Rattle.matrix.specs.Limits.{maxRows}
-use Rattle.matrix.specs.Matrix.{matrixOf}
+use Rattle.matrix.specs.Limits.{max_rows}
+use Rattle.matrix.specs.Matrix.{matrix_of}
 use Rattle.plan.specs.Groups.{width}
 use Rattle.run.specs.Job.{Job, job_of}
 use Rattle.run.specs.State as run
 use Rattle.run.specs.Answers.{Answer}
-use Rattle.layout.specs.code.UpdateTable.{Given}
+use Rattle.layout.specs.Code.UpdateTable.{Given}
 use Rattle.layout.proofs.GivenRows.{few-rows}
 use Rattle.machine.specs.Record.{state_of}
 use Rattle.machine.specs.declared.state.State.{State}
 use Rattle.calls.specs.declared.Call.TheVariants.{Preview}
-use Rattle.calls.specs.code.Made.{Taken}
+use Rattle.calls.specs.Code.Made.{Taken}
 use Rattle.calls.proofs.Performing.{made-preview}
 use Rattle.calls.proofs.picks.preview.Statement.{statement}
 use Rattle.calls.proofs.picks.preview.Tie as tie
 
 -- the array before the copy
 abbrev zeros : List ℤ
-zeros = replicate maxRows (pos 0)
+zeros = replicate max_rows (pos 0)
 
-zeros-long : length zeros ≡ maxRows
+zeros-long : length zeros ≡ max_rows
 zeros-long = refl
 
 -- picks that are taken on the same sums
@@ -63,7 +63,7 @@ returns c old zs =
     let y = p.before.before in
     let a = (start y).args in
     made-preview _ _ old a.schedule.now
-    (on-sums (λ ys. job_of (matrixOf (length ys) a.starts.now a.columns.now a.values.now) a.displacements.now a.order.now a.groups.now (length a.groups.now / width)) a.state (lent y) (p.picks.ensures zs))
+    (on-sums (λ ys. job_of (matrix_of (length ys) a.starts.now a.columns.now a.values.now) a.displacements.now a.order.now a.groups.now (length a.groups.now / width)) a.state (lent y) (p.picks.ensures zs))
 
 pub preview-spec : {M : Type 1} → statement M
 preview-spec =

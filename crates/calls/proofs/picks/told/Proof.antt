@@ -1,14 +1,14 @@
 -- `picks::told`: a preview tells who is ready, too.
 use mathlib.Core.Path.{ap, ◌∙◌}
 use borrow.Author.Rules.{rules}
-use Rattle.run.specs.Answers.{picked, shown, bitsTold, countTold}
-use Rattle.calls.specs.code.Made.{toldBy}
+use Rattle.run.specs.Answers.{picked, shown, bits_told, count_told}
+use Rattle.calls.specs.Code.Made.{told_by}
 use Rattle.calls.proofs.Performing.{told-picks}
 use Rattle.calls.proofs.picks.told.Statement.{statement}
 use Rattle.calls.proofs.picks.told.Tie as tie
 
 returns : tie.Need-returns
-unfolding toldBy shown bitsTold countTold
+unfolding told_by shown bits_told count_told
 returns c zs = rw (c.enum_told.given.1, c.before.before.place_of.ensures)
 
 returns-2 : tie.Need-returns-2

@@ -1,8 +1,8 @@
 -- `survey_in` meets its contract: the lists are decoded as far as they can reach.
 use borrow.Author.Rules.{rules}
 use Rattle.words.specs.LittleEndian.{signed}
-use Rattle.lent.specs.Bytes.{matrixIn}
-use Rattle.lent.proofs.Loads.{loaded-matrix}
+use Rattle.lent.specs.Bytes.{matrix_in}
+use Rattle.lent.proofs.Loads.{loaded_matrix}
 use Rattle.lent.proofs.Whole.{few-matrix}
 use Rattle.desk.proofs.Surveys.{survey-cut}
 use Rattle.desk.proofs.reach.survey_in.Statement.{statement}
@@ -26,7 +26,7 @@ returns c =
     let few = columns.before.before in
     let t = few.before in
     let a = (start t).args in
-    survey-cut (matrixIn a.n a.row-starts.now a.columns.now a.values.now) (signed 4 a.movements.now) a.t a.row
+    survey-cut (matrix_in a.n a.row-starts.now a.columns.now a.values.now) (signed 4 a.movements.now) a.t a.row
     (few-matrix a.n a.row-starts.now a.columns.now a.values.now (t.are-few.ensures few.if1.true) (starts t).Load-unsigned.ensures columns.load-unsigned2.ensures values.load-signed2.ensures)
     (moves t).load_signed.ensures made.survey-of.ensures
 
@@ -37,8 +37,8 @@ returns-2 c =
     let columns = values.before.before in
     let t = columns.before.before.before in
     let a = (start t).args in
-    let m = matrixIn a.n a.row-starts.now a.columns.now a.values.now in
-    survey-cut m (signed 4 a.movements.now) a.t a.row (loaded-matrix m (starts t).Load-unsigned.ensures columns.load-unsigned3.ensures values.load-signed3.ensures) (moves t).load_signed.ensures made.survey-of2.ensures
+    let m = matrix_in a.n a.row-starts.now a.columns.now a.values.now in
+    survey-cut m (signed 4 a.movements.now) a.t a.row (loaded_matrix m (starts t).Load-unsigned.ensures columns.load-unsigned3.ensures values.load-signed3.ensures) (moves t).load_signed.ensures made.survey-of2.ensures
 
 pub survey-in-spec : {M : Type 1} → statement M
 survey-in-spec =

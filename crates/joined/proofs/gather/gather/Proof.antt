@@ -4,29 +4,29 @@ use native.Mathlib.Omega.{arith}
 use Prim.Native.Nat.{◌+◌, ◌-◌, ◌≤◌, ◌<◌}
 use lib.ListN.{length}
 use Rattle.base.specs.Lists.{position_of}
-use Rattle.matrix.specs.Limits.{maxRows}
-use Rattle.matrix.specs.Matrix.{Matrix, columnsOf, valuesOf, matrixOf}
-use Rattle.matrix.proofs.Checks.{matrix-tidy}
-use Rattle.matrix.proofs.Rows.{columns-in, values-in}
-use Rattle.joined.specs.code.Rows.{Before}
-use Rattle.joined.proofs.Emitting.{emitted-same}
-use Rattle.joined.proofs.Rows.{Going, going_start, going-row, going-past, going_end, gathers-past, pattern-columns, pattern-values, entries-same, first-row, second-row, tenant-row, zeros-before}
+use Rattle.matrix.specs.Limits.{max_rows}
+use Rattle.matrix.specs.Matrix.{Matrix, columns_of, values_of, matrix_of}
+use Rattle.matrix.proofs.Checks.{matrix_tidy}
+use Rattle.matrix.proofs.Rows.{columns-in, values_in}
+use Rattle.joined.specs.Code.Rows.{Before}
+use Rattle.joined.proofs.Emitting.{emitted_same}
+use Rattle.joined.proofs.Rows.{Going, going_start, going_row, going_past, going_end, gathers_past, pattern-columns, pattern-values, entries-same, first-row, second-row, tenant_row, zeros-before}
 use borrow.Author.Rules.{rules}
 use Rattle.joined.proofs.gather.gather.Statement.{statement}
 use Rattle.joined.proofs.gather.gather.Tie as tie
 
 abbrev invariant-loop : tie.invariant-loop
 invariant-loop n1 starts1 columns1 values1 n2 starts2 columns2 values2 places n tenants rs₀ cs₀ vs₀ marks₀ held₀ seen₀ count₀ i₀ rs cs vs marks held seen count i =
-    (i ≤ n) × Going (matrixOf n1 starts1 columns1 values1) (matrixOf n2 starts2 columns2 values2) places n i count rs cs vs × Before (i + 1) marks × (length held ≡ maxRows) × Before (i + 1) seen
+    (i ≤ n) × Going (matrix_of n1 starts1 columns1 values1) (matrix_of n2 starts2 columns2 values2) places n i count rs cs vs × Before (i + 1) marks × (length held ≡ max_rows) × Before (i + 1) seen
 
 abbrev decreases-loop : tie.decreases-loop
 decreases-loop n1 starts1 columns1 values1 n2 starts2 columns2 values2 places n tenants rs₀ cs₀ vs₀ marks₀ held₀ seen₀ count₀ i₀ rs cs vs marks held seen count i = n - i
 
 abbrev one : tie.Start invariant-loop decreases-loop → Matrix
-one s = let a = s.args in matrixOf a.n1 a.starts1.now a.columns1.now a.values1.now
+one s = let a = s.args in matrix_of a.n1 a.starts1.now a.columns1.now a.values1.now
 
 abbrev two : tie.Start invariant-loop decreases-loop → Matrix
-two s = let a = s.args in matrixOf a.n2 a.starts2.now a.columns2.now a.values2.now
+two s = let a = s.args in matrix_of a.n2 a.starts2.now a.columns2.now a.values2.now
 
 -- from the loop back to the function's entry; from the second net's row to the turn; from the last of the four lists to
 -- that row, and to the loop
@@ -57,16 +57,16 @@ element-copy-out-row-in : tie.Need-element-copy-out-row-in invariant-loop decrea
 element-copy-out-row-in c = omega (arith, row_low c)
 
 row-columns-requires : tie.Need-row-columns-requires invariant-loop decreases-loop
-row-columns-requires c κs = let s = start (turn c).before in λ l. columns-in (one s) (matrix-tidy (one s) s.pre.0.first).shape _ l
+row-columns-requires c κs = let s = start (turn c).before in λ l. columns-in (one s) (matrix_tidy (one s) s.pre.0.first).shape _ l
 
 row-values-requires : tie.Need-row-values-requires invariant-loop decreases-loop
-row-values-requires c κs = let s = start (turn c.before).before in λ l. values-in (one s) (matrix-tidy (one s) s.pre.0.first).shape _ l
+row-values-requires c κs = let s = start (turn c.before).before in λ l. values_in (one s) (matrix_tidy (one s) s.pre.0.first).shape _ l
 
 row-columns-requires-2 : tie.Need-row-columns-requires-2 invariant-loop decreases-loop
-row-columns-requires-2 c κs = let s = start (turn c.before.before).before in λ l. columns-in (two s) (matrix-tidy (two s) s.pre.0.second).shape _ l
+row-columns-requires-2 c κs = let s = start (turn c.before.before).before in λ l. columns-in (two s) (matrix_tidy (two s) s.pre.0.second).shape _ l
 
 row-values-requires-2 : tie.Need-row-values-requires-2 invariant-loop decreases-loop
-row-values-requires-2 c κs = let s = start (turn c.before.before.before).before in λ l. values-in (two s) (matrix-tidy (two s) s.pre.0.second).shape _ l
+row-values-requires-2 c κs = let s = start (turn c.before.before.before).before in λ l. values_in (two s) (matrix_tidy (two s) s.pre.0.second).shape _ l
 
 cast-put-row : tie.Need-overflow-cast-put-row invariant-loop decreases-loop
 cast-put-row c = omega (arith, row_low (turn (found c)))
@@ -83,25 +83,25 @@ module _ (v : tie.After-row-values2 invariant-loop decreases-loop) where
   s = start l
 
   row_is : r.row_in.result ≡ position_of s.args.places.now l.loop.i
-  row_is = tenant-row (one s) (two s) s.args.places.now s.pre.0.placed l.loop.i (s.pre.1 l.loop.i) r.row_in.ensures.0 r.row_in.ensures.1
+  row_is = tenant_row (one s) (two s) s.args.places.now s.pre.0.placed l.loop.i (s.pre.1 l.loop.i) r.row_in.ensures.0 r.row_in.ensures.1
 
-  columns-one : v.before.before.before.row-columns.result.now ≡ columnsOf (one s) l.loop.i
+  columns-one : v.before.before.before.row-columns.result.now ≡ columns_of (one s) l.loop.i
   columns-one = v.before.before.before.row-columns.ensures ∙ pattern-columns (one s) l.loop.i
 
-  values_one : v.before.before.row-values.result.now ≡ valuesOf (one s) l.loop.i
+  values_one : v.before.before.row-values.result.now ≡ values_of (one s) l.loop.i
   values_one = v.before.before.row-values.ensures ∙ pattern-values (one s) l.loop.i
 
-  columns-two : v.before.row-columns2.result.now ≡ columnsOf (two s) r.row_in.result
+  columns-two : v.before.row-columns2.result.now ≡ columns_of (two s) r.row_in.result
   columns-two = v.before.row-columns2.ensures ∙ pattern-columns (two s) r.row_in.result
 
-  values-two : v.row-values2.result.now ≡ valuesOf (two s) r.row_in.result
+  values-two : v.row-values2.result.now ≡ values_of (two s) r.row_in.result
   values-two = v.row-values2.ensures ∙ pattern-values (two s) r.row_in.result
 
-  columns-at : v.before.row-columns2.result.now ≡ columnsOf (two s) (position_of s.args.places.now l.loop.i)
-  columns-at = columns-two ∙ ap (columnsOf (two s)) row_is
+  columns-at : v.before.row-columns2.result.now ≡ columns_of (two s) (position_of s.args.places.now l.loop.i)
+  columns-at = columns-two ∙ ap (columns_of (two s)) row_is
 
-  values-at : v.row-values2.result.now ≡ valuesOf (two s) (position_of s.args.places.now l.loop.i)
-  values-at = values-two ∙ ap (valuesOf (two s)) row_is
+  values-at : v.row-values2.result.now ≡ values_of (two s) (position_of s.args.places.now l.loop.i)
+  values-at = values-two ∙ ap (values_of (two s)) row_is
 
 put-row-requires : tie.Need-put-row-requires invariant-loop decreases-loop
 put-row-requires c κs =
@@ -123,8 +123,8 @@ returns c =
     let v = lists c.before in
     let l = loop v in
     let s = start l in
-    let row = emitted-same (entries-same l.loop.i s.args.places.now (columns-one v) (values_one v) (columns-at v) (values-at v)) c.before.put-row.ensures.0 in
-    gathers-past (one s) (two s) s.args.places.now s.args.n c.if1.true (going-past (one s) (two s) s.args.places.now s.args.n s.pre.0 l.loop.inv.1 (turn (found v)).loop-test.taken row c.if1.true)
+    let row = emitted_same (entries-same l.loop.i s.args.places.now (columns-one v) (values_one v) (columns-at v) (values-at v)) c.before.put-row.ensures.0 in
+    gathers_past (one s) (two s) s.args.places.now s.args.n c.if1.true (going_past (one s) (two s) s.args.places.now s.args.n s.pre.0 l.loop.inv.1 (turn (found v)).loop-test.taken row c.if1.true)
 
 loop-again : tie.Need-loop-preserved invariant-loop decreases-loop
 loop-again c =
@@ -133,8 +133,8 @@ loop-again c =
     let l = loop v in
     let s = start l in
     let m = (turn (found v)).loop-test.taken in
-    let row = emitted-same (entries-same l.loop.i s.args.places.now (columns-one v) (values_one v) (columns-at v) (values-at v)) u.put-row.ensures.0 in
-    (omega (arith, m), going-row (one s) (two s) s.args.places.now s.args.n s.pre.0 l.loop.inv.1 m row c.if1.false, u.put-row.ensures.1, u.put-row.ensures.2, u.put-row.ensures.3)
+    let row = emitted_same (entries-same l.loop.i s.args.places.now (columns-one v) (values_one v) (columns-at v) (values-at v)) u.put-row.ensures.0 in
+    (omega (arith, m), going_row (one s) (two s) s.args.places.now s.args.n s.pre.0 l.loop.inv.1 m row c.if1.false, u.put-row.ensures.1, u.put-row.ensures.2, u.put-row.ensures.3)
 
 add-i : tie.Need-overflow-add-i invariant-loop decreases-loop
 add-i c = omega (arith, row_low (turn (found (lists c.before))))

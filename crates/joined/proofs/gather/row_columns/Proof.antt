@@ -1,7 +1,7 @@
 -- `row_columns`: none past the last row.
 use mathlib.Core.Path.{sym, ◌∙◌}
-use Rattle.matrix.specs.Matrix.{columnsOf}
-use Rattle.matrix.specs.code.Pattern.{pattern}
+use Rattle.matrix.specs.Matrix.{columns_of}
+use Rattle.matrix.specs.Code.Pattern.{pattern}
 use Rattle.matrix.proofs.Rows.{columns-part}
 use Rattle.joined.proofs.Rows.{part-past}
 use borrow.Author.Rules.{rules}
@@ -9,7 +9,7 @@ use Rattle.joined.proofs.gather.row_columns.Statement.{statement}
 use Rattle.joined.proofs.gather.row_columns.Tie as tie
 
 returns : tie.Need-returns
-unfolding columnsOf
+unfolding columns_of
 returns c = let a = c.before.before.before.before.args in sym (part-past (pattern a.n a.starts.now a.columns.now) a.columns.now a.i c.before.if1.true)
 
 columns-of-requires : tie.Need-columns-of-requires

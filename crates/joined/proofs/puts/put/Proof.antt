@@ -11,7 +11,7 @@ use Rattle.base.specs.Integers.{within}
 use Rattle.base.proofs.Booleans.{fails, holds}
 use Rattle.base.proofs.Integers.{fits-abs}
 use Rattle.matrix.specs.Limits.{max_value}
-use Rattle.joined.proofs.Emitting.{emitted-one, emitted-large, emitted-many}
+use Rattle.joined.proofs.Emitting.{emitted_one, emitted_large, emitted_many}
 use borrow.Author.Rules.{rules}
 use Rattle.joined.proofs.puts.put.Statement.{statement}
 use Rattle.joined.proofs.puts.put.Tie as tie
@@ -24,10 +24,10 @@ unfolding within
 narrow z h = fits-abs (omega (arith, leb-true (nat_abs z) max_value h))
 
 returns : tie.Need-returns
-returns c = let s = c.before.before in emitted-large s.requires _ _ _ (fails (tested c.before) c.if1.true)
+returns c = let s = c.before.before in emitted_large s.requires _ _ _ (fails (tested c.before) c.if1.true)
 
 returns-2 : tie.Need-returns-2
-returns-2 c = let s = c.before.before.before in emitted-many s.requires c.if2.true _
+returns-2 c = let s = c.before.before.before in emitted_many s.requires c.if2.true _
 
 element-write-rs : tie.Need-element-write-rs
 element-write-rs c = omega (arith, c.if2.false)
@@ -41,14 +41,14 @@ cast-vs c = let s = c.before.before.before in simp (to_z-of_z s.ranges.v) (narro
 element-set-from-vs : tie.Need-element-set-from-vs
 element-set-from-vs c = omega (arith, c.if2.false)
 
-returns-3 : tie.Need-returns-3
-returns-3 c =
+returns_3 : tie.Need-returns-3
+returns_3 c =
     let s = c.before.before.before in
     let small = holds (tested c.before.before) c.before.if1.false in
-    simp (to_z-of_z s.ranges.v, to_z-of_z (narrow s.args.v small)) (emitted-one s.requires (omega (arith, c.if2.false)) _ _ s.args.v small)
+    simp (to_z-of_z s.ranges.v, to_z-of_z (narrow s.args.v small)) (emitted_one s.requires (omega (arith, c.if2.false)) _ _ s.args.v small)
 
 pub put_spec : {M : Type 1} → statement M
 put_spec =
     tie.close
     (tie.spec (λ c. search rules) returns returns-2 (λ c. search rules) element-write-rs (λ c. search rules)
-    element-write-cs cast-vs (λ c. search rules) element-set-from-vs (λ c. search rules) returns-3)
+    element-write-cs cast-vs (λ c. search rules) element-set-from-vs (λ c. search rules) returns_3)

@@ -6,8 +6,8 @@ use mir.Facts.{to_z-of_z, sfits_widen}
 use lib.Dec.{leb}
 use mathlib.Core.Bool.{and-true}
 use borrow.Author.Tests.{eq-eqb, ne_eqb}
-use Rattle.base.proofs.Booleans.{and-false}
-use Rattle.joined.proofs.Emitting.{emitted-none}
+use Rattle.base.proofs.Booleans.{and_false}
+use Rattle.joined.proofs.Emitting.{emitted_none}
 use borrow.Author.Rules.{rules}
 use Rattle.joined.proofs.puts.put_new.Statement.{statement}
 use Rattle.joined.proofs.puts.put_new.Tie as tie
@@ -22,7 +22,7 @@ add-if1 : tie.Need-overflow-add-if1
 add-if1 c = omega (arith, c.before.requires.0)
 
 returns : tie.Need-returns
-returns c = let s = c.before.before in rw (eq-eqb _ _ c.if1.true, and-false (leb s.args.j s.args.i)) (emitted-none s.requires.4 s.requires.3)
+returns c = let s = c.before.before in rw (eq-eqb _ _ c.if1.true, and_false (leb s.args.j s.args.i)) (emitted_none s.requires.4 s.requires.3)
 
 cast-put-low : tie.Need-overflow-cast-put-low
 cast-put-low c = let f = wide c.before.before in search rules

@@ -8,7 +8,7 @@ use mir.Val.{SFits}
 use mir.Facts.{to_z-of_z}
 use Rattle.base.specs.Lists.{position_of}
 use Rattle.matrix.specs.Matrix.{lookup}
-use Rattle.joined.specs.code.Rows.{Held}
+use Rattle.joined.specs.Code.Rows.{Held}
 use Rattle.joined.proofs.Tables.{held_none, held_next, held_all}
 use borrow.Author.Rules.{rules}
 use Rattle.joined.proofs.row.hold.Statement.{statement}

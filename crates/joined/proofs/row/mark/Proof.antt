@@ -2,15 +2,15 @@
 use native.Mathlib.Omega.{arith}
 use Prim.Native.Nat.{◌≤◌, ◌-◌}
 use lib.ListN.{length, take}
-use Rattle.base.specs.Lists.{isIn}
-use Rattle.joined.specs.code.Rows.{Seen}
+use Rattle.base.specs.Lists.{is_in}
+use Rattle.joined.specs.Code.Rows.{Seen}
 use Rattle.joined.proofs.Tables.{seen_none, seen_next, seen_all}
 use borrow.Author.Rules.{rules}
 use Rattle.joined.proofs.row.mark.Statement.{statement}
 use Rattle.joined.proofs.row.mark.Tie as tie
 
 abbrev invariant-loop : tie.invariant-loop
-invariant-loop columns turn seen₀ k₀ seen k = (k ≤ length columns) × Seen turn (isIn (take k columns)) seen
+invariant-loop columns turn seen₀ k₀ seen k = (k ≤ length columns) × Seen turn (is_in (take k columns)) seen
 
 abbrev decreases-loop : tie.decreases-loop
 decreases-loop columns turn seen₀ k₀ seen k = length columns - k

@@ -26,11 +26,11 @@ cast-result c = let f = a-wide c in search rules
 cast-result-2 : tie.Need-overflow-cast-result-2
 cast-result-2 c = let f = b-wide c in search rules
 
-add-result : tie.Need-overflow-add-result
-add-result c = simp (to_z-of_z c.ranges.a, to_z-of_z c.ranges.b, to_z-of_z (a-wide c), to_z-of_z (b-wide c)) (fits c)
+add_result : tie.Need-overflow-add-result
+add_result c = simp (to_z-of_z c.ranges.a, to_z-of_z c.ranges.b, to_z-of_z (a-wide c), to_z-of_z (b-wide c)) (fits c)
 
 returns : tie.Need-returns
 returns c = simp (to_z-of_z c.ranges.a, to_z-of_z c.ranges.b, to_z-of_z (a-wide c), to_z-of_z (b-wide c), to_z-of_z (fits c)) refl
 
 pub plus-spec : {M : Type 1} → statement M
-plus-spec = tie.close (tie.spec cast-result cast-result-2 add-result returns)
+plus-spec = tie.close (tie.spec cast-result cast-result-2 add_result returns)

@@ -8,18 +8,18 @@ use lib.ListN.{length, get_or}
 use mir.Syntax.{w32, w64}
 use mir.Val.{SFits}
 use mir.Facts.{to_z-of_z}
-use Rattle.matrix.specs.Limits.{maxEntries}
-use Rattle.joined.specs.code.Rows.{fromFirst, held_at, Emitted}
-use Rattle.joined.proofs.Emitting.{emitted-none, emitted-same}
+use Rattle.matrix.specs.Limits.{max_entries}
+use Rattle.joined.specs.Code.Rows.{from_first, held_at, Emitted}
+use Rattle.joined.proofs.Emitting.{emitted_none, emitted_same}
 use Rattle.joined.proofs.Cells.{cells-none}
-use Rattle.joined.proofs.Turns.{turn-next, turn-stop, turn-all}
+use Rattle.joined.proofs.Turns.{turn-next, turn_stop, turn-all}
 use borrow.Author.Rules.{rules}
 use Rattle.joined.proofs.row.put_first.Statement.{statement}
 use Rattle.joined.proofs.row.put_first.Tie as tie
 
 abbrev invariant-loop : tie.invariant-loop
 invariant-loop columns values i marks held m rs₀ cs₀ vs₀ count₀ k₀ rs cs vs count k =
-    (k ≤ length columns) × (count ≤ maxEntries) × Emitted (fromFirst i columns values (held_at (i + 1) marks held) k) m rs₀ cs₀ vs₀ count rs cs vs
+    (k ≤ length columns) × (count ≤ max_entries) × Emitted (from_first i columns values (held_at (i + 1) marks held) k) m rs₀ cs₀ vs₀ count rs cs vs
 
 abbrev decreases-loop : tie.decreases-loop
 decreases-loop columns values i marks held m rs₀ cs₀ vs₀ count₀ k₀ rs cs vs count k = length columns - k
@@ -32,7 +32,7 @@ abbrev value : tie.Start invariant-loop decreases-loop → ℕ → ℤ
 value s k = get_or s.args.values.now k (pos 0) +ℤ held_at (s.args.i + 1) s.args.marks.now s.args.held.now (column s k)
 
 loop-holds : tie.Need-loop-init invariant-loop decreases-loop
-loop-holds c = let s = c.before in (omega arith, s.requires.4, emitted-same (sym (cells-none s.args.i (λ c. leb c s.args.i) (column s) (value s))) (emitted-none s.requires.5 s.requires.4))
+loop-holds c = let s = c.before in (omega arith, s.requires.4, emitted_same (sym (cells-none s.args.i (λ c. leb c s.args.i) (column s) (value s))) (emitted_none s.requires.5 s.requires.4))
 
 shared-slice-copy-out-plus : tie.Need-shared-slice-copy-out-plus invariant-loop decreases-loop
 shared-slice-copy-out-plus c = omega (arith, c.before.before.before.before.requires.0.beside, c.before.loop-test.true)
@@ -64,7 +64,7 @@ returns c =
     let l = p.before.before.before.before.before in
     let s = p.before.before.before.before.before.before.before in
     let m = p.before.before.before.before.loop-test.true in
-    turn-stop s.args.i (λ c. leb c s.args.i) (column s) (value s) (l.loop.k + 1)
+    turn_stop s.args.i (λ c. leb c s.args.i) (column s) (value s) (l.loop.k + 1)
     (turn-next s.args.i (λ c. leb c s.args.i) (column s) (value s) l.loop.k l.loop.invariant.2 l.loop.invariant.1 (to_z-of_z (sum_fits p) ∙ sum_is p) u.put_low.ensures)
     c.if1.true (length s.args.columns.now) (omega arith)
 

@@ -9,18 +9,18 @@ use lib.ListN.{length, get_or}
 use mir.Syntax.{w32}
 use mir.Val.{SFits}
 use mir.Facts.{to_z-of_z}
-use Rattle.matrix.specs.Limits.{maxEntries}
-use Rattle.joined.specs.code.Rows.{fromSecond, marked, Emitted}
-use Rattle.joined.proofs.Emitting.{emitted-none, emitted-same}
+use Rattle.matrix.specs.Limits.{max_entries}
+use Rattle.joined.specs.Code.Rows.{from_second, marked, Emitted}
+use Rattle.joined.proofs.Emitting.{emitted_none, emitted_same}
 use Rattle.joined.proofs.Cells.{cells-none}
-use Rattle.joined.proofs.Turns.{turn-next, turn-stop, turn-all}
+use Rattle.joined.proofs.Turns.{turn-next, turn_stop, turn-all}
 use borrow.Author.Rules.{rules}
 use Rattle.joined.proofs.row.put_second.Statement.{statement}
 use Rattle.joined.proofs.row.put_second.Tie as tie
 
 abbrev invariant-loop : tie.invariant-loop
 invariant-loop columns values places i seen m rs₀ cs₀ vs₀ count₀ k₀ rs cs vs count k =
-    (k ≤ length columns) × (count ≤ maxEntries) × Emitted (fromSecond i places columns values (marked (i + 1) seen) k) m rs₀ cs₀ vs₀ count rs cs vs
+    (k ≤ length columns) × (count ≤ max_entries) × Emitted (from_second i places columns values (marked (i + 1) seen) k) m rs₀ cs₀ vs₀ count rs cs vs
 
 abbrev decreases-loop : tie.decreases-loop
 decreases-loop columns values places i seen m rs₀ cs₀ vs₀ count₀ k₀ rs cs vs count k = length columns - k
@@ -36,7 +36,7 @@ abbrev passes : tie.Start invariant-loop decreases-loop → ℕ → Bool
 passes s c = leb c s.args.i && not (marked (s.args.i + 1) s.args.seen.now c)
 
 loop-holds : tie.Need-loop-init invariant-loop decreases-loop
-loop-holds c = let s = c.before.before in (omega arith, s.requires.3, emitted-same (sym (cells-none s.args.i (passes s) (column s) (value s))) (emitted-none s.requires.4 s.requires.3))
+loop-holds c = let s = c.before.before in (omega arith, s.requires.3, emitted_same (sym (cells-none s.args.i (passes s) (column s) (value s))) (emitted_none s.requires.4 s.requires.3))
 
 cast-c : tie.Need-overflow-cast-c invariant-loop decreases-loop
 cast-c c = omega (arith, c.shared-slice-known3.given c.before.before.loop.k)
@@ -66,7 +66,7 @@ returns c =
     let l = u.before.before.before.before.before.before.before.before in
     let s = u.before.before.before.before.before.before.before.before.before.before.before in
     let m = u.before.before.before.before.before.before.before.loop-test.true in
-    turn-stop s.args.i (passes s) (column s) (value s) (l.loop.k + 1)
+    turn_stop s.args.i (passes s) (column s) (value s) (l.loop.k + 1)
     (turn-next s.args.i (passes s) (column s) (value s) l.loop.k l.loop.invariant.2 l.loop.invariant.1 (to_z-of_z (value-fits u)) u.put-new.ensures)
     c.if1.true (length s.args.columns.now) (omega arith)
 

@@ -7,14 +7,14 @@ use native.Mathlib.Numerals.{add-one}
 use lib.ListN.{length, get_or}
 use borrow.Author.Tests.{not-true, not-false}
 use Rattle.base.proofs.Booleans.{fails, holds}
-use Rattle.base.proofs.Lists.{getD-zeros}
-use Rattle.plan.specs.code.Checks.{belowWhole}
+use Rattle.base.proofs.Lists.{get_d_zeros}
+use Rattle.plan.specs.Code.Checks.{below_whole}
 use Rattle.run.specs.Job.{Job}
 use Rattle.run.specs.Updates.{up_to}
-use Rattle.tables.specs.code.Laid.{hasChild}
-use Rattle.layout.specs.code.UpdateTable.{Planned, Numbers, reached}
+use Rattle.tables.specs.Code.Laid.{has_child}
+use Rattle.layout.specs.Code.UpdateTable.{Planned, Numbers, reached}
 use Rattle.layout.proofs.UpdateRoom.{room}
-use Rattle.layout.proofs.LeafRows.{in_order, reached-group, all-reached, Read, read}
+use Rattle.layout.proofs.LeafRows.{in_order_lem, reached_group, all-reached, Read, read}
 use Rattle.layout.proofs.CountRows.{numbers-none, numbers-leaf}
 use borrow.Author.Rules.{rules}
 use Rattle.layout.proofs.counts.count_updates.Statement.{statement}
@@ -30,7 +30,7 @@ abbrev start : tie.In-loop invariant-loop decreases-loop → tie.Start invariant
 start c = c.before.before.before
 
 -- the record is a leaf
-childless : (c : tie.Else1 invariant-loop decreases-loop) → let t = c.before.before in let a = (start t).args in hasChild t.before.loop.i (belowWhole a.count a.groups.now) ≡ false
+childless : (c : tie.Else1 invariant-loop decreases-loop) → let t = c.before.before in let a = (start t).args in has_child t.before.loop.i (below_whole a.count a.groups.now) ≡ false
 childless c = not-true _ (holds c.before.is_IsLeaf.ensures c.if1.false)
 
 leaf : (c : tie.After-record-at invariant-loop decreases-loop) → let t = c.before.before.before in let a = (start t).args in (j : Job) (g : Planned j a.groups.now a.count a.sizes.now)
@@ -39,10 +39,10 @@ leaf c j g = let t = c.before.before.before in read g t.before.loop.i t.loop-tes
 
 loop-holds : tie.Need-loop-init invariant-loop decreases-loop
 unfolding reached
-loop-holds c = (search rules, λ j g. numbers-none j refl (getD-zeros 17))
+loop-holds c = (search rules, λ j g. numbers-none j refl (get_d_zeros 17))
 
 is-leaf-requires : tie.Need-is-leaf-requires invariant-loop decreases-loop
-is-leaf-requires c κs = let g = (start c).requires.1 in (g.groups-long, (in_order g).0, c.loop-test.true)
+is-leaf-requires c κs = let g = (start c).requires.1 in (g.groups_long, (in_order_lem g).0, c.loop-test.true)
 
 loop-again : tie.Need-loop-preserved invariant-loop decreases-loop
 loop-again c =
@@ -51,12 +51,12 @@ loop-again c =
     let a = (start t).args in (
       search rules,
       λ j g. subst (λ (p : ℕ). Numbers j p l.loop.first)
-          (sym (ap (reached a.count a.groups.now) (add-one l.loop.i) ∙ reached-group g l.loop.i t.loop-test.true (not-false _ (fails c.before.is_IsLeaf.ensures c.if1.true))))
+          (sym (ap (reached a.count a.groups.now) (add-one l.loop.i) ∙ reached_group g l.loop.i t.loop-test.true (not-false _ (fails c.before.is_IsLeaf.ensures c.if1.true))))
           (l.loop.invariant.1 j g),
     )
 
 record-at-requires : tie.Need-record-at-requires invariant-loop decreases-loop
-record-at-requires c κs = let t = c.before.before in omega (arith, (start t).requires.1.groups-long, t.loop-test.true)
+record-at-requires c κs = let t = c.before.before in omega (arith, (start t).requires.1.groups_long, t.loop-test.true)
 
 add-leaf-updates : tie.Need-overflow-add-leaf-updates invariant-loop decreases-loop
 add-leaf-updates c = let h = c.before.record-at.ensures.small in search rules

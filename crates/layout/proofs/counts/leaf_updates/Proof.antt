@@ -6,7 +6,7 @@ use native.Mathlib.Numerals.{add-one}
 use lib.ListN.{length, get_or}
 use Rattle.run.specs.Job.{Job}
 use Rattle.run.specs.Updates.{up_to}
-use Rattle.layout.specs.code.UpdateTable.{Sized, Stretch}
+use Rattle.layout.specs.Code.UpdateTable.{Sized, Stretch}
 use Rattle.layout.proofs.CountRows.{row_fits}
 use borrow.Author.Rules.{rules}
 use Rattle.layout.proofs.counts.leaf_updates.Statement.{statement}

@@ -4,13 +4,13 @@ use mathlib.Core.Path.{◌≡◌}
 use Prim.Native.Nat.{◌+◌, ◌-◌, ◌≤◌}
 use native.Mathlib.Omega.{arith}
 use lib.ListN.{length, drop}
-use Rattle.listing.specs.Listing.{firstLine}
-use Rattle.listing.proofs.FirstLine.{line-more, line-ends, line-over}
+use Rattle.listing.specs.Listing.{first_line}
+use Rattle.listing.proofs.FirstLine.{line_more, line-ends, line-over}
 use Rattle.listing.proofs.first_line.line_length.Statement.{statement}
 use Rattle.listing.proofs.first_line.line_length.Tie as tie
 
 abbrev invariant-loop : tie.invariant-loop
-invariant-loop input i₀ i = (i ≤ length input) × (i + length (firstLine (drop i input)) ≡ length (firstLine input))
+invariant-loop input i₀ i = (i ≤ length input) × (i + length (first_line (drop i input)) ≡ length (first_line input))
 
 abbrev decreases-loop : tie.decreases-loop
 decreases-loop input i₀ i = length input - i
@@ -28,7 +28,7 @@ loop-again : tie.Need-loop-preserved invariant-loop decreases-loop
 loop-again c =
     let i = c.before.before in
     let l = i.before in
-    (omega arith, omega (arith, l.loop.invariant.1, line-more l.before.args.input.now l.loop.i i.loop-test.true c.if1.false))
+    (omega arith, omega (arith, l.loop.invariant.1, line_more l.before.args.input.now l.loop.i i.loop-test.true c.if1.false))
 
 returns-2 : tie.Need-returns-2 invariant-loop decreases-loop
 returns-2 c =

@@ -6,8 +6,8 @@ use Prim.Native.Nat.{ℕ, ◌+◌}
 use lib.ListN.{drop}
 use Rattle.scan.specs.declared.numbers.Number.TheVariants as num
 use Rattle.market.specs.Fields.{numeral}
-use Rattle.scan.specs.code.Positions.{number_at}
-use Rattle.listing.proofs.FirstLine.{no-first, no_gap, other-gap, no_second, more-after, both-given}
+use Rattle.scan.specs.Code.Positions.{number_at}
+use Rattle.listing.proofs.FirstLine.{no-first, no_gap, other-gap, no_second, more_after, both-given}
 use Rattle.listing.proofs.first_line.read_parameters.Statement.{statement}
 use Rattle.listing.proofs.first_line.read_parameters.Tie as tie
 
@@ -32,11 +32,11 @@ returns c = no-first c.before.before.before.before.args.line.now (sym c.enum_tol
 returns-2 : tie.Need-returns-2
 returns-2 c = let f = c.before.before in no_gap (line f) (one f) c.if1.true
 
-returns-3 : tie.Need-returns-3
-returns-3 c = let f = c.before.before.before.before in other-gap (line f) (one f) c.if2.true
+returns_3 : tie.Need-returns-3
+returns_3 c = let f = c.before.before.before.before in other-gap (line f) (one f) c.if2.true
 
-returns-4 : tie.Need-returns-4
-returns-4 c =
+returns_4 : tie.Need-returns-4
+returns_4 c =
     let t = c.before.before.before in
     let e = t.before.before in
     let f = e.before.before in
@@ -48,7 +48,7 @@ returns-5 c =
     let t = g.before.before.before in
     let e = t.before.before in
     let f = e.before.before in
-    more-after (line f) (one f) e.if1.false t.if2.false (two g) c.if3.true
+    more_after (line f) (one f) e.if1.false t.if2.false (two g) c.if3.true
 
 returns-6 : tie.Need-returns-6
 returns-6 c =
@@ -62,5 +62,5 @@ pub read-parameters-spec : {M : Type 1} → statement M
 read-parameters-spec =
     tie.close
     (tie.spec (λ c κs. search rules) (λ c. search rules) (λ c. search rules) returns returns-2 (λ c. search rules)
-    returns-3 (λ c. search rules) (λ c κs. search rules) (λ c. search rules) (λ c. search rules) returns-4 returns-5
+    returns_3 (λ c. search rules) (λ c κs. search rules) (λ c. search rules) (λ c. search rules) returns_4 returns-5
     (λ c κs. search rules) (λ c κs. search rules) returns-6)

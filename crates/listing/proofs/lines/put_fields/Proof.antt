@@ -5,35 +5,35 @@ use mathlib.Core.List.{[], ◌∷◌}
 use Prim.Native.Nat.{◌≤◌, ◌-◌, ◌+◌}
 use native.Mathlib.Omega.{arith}
 use lib.ListN.{length, get_or, drop}
-use Rattle.market.specs.Bytes.{blank, lineFeed}
+use Rattle.market.specs.Bytes.{blank, line_feed}
 use Rattle.market.specs.Text.{natural}
-use Rattle.writer.proofs.puts.Putting.{Putting, Next, put_then, putting-start, putting-room, putting-more, putting-end}
-use Rattle.listing.proofs.Printed.{fieldsLine, fields-next, fields-last}
+use Rattle.writer.proofs.puts.Putting.{Putting, Next, put_then, putting_start, putting_room, putting_more, putting_end}
+use Rattle.listing.proofs.Printed.{fields_line, fields-next, fields-last}
 use Rattle.listing.proofs.lines.put_fields.Statement.{statement}
 use Rattle.listing.proofs.lines.put_fields.Tie as tie
 
 abbrev invariant-loop : tie.invariant-loop
-invariant-loop output₀ at numbers p₀ i₀ output p i = (i ≤ length numbers) × Putting (fieldsLine numbers) (fieldsLine (drop i numbers)) at p output₀ output
+invariant-loop output₀ at numbers p₀ i₀ output p i = (i ≤ length numbers) × Putting (fields_line numbers) (fields_line (drop i numbers)) at p output₀ output
 
 abbrev decreases-loop : tie.decreases-loop
 decreases-loop output₀ at numbers p₀ i₀ output p i = length numbers - i
 
 -- what is left begins with a space and the next number, and there is room for them
 next : (c : tie.In-loop invariant-loop decreases-loop) → let l = c.before in let ns = l.before.before.before.args.numbers.now in
-    Next (fieldsLine (drop l.loop.i ns)) (blank ∷ natural (get_or ns l.loop.i 0)) (fieldsLine (drop (l.loop.i + 1) ns))
+    Next (fields_line (drop l.loop.i ns)) (blank ∷ natural (get_or ns l.loop.i 0)) (fields_line (drop (l.loop.i + 1) ns))
 next c = let l = c.before in fields-next l.before.before.before.args.numbers.now l.loop.i c.loop-test.true
 
 room : (c : tie.In-loop invariant-loop decreases-loop) → let l = c.before in l.loop.p + length (blank ∷ natural (get_or l.before.before.before.args.numbers.now l.loop.i 0)) ≤ length l.loop.output
-room c = putting-room c.before.loop.invariant.1 (next c)
+room c = putting_room c.before.loop.invariant.1 (next c)
 
 -- the line feed is left
-last : (c : tie.After-loop invariant-loop decreases-loop) → let l = c.before in Next (fieldsLine (drop l.loop.i l.before.before.before.args.numbers.now)) (lineFeed ∷ []) []
+last : (c : tie.After-loop invariant-loop decreases-loop) → let l = c.before in Next (fields_line (drop l.loop.i l.before.before.before.args.numbers.now)) (line_feed ∷ []) []
 last c = let l = c.before in fields-last l.before.before.before.args.numbers.now l.loop.i c.loop-test.false
 
 loop-holds : tie.Need-loop-init invariant-loop decreases-loop
 loop-holds c =
     let s = c.before.before in
-    (omega arith, putting-start (fieldsLine s.args.numbers.now) s.args.at s.args.output.now s.requires)
+    (omega arith, putting_start (fields_line s.args.numbers.now) s.args.at s.args.output.now s.requires)
 
 put-byte-requires : tie.Need-put-byte-requires invariant-loop decreases-loop
 put-byte-requires c κs = let r = room c.before in omega arith
@@ -50,16 +50,16 @@ loop-again c =
     let b = n.before.before.before.before.before in
     let i = b.before.before in
     let r = room i in
-    (omega arith, putting-more i.before.loop.invariant.1 (next i) (put_then (omega arith) b.put_byte.ensures n.put-number.ensures))
+    (omega arith, putting_more i.before.loop.invariant.1 (next i) (put_then (omega arith) b.put_byte.ensures n.put-number.ensures))
 
 put-byte-requires-2 : tie.Need-put-byte-requires-2 invariant-loop decreases-loop
-put-byte-requires-2 c κs = putting-room c.before.before.loop.invariant.1 (last c.before)
+put-byte-requires-2 c κs = putting_room c.before.before.loop.invariant.1 (last c.before)
 
 returns : tie.Need-returns invariant-loop decreases-loop
 returns c =
     let b = c.before.before in
     let e = b.before.before in
-    putting-end (putting-more e.before.loop.invariant.1 (last e) b.put-byte2.ensures) refl
+    putting_end (putting_more e.before.loop.invariant.1 (last e) b.put-byte2.ensures) refl
 
 pub put-fields-spec : {M : Type 1} → statement M
 put-fields-spec =

@@ -6,43 +6,43 @@ use Prim.Native.Nat.{◌≤◌, ◌-◌, ◌+◌, ◌*◌}
 use native.Mathlib.Omega.{arith}
 use lib.ListN.{length, take, drop, length-append}
 use Rattle.market.specs.Text.{natural}
-use Rattle.writer.proofs.puts.Putting.{Putting, Next, put_then, putting-start, putting-room, putting-more, putting-end}
+use Rattle.writer.proofs.puts.Putting.{Putting, Next, put_then, putting_start, putting_room, putting_more, putting_end}
 use Rattle.plan.specs.Groups.{fields_of, records, width}
-use Rattle.plan.specs.code.Checks.{recordAt}
+use Rattle.plan.specs.Code.Checks.{record_at}
 use Rattle.plan.proofs.FlatRecords.{length-records}
-use Rattle.listing.specs.Listing.{groupLines}
-use Rattle.listing.proofs.Printed.{fieldsLine, record-part, groups-next, groups-end, groups-few}
+use Rattle.listing.specs.Listing.{group_lines}
+use Rattle.listing.proofs.Printed.{fields_line, record_part, groups-next, groups_end, groups-few}
 use Rattle.listing.proofs.lines.put_groups.Statement.{statement}
 use Rattle.listing.proofs.lines.put_groups.Tie as tie
 
 abbrev invariant-loop : tie.invariant-loop
-invariant-loop output₀ at groups count p₀ from₀ i₀ output p from i = (i ≤ count) × (from ≡ width * i) × Putting (groupLines 0 (records count groups)) (groupLines i (drop i (records count groups))) at p output₀ output
+invariant-loop output₀ at groups count p₀ from₀ i₀ output p from i = (i ≤ count) × (from ≡ width * i) × Putting (group_lines 0 (records count groups)) (group_lines i (drop i (records count groups))) at p output₀ output
 
 abbrev decreases-loop : tie.decreases-loop
 decreases-loop output₀ at groups count p₀ from₀ i₀ output p from i = count - i
 
 -- what is left begins with the next record's line, and there is room for it
 next : (c : tie.In-loop invariant-loop decreases-loop) → let l = c.before in let a = l.before.before.before.args in
-    Next (groupLines l.loop.i (drop l.loop.i (records a.count a.groups.now))) (natural l.loop.i ++ fieldsLine (fields_of (recordAt a.groups.now l.loop.i))) (groupLines (l.loop.i + 1) (drop (l.loop.i + 1) (records a.count a.groups.now)))
+    Next (group_lines l.loop.i (drop l.loop.i (records a.count a.groups.now))) (natural l.loop.i ++ fields_line (fields_of (record_at a.groups.now l.loop.i))) (group_lines (l.loop.i + 1) (drop (l.loop.i + 1) (records a.count a.groups.now)))
 next c = let l = c.before in let a = l.before.before.before.args in groups-next a.groups.now a.count l.loop.i c.loop-test.true
 
-room : (c : tie.In-loop invariant-loop decreases-loop) → let l = c.before in let g = recordAt l.before.before.before.args.groups.now l.loop.i in
-    l.loop.p + (length (natural l.loop.i) + length (fieldsLine (fields_of g))) ≤ length l.loop.output
-room c = rw length-append at (putting-room c.before.loop.invariant.2 (next c))
+room : (c : tie.In-loop invariant-loop decreases-loop) → let l = c.before in let g = record_at l.before.before.before.args.groups.now l.loop.i in
+    l.loop.p + (length (natural l.loop.i) + length (fields_line (fields_of g))) ≤ length l.loop.output
+room c = rw length-append at (putting_room c.before.loop.invariant.2 (next c))
 
 -- its record is a part of the list
 inside : (c : tie.In-loop invariant-loop decreases-loop) → let l = c.before in l.loop.from + width ≤ length l.before.before.before.args.groups.now
 inside c = let l = c.before in omega (arith, l.before.before.before.requires.0)
 
 part : (c : tie.In-loop invariant-loop decreases-loop) → let l = c.before in let ns = l.before.before.before.args.groups.now in
-    take (l.loop.from + width - l.loop.from) (drop l.loop.from ns) ≡ fields_of (recordAt ns l.loop.i)
-part c = let l = c.before in record-part l.before.before.before.args.groups.now l.loop.i l.loop.from l.loop.invariant.1 (inside c)
+    take (l.loop.from + width - l.loop.from) (drop l.loop.from ns) ≡ fields_of (record_at ns l.loop.i)
+part c = let l = c.before in record_part l.before.before.before.args.groups.now l.loop.i l.loop.from l.loop.invariant.1 (inside c)
 
 loop-holds : tie.Need-loop-init invariant-loop decreases-loop
 loop-holds c =
     let s = c.before.before in
     let gs = records s.args.count s.args.groups.now in
-    (omega arith, refl, putting-start (groupLines 0 gs) s.args.at s.args.output.now (omega (arith, s.requires.1, groups-few 0 gs, length-records s.args.count s.args.groups.now)))
+    (omega arith, refl, putting_start (group_lines 0 gs) s.args.at s.args.output.now (omega (arith, s.requires.1, groups-few 0 gs, length-records s.args.count s.args.groups.now)))
 
 put-number-requires : tie.Need-put-number-requires invariant-loop decreases-loop
 put-number-requires c κs = let r = room c.before in omega arith
@@ -75,7 +75,7 @@ loop-again c =
     let n = f.before.before.before.before.before in
     let i = n.before.before in
     let r = room i in
-    (omega arith, omega (arith, i.before.loop.invariant.1), putting-more i.before.loop.invariant.2 (next i) (put_then (omega arith) n.put-number.ensures (rw (part i) at f.put-fields.ensures)))
+    (omega arith, omega (arith, i.before.loop.invariant.1), putting_more i.before.loop.invariant.2 (next i) (put_then (omega arith) n.put-number.ensures (rw (part i) at f.put-fields.ensures)))
 
 same_length : tie.Need-same-length invariant-loop decreases-loop
 same_length c = c.before.loop.invariant.2.put.long
@@ -84,7 +84,7 @@ returns : tie.Need-returns invariant-loop decreases-loop
 returns c =
     let l = c.before in
     let a = l.before.before.before.args in
-    putting-end l.loop.invariant.2 (groups-end a.groups.now a.count l.loop.i c.loop-test.false)
+    putting_end l.loop.invariant.2 (groups_end a.groups.now a.count l.loop.i c.loop-test.false)
 
 pub put-groups-spec : {M : Type 1} → statement M
 put-groups-spec =

@@ -2,7 +2,7 @@
 use borrow.Author.Rules.{rules}
 use native.Mathlib.Omega.{arith}
 use Rattle.writer.proofs.puts.Putting.{put_then}
-use Rattle.listing.specs.Listing.{orderLine, titleLine}
+use Rattle.listing.specs.Listing.{order_line, title_line}
 use Rattle.listing.proofs.Printed.{fields-few}
 use Rattle.listing.proofs.lines.put_order.Statement.{statement}
 use Rattle.listing.proofs.lines.put_order.Tie as tie
@@ -21,7 +21,7 @@ put-bytes-requires-2 c κs =
     omega (arith, s.requires, b.put-bytes.ensures.next, b.put-bytes.ensures.long, f.put-fields.ensures.next, f.put-fields.ensures.long, fields-few s.args.order.now)
 
 returns : tie.Need-returns
-unfolding orderLine titleLine
+unfolding order_line title_line
 returns c =
     let t = c.before.before in
     let f = t.before.before.before.before.before in

@@ -3,7 +3,7 @@ use borrow.Author.Rules.{rules}
 use mathlib.Core.List.{[], ◌∷◌}
 use native.Mathlib.Omega.{arith}
 use Rattle.writer.proofs.puts.Putting.{put_then}
-use Rattle.listing.specs.Listing.{refusedLine}
+use Rattle.listing.specs.Listing.{refused_line}
 use Rattle.listing.proofs.Printed.{fields-few}
 use Rattle.listing.proofs.lines.put_refusal.Statement.{statement}
 use Rattle.listing.proofs.lines.put_refusal.Tie as tie
@@ -15,7 +15,7 @@ put-fields-requires c κs =
     omega (arith, s.requires, b.put-bytes.ensures.next, b.put-bytes.ensures.long, fields-few (s.args.number ∷ s.args.place ∷ []))
 
 returns : tie.Need-returns
-unfolding refusedLine
+unfolding refused_line
 returns c =
     let f = c.before.before in
     let b = f.before.before.before.before.before in

@@ -7,10 +7,10 @@ use lib.Dec.{eqb}
 use borrow.Author.Rules.{rules}
 use Rattle.run.specs.Job.{Job}
 use Rattle.run.specs.Job as job
-use Rattle.run.specs.Machine.{refusal, readyBelow, ready, bits}
-use Rattle.tables.specs.code.Laid.{Laid, Waits}
+use Rattle.run.specs.Machine.{refusal, ready_below, ready, bits}
+use Rattle.tables.specs.Code.Laid.{Laid, Waits}
 use Rattle.machine.proofs.TableWaits.{table-reason}
-use Rattle.machine.proofs.ReadyBits.{passing, bits-turn, ready-passing}
+use Rattle.machine.proofs.ReadyBits.{passing, bits-turn, ready_passing}
 use Rattle.machine.proofs.ready.ready_bits.Statement.{statement}
 use Rattle.machine.proofs.ready.ready_bits.Tie as tie
 
@@ -48,7 +48,7 @@ returns c =
     let a = l.before.args in
     λ j begins ends e laid waits.
     (let all : l.loop.w ≡ job.workers j = omega arith in
-    l.loop.invariant.1 j begins ends e laid waits ∙ ap bits (ready-passing j a.made.now l.loop.w) ∙ ap (λ (k : ℕ). bits (readyBelow j a.made.now k)) all)
+    l.loop.invariant.1 j begins ends e laid waits ∙ ap bits (ready_passing j a.made.now l.loop.w) ∙ ap (λ (k : ℕ). bits (ready_below j a.made.now k)) all)
 
 pub ready-bits-spec : {M : Type 1} → statement M
 ready-bits-spec =

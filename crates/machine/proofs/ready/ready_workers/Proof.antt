@@ -3,7 +3,7 @@ use mathlib.Core.Path.{◌≡◌, ap, ◌∙◌}
 use native.Mathlib.Omega.{arith}
 use borrow.Author.Rules.{rules}
 use Rattle.plan.specs.Groups.{Group}
-use Rattle.plan.specs.code.Checks.{recordAt}
+use Rattle.plan.specs.Code.Checks.{record_at}
 use Rattle.machine.proofs.BlockedLeaves.{whole-crew, waits-of}
 use Rattle.machine.proofs.ready.ready_workers.Statement.{statement}
 use Rattle.machine.proofs.ready.ready_workers.Tie as tie
@@ -13,7 +13,7 @@ abbrev start : tie.After-record-at → tie.Start
 start r = r.before.before
 
 -- it has all workers
-crew : (r : tie.After-record-at) → r.record-at.result.workers ≡ (recordAt (start r).args.groups.now 0).workers
+crew : (r : tie.After-record-at) → r.record-at.result.workers ≡ (record_at (start r).args.groups.now 0).workers
 crew r = ap (λ (g : Group). g.workers) r.record-at.ensures.is
 
 ready-bits-requires : tie.Need-ready-bits-requires

@@ -24,14 +24,14 @@ abbrev decreases-loop : tie.decreases-loop
 decreases-loop numbers limit most least inside₀ k₀ inside k = length numbers - k
 
 -- both limits fit
-most-is : (c : tie.Start invariant-loop decreases-loop) → to_z w32 c.args.limit ≡ pos c.args.limit
-most-is c = to_z_pos w32 (omega (arith, c.requires))
+most_is : (c : tie.Start invariant-loop decreases-loop) → to_z w32 c.args.limit ≡ pos c.args.limit
+most_is c = to_z_pos w32 (omega (arith, c.requires))
 
 least_fits : (c : tie.Start invariant-loop decreases-loop) → SFits w32 (pos 0 -ℤ pos c.args.limit)
 least_fits c = fits-abs (omega (arith, abs-sub (pos 0) (pos c.args.limit), c.requires))
 
 sub-least : tie.Need-overflow-sub-least invariant-loop decreases-loop
-sub-least c = rw (most-is c) (least_fits c)
+sub-least c = rw (most_is c) (least_fits c)
 
 loop-holds : tie.Need-loop-init invariant-loop decreases-loop
 loop-holds c = found_none _ _
@@ -46,7 +46,7 @@ loop-again c =
     let least = pos 0 -ℤ pos s.args.limit in
     let both : l.loop.inside && le_z least z && le_z z (pos s.args.limit) ≡ l.loop.inside && within s.args.limit z =
     and_assoc l.loop.inside (le_z least z) (le_z z (pos s.args.limit)) ∙ ap (λ (b : Bool). l.loop.inside && b) (within_both z s.args.limit) in
-    found-next _ _ (pos 0) l.loop.invariant t.loop-test.true (rw (most-is s, to_z-of_z (least_fits s), to_z-of_z f) both)
+    found-next _ _ (pos 0) l.loop.invariant t.loop-test.true (rw (most_is s, to_z-of_z (least_fits s), to_z-of_z f) both)
 
 returns : tie.Need-returns invariant-loop decreases-loop
 returns c = found_all _ _ c.before.loop.invariant c.loop-test.false

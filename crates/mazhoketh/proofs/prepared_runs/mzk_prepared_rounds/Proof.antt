@@ -1,14 +1,14 @@
 -- `mzk_prepared_rounds` meets its contract: the picks are taken, then their word is made.
 use borrow.Author.Rules.{rules}
-use Rattle.answers.specs.Runs.{roundWord}
-use Rattle.answers.proofs.RunPicks.{took-moved}
-use Rattle.rack.specs.code.Taken.{takes}
+use Rattle.answers.specs.Runs.{round_word}
+use Rattle.answers.proofs.RunPicks.{took_moved}
+use Rattle.rack.specs.Code.Taken.{takes}
 use Rattle.mazhoketh.proofs.prepared_runs.mzk_prepared_rounds.Statement.{statement}
 use Rattle.mazhoketh.proofs.prepared_runs.mzk_prepared_rounds.Tie as tie
 
 returns : tie.Need-returns
 unfolding takes
-returns c = took-moved c.before.before.before.before.before.take.ensures roundWord c.word-of-round.ensures
+returns c = took_moved c.before.before.before.before.before.take.ensures round_word c.word-of-round.ensures
 
 pub mzk-prepared-rounds-spec : {M : Type 1} → statement M
 mzk-prepared-rounds-spec = tie.close (tie.spec (λ c. search rules) (λ c. search rules) (λ c. search rules) (λ c. search rules) returns)

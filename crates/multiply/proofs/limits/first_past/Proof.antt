@@ -9,7 +9,7 @@ use Rattle.base.specs.Integers.{within}
 use mathlib.Core.Path.{◌≡◌, sym, ◌∙◌}
 use Prim.Native.Nat.{◌+◌, ◌-◌, ◌≤◌}
 use lib.ListN.{length, drop, get_or}
-use Rattle.matrix.specs.Matrix.{firstPast}
+use Rattle.matrix.specs.Matrix.{first_past}
 use Rattle.matrix.proofs.Within.{past-here, past-later, past_end}
 use native.Mathlib.Omega.{arith}
 use borrow.Author.Rules.{rules}
@@ -17,7 +17,7 @@ use Rattle.multiply.proofs.limits.first_past.Statement.{statement}
 use Rattle.multiply.proofs.limits.first_past.Tie as tie
 
 abbrev invariant-loop : tie.invariant-loop
-invariant-loop numbers limit k₀ k = (k ≤ length numbers) × (firstPast limit numbers ≡ k + firstPast limit (drop k numbers))
+invariant-loop numbers limit k₀ k = (k ≤ length numbers) × (first_past limit numbers ≡ k + first_past limit (drop k numbers))
 
 abbrev decreases-loop : tie.decreases-loop
 decreases-loop numbers limit k₀ k = length numbers - k

@@ -10,7 +10,7 @@ use mir.Facts.{to_z-of_z}
 use borrow.Author.Rules.{rules}
 use Rattle.base.specs.Integers.{sumℤ}
 use Rattle.matrix.specs.Matrix.{displacement}
-use Rattle.multiply.proofs.RowForce.{term, Turn, turn, sum_fits, row-force}
+use Rattle.multiply.proofs.RowForce.{term, Turn, turn, sum_fits, row_force}
 use Rattle.multiply.proofs.row.force.Statement.{statement}
 use Rattle.multiply.proofs.row.force.Tie as tie
 
@@ -68,7 +68,7 @@ returns c =
     let l = c.before in
     let a = l.before in
     let e : l.loop.k ≡ length a.args.columns.now = omega arith in
-    rw (l.loop.invariant.1, e) (to_z-of_z (sum_fits _ _ _ a.requires (length a.args.columns.now) (omega arith)) ∙ row-force _ _ _ a.requires)
+    rw (l.loop.invariant.1, e) (to_z-of_z (sum_fits _ _ _ a.requires (length a.args.columns.now) (omega arith)) ∙ row_force _ _ _ a.requires)
 
 pub force-spec : {M : Type 1} → statement M
 force-spec =

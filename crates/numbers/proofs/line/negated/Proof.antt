@@ -7,8 +7,8 @@ use Rattle.numbers.proofs.line.negated.Tie as tie
 returns-2 : tie.Need-returns-2
 returns-2 c = negative_fits _ _ c.before.if1.false c.if2.true
 
-returns-3 : tie.Need-returns-3
-returns-3 c = negative-past _ _ c.if2.false
+returns_3 : tie.Need-returns-3
+returns_3 c = negative-past _ _ c.if2.false
 
 pub negated-spec : {M : Type 1} → statement M
-negated-spec = tie.close (tie.spec (λ c. search rules) (λ c. search rules) (λ c. search rules) returns-2 returns-3)
+negated-spec = tie.close (tie.spec (λ c. search rules) (λ c. search rules) (λ c. search rules) returns-2 returns_3)

@@ -23,9 +23,9 @@ returns-2 c =
     let d = c.before.before in
     (read-faulty _ _ d.judged.given.0.0 d.judged.given.0.1.0 _ (sym d.judged.given.1 ∙ d.before.before.judge.ensures) c.low.ensures, refl)
 
-returns-3 : tie.Need-returns-3
+returns_3 : tie.Need-returns-3
 unfolding lent
-returns-3 c =
+returns_3 c =
     let e = c.before.before.before.before.before in
     let d = e.before.before in
     (read_fits _ _ d.judged2.given.0.0 _ (sym d.judged2.given.1 ∙ d.before.before.judge.ensures) c.low3.ensures e.if1.false, c.before.before.before.fill.ensures)
@@ -34,4 +34,4 @@ pub read_spec : {M : Type 1} → statement M
 read_spec =
     tie.close
     (tie.spec (λ c κs. search rules) (λ c. search rules) (λ c κs. search rules) (λ c. search rules)
-    (λ c κs. search rules) returns fill-requires (λ c κs. search rules) returns-2 (λ c. search rules) returns-3)
+    (λ c κs. search rules) returns fill-requires (λ c κs. search rules) returns-2 (λ c. search rules) returns_3)

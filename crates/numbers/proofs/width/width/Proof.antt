@@ -2,7 +2,7 @@
 use Rattle.std.proofs.Common.{◌≡◌, ◌+◌, ◌^◌, ◌<◌, length, arith, rules}
 use Rattle.market.specs.Text.{decimal}
 use Rattle.market.proofs.Decimal.{decimal-few}
-use Rattle.numbers.proofs.width.Widths.{length-four, length-small}
+use Rattle.numbers.proofs.width.Widths.{length_four, length-small}
 use Rattle.numbers.proofs.width.width.Statement.{statement}
 use Rattle.numbers.proofs.width.width.Tie as tie
 
@@ -16,16 +16,16 @@ add-digits : tie.Need-overflow-add-digits invariant-loop decreases-loop
 add-digits c = let l = c.before in omega (arith, l.loop.invariant.1, decimal-few 19 l.before.args.v)
 
 loop-again : tie.Need-loop-preserved invariant-loop decreases-loop
-loop-again c = let l = c.before in (omega arith, omega (arith, l.loop.invariant.1, length-four l.loop.x c.loop-test.true l.loop.invariant.0))
+loop-again c = let l = c.before in (omega arith, omega (arith, l.loop.invariant.1, length_four l.loop.x c.loop-test.true l.loop.invariant.0))
 
-add-result : tie.Need-overflow-add-result invariant-loop decreases-loop
-add-result c = let l = c.before in omega (arith, l.loop.invariant.1, length-small l.loop.x c.loop-test.false, decimal-few 19 l.before.args.v)
+add_result : tie.Need-overflow-add-result invariant-loop decreases-loop
+add_result c = let l = c.before in omega (arith, l.loop.invariant.1, length-small l.loop.x c.loop-test.false, decimal-few 19 l.before.args.v)
 
-add-result-2 : tie.Need-overflow-add-result-2 invariant-loop decreases-loop
-add-result-2 c = let l = c.before in omega (arith, l.loop.invariant.1, length-small l.loop.x c.loop-test.false, decimal-few 19 l.before.args.v)
+add_result_2 : tie.Need-overflow-add-result-2 invariant-loop decreases-loop
+add_result_2 c = let l = c.before in omega (arith, l.loop.invariant.1, length-small l.loop.x c.loop-test.false, decimal-few 19 l.before.args.v)
 
-add-result-3 : tie.Need-overflow-add-result-3 invariant-loop decreases-loop
-add-result-3 c = let l = c.before in omega (arith, l.loop.invariant.1, length-small l.loop.x c.loop-test.false, decimal-few 19 l.before.args.v)
+add_result_3 : tie.Need-overflow-add-result-3 invariant-loop decreases-loop
+add_result_3 c = let l = c.before in omega (arith, l.loop.invariant.1, length-small l.loop.x c.loop-test.false, decimal-few 19 l.before.args.v)
 
 returns : tie.Need-returns invariant-loop decreases-loop
 returns c = let l = c.before in omega (arith, l.loop.invariant.1, length-small l.loop.x c.loop-test.false)
@@ -34,4 +34,4 @@ pub width_spec : {M : Type 1} → statement M
 width_spec =
     tie.close
     (tie.spec invariant-loop decreases-loop (λ c. search rules) add-digits (λ c. search rules) loop-again (λ c. search rules)
-    add-result (λ c. search rules) add-result-2 (λ c. search rules) add-result-3 returns)
+    add_result (λ c. search rules) add_result_2 (λ c. search rules) add_result_3 returns)

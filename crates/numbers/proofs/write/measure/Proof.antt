@@ -1,10 +1,10 @@
 -- `measure` meets its contract: a turn measures one line.
 use Rattle.std.proofs.Common.{◌≡◌, ◌-◌, ltb, length, get_or, pos, ◌∙◌, arith, rules}
-use Rattle.words.specs.LittleEndian.{signedNumber, signed}
-use Rattle.words.proofs.Blocks.{length-decoded}
-use Rattle.numbers.specs.Lines.{numberLine}
+use Rattle.words.specs.LittleEndian.{signed_number, signed}
+use Rattle.words.proofs.Blocks.{length_decoded}
+use Rattle.numbers.specs.Lines.{number_line}
 use Rattle.numbers.proofs.width.Widths.{bool_small, line-few}
-use Rattle.numbers.proofs.write.Measuring.{Measuring, number-here, measure-start, measure-more, measure-short, measure-fits, measure-left}
+use Rattle.numbers.proofs.write.Measuring.{Measuring, number-here, measure_start, measure_more, measure_short, measure_fits, measure_left}
 use Rattle.numbers.proofs.write.measure.Statement.{statement}
 use Rattle.numbers.proofs.write.measure.Tie as tie
 
@@ -15,13 +15,13 @@ abbrev decreases-loop : tie.decreases-loop
 decreases-loop numbers room count needed₀ left₀ over₀ k₀ needed left over k = count - k
 
 -- the line's bytes
-line : (c : tie.After-line-width invariant-loop decreases-loop) → let l = c.before.before.before in c.line-width.result ≡ length (numberLine (get_or (signed 8 l.before.before.args.numbers.now) l.loop.k (pos 0)))
+line : (c : tie.After-line-width invariant-loop decreases-loop) → let l = c.before.before.before in c.line-width.result ≡ length (number_line (get_or (signed 8 l.before.before.args.numbers.now) l.loop.k (pos 0)))
 line c =
     let l = c.before.before.before in
     c.line-width.ensures ∙ rw (c.before.read_u64.ensures, number-here l.before.before.args.numbers.now l.loop.k c.before.before.loop-test.true)
 
 loop-holds : tie.Need-loop-init invariant-loop decreases-loop
-loop-holds c = let a = c.before.args in measure-start (signed 8 a.numbers.now) a.room
+loop-holds c = let a = c.before.args in measure_start (signed 8 a.numbers.now) a.room
 
 cast-wrapping-add-u32 : tie.Need-overflow-cast-wrapping-add-u32 invariant-loop decreases-loop
 cast-wrapping-add-u32 c = omega (arith, c.line-width.ensures, line-few c.before.read_u64.result)
@@ -37,22 +37,22 @@ loop-again c =
     let w = c.before in
     let l = w.before.before.before.before in
     let b = l.before.before.args.numbers.now in
-    rw c.least.ensures (measure-more (signed 8 b) _ l.loop.invariant (omega (arith, length-decoded (signedNumber 8) 8 b, w.before.before.before.loop-test.true)) (line w.before) w.wrapping-add-u32.ensures)
+    rw c.least.ensures (measure_more (signed 8 b) _ l.loop.invariant (omega (arith, length_decoded (signed_number 8) 8 b, w.before.before.before.loop-test.true)) (line w.before) w.wrapping-add-u32.ensures)
 
 returns : tie.Need-returns invariant-loop decreases-loop
 returns c =
     let l = c.before.before in
     let b = l.before.before.args.numbers.now in
-    measure-short (signed 8 b) _ l.loop.invariant (omega (arith, length-decoded (signedNumber 8) 8 b, c.before.loop-test.false)) c.if1.true
+    measure_short (signed 8 b) _ l.loop.invariant (omega (arith, length_decoded (signed_number 8) 8 b, c.before.loop-test.false)) c.if1.true
 
 sub-t9 : tie.Need-overflow-sub-t9 invariant-loop decreases-loop
-sub-t9 c = let l = c.before.before in omega (arith, measure-left (signed 8 l.before.before.args.numbers.now) _ l.loop.invariant c.if1.false)
+sub-t9 c = let l = c.before.before in omega (arith, measure_left (signed 8 l.before.before.args.numbers.now) _ l.loop.invariant c.if1.false)
 
 returns-2 : tie.Need-returns-2 invariant-loop decreases-loop
 returns-2 c =
     let l = c.before.before in
     let b = l.before.before.args.numbers.now in
-    measure-fits (signed 8 b) _ l.loop.invariant (omega (arith, length-decoded (signedNumber 8) 8 b, c.before.loop-test.false)) c.if1.false
+    measure_fits (signed 8 b) _ l.loop.invariant (omega (arith, length_decoded (signed_number 8) 8 b, c.before.loop-test.false)) c.if1.false
 
 pub measure-spec : {M : Type 1} → statement M
 measure-spec =

@@ -1,9 +1,9 @@
 -- `plan_in` meets its contract: the lists are decoded as far as they can reach.
 use borrow.Author.Rules.{rules}
-use Rattle.lent.specs.Bytes.{matrixIn}
-use Rattle.lent.proofs.Loads.{loaded-matrix}
+use Rattle.lent.specs.Bytes.{matrix_in}
+use Rattle.lent.proofs.Loads.{loaded_matrix}
 use Rattle.lent.proofs.Whole.{few-matrix}
-use Rattle.office.proofs.Plans.{decoded-matrix}
+use Rattle.office.proofs.Plans.{decoded_matrix}
 use Rattle.office.proofs.planning.plan_in.Statement.{statement}
 use Rattle.office.proofs.planning.plan_in.Tie as tie
 
@@ -22,7 +22,7 @@ returns c =
     let few = columns.before.before in
     let t = few.before in
     let a = (start t).args in
-    decoded-matrix (matrixIn a.n a.row-starts.now a.columns.now a.values.now) a.workers a.p a.k
+    decoded_matrix (matrix_in a.n a.row-starts.now a.columns.now a.values.now) a.workers a.p a.k
     (few-matrix a.n a.row-starts.now a.columns.now a.values.now (t.are-few.ensures few.if1.true) (starts t).Load-unsigned.ensures columns.load-unsigned2.ensures values.load_signed.ensures)
     made.plan-of.ensures
 
@@ -33,8 +33,8 @@ returns-2 c =
     let columns = values.before.before in
     let t = columns.before.before.before in
     let a = (start t).args in
-    let m = matrixIn a.n a.row-starts.now a.columns.now a.values.now in
-    decoded-matrix m a.workers a.p a.k (loaded-matrix m (starts t).Load-unsigned.ensures columns.load-unsigned3.ensures values.load-signed2.ensures) made.plan-of2.ensures
+    let m = matrix_in a.n a.row-starts.now a.columns.now a.values.now in
+    decoded_matrix m a.workers a.p a.k (loaded_matrix m (starts t).Load-unsigned.ensures columns.load-unsigned3.ensures values.load-signed2.ensures) made.plan-of2.ensures
 
 pub plan-in-spec : {M : Type 1} → statement M
 plan-in-spec =

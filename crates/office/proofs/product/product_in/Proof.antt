@@ -1,10 +1,10 @@
 -- `product_in` meets its contract: the lists are decoded as far as they can reach.
 use borrow.Author.Rules.{rules}
 use Rattle.words.specs.LittleEndian.{signed}
-use Rattle.lent.specs.Bytes.{matrixIn}
-use Rattle.lent.proofs.Loads.{loaded-matrix}
+use Rattle.lent.specs.Bytes.{matrix_in}
+use Rattle.lent.proofs.Loads.{loaded_matrix}
 use Rattle.lent.proofs.Whole.{few-matrix}
-use Rattle.office.proofs.Products.{decoded-lists}
+use Rattle.office.proofs.Products.{decoded_lists}
 use Rattle.office.proofs.product.product_in.Statement.{statement}
 use Rattle.office.proofs.product.product_in.Tie as tie
 
@@ -26,7 +26,7 @@ returns c =
     let few = columns.before.before in
     let t = few.before in
     let a = (start t).args in
-    decoded-lists (matrixIn a.n a.row-starts.now a.columns.now a.values.now) (signed 4 a.movements.now) _
+    decoded_lists (matrix_in a.n a.row-starts.now a.columns.now a.values.now) (signed 4 a.movements.now) _
     (few-matrix a.n a.row-starts.now a.columns.now a.values.now (t.are-few.ensures few.if1.true) (starts t).Load-unsigned.ensures columns.load-unsigned2.ensures values.load-signed2.ensures)
     (moves t).load_signed.ensures made.product-of.ensures
 
@@ -37,8 +37,8 @@ returns-2 c =
     let columns = values.before.before in
     let t = columns.before.before.before in
     let a = (start t).args in
-    let m = matrixIn a.n a.row-starts.now a.columns.now a.values.now in
-    decoded-lists m (signed 4 a.movements.now) _ (loaded-matrix m (starts t).Load-unsigned.ensures columns.load-unsigned3.ensures values.load-signed3.ensures) (moves t).load_signed.ensures made.product-of2.ensures
+    let m = matrix_in a.n a.row-starts.now a.columns.now a.values.now in
+    decoded_lists m (signed 4 a.movements.now) _ (loaded_matrix m (starts t).Load-unsigned.ensures columns.load-unsigned3.ensures values.load-signed3.ensures) (moves t).load_signed.ensures made.product-of2.ensures
 
 pub product-in-spec : {M : Type 1} → statement M
 product-in-spec =

@@ -9,12 +9,12 @@ use lib.Seq.{sets, take_all}
 use mir.Syntax.{w64}
 use mir.Val.{SFits, to_z, of_z}
 use mir.Facts.{to_z-of_z}
-use Rattle.words.specs.LittleEndian.{signed, signedBytesOf, signedBytes, stored}
-use Rattle.words.proofs.Digits.{length-signedBytesOf}
-use Rattle.words.proofs.Blocks.{Storing, store-none, store-more, store-all}
-use Rattle.prepared.specs.Tables.{originalBy}
-use Rattle.picking.specs.code.Reads.{loaded_at}
-use Rattle.picking.specs.code.Picks.{tablesIn}
+use Rattle.words.specs.LittleEndian.{signed, signed_bytes_of, signed_bytes, stored}
+use Rattle.words.proofs.Digits.{length-signed_bytes_of}
+use Rattle.words.proofs.Blocks.{Storing, store-none, store_more, store-all}
+use Rattle.prepared.specs.Tables.{original_by}
+use Rattle.picking.specs.Code.Reads.{loaded_at}
+use Rattle.picking.specs.Code.Picks.{tables_in}
 use Rattle.picking.proofs.Turns.{stored_is}
 use Rattle.picking.proofs.InOrder.{forces-long, force-at}
 use borrow.Author.Rules.{rules}
@@ -23,7 +23,7 @@ use Rattle.picking.proofs.forces.store_forces.Tie as tie
 
 abbrev invariant-loop : tie.invariant-loop
 invariant-loop list rows crew count sums forces₀ places i₀ forces i =
-    Storing (signedBytesOf 8) 8 (length-signedBytesOf 8) (originalBy (tablesIn list) (signed 8 sums)) forces₀ rows forces i
+    Storing (signed_bytes_of 8) 8 (length-signed_bytes_of 8) (original_by (tables_in list) (signed 8 sums)) forces₀ rows forces i
 
 abbrev decreases-loop : tie.decreases-loop
 decreases-loop list rows crew count sums forces₀ places i₀ forces i = rows - i
@@ -31,10 +31,10 @@ decreases-loop list rows crew count sums forces₀ places i₀ forces i = rows -
 loop-holds : tie.Need-loop-init invariant-loop decreases-loop
 loop-holds c =
     let a = c.before.before.before.args in
-    store-none (signedBytesOf 8) 8 (length-signedBytesOf 8) (originalBy (tablesIn a.list.now) (signed 8 a.sums.now)) a.forces.now a.rows
+    store-none (signed_bytes_of 8) 8 (length-signed_bytes_of 8) (original_by (tables_in a.list.now) (signed 8 a.sums.now)) a.forces.now a.rows
 
-loaded-fits : (x : tie.After-load-at invariant-loop decreases-loop) → SFits w64 x.load_at.result
-loaded-fits x = search rules
+loaded_fits : (x : tie.After-load-at invariant-loop decreases-loop) → SFits w64 x.load_at.result
+loaded_fits x = search rules
 
 loop-again : tie.Need-loop-preserved invariant-loop decreases-loop
 loop-again c =
@@ -47,11 +47,11 @@ loop-again c =
     let a = s.args in
     let head = s.requires.0 in
     let i = l.loop.i in
-    let forces : List ℤ = originalBy (tablesIn a.list.now) (signed 8 a.sums.now) in
+    let forces : List ℤ = original_by (tables_in a.list.now) (signed 8 a.sums.now) in
     let value : to_z w64 (of_z w64 x.load_at.result) ≡ get_or forces i (pos 0) =
-    to_z-of_z (loaded-fits x) ∙ x.load_at.ensures ∙ ap (loaded_at a.sums.now a.rows) n.number_at.ensures.0 ∙ force-at head a.sums.now s.requires.1 i t.loop-test.true in
-    store-more (signedBytesOf 8) 8 (length-signedBytesOf 8) forces a.forces.now a.rows l.loop.forces _ i (pos 0) (omega (arith, forces-long head a.sums.now)) t.loop-test.true (omega (arith, t.loop-test.true, s.requires.2))
-    (o.store_at.ensures ∙ sym (stored_is l.loop.forces a.rows i t.loop-test.true (to_z w64 (of_z w64 x.load_at.result))) ∙ ap (λ (z : ℤ). sets l.loop.forces (i * 8) (signedBytesOf 8 z)) value)
+    to_z-of_z (loaded_fits x) ∙ x.load_at.ensures ∙ ap (loaded_at a.sums.now a.rows) n.number_at.ensures.0 ∙ force-at head a.sums.now s.requires.1 i t.loop-test.true in
+    store_more (signed_bytes_of 8) 8 (length-signed_bytes_of 8) forces a.forces.now a.rows l.loop.forces _ i (pos 0) (omega (arith, forces-long head a.sums.now)) t.loop-test.true (omega (arith, t.loop-test.true, s.requires.2))
+    (o.store_at.ensures ∙ sym (stored_is l.loop.forces a.rows i t.loop-test.true (to_z w64 (of_z w64 x.load_at.result))) ∙ ap (λ (z : ℤ). sets l.loop.forces (i * 8) (signed_bytes_of 8 z)) value)
     l.loop.invariant
 
 returns : tie.Need-returns invariant-loop decreases-loop
@@ -59,10 +59,10 @@ returns c =
     let l = c.before in
     let s = l.before.before.before.before in
     let a = s.args in
-    let forces : List ℤ = originalBy (tablesIn a.list.now) (signed 8 a.sums.now) in
+    let forces : List ℤ = original_by (tables_in a.list.now) (signed 8 a.sums.now) in
     let long = forces-long s.requires.0 a.sums.now in
-    store-all (signedBytesOf 8) 8 (length-signedBytesOf 8) forces a.forces.now a.rows a.rows l.loop.forces l.loop.i (omega (arith, long)) (search rules) l.loop.invariant
-    ∙ ap (λ (zs : List ℤ). stored (signedBytes 8 zs) a.forces.now) (take_all a.rows forces (omega (arith, long)))
+    store-all (signed_bytes_of 8) 8 (length-signed_bytes_of 8) forces a.forces.now a.rows a.rows l.loop.forces l.loop.i (omega (arith, long)) (search rules) l.loop.invariant
+    ∙ ap (λ (zs : List ℤ). stored (signed_bytes 8 zs) a.forces.now) (take_all a.rows forces (omega (arith, long)))
 
 pub store-forces-spec : {M : Type 1} → statement M
 store-forces-spec =

@@ -3,13 +3,13 @@ use Rattle.picking.proofs.Turns.{behind-start, behind-turn, behind-all}
 use mathlib.Core.Path.{◌≡◌}
 use Prim.Native.Nat.{◌≤◌, ◌-◌}
 use Rattle.prepared.specs.Gates.{behind}
-use Rattle.picking.specs.code.Reads.{gateAt}
+use Rattle.picking.specs.Code.Reads.{gate_at}
 use borrow.Author.Rules.{rules}
 use Rattle.picking.proofs.gates.is_behind.Statement.{statement}
 use Rattle.picking.proofs.gates.is_behind.Tie as tie
 
 abbrev invariant-loop : tie.invariant-loop
-invariant-loop list at made late₀ v₀ late v = (v ≤ 16) × (late ≡ behind made (gateAt list at) v)
+invariant-loop list at made late₀ v₀ late v = (v ≤ 16) × (late ≡ behind made (gate_at list at) v)
 
 abbrev decreases-loop : tie.decreases-loop
 decreases-loop list at made late₀ v₀ late v = 16 - v

@@ -8,21 +8,21 @@ use lib.Dec.{leb}
 use lib.ListN.{length}
 use borrow.Author.Tests.{le-leb, lt-leb}
 use Rattle.run.specs.Updates.{count}
-use Rattle.machine.specs.code.Tests.{all_below}
-use Rattle.machine.proofs.AllBelow.{below-pass, below-fail, below_none}
+use Rattle.machine.specs.Code.Tests.{all_below}
+use Rattle.machine.proofs.AllBelow.{below-pass, below_fail, below_none}
 use Rattle.prepared.proofs.Places as at
-use Rattle.picking.specs.code.Picks.{tablesIn}
+use Rattle.picking.specs.Code.Picks.{tables_in}
 use Rattle.picking.proofs.Read.{most-read}
 use Rattle.picking.proofs.Heads.{fine-below}
 use borrow.Author.Rules.{rules}
 use Rattle.picking.proofs.head.is_fine.Statement.{statement}
 use Rattle.picking.proofs.head.is_fine.Tie as tie
 
-abbrev fineAt : (list made : List ℕ) → ℕ → Bool
-fineAt list made w = leb (count made w) ((tablesIn list).most w)
+abbrev fine_at : (list made : List ℕ) → ℕ → Bool
+fine_at list made w = leb (count made w) ((tables_in list).most w)
 
 abbrev invariant-loop : tie.invariant-loop
-invariant-loop list made w₀ w = (w ≤ 16) × (all_below (fineAt list made) w ≡ all_below (fineAt list made) 16)
+invariant-loop list made w₀ w = (w ≤ 16) × (all_below (fine_at list made) w ≡ all_below (fine_at list made) 16)
 
 abbrev decreases-loop : tie.decreases-loop
 decreases-loop list made w₀ w = w
@@ -41,7 +41,7 @@ read-u32-requires : tie.Need-read-u32-requires invariant-loop decreases-loop
 read-u32-requires c κs = omega (arith, long (entry c), low c)
 
 -- what is read is how many accesses the worker makes
-most : (r : tie.After-read-u32 invariant-loop decreases-loop) → let t = r.before in r.read_u32.result ≡ (tablesIn (entry t).args.list.now).most (t.before.loop.w - 1)
+most : (r : tie.After-read-u32 invariant-loop decreases-loop) → let t = r.before in r.read_u32.result ≡ (tables_in (entry t).args.list.now).most (t.before.loop.w - 1)
 most r = let t = r.before in let s = entry t in r.read_u32.ensures ∙ sym (most-read s.args.list.now s.pre (t.before.loop.w - 1) (low t))
 
 returns : tie.Need-returns invariant-loop decreases-loop
@@ -50,7 +50,7 @@ returns c =
     let t = r.before in
     let l = t.before in
     let a = (entry t).args in
-    below-fail (fineAt a.list.now a.made.now) l.loop.w t.loop-test.true (lt-leb _ _ (rw (most r) at c.if1.true)) ∙ l.loop.invariant.1 ∙ fine-below (tablesIn a.list.now) a.made.now 16
+    below_fail (fine_at a.list.now a.made.now) l.loop.w t.loop-test.true (lt-leb _ _ (rw (most r) at c.if1.true)) ∙ l.loop.invariant.1 ∙ fine-below (tables_in a.list.now) a.made.now 16
 
 loop-again : tie.Need-loop-preserved invariant-loop decreases-loop
 loop-again c =
@@ -58,13 +58,13 @@ loop-again c =
     let t = r.before in
     let l = t.before in
     let a = (entry t).args in
-    (search rules, below-pass (fineAt a.list.now a.made.now) l.loop.w t.loop-test.true (le-leb _ _ (rw (most r) at c.if1.false)) ∙ l.loop.invariant.1)
+    (search rules, below-pass (fine_at a.list.now a.made.now) l.loop.w t.loop-test.true (le-leb _ _ (rw (most r) at c.if1.false)) ∙ l.loop.invariant.1)
 
 returns-2 : tie.Need-returns-2 invariant-loop decreases-loop
 returns-2 c =
     let l = c.before in
     let a = l.before.before.args in
-    below_none (fineAt a.list.now a.made.now) l.loop.w (search rules) ∙ l.loop.invariant.1 ∙ fine-below (tablesIn a.list.now) a.made.now 16
+    below_none (fine_at a.list.now a.made.now) l.loop.w (search rules) ∙ l.loop.invariant.1 ∙ fine-below (tables_in a.list.now) a.made.now 16
 
 pub is-fine-spec : {M : Type 1} → statement M
 is-fine-spec =

@@ -8,21 +8,21 @@ use lib.Dec.{leb}
 use lib.ListN.{length}
 use borrow.Author.Tests.{le-leb, lt-leb}
 use Rattle.run.specs.Updates.{count}
-use Rattle.machine.specs.code.Tests.{all_below}
-use Rattle.machine.proofs.AllBelow.{below-pass, below-fail, below_none}
+use Rattle.machine.specs.Code.Tests.{all_below}
+use Rattle.machine.proofs.AllBelow.{below-pass, below_fail, below_none}
 use Rattle.prepared.proofs.Places as at
-use Rattle.picking.specs.code.Picks.{tablesIn}
+use Rattle.picking.specs.Code.Picks.{tables_in}
 use Rattle.picking.proofs.Read.{most-read}
 use Rattle.picking.proofs.Heads.{made-below}
 use borrow.Author.Rules.{rules}
 use Rattle.picking.proofs.head.is_over.Statement.{statement}
 use Rattle.picking.proofs.head.is_over.Tie as tie
 
-abbrev madeAt : (list made : List ℕ) → ℕ → Bool
-madeAt list made w = leb ((tablesIn list).most w) (count made w)
+abbrev made_at : (list made : List ℕ) → ℕ → Bool
+made_at list made w = leb ((tables_in list).most w) (count made w)
 
 abbrev invariant-loop : tie.invariant-loop
-invariant-loop list crew made w₀ w = (w ≤ crew) × (all_below (madeAt list made) w ≡ all_below (madeAt list made) crew)
+invariant-loop list crew made w₀ w = (w ≤ crew) × (all_below (made_at list made) w ≡ all_below (made_at list made) crew)
 
 abbrev decreases-loop : tie.decreases-loop
 decreases-loop list crew made w₀ w = w
@@ -53,7 +53,7 @@ read-u32-requires : tie.Need-read-u32-requires invariant-loop decreases-loop
 read-u32-requires c κs = omega (arith, long (entry c.before), low c.before)
 
 -- what is read is how many accesses the worker makes
-most : (r : tie.After-read-u32 invariant-loop decreases-loop) → let t = r.before.before in r.read_u32.result ≡ (tablesIn (entry t).args.list.now).most (t.before.loop.w - 1)
+most : (r : tie.After-read-u32 invariant-loop decreases-loop) → let t = r.before.before in r.read_u32.result ≡ (tables_in (entry t).args.list.now).most (t.before.loop.w - 1)
 most r = let t = r.before.before in let s = entry t in r.read_u32.ensures ∙ sym (most-read s.args.list.now s.pre.0 (t.before.loop.w - 1) (low t))
 
 returns : tie.Need-returns invariant-loop decreases-loop
@@ -62,7 +62,7 @@ returns c =
     let t = r.before.before in
     let l = t.before in
     let a = (entry t).args in
-    below-fail (madeAt a.list.now a.made.now) l.loop.w t.loop-test.true (lt-leb _ _ (rw (most r) at c.if1.true)) ∙ l.loop.invariant.1 ∙ made-below (tablesIn a.list.now) a.made.now a.crew
+    below_fail (made_at a.list.now a.made.now) l.loop.w t.loop-test.true (lt-leb _ _ (rw (most r) at c.if1.true)) ∙ l.loop.invariant.1 ∙ made-below (tables_in a.list.now) a.made.now a.crew
 
 loop-again : tie.Need-loop-preserved invariant-loop decreases-loop
 loop-again c =
@@ -70,13 +70,13 @@ loop-again c =
     let t = r.before.before in
     let l = t.before in
     let a = (entry t).args in
-    (search rules, below-pass (madeAt a.list.now a.made.now) l.loop.w t.loop-test.true (le-leb _ _ (rw (most r) at c.if1.false)) ∙ l.loop.invariant.1)
+    (search rules, below-pass (made_at a.list.now a.made.now) l.loop.w t.loop-test.true (le-leb _ _ (rw (most r) at c.if1.false)) ∙ l.loop.invariant.1)
 
 returns-2 : tie.Need-returns-2 invariant-loop decreases-loop
 returns-2 c =
     let l = c.before in
     let a = l.before.before.args in
-    below_none (madeAt a.list.now a.made.now) l.loop.w (search rules) ∙ l.loop.invariant.1 ∙ made-below (tablesIn a.list.now) a.made.now a.crew
+    below_none (made_at a.list.now a.made.now) l.loop.w (search rules) ∙ l.loop.invariant.1 ∙ made-below (tables_in a.list.now) a.made.now a.crew
 
 pub is-over-spec : {M : Type 1} → statement M
 is-over-spec =

@@ -3,20 +3,20 @@ use mathlib.Core.Path.{◌≡◌, ◌∙◌}
 use Prim.Native.Nat.{◌≤◌}
 use native.Mathlib.Omega.{arith}
 use lib.ListN.{length}
-use Rattle.words.specs.code.Places.{fourAt}
-use Rattle.picking.proofs.Heads.{short-list, other-mark, too_many, long-enough}
+use Rattle.words.specs.Code.Places.{four_at}
+use Rattle.picking.proofs.Heads.{short_list, other-mark, too_many, long-enough}
 use borrow.Author.Rules.{rules}
 use Rattle.picking.proofs.head.is_prepared.Statement.{statement}
 use Rattle.picking.proofs.head.is_prepared.Tie as tie
 
 returns : tie.Need-returns
-returns c = short-list c.before.before.args.list.now c.if1.true
+returns c = short_list c.before.before.args.list.now c.if1.true
 
 -- the head is there, and its mark is
 long : (c : tie.Else1) → 144 ≤ length c.before.before.args.list.now
 long c = search rules
 
-same : (c : tie.Else2) → fourAt c.before.before.before.before.args.list.now 0 ≡ 1347115597
+same : (c : tie.Else2) → four_at c.before.before.before.before.args.list.now 0 ≡ 1347115597
 same c = omega (arith, c.if2.false, c.before.read_u32.ensures)
 
 returns-2 : tie.Need-returns-2
@@ -24,14 +24,14 @@ returns-2 c =
     let l = c.before.before in
     other-mark l.before.before.args.list.now (long l) (λ q. c.if2.true (c.before.read_u32.ensures ∙ q))
 
-returns-3 : tie.Need-returns-3
-returns-3 c =
+returns_3 : tie.Need-returns-3
+returns_3 c =
     let m = c.before.before in
     let l = m.before.before in
     too_many l.before.before.args.list.now (long l) (same m) (omega (arith, c.if3.true, c.before.number_at.ensures.0))
 
-returns-4 : tie.Need-returns-4
-returns-4 c =
+returns_4 : tie.Need-returns-4
+returns_4 c =
     let x = c.before.before in
     let m = x.before.before in
     let l = m.before.before in
@@ -40,5 +40,5 @@ returns-4 c =
 pub is-prepared-spec : {M : Type 1} → statement M
 is-prepared-spec =
     tie.close
-    (tie.spec returns (λ c κs. search rules) returns-2 (λ c κs. search rules) returns-3 (λ c κs. search rules)
-    (λ c κs. search rules) (λ c. search rules) (λ c. search rules) (λ c. search rules) (λ c. search rules) returns-4)
+    (tie.spec returns (λ c κs. search rules) returns-2 (λ c κs. search rules) returns_3 (λ c κs. search rules)
+    (λ c κs. search rules) (λ c. search rules) (λ c. search rules) (λ c. search rules) (λ c. search rules) returns_4)

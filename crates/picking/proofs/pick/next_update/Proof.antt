@@ -1,7 +1,7 @@
 -- `next_update` meets its contract.
 use mathlib.Core.Path.{ap₂, ◌∙◌}
 use Prim.Native.Nat.{ℕ, ◌+◌}
-use Rattle.picking.specs.code.Reads.{updateAt}
+use Rattle.picking.specs.Code.Reads.{update_at}
 use borrow.Author.Rules.{rules}
 use Rattle.picking.proofs.pick.next_update.Statement.{statement}
 use Rattle.picking.proofs.pick.next_update.Tie as tie
@@ -11,7 +11,7 @@ returns c =
     let u = c.before in
     let n = u.before.before in
     let a = n.before.before.args in
-    c.update-at.ensures ∙ ap₂ (λ (x y : ℕ). updateAt a.list.now a.count (x + y)) n.number_at.ensures.0 u.update-number.ensures.0
+    c.update-at.ensures ∙ ap₂ (λ (x y : ℕ). update_at a.list.now a.count (x + y)) n.number_at.ensures.0 u.update-number.ensures.0
 
 pub next-update-spec : {M : Type 1} → statement M
 next-update-spec =

@@ -3,11 +3,11 @@ use mathlib.Core.Path.{◌≡◌, refl, sym, ap, ◌∙◌}
 use Prim.Native.Nat.{ℕ, suc, ◌+◌, ◌*◌, ◌^◌, ◌<◌}
 use native.Mathlib.Omega.{arith}
 use Rattle.run.specs.Updates.{Update, count}
-use Rattle.steps.proofs.TableSteps.{pick-refused}
-use Rattle.prepared.specs.Format.{gatesFrom}
-use Rattle.picking.specs.code.Reads.{updateOf, shutAt}
+use Rattle.steps.proofs.TableSteps.{pick_refused}
+use Rattle.prepared.specs.Format.{gates_from}
+use Rattle.picking.specs.Code.Reads.{update_of, shut_at}
 use Rattle.picking.proofs.Read.{Free, free, next-read}
-use Rattle.picking.proofs.Open.{seen-on}
+use Rattle.picking.proofs.Open.{seen_on}
 use borrow.Author.Rules.{rules}
 use Rattle.picking.proofs.pick.pick.Statement.{statement}
 use Rattle.picking.proofs.pick.pick.Tie as tie
@@ -15,7 +15,7 @@ use Rattle.picking.proofs.pick.pick.Tie as tie
 returns : tie.Need-returns
 returns c =
     let s = c.before.before.before.before.before.before in
-    (pick-refused _ c.before.refusal.result _ _ _ c.before.refusal.ensures c.if1.true, record { long = refl; past = refl }, s.requires.2)
+    (pick_refused _ c.before.refusal.result _ _ _ c.before.refusal.ensures c.if1.true, record { long = refl; past = refl }, s.requires.2)
 
 -- nothing refuses the pick
 abbrev start : tie.Else1 → tie.Start
@@ -56,7 +56,7 @@ access-requires c κs =
     (worker e, low e, (start e).requires.1)
 
 returns-2 : tie.Need-returns-2
-unfolding updateOf
+unfolding update_of
 returns-2 c =
     let p = c.before.before in
     let u = p.before.before.before.before in
@@ -66,8 +66,8 @@ returns-2 c =
     let f = unrefused e in
     let none_is = sym e.before.refusal.ensures ∙ none e in
     let next-is = next-read s.pre.0 a.made.now a.w f.worker ∙ sym u.next-update.ensures in
-    let row = ap (λ (v : Update). shutAt a.list.now (gatesFrom a.count) a.rows v.row a.made.now) u.next-update.ensures ∙ f.opened in
-    (rw (none_is, next-is) p.access.ensures.0, p.access.ensures.1, seen-on a.list.now a.rows a.count (worker e) p.access.ensures.0 s.pre.2 u.next-update.result.row row)
+    let row = ap (λ (v : Update). shut_at a.list.now (gates_from a.count) a.rows v.row a.made.now) u.next-update.ensures ∙ f.opened in
+    (rw (none_is, next-is) p.access.ensures.0, p.access.ensures.1, seen_on a.list.now a.rows a.count (worker e) p.access.ensures.0 s.pre.2 u.next-update.result.row row)
 
 pub pick_spec : {M : Type 1} → statement M
 pick_spec =

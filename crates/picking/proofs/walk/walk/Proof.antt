@@ -5,17 +5,17 @@ use native.Mathlib.Omega.{arith}
 use lib.ListN.{length, replicate, get_or-replicate}
 use Rattle.base.proofs.Booleans.{fails, holds}
 use Rattle.words.specs.LittleEndian.{signed}
-use Rattle.steps.specs.code.Steps.{stateWith}
-use Rattle.picking.specs.code.Picks.{tablesIn}
+use Rattle.steps.specs.Code.Steps.{state_with}
+use Rattle.picking.specs.Code.Picks.{tables_in}
 use Rattle.picking.proofs.Open.{opened-start}
-use Rattle.picking.proofs.Walks.{number-low, kept_on, Going, going_start, going-none, going-halt, going-past, going_on}
+use Rattle.picking.proofs.Walks.{number_low, kept_on, Going, going_start, going_none, going_halt, going_past, going_on}
 use borrow.Author.Rules.{rules}
 use Rattle.picking.proofs.walk.walk.Statement.{statement}
 use Rattle.picking.proofs.walk.walk.Tie as tie
 
 abbrev invariant-loop : tie.invariant-loop
 invariant-loop list rows crew count sums₀ schedule rule made₀ held₀ seen₀ taken₀ k₀ sums made held seen taken k =
-    (k ≤ length schedule) × (taken ≤ k) × Going list rows count rule (stateWith made₀ held₀ (signed 8 sums₀)) sums₀ schedule taken k made held seen sums
+    (k ≤ length schedule) × (taken ≤ k) × Going list rows count rule (state_with made₀ held₀ (signed 8 sums₀)) sums₀ schedule taken k made held seen sums
 
 abbrev decreases-loop : tie.decreases-loop
 decreases-loop list rows crew count sums₀ schedule rule made₀ held₀ seen₀ taken₀ k₀ sums made held seen taken k =
@@ -32,7 +32,7 @@ loop-holds : tie.Need-loop-init invariant-loop decreases-loop
 loop-holds c =
     let s = c.before.before.before.before.before in
     let a = s.args in
-    (search rules, search rules, going_start refl (record { made-long = (let g = s.well-formed in search rules); seen-long = refl; opened = opened-start a.list.now a.rows a.count a.state.made (replicate 16 4294967295) s.requires.0.rows-low (λ w l. get_or-replicate 16 w 4294967295 0 l) }))
+    (search rules, search rules, going_start refl (record { made_long = (let g = s.well-formed in search rules); seen_long = refl; opened = opened-start a.list.now a.rows a.count a.state.made (replicate 16 4294967295) s.requires.0.rows_low (λ w l. get_or-replicate 16 w 4294967295 0 l) }))
 
 cast-w : tie.Need-overflow-cast-w invariant-loop decreases-loop
 cast-w c = omega (arith, c.shared-slice-known3.given c.before.before.loop.k)
@@ -49,7 +49,7 @@ returns c =
     let q = p.before.before.before.before in
     let t = turn q in
     let g = t.before.loop.inv.2 in
-    (rw c.ended.ensures (going-halt g t.loop-test.taken q.pick.ensures.0 p.before.if1.true (fails p.passes.ensures c.before.if2.true)), kept_on g.kept q.pick.ensures.1, rw c.ended.ensures (number-low (tablesIn (entry t).args.list.now) q.pick.result q.pick.ensures.0))
+    (rw c.ended.ensures (going_halt g t.loop-test.taken q.pick.ensures.0 p.before.if1.true (fails p.passes.ensures c.before.if2.true)), kept_on g.kept q.pick.ensures.1, rw c.ended.ensures (number_low (tables_in (entry t).args.list.now) q.pick.result q.pick.ensures.0))
 
 add-k : tie.Need-overflow-add-k invariant-loop decreases-loop
 add-k c = let t = turn c.before.before.before.before.before in omega (arith, t.loop-test.taken, (entry t).good.1.1.1.1.1.1.0.0)
@@ -65,7 +65,7 @@ loop-again c =
     let l = t.before in (
       omega (arith, t.loop-test.taken),
       omega (arith, l.loop.inv.1),
-      going-past l.loop.inv.2 t.loop-test.taken q.pick.ensures.0 q.pick.ensures.2 q.pick.ensures.1 refl p.before.if1.true (holds p.passes.ensures c.if2.false),
+      going_past l.loop.inv.2 t.loop-test.taken q.pick.ensures.0 q.pick.ensures.2 q.pick.ensures.1 refl p.before.if1.true (holds p.passes.ensures c.if2.false),
     )
 
 none : (c : tie.Else1 invariant-loop decreases-loop) → c.before.before.before.pick.result ≡ 0
@@ -93,7 +93,7 @@ loop-again-2 c =
 returns-2 : tie.Need-returns-2 invariant-loop decreases-loop
 returns-2 c =
     let g = c.before.before.loop.invariant.2 in
-    (rw c.ended2.ensures (going-none g (search rules)), g.kept, rw c.ended2.ensures (omega arith))
+    (rw c.ended2.ensures (going_none g (search rules)), g.kept, rw c.ended2.ensures (omega arith))
 
 pub walk-spec : {M : Type 1} → statement M
 walk-spec =

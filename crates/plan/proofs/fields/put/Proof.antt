@@ -5,7 +5,7 @@ use native.Mathlib.Omega.{arith}
 use borrow.Author.Rules.{rules}
 use lib.ListN.{length-set}
 use Rattle.plan.specs.Groups.{width, fields_of, group_of}
-use Rattle.base.proofs.Stored.{stored-record}
+use Rattle.base.proofs.Stored.{stored_record}
 use Rattle.plan.proofs.fields.put.Statement.{statement}
 use Rattle.plan.proofs.fields.put.Tie as tie
 
@@ -15,7 +15,7 @@ returns c =
     let a = c.args in
     let vs = fields_of (group_of a.g) in
     rw (add-one (width * a.i), add-two (width * a.i), add-three (width * a.i), add-four (width * a.i), add_five (width * a.i), add_six (width * a.i))
-    (stored-record vs a.numbers.now a.i (search rules))
+    (stored_record vs a.numbers.now a.i (search rules))
 
 pub put_spec : {M : Type 1} → statement M
 put_spec =

@@ -2,12 +2,12 @@
 use borrow.Author.Rules.{rules}
 use mathlib.Core.Path.{ap}
 use Prim.Native.Nat.{ℕ, ◌/◌}
-use Rattle.planfile.specs.File.{freedomsIn}
+use Rattle.planfile.specs.File.{freedoms_in}
 use Rattle.planfile.proofs.judge.freedoms_in.Statement.{statement}
 use Rattle.planfile.proofs.judge.freedoms_in.Tie as tie
 
 returns : tie.Need-returns
-unfolding freedomsIn
+unfolding freedoms_in
 returns c = ap (λ (v : ℕ). v / 4) c.number_at.ensures
 
 pub freedoms-in-spec : {M : Type 1} → statement M

@@ -36,10 +36,10 @@ returns c =
     let known = table.before.before in
     let start = known.before.before in
     let a = start.args in
-    let orderBytes = each-of-get IsByte a.order.now 0 (λ i. omega (arith, known.before.shared-slice-known.given i)) in
-    let groupsBytes = each-of-get IsByte a.groups.now 0 (λ i. omega (arith, known.shared-slice-known2.given i)) in
+    let order_bytes = each-of-get IsByte a.order.now 0 (λ i. omega (arith, known.before.shared-slice-known.given i)) in
+    let groups_bytes = each-of-get IsByte a.groups.now 0 (λ i. omega (arith, known.shared-slice-known2.given i)) in
     last.copy2.ensures ∙ rw copied.copy.ensures
-    (filled a.n a.order.now a.groups.now a.count a.file.now start.requires orderBytes groupsBytes table.contents-of.ensures store.store-u32.ensures)
+    (filled a.n a.order.now a.groups.now a.count a.file.now start.requires order_bytes groups_bytes table.contents-of.ensures store.store-u32.ensures)
 
 pub fill_spec : {M : Type 1} → statement M
 fill_spec =

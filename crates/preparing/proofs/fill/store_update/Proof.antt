@@ -6,9 +6,9 @@ use lib.Seq.{sets}
 use mir.Syntax.{w64}
 use mir.Val.{SFits}
 use mir.Facts.{to_z-of_z}
-use Rattle.words.specs.LittleEndian.{bytes_of, ofSigned, signedBytesOf}
-use Rattle.words.proofs.Digits.{length-bytesOf, length-signedBytesOf}
-use Rattle.prepared.specs.Format.{bytesOfUpdate}
+use Rattle.words.specs.LittleEndian.{bytes_of, of_signed, signed_bytes_of}
+use Rattle.words.proofs.Digits.{length-bytes_of, length-signed_bytes_of}
+use Rattle.prepared.specs.Format.{bytes_of_update}
 use Rattle.preparing.proofs.Fills.{update-written}
 use borrow.Author.Rules.{rules}
 use Rattle.preparing.proofs.fill.store_update.Statement.{statement}
@@ -18,7 +18,7 @@ amount-fits : (s : tie.Start) → SFits w64 s.args.amount
 amount-fits s = search rules
 
 returns : tie.Need-returns
-unfolding bytesOfUpdate
+unfolding bytes_of_update
 returns c =
     let y = c.before.before in
     let x = y.before.before.before.before in
@@ -26,10 +26,10 @@ returns c =
     let v = w.before in
     let s = v.before.before.before in
     let a = s.args in
-    let A : List ℕ = signedBytesOf 8 a.amount in
-    let first = w.write-u64.ensures ∙ ap (λ (n : ℕ). sets a.out.now a.at (bytes_of 8 n)) (v.of-i64.ensures ∙ ap (ofSigned 8) (to_z-of_z (amount-fits s))) in
+    let A : List ℕ = signed_bytes_of 8 a.amount in
+    let first = w.write-u64.ensures ∙ ap (λ (n : ℕ). sets a.out.now a.at (bytes_of 8 n)) (v.of-i64.ensures ∙ ap (of_signed 8) (to_z-of_z (amount-fits s))) in
     y.write-u322.ensures ∙ ap (λ (l : List ℕ). sets l (a.at + 12) (bytes_of 4 a.row)) (x.write-u32.ensures ∙ ap (λ (l : List ℕ). sets l (a.at + 8) (bytes_of 4 a.target)) first)
-    ∙ update-written a.out.now A (bytes_of 4 a.target) (bytes_of 4 a.row) a.at (length-signedBytesOf 8 a.amount) (length-bytesOf 4 a.target)
+    ∙ update-written a.out.now A (bytes_of 4 a.target) (bytes_of 4 a.row) a.at (length-signed_bytes_of 8 a.amount) (length-bytes_of 4 a.target)
 
 pub store-update-spec : {M : Type 1} → statement M
 store-update-spec =

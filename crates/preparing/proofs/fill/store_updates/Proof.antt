@@ -10,18 +10,18 @@ use mir.Val.{SFits, to_z, of_z}
 use mir.Facts.{to_z-of_z}
 use Rattle.base.specs.Lists.{concat, range}
 use Rattle.run.specs.Updates.{Update}
-use Rattle.steps.specs.code.Updates.{entryPlace, targetIn, updateIn}
-use Rattle.steps.proofs.TableUpdates.{by-low}
-use Rattle.prepared.specs.Format.{bytesOfUpdate}
-use Rattle.preparing.specs.code.Filled.{updateNumber}
-use Rattle.preparing.proofs.Fills.{Filling, fill_none, fill_more, updateOf, update-long, update-pieces}
+use Rattle.steps.specs.Code.Updates.{entry_place, target_in, update_in}
+use Rattle.steps.proofs.TableUpdates.{by_low}
+use Rattle.prepared.specs.Format.{bytes_of_update}
+use Rattle.preparing.specs.Code.Filled.{update_number}
+use Rattle.preparing.proofs.Fills.{Filling, fill_none, fill_more, update_of, update-long, update_pieces}
 use borrow.Author.Rules.{rules}
 use Rattle.preparing.proofs.fill.store_updates.Statement.{statement}
 use Rattle.preparing.proofs.fill.store_updates.Tie as tie
 
 abbrev invariant-loop : tie.invariant-loop
 invariant-loop out₀ from count row begins parts displaced at beside k₀ out k =
-    Filling (updateOf (updateNumber row begins parts displaced at beside)) 16 (update-long (updateNumber row begins parts displaced at beside)) out₀ from count out k
+    Filling (update_of (update_number row begins parts displaced at beside)) 16 (update-long (update_number row begins parts displaced at beside)) out₀ from count out k
 
 abbrev decreases-loop : tie.decreases-loop
 decreases-loop out₀ from count row begins parts displaced at beside k₀ out k = count - k
@@ -29,8 +29,8 @@ decreases-loop out₀ from count row begins parts displaced at beside k₀ out k
 loop-holds : tie.Need-loop-init invariant-loop decreases-loop
 loop-holds c =
     let a = c.before.before.args in
-    let f : ℕ → Update = updateNumber a.row.now a.begins.now a.parts.now a.displaced.now a.at.now a.beside.now in
-    fill_none (updateOf f) 16 (update-long f) a.out.now a.from a.count
+    let f : ℕ → Update = update_number a.row.now a.begins.now a.parts.now a.displaced.now a.at.now a.beside.now in
+    fill_none (update_of f) 16 (update-long f) a.out.now a.from a.count
 
 -- from a turn back to the function's entry
 abbrev entry : tie.In-loop invariant-loop decreases-loop → tie.Start invariant-loop decreases-loop
@@ -61,7 +61,7 @@ record Reads (n p b begin k entry room : ℕ) : Type 0 where
   inside : entry < room
 
 reads : (x : tie.After-wide2 invariant-loop decreases-loop) → let w = x.before.before in let t = w.before.before in let s = entry t in let a = s.args in let p = w.wide.result in let k = t.before.loop.k in
-    Reads s.pre.2.0 p x.wide2.result (get_or a.begins.now p 0) k (entryPlace a.parts.now p (k - x.wide2.result)) (length a.at.now)
+    Reads s.pre.2.0 p x.wide2.result (get_or a.begins.now p 0) k (entry_place a.parts.now p (k - x.wide2.result)) (length a.at.now)
 reads x =
     let w = x.before.before in
     let t = w.before.before in
@@ -99,7 +99,7 @@ target-low y =
     let s = entry t in
     let r = reads x in
     let n : ℕ = s.pre.2.0 in
-    let low : targetIn s.args.parts.now s.args.at.now w.wide.result (t.before.loop.k - x.wide2.result) < n = by-low (t.before.loop.k - x.wide2.result) _ w.wide.result (s.pre.2.1.at_low _) r.low in
+    let low : target_in s.args.parts.now s.args.at.now w.wide.result (t.before.loop.k - x.wide2.result) < n = by_low (t.before.loop.k - x.wide2.result) _ w.wide.result (s.pre.2.1.at_low _) r.low in
     omega (arith, y.target-of.ensures, low, r.few)
 
 store-update-requires : tie.Need-store-update-requires invariant-loop decreases-loop
@@ -125,21 +125,21 @@ loop-again c =
     let l = t.before in
     let a = (entry t).args in
     let k = l.loop.k in
-    let f : ℕ → Update = updateNumber a.row.now a.begins.now a.parts.now a.displaced.now a.at.now a.beside.now in
-    let read : record { row = w.wide.result; target = y.target-of.result; amount = to_z w64 (of_z w64 z.amount-of.result) } ≡ updateIn a.parts.now a.displaced.now a.at.now a.beside.now w.wide.result (k - x.wide2.result) =
+    let f : ℕ → Update = update_number a.row.now a.begins.now a.parts.now a.displaced.now a.at.now a.beside.now in
+    let read : record { row = w.wide.result; target = y.target-of.result; amount = to_z w64 (of_z w64 z.amount-of.result) } ≡ update_in a.parts.now a.displaced.now a.at.now a.beside.now w.wide.result (k - x.wide2.result) =
     λ i. record { row = w.wide.result; target = y.target-of.ensures i; amount = (to_z-of_z (amount-fits z) ∙ z.amount-of.ensures) i } in
-    let same = read ∙ ap (λ (b : ℕ). updateIn a.parts.now a.displaced.now a.at.now a.beside.now w.wide.result (k - b)) x.wide2.ensures
-    ∙ ap (λ (q : ℕ). updateIn a.parts.now a.displaced.now a.at.now a.beside.now q (k - get_or a.begins.now q 0)) (row_is w) in
-    fill_more (updateOf f) 16 (update-long f) a.out.now a.from a.count l.loop.out _ k t.loop-test.true
-    (o.store-update.ensures ∙ ap (λ (u : Update). sets l.loop.out (a.from + k * 16) (bytesOfUpdate u)) same) l.loop.invariant
+    let same = read ∙ ap (λ (b : ℕ). update_in a.parts.now a.displaced.now a.at.now a.beside.now w.wide.result (k - b)) x.wide2.ensures
+    ∙ ap (λ (q : ℕ). update_in a.parts.now a.displaced.now a.at.now a.beside.now q (k - get_or a.begins.now q 0)) (row_is w) in
+    fill_more (update_of f) 16 (update-long f) a.out.now a.from a.count l.loop.out _ k t.loop-test.true
+    (o.store-update.ensures ∙ ap (λ (u : Update). sets l.loop.out (a.from + k * 16) (bytes_of_update u)) same) l.loop.invariant
 
 returns : tie.Need-returns invariant-loop decreases-loop
 returns c =
     let l = c.before in
     let a = l.before.before.before.args in
-    let f : ℕ → Update = updateNumber a.row.now a.begins.now a.parts.now a.displaced.now a.at.now a.beside.now in
+    let f : ℕ → Update = update_number a.row.now a.begins.now a.parts.now a.displaced.now a.at.now a.beside.now in
     let e : l.loop.k ≡ a.count = omega (arith, c.loop-test.false, l.loop.invariant.far) in
-    l.loop.invariant.is ∙ ap (λ (k : ℕ). sets a.out.now a.from (concat (map (updateOf f) (range 0 k)))) e ∙ ap (sets a.out.now a.from) (update-pieces f a.count)
+    l.loop.invariant.is ∙ ap (λ (k : ℕ). sets a.out.now a.from (concat (map (update_of f) (range 0 k)))) e ∙ ap (sets a.out.now a.from) (update_pieces f a.count)
 
 pub store-updates-spec : {M : Type 1} → statement M
 store-updates-spec =

@@ -3,8 +3,8 @@ use mathlib.Core.Path.{◌≡◌, ap, subst}
 use Prim.Native.Nat.{ℕ, ◌-◌, ◌≤◌, ◌<◌}
 use native.Mathlib.Omega.{arith}
 use Rattle.plan.specs.Groups.{Group}
-use Rattle.plan.specs.code.Checks.{ofRecord}
-use Rattle.preparing.specs.code.Gates.{Gated}
+use Rattle.plan.specs.Code.Checks.{of_record}
+use Rattle.preparing.specs.Code.Gates.{Gated}
 use Rattle.preparing.proofs.Passes.{gated-none, gated-next}
 use borrow.Author.Rules.{rules}
 use Rattle.preparing.proofs.gates.gates_down.Statement.{statement}
@@ -47,7 +47,7 @@ loop-again c =
     let a = s.args in (
       search rules,
       search rules,
-      gated-next a.count a.groups.now s.requires l.loop.i (ofRecord r.record-at.result) r.record-at.ensures.is l.loop.invariant.0 t.loop-test.true a.reds.now l.loop.gates c.gate-if.result c.gate-if.ensures l.loop.invariant.2,
+      gated-next a.count a.groups.now s.requires l.loop.i (of_record r.record-at.result) r.record-at.ensures.is l.loop.invariant.0 t.loop-test.true a.reds.now l.loop.gates c.gate-if.result c.gate-if.ensures l.loop.invariant.2,
     )
 
 returns : tie.Need-returns invariant-loop decreases-loop

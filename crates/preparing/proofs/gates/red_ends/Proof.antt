@@ -4,9 +4,9 @@ use Prim.Native.Nat.{◌-◌, ◌≤◌, ◌<◌}
 use native.Mathlib.Omega.{arith}
 use lib.ListN.{get_or}
 use Rattle.plan.specs.Groups.{Group}
-use Rattle.plan.specs.code.Checks.{ofRecord}
-use Rattle.preparing.specs.code.Gates.{lastIf}
-use Rattle.preparing.proofs.Passes.{Backward, backward-none, backward-next, backward-all}
+use Rattle.plan.specs.Code.Checks.{of_record}
+use Rattle.preparing.specs.Code.Gates.{last_if}
+use Rattle.preparing.proofs.Passes.{Backward, backward_none, backward_next, backward_all}
 use borrow.Author.Rules.{rules}
 use Rattle.preparing.proofs.gates.red_ends.Statement.{statement}
 use Rattle.preparing.proofs.gates.red_ends.Tie as tie
@@ -21,7 +21,7 @@ loop-holds : tie.Need-loop-init invariant-loop decreases-loop
 loop-holds c =
     let s = c.before in
     let a = s.args in
-    (s.requires.some, search rules, backward-none a.count a.groups.now a.ends.now a.v)
+    (s.requires.some, search rules, backward_none a.count a.groups.now a.ends.now a.v)
 
 -- the parent's number is an index
 parent-low : (c : tie.After-record-at invariant-loop decreases-loop) → c.record-at.result.parent < 512
@@ -70,16 +70,16 @@ loop-again c =
     let a = s.args in (
       search rules,
       search rules,
-      backward-next a.count a.groups.now a.ends.now a.v s.requires l.loop.i t.loop-test.true l.loop.invariant.1 (ofRecord r.record-at.result) r.record-at.ensures.is
+      backward_next a.count a.groups.now a.ends.now a.v s.requires l.loop.i t.loop-test.true l.loop.invariant.1 (of_record r.record-at.result) r.record-at.ensures.is
           l.loop.parents l.loop.lasts l.loop.reds o.last-if.result q.red-last.result x.larger.result c.larger2.result
-          (o.last-if.ensures ∙ ap (lastIf (get_or l.loop.parents (l.loop.i - 1) 0) (get_or l.loop.lasts (l.loop.i - 1) 0)) n.own-end.ensures) q.red-last.ensures x.larger.ensures c.larger2.ensures l.loop.invariant.2,
+          (o.last-if.ensures ∙ ap (last_if (get_or l.loop.parents (l.loop.i - 1) 0) (get_or l.loop.lasts (l.loop.i - 1) 0)) n.own-end.ensures) q.red-last.ensures x.larger.ensures c.larger2.ensures l.loop.invariant.2,
     )
 
 returns : tie.Need-returns invariant-loop decreases-loop
 returns c =
     let l = c.before in
     let a = l.before.before.args in
-    backward-all a.count a.groups.now a.ends.now a.v l.loop.i (search rules) l.loop.parents l.loop.lasts l.loop.reds l.loop.invariant.2
+    backward_all a.count a.groups.now a.ends.now a.v l.loop.i (search rules) l.loop.parents l.loop.lasts l.loop.reds l.loop.invariant.2
 
 pub red-ends-spec : {M : Type 1} → statement M
 red-ends-spec =

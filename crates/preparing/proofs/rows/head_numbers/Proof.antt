@@ -2,8 +2,8 @@
 use mathlib.Core.Path.{◌≡◌, refl, subst}
 use Prim.Native.Nat.{ℕ, ◌-◌, ◌≤◌}
 use lib.ListN.{replicate}
-use Rattle.preparing.specs.code.Rows.{HeadTo}
-use Rattle.preparing.proofs.Heads.{head-none, head-next}
+use Rattle.preparing.specs.Code.Rows.{HeadTo}
+use Rattle.preparing.proofs.Heads.{head_none, head_next}
 use borrow.Author.Rules.{rules}
 use Rattle.preparing.proofs.rows.head_numbers.Statement.{statement}
 use Rattle.preparing.proofs.rows.head_numbers.Tie as tie
@@ -15,7 +15,7 @@ abbrev decreases-loop : tie.decreases-loop
 decreases-loop n workers first head₀ w₀ head w = 16 - w
 
 loop-holds : tie.Need-loop-init invariant-loop decreases-loop
-loop-holds c = let a = c.before.args in (search rules, head-none a.n a.workers a.first.now (replicate 36 0) refl)
+loop-holds c = let a = c.before.args in (search rules, head_none a.n a.workers a.first.now (replicate 36 0) refl)
 
 accesses-requires : tie.Need-accesses-requires invariant-loop decreases-loop
 accesses-requires c κs = (c.loop-test.true, c.before.before.before.requires)
@@ -26,7 +26,7 @@ loop-again c =
     let t = x.before in
     let l = t.before in
     let a = l.before.before.args in
-    (search rules, head-next a.n a.workers a.first.now l.loop.w x.accesses.result l.loop.head t.loop-test.true x.accesses.ensures l.loop.invariant.1)
+    (search rules, head_next a.n a.workers a.first.now l.loop.w x.accesses.result l.loop.head t.loop-test.true x.accesses.ensures l.loop.invariant.1)
 
 returns : tie.Need-returns invariant-loop decreases-loop
 returns c =

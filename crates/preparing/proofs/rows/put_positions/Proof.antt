@@ -5,7 +5,7 @@ use native.Mathlib.Omega.{arith}
 use lib.ListN.{length, get_or, take, set}
 use lib.Seq.{get_or-take}
 use Rattle.plan.proofs.Once.{Once, once}
-use Rattle.preparing.specs.code.Rows.{Positions}
+use Rattle.preparing.specs.Code.Rows.{Positions}
 use Rattle.preparing.proofs.Heads.{positions-none, positions-next, row_below}
 use borrow.Author.Rules.{rules}
 use Rattle.preparing.proofs.rows.put_positions.Statement.{statement}

@@ -1,7 +1,7 @@
 -- `all_gates` meets its contract: v columns are put.
 use mathlib.Core.Path.{◌≡◌, refl, subst}
 use Prim.Native.Nat.{ℕ, ◌-◌, ◌≤◌}
-use Rattle.preparing.specs.code.Gates.{AllGates}
+use Rattle.preparing.specs.Code.Gates.{AllGates}
 use Rattle.preparing.proofs.Columns.{columns-none, columns-next}
 use borrow.Author.Rules.{rules}
 use Rattle.preparing.proofs.table.all_gates.Statement.{statement}

@@ -1,7 +1,7 @@
 -- `put_column` meets its contract: i gates are put.
 use mathlib.Core.Path.{◌≡◌, subst}
 use Prim.Native.Nat.{ℕ, ◌-◌, ◌≤◌}
-use Rattle.preparing.specs.code.Gates.{Column}
+use Rattle.preparing.specs.Code.Gates.{Column}
 use Rattle.preparing.proofs.Columns.{column-none, column-next}
 use borrow.Author.Rules.{rules}
 use Rattle.preparing.proofs.table.put_column.Statement.{statement}

@@ -2,8 +2,8 @@
 use borrow.Author.Rules.{rules}
 use mathlib.Core.List.{[]}
 use lib.ListN.{take}
-use Rattle.turns.specs.Records.{statesOf}
-use Rattle.quarters.specs.Both.{replyToBoth}
+use Rattle.turns.specs.Records.{states_of}
+use Rattle.quarters.specs.Both.{reply_to_both}
 use Rattle.quarters.proofs.BothIn.{stored-left}
 use Rattle.quarters.proofs.bytes.store_both.Statement.{statement}
 use Rattle.quarters.proofs.bytes.store_both.Tie as tie
@@ -25,12 +25,12 @@ word-of-requires : tie.Need-word-of-requires
 word-of-requires c κs = (start (first c.before.before.before.before)).requires.low
 
 returns : tie.Need-returns
-unfolding replyToBoth
+unfolding reply_to_both
 returns c =
     let l1 = c.before.before.before.before.before in
     let l0 = first l1 in
     let a = (start l0).args in
-    let s = statesOf a.done.crews (take a.n a.new0.now) (take a.n a.new1.now) in
+    let s = states_of a.done.crews (take a.n a.new0.now) (take a.n a.new1.now) in
     record {
       returns = c.word_of.ensures [];
       left0 = stored-left a.done.answer a.new0.now s.of0 (record { state = a.state0.now; sums = a.sums0.now }) l0.store-picks.ensures.0 l0.store-picks.ensures.1;

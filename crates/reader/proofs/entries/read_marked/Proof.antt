@@ -8,12 +8,12 @@ use mir.Syntax.{w32}
 use mir.Val.{SFits}
 use mir.Facts.{to_z-of_z}
 use Rattle.reader.specs.declared.entry.Entry.TheVariants as line
-use Rattle.market.specs.Parse.{isAmong}
-use Rattle.compress.specs.code.Arrays.{tripletsOf}
-use Rattle.reader.specs.code.Entries.{EntryAt, remaining}
-use Rattle.reader.specs.code.Marks.{isMarked}
+use Rattle.market.specs.Parse.{is_among}
+use Rattle.compress.specs.Code.Arrays.{triplets_of}
+use Rattle.reader.specs.Code.Entries.{EntryAt, remaining}
+use Rattle.reader.specs.Code.Marks.{is_marked}
 use Rattle.reader.proofs.marks.Triangle.{marks-none}
-use Rattle.reader.proofs.entries.Turns.{all_read, refused-line, again-line}
+use Rattle.reader.proofs.entries.Turns.{all_read, refused-line, again_line}
 use Rattle.reader.proofs.entries.Marking.{Going, going_more}
 use Rattle.reader.proofs.entries.read_marked.Statement.{statement}
 use Rattle.reader.proofs.entries.read_marked.Tie as tie
@@ -50,11 +50,11 @@ in-range : (c : tie.After-known-told2 invariant-loop decreases-loop) → SFits w
 in-range c = search rules
 
 -- what mark answered: whether an earlier line has the place
-was : (c : tie.After-mark invariant-loop decreases-loop) → let f = c.before.before.before.before in let l = f.before.before.before.before in isAmong (tripletsOf l.loop.i l.loop.rows l.loop.columns l.loop.values) (row f) (column f) ≡ c.mark.result
+was : (c : tie.After-mark invariant-loop decreases-loop) → let f = c.before.before.before.before in let l = f.before.before.before.before in is_among (triplets_of l.loop.i l.loop.rows l.loop.columns l.loop.values) (row f) (column f) ≡ c.mark.result
 was c =
     let f = c.before.before.before.before in
     let l = f.before.before.before.before in
-    sym (l.loop.invariant.marks.each (row f) (column f) (found f).0) ∙ ap (isMarked l.loop.marks) (sym c.before.bit-of.ensures.0) ∙ sym c.mark.ensures.0
+    sym (l.loop.invariant.marks.each (row f) (column f) (found f).0) ∙ ap (is_marked l.loop.marks) (sym c.before.bit-of.ensures.0) ∙ sym c.mark.ensures.0
 
 mark-all-requires : tie.Need-mark-all-requires invariant-loop decreases-loop
 mark-all-requires c κs =
@@ -88,7 +88,7 @@ returns-2 c =
     let l = t.before in
     let a = (start_of l).args in
     let g = l.loop.invariant in
-    (sym g.same ∙ again-line g.held a.s.now l.loop.p t.loop-test.true (value f) (next f) (found f) (was c.before ∙ c.if1.true) a.line, g.held.arrays)
+    (sym g.same ∙ again_line g.held a.s.now l.loop.p t.loop-test.true (value f) (next f) (found f) (was c.before ∙ c.if1.true) a.line, g.held.arrays)
 
 loop-again : tie.Need-loop-preserved invariant-loop decreases-loop
 loop-again c =
@@ -98,8 +98,8 @@ loop-again c =
     let t = f.before.before.before in
     going_more t.before.loop.invariant t.loop-test.true (next f) (found f) (to_z-of_z (in-range k)) (was c.before ∙ c.if1.false) b.bit-of.ensures.0 b.bit-of.ensures.1 c.before.mark.ensures.1
 
-returns-3 : tie.Need-returns-3 invariant-loop decreases-loop
-returns-3 c =
+returns_3 : tie.Need-returns-3 invariant-loop decreases-loop
+returns_3 c =
     let l = c.before.before in
     let a = (start_of l).args in
     let g = l.loop.invariant in
@@ -111,4 +111,4 @@ read-marked-spec =
     (tie.spec invariant-loop decreases-loop mark-all-requires loop-holds (λ c. search rules) (λ c. search rules)
     (λ c κs. search rules) (λ c. search rules) returns (λ c. search rules) bit-of-requires mark-requires returns-2
     (λ c. search rules) (λ c. search rules) (λ c. search rules) (λ c. search rules) (λ c. search rules)
-    (λ c. search rules) (λ c. search rules) (λ c. search rules) loop-again (λ c κs. search rules) returns-3)
+    (λ c. search rules) (λ c. search rules) (λ c. search rules) loop-again (λ c κs. search rules) returns_3)

@@ -8,8 +8,8 @@ use mir.Syntax.{w32}
 use mir.Val.{SFits}
 use mir.Facts.{to_z-of_z}
 use Rattle.reader.specs.declared.entry.Entry.TheVariants as line
-use Rattle.reader.specs.code.Entries.{EntryAt}
-use Rattle.reader.proofs.entries.Rising.{Sorted, sorted-start, sorted_more}
+use Rattle.reader.specs.Code.Entries.{EntryAt}
+use Rattle.reader.proofs.entries.Rising.{Sorted, sorted_start, sorted_more}
 use Rattle.reader.proofs.entries.read_sorted.Statement.{statement}
 use Rattle.reader.proofs.entries.read_sorted.Tie as tie
 
@@ -42,7 +42,7 @@ in-range : (c : tie.After-known-told invariant-loop decreases-loop) → SFits w3
 in-range c = search rules
 
 loop-holds : tie.Need-loop-init invariant-loop decreases-loop
-loop-holds c = let a = c.before.args in sorted-start a.s.now a.at a.n a.m a.rows.now a.columns.now a.values.now c.before.requires
+loop-holds c = let a = c.before.args in sorted_start a.s.now a.at a.n a.m a.rows.now a.columns.now a.values.now c.before.requires
 
 returns : tie.Need-returns invariant-loop decreases-loop
 returns c = let g = c.before.before.before.before.loop.invariant in (g.held, g.same)
@@ -65,12 +65,12 @@ loop-again c =
     let t = f.before.before.before in
     sorted_more t.before.loop.invariant t.loop-test.true (row f) (column f) (next f) (found f) (to_z-of_z (in-range c.before)) c.if1.false
 
-returns-3 : tie.Need-returns-3 invariant-loop decreases-loop
-returns-3 c = let g = c.before.loop.invariant in (g.held, g.same)
+returns_3 : tie.Need-returns-3 invariant-loop decreases-loop
+returns_3 c = let g = c.before.loop.invariant in (g.held, g.same)
 
 pub read-sorted-spec : {M : Type 1} → statement M
 read-sorted-spec =
     tie.close
     (tie.spec invariant-loop decreases-loop loop-holds (λ c κs. search rules) (λ c. search rules) (λ c. search rules) returns
     mul-key add-key returns-2 (λ c. search rules) (λ c. search rules) (λ c. search rules) (λ c. search rules)
-    (λ c. search rules) (λ c. search rules) add_low (λ c. search rules) (λ c. search rules) loop-again returns-3)
+    (λ c. search rules) (λ c. search rules) add_low (λ c. search rules) (λ c. search rules) loop-again returns_3)

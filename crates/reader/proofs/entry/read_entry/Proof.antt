@@ -12,10 +12,10 @@ use mir.Facts.{to_z-of_z}
 use borrow.Author.Tests.{not-true, not-false}
 use Rattle.scan.specs.declared.lines.Fields.TheVariants as fld
 use Rattle.market.specs.Fields.{fields}
-use Rattle.market.specs.Parse.{isEntry}
-use Rattle.scan.specs.code.Positions.{fields_at}
+use Rattle.market.specs.Parse.{is_entry}
+use Rattle.scan.specs.Code.Positions.{fields_at}
 use Rattle.market.proofs.Inside.{Inside, inside, inside-fits}
-use Rattle.reader.proofs.entry.Entered.{broken-line, bad-line, good-line}
+use Rattle.reader.proofs.entry.Entered.{broken-line, bad_line, good_line}
 use Rattle.reader.proofs.entry.read_entry.Statement.{statement}
 use Rattle.reader.proofs.entry.read_entry.Tie as tie
 
@@ -42,10 +42,10 @@ in-range : (c : tie.After-known-told) → SFits w64 (value c.before)
 in-range c = search rules
 
 -- what is_entry answered
-answer : (c : tie.After-is-entry) → let f = c.before.before in c.is-entry.result ≡ isEntry (start_of f).args.n (row f) (column f) (value f)
+answer : (c : tie.After-is-entry) → let f = c.before.before in c.is-entry.result ≡ is_entry (start_of f).args.n (row f) (column f) (value f)
 answer c = rw (to_z-of_z (in-range c.before)) at c.is-entry.ensures
 
-is_one : (c : tie.Else1) → let f = c.before.before.before in isEntry (start_of f).args.n (row f) (column f) (value f) ≡ true
+is_one : (c : tie.Else1) → let f = c.before.before.before in is_entry (start_of f).args.n (row f) (column f) (value f) ≡ true
 is_one c = sym (answer c.before) ∙ not-false c.before.is-entry.result c.if1.false
 
 entry : (c : tie.Else1) → let f = c.before.before.before in Inside (start_of f).args.n (row f) (column f) (value f)
@@ -58,7 +58,7 @@ returns-2 : tie.Need-returns-2
 returns-2 c =
     let f = c.before.before.before in
     let a = (start_of f).args in
-    bad-line a.s.now a.at a.n (found f) (sym (answer c.before) ∙ not-true c.before.is-entry.result c.if1.true)
+    bad_line a.s.now a.at a.n (found f) (sym (answer c.before) ∙ not-true c.before.is-entry.result c.if1.true)
 
 sub-t11 : tie.Need-overflow-sub-t11
 sub-t11 c = let m = entry c in omega (arith, m.first, m.below)
@@ -77,14 +77,14 @@ cast-t15 c =
     let f = c.before.before.before in
     rw (to_z-of_z (in-range c.before.before)) (inside-fits _ (row f) (column f) (value f) (entry c))
 
-returns-3 : tie.Need-returns-3
-returns-3 c =
+returns_3 : tie.Need-returns-3
+returns_3 c =
     let f = c.before.before.before in
     let a = (start_of f).args in
-    good-line a.s.now a.at a.n (found f) (is_one c) (simp (to_z-of_z (in-range c.before.before), to_z-of_z (inside-fits _ (row f) (column f) (value f) (entry c))))
+    good_line a.s.now a.at a.n (found f) (is_one c) (simp (to_z-of_z (in-range c.before.before), to_z-of_z (inside-fits _ (row f) (column f) (value f) (entry c))))
 
 pub read-entry-spec : {M : Type 1} → statement M
 read-entry-spec =
     tie.close
     (tie.spec (λ c κs. search rules) (λ c. search rules) (λ c. search rules) returns (λ c κs. search rules) returns-2
-    sub-t11 cast-t12 sub-t13 cast-t14 cast-t15 returns-3)
+    sub-t11 cast-t12 sub-t13 cast-t14 cast-t15 returns_3)

@@ -7,21 +7,21 @@ use native.Mathlib.Omega.{arith}
 use lib.IntN.{ℤ, pos}
 use lib.ListN.{get_or}
 use Rattle.market.specs.Parse.{triplet}
-use Rattle.compress.specs.code.Arrays.{tripletsOf}
-use Rattle.reader.specs.code.Marks.{Marks}
-use Rattle.reader.proofs.marks.Triangle.{marks-more}
-use Rattle.reader.proofs.entries.Triplets.{triplets-none, triplets-next}
+use Rattle.compress.specs.Code.Arrays.{triplets_of}
+use Rattle.reader.specs.Code.Marks.{Marks}
+use Rattle.reader.proofs.marks.Triangle.{marks_more}
+use Rattle.reader.proofs.entries.Triplets.{triplets_none, triplets_next}
 use Rattle.reader.proofs.marks.mark_all.Statement.{statement}
 use Rattle.reader.proofs.marks.mark_all.Tie as tie
 
 abbrev invariant-loop : tie.invariant-loop
-invariant-loop rows columns count marks₀ k₀ marks k = (k ≤ count) × ((vs : List ℤ) → Marks marks (tripletsOf k rows columns vs))
+invariant-loop rows columns count marks₀ k₀ marks k = (k ≤ count) × ((vs : List ℤ) → Marks marks (triplets_of k rows columns vs))
 
 abbrev decreases-loop : tie.decreases-loop
 decreases-loop rows columns count marks₀ k₀ marks k = count - k
 
 loop-holds : tie.Need-loop-init invariant-loop decreases-loop
-loop-holds c = (omega arith, λ vs. rw (triplets-none c.args.rows.now c.args.columns.now vs) c.requires.4)
+loop-holds c = (omega arith, λ vs. rw (triplets_none c.args.rows.now c.args.columns.now vs) c.requires.4)
 
 bit-of-requires : tie.Need-bit-of-requires invariant-loop decreases-loop
 bit-of-requires c κs = let l = c.before.before.before.before in l.before.requires.3 l.loop.k c.before.before.before.loop-test.true
@@ -37,8 +37,8 @@ loop-again c =
     let a = l.before.args in
     let k = l.loop.k in (
       omega arith,
-      λ vs. rw (triplets-next k a.rows.now a.columns.now vs)
-          (marks-more (l.loop.invariant.1 vs) (triplet (get_or a.rows.now k 0) (get_or a.columns.now k 0) (get_or vs k (pos 0))) (l.before.requires.3 k t.loop-test.true).0 b.bit-of.ensures.0 b.bit-of.ensures.1 c.mark.ensures.1),
+      λ vs. rw (triplets_next k a.rows.now a.columns.now vs)
+          (marks_more (l.loop.invariant.1 vs) (triplet (get_or a.rows.now k 0) (get_or a.columns.now k 0) (get_or vs k (pos 0))) (l.before.requires.3 k t.loop-test.true).0 b.bit-of.ensures.0 b.bit-of.ensures.1 c.mark.ensures.1),
     )
 
 returns : tie.Need-returns invariant-loop decreases-loop
@@ -46,7 +46,7 @@ returns c vs =
     let l = c.before in
     let a = l.before.args in
     let e : l.loop.k ≡ a.count = omega (arith, l.loop.invariant.0) in
-    subst (λ (k : ℕ). Marks l.loop.marks (tripletsOf k a.rows.now a.columns.now vs)) e (l.loop.invariant.1 vs)
+    subst (λ (k : ℕ). Marks l.loop.marks (triplets_of k a.rows.now a.columns.now vs)) e (l.loop.invariant.1 vs)
 
 pub mark-all-spec : {M : Type 1} → statement M
 mark-all-spec =

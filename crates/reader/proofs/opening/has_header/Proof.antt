@@ -6,7 +6,7 @@ use native.Mathlib.Omega.{arith}
 use lib.ListN.{length, drop}
 use Rattle.base.specs.Lists.{begins}
 use Rattle.market.specs.Bytes.{header}
-use Rattle.base.proofs.Begins.{begins-more, begins-bad, begins-short, begins-end}
+use Rattle.base.proofs.Begins.{begins_more, begins_bad, begins-short, begins_end}
 use Rattle.reader.proofs.opening.has_header.Statement.{statement}
 use Rattle.reader.proofs.opening.has_header.Tie as tie
 
@@ -36,21 +36,21 @@ returns-2 : tie.Need-returns-2 invariant-loop decreases-loop
 unfolding header
 returns-2 c =
     let l = c.before.before.before.before in
-    sym (begins-bad l.before.args.s.now header l.loop.i (in-header l.loop.i c.before.before.before.loop-test.true) c.before.before.if1.false c.if2.true) ∙ l.loop.invariant.1
+    sym (begins_bad l.before.args.s.now header l.loop.i (in-header l.loop.i c.before.before.before.loop-test.true) c.before.before.if1.false c.if2.true) ∙ l.loop.invariant.1
 
 loop-again : tie.Need-loop-preserved invariant-loop decreases-loop
 unfolding header
 loop-again c =
     let l = c.before.before.before.before in
-    (omega arith, sym (begins-more l.before.args.s.now header l.loop.i (in-header l.loop.i c.before.before.before.loop-test.true) c.before.before.if1.false c.if2.false) ∙ l.loop.invariant.1)
+    (omega arith, sym (begins_more l.before.args.s.now header l.loop.i (in-header l.loop.i c.before.before.before.loop-test.true) c.before.before.if1.false c.if2.false) ∙ l.loop.invariant.1)
 
-returns-3 : tie.Need-returns-3 invariant-loop decreases-loop
-returns-3 c =
+returns_3 : tie.Need-returns-3 invariant-loop decreases-loop
+returns_3 c =
     let l = c.before in
-    sym (begins-end l.before.args.s.now header l.loop.i (past-header l.loop.i c.loop-test.false)) ∙ l.loop.invariant.1
+    sym (begins_end l.before.args.s.now header l.loop.i (past-header l.loop.i c.loop-test.false)) ∙ l.loop.invariant.1
 
 pub has-header-spec : {M : Type 1} → statement M
 has-header-spec =
     tie.close
     (tie.spec invariant-loop decreases-loop loop-holds returns (λ c. search rules) (λ c. search rules) returns-2 (λ c. search rules)
-    (λ c. search rules) loop-again returns-3)
+    (λ c. search rules) loop-again returns_3)

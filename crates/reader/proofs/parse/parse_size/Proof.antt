@@ -15,10 +15,10 @@ use borrow.Author.Tests.{not-true, not-false}
 use Rattle.base.specs.Refusals as why
 use Rattle.scan.specs.declared.lines.Fields.TheVariants as fld
 use Rattle.market.specs.Fields.{fields}
-use Rattle.market.specs.Parse.{rejected, sizeLine, entries}
-use Rattle.scan.specs.code.Positions.{fields_at}
+use Rattle.market.specs.Parse.{rejected, size_line, entries}
+use Rattle.scan.specs.Code.Positions.{fields_at}
 use Rattle.base.proofs.Integers.{not_negative}
-use Rattle.reader.proofs.parse.Sizes.{fits-natural, size-broken, size-negative, size-tested, size-limits}
+use Rattle.reader.proofs.parse.Sizes.{fits-natural, size-broken, size-negative, size_tested, size_limits}
 use Rattle.reader.proofs.parse.parse_size.Statement.{statement}
 use Rattle.reader.proofs.parse.parse_size.Tie as tie
 
@@ -49,12 +49,12 @@ positive : (c : tie.Else1) → lt_z (value c.before.before) (pos 0) ≡ false
 positive c = simp (to_z-of_z (in-range c.before)) at c.if1.false
 
 -- the size is tested
-tested : (c : tie.After-is-size) → let f = c.before.before.before in let a = f.before.before.before.before.args in sizeLine a.line (drop a.pos a.s.now) ≡ cond c.is-size.result (entries (row f) (count f) (a.line + 1) [] (drop (next f) a.s.now)) (rejected why.badSize a.line)
+tested : (c : tie.After-is-size) → let f = c.before.before.before in let a = f.before.before.before.before.args in size_line a.line (drop a.pos a.s.now) ≡ cond c.is-size.result (entries (row f) (count f) (a.line + 1) [] (drop (next f) a.s.now)) (rejected why.bad_size a.line)
 tested c =
     let x = c.before in
     let f = x.before.before in
     let a = f.before.before.before.before.args in
-    size-tested a.s.now a.pos a.line (found f) (positive x) (ap nat_abs (to_z-of_z (in-range x.before))) c.is-size.ensures
+    size_tested a.s.now a.pos a.line (found f) (positive x) (ap nat_abs (to_z-of_z (in-range x.before))) c.is-size.ensures
 
 returns : tie.Need-returns
 returns c =
@@ -70,8 +70,8 @@ returns-2 c =
 cast-m : tie.Need-overflow-cast-m
 cast-m c = rw (to_z-of_z (in-range c.before)) (not_negative (value c.before.before) (positive c), fits-natural (value c.before.before) (in-range c.before))
 
-returns-3 : tie.Need-returns-3
-returns-3 c =
+returns_3 : tie.Need-returns-3
+returns_3 c =
     let k = c.before in
     (rw (not-true k.is-size.result c.if2.true) at (tested k), k.before.before.before.before.before.before.before.requires.1)
 
@@ -80,11 +80,11 @@ read-entries-requires c κs =
     let k = c.before.before.before.before in
     let f = k.before.before.before in
     let s = f.before.before.before.before in
-    let m = size-limits (row f) (column f) (count f) (sym k.is-size.ensures ∙ not-false k.is-size.result c.before.before.before.if2.false) in
+    let m = size_limits (row f) (column f) (count f) (sym k.is-size.ensures ∙ not-false k.is-size.result c.before.before.before.if2.false) in
     (record { rows = m.0; count = m.1; lines = omega (arith, s.requires.0) }, s.requires.1)
 
-returns-4 : tie.Need-returns-4
-returns-4 c =
+returns_4 : tie.Need-returns-4
+returns_4 c =
     let e = c.before.before.before.before in
     ((rw (not-false e.before.is-size.result e.if2.false) at (tested e.before)) ∙ c.read-entries.ensures.0, c.read-entries.ensures.1)
 
@@ -92,4 +92,4 @@ pub parse-size-spec : {M : Type 1} → statement M
 parse-size-spec =
     tie.close
     (tie.spec (λ c κs. search rules) (λ c. search rules) (λ c. search rules) returns returns-2 cast-m
-    (λ c κs. search rules) returns-3 (λ c. search rules) read-entries-requires returns-4)
+    (λ c κs. search rules) returns_3 (λ c. search rules) read-entries-requires returns_4)

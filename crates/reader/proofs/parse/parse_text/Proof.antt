@@ -6,7 +6,7 @@ use native.Mathlib.Omega.{arith}
 use borrow.Author.Tests.{not-true, not-false}
 use Rattle.base.specs.Lists.{begins}
 use Rattle.market.specs.Bytes.{header}
-use Rattle.reader.proofs.parse.Sizes.{too_long, no_header, header-there, then-size}
+use Rattle.reader.proofs.parse.Sizes.{too_long, no_header, header-there, then_size}
 use Rattle.reader.proofs.parse.parse_text.Statement.{statement}
 use Rattle.reader.proofs.parse.parse_text.Tie as tie
 
@@ -27,13 +27,13 @@ skip-comments-requires : tie.Need-skip-comments-requires
 skip-comments-requires c κs =
     (omega arith, header-there c.before.before.before.before.args.s.now (there c), c.before.before.if1.false)
 
-returns-3 : tie.Need-returns-3
-returns-3 c =
+returns_3 : tie.Need-returns-3
+returns_3 c =
     let k = c.before.before.before.before in
     let x = k.before in
-    (then-size x.before.before.before.before.args.s.now x.before.before.if1.false (there x) k.skip-comments.result.line k.skip-comments.result.pos k.skip-comments.ensures.rest ∙ c.parse-size.ensures.0, c.parse-size.ensures.1)
+    (then_size x.before.before.before.before.args.s.now x.before.before.if1.false (there x) k.skip-comments.result.line k.skip-comments.result.pos k.skip-comments.ensures.rest ∙ c.parse-size.ensures.0, c.parse-size.ensures.1)
 
 pub parse-text-spec : {M : Type 1} → statement M
 parse-text-spec =
     tie.close
-    (tie.spec returns (λ c κs. search rules) returns-2 skip-comments-requires (λ c κs. search rules) returns-3)
+    (tie.spec returns (λ c κs. search rules) returns-2 skip-comments-requires (λ c κs. search rules) returns_3)

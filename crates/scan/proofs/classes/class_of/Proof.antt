@@ -2,30 +2,30 @@
 use native.Mathlib.Omega.{arith}
 use mathlib.Core.Logic.{⊎_elim}
 use borrow.Author.Tests.{le-leb, lt-leb, ne_eqb}
-use Rattle.market.specs.Bytes.{classOf}
+use Rattle.market.specs.Bytes.{class_of}
 use Rattle.scan.proofs.classes.class_of.Statement.{statement}
 use Rattle.scan.proofs.classes.class_of.Tie as tie
 
 returns : tie.Need-returns
-unfolding classOf
+unfolding class_of
 returns c =
     let b = c.before.before.args.b in
     rw (le-leb 48 b c.before.if1.false, le-leb b 57 (omega arith))
 
 returns-2 : tie.Need-returns-2
-unfolding classOf
+unfolding class_of
 returns-2 c = rw c.match.keys1
 
-returns-3 : tie.Need-returns-3
-unfolding classOf
-returns-3 c = rw c.match.keys2
+returns_3 : tie.Need-returns-3
+unfolding class_of
+returns_3 c = rw c.match.keys2
 
-returns-4 : tie.Need-returns-4
-unfolding classOf
-returns-4 c = rw c.match.keys3
+returns_4 : tie.Need-returns-4
+unfolding class_of
+returns_4 c = rw c.match.keys3
 
 returns-5 : tie.Need-returns-5
-unfolding classOf
+unfolding class_of
 returns-5 c =
     let b = c.before.before.args.b in
     let r = c.match.rest in
@@ -36,4 +36,4 @@ returns-5 c =
     c.before.if1.branch)
 
 pub class-of-spec : {M : Type 1} → statement M
-class-of-spec = tie.close (tie.spec returns returns-2 returns-3 returns-4 returns-5)
+class-of-spec = tie.close (tie.spec returns returns-2 returns_3 returns_4 returns-5)

@@ -8,7 +8,7 @@ use mir.Syntax.{w64}
 use mir.Val.{to_z}
 use mir.Facts.{to_z-of_z}
 use mir.ValLaws.{to_z_pos}
-use Rattle.scan.proofs.lines.Values.{value-end, signed_no, signed-zero, signed-some, plain-no, plain-some, small, minus-fits}
+use Rattle.scan.proofs.lines.Values.{value_end, signed_no, signed-zero, signed-some, plain-no, plain-some, small, minus-fits}
 use Rattle.scan.proofs.lines.read_value.Statement.{statement}
 use Rattle.scan.proofs.lines.read_value.Tie as tie
 
@@ -24,7 +24,7 @@ bound2 c =
     small _ _ f.plain.given.0.0 f.plain.given.0.1.0 (sym f.plain.given.1 ∙ f.before.before.read-number2.ensures)
 
 returns : tie.Need-returns
-returns c = value-end c.before.before.args.s.now c.before.before.args.at c.if1.true
+returns c = value_end c.before.before.args.s.now c.before.before.args.at c.if1.true
 
 returns-2 : tie.Need-returns-2
 returns-2 c =
@@ -32,8 +32,8 @@ returns-2 c =
     let a = k.before.before.before.before.before.args in
     signed_no a.s.now a.at k.before.before.before.if1.false (sym k.before.class_of.ensures ∙ k.if2.true) (sym c.enum_told.given.1 ∙ c.before.before.read_number.ensures)
 
-returns-3 : tie.Need-returns-3
-returns-3 c =
+returns_3 : tie.Need-returns-3
+returns_3 c =
     let f = c.before.before in
     let k = f.before.before.before in
     let a = k.before.before.before.before.before.args in
@@ -45,8 +45,8 @@ cast-m c = record { sfits = omega (arith, bound c) }
 sub-t17 : tie.Need-overflow-sub-t17
 sub-t17 c = rw (to_z_pos w64 c.before.before.found.given.0.0 (omega (arith, bound c))) (minus-fits _ (bound c))
 
-returns-4 : tie.Need-returns-4
-returns-4 c =
+returns_4 : tie.Need-returns-4
+returns_4 c =
     let f = c.before.before in
     let k = f.before.before.before in
     let a = k.before.before.before.before.before.args in
@@ -78,5 +78,5 @@ pub read-value-spec : {M : Type 1} → statement M
 read-value-spec =
     tie.close
     (tie.spec returns (λ c. search rules) (λ c κs. search rules) (λ c. search rules) (λ c κs. search rules)
-    (λ c. search rules) (λ c. search rules) returns-2 returns-3 cast-m sub-t17 returns-4 (λ c κs. search rules)
+    (λ c. search rules) (λ c. search rules) returns-2 returns_3 cast-m sub-t17 returns_4 (λ c κs. search rules)
     (λ c. search rules) (λ c. search rules) returns-5 cast-t18 returns-6)

@@ -4,8 +4,8 @@ use mathlib.Core.Path.{◌≡◌, sym, ◌∙◌}
 use Prim.Native.Nat.{◌+◌, ◌-◌, ◌≤◌, ◌<◌, min}
 use native.Mathlib.Omega.{arith}
 use lib.ListN.{length, get_or}
-use Rattle.market.specs.Bytes.{classOf}
-use Rattle.scan.proofs.numbers.Scanning.{class-inside, digits-stop, digit-range}
+use Rattle.market.specs.Bytes.{class_of}
+use Rattle.scan.proofs.numbers.Scanning.{class_inside, digits_stop, digit_range}
 use Rattle.scan.proofs.numbers.Digits.{Digits, digits-first, digits_step, digits-done, digits-many, digits-small}
 use Rattle.scan.proofs.numbers.read_digits.Statement.{statement}
 use Rattle.scan.proofs.numbers.read_digits.Tie as tie
@@ -24,14 +24,14 @@ abbrev head : tie.Else1 invariant-loop decreases-loop → tie.At-loop invariant-
 head c = c.before.before.before.before
 
 -- the byte at i is a digit
-digit : (c : tie.Else1 invariant-loop decreases-loop) → classOf (get_or (start (head c)).args.s.now (head c).loop.i 0) ≡ 1
+digit : (c : tie.Else1 invariant-loop decreases-loop) → class_of (get_or (start (head c)).args.s.now (head c).loop.i 0) ≡ 1
 digit c = sym c.before.class_of.ensures ∙ c.if1.false
 
 small : (l : tie.At-loop invariant-loop decreases-loop) → l.loop.v < 10000000000
 small l = digits-small (start l).args.s.now (start l).args.at l.loop.v l.loop.i l.loop.invariant.3
 
 sub-v : tie.Need-overflow-sub-v invariant-loop decreases-loop
-sub-v c = omega (arith, digit-range _ c.before.before.before.before.requires.1)
+sub-v c = omega (arith, digit_range _ c.before.before.before.before.requires.1)
 
 loop-holds : tie.Need-loop-init invariant-loop decreases-loop
 loop-holds c =
@@ -43,13 +43,13 @@ returns c =
     let l = c.before.before.before.before in
     let s = start l in
     digits-done s.args.s.now s.args.at l.loop.v l.loop.i l.loop.invariant.3 l.loop.invariant.1
-    (digits-stop s.args.s.now l.loop.i (λ e. c.if1.true (c.before.class_of.ensures ∙ e))) (λ e. absurd (s.pre.2 e))
+    (digits_stop s.args.s.now l.loop.i (λ e. c.if1.true (c.before.class_of.ensures ∙ e))) (λ e. absurd (s.pre.2 e))
 
 mul-v : tie.Need-overflow-mul-v invariant-loop decreases-loop
 mul-v c = omega (arith, small (head c))
 
 sub-v-2 : tie.Need-overflow-sub-v-2 invariant-loop decreases-loop
-sub-v-2 c = omega (arith, digit-range _ (digit c.before))
+sub-v-2 c = omega (arith, digit_range _ (digit c.before))
 
 add-v : tie.Need-overflow-add-v invariant-loop decreases-loop
 add-v c = omega (arith, small (head c.before))
@@ -68,16 +68,16 @@ returns-2 : tie.Need-returns-2 invariant-loop decreases-loop
 returns-2 c =
     let l = c.before.before.before in
     let s = start l in
-    let e : classOf (get_or s.args.s.now l.loop.i 0) ≡ 1 = sym c.before.class-at.ensures ∙ c.if2.true in
+    let e : class_of (get_or s.args.s.now l.loop.i 0) ≡ 1 = sym c.before.class-at.ensures ∙ c.if2.true in
     digits-many s.args.s.now s.args.at l.loop.v l.loop.i l.loop.invariant.3 l.loop.invariant.1
-    (omega (arith, l.loop.invariant.0, c.before.before.loop-test.false, class-inside s.args.s.now l.loop.i (omega arith))) e
+    (omega (arith, l.loop.invariant.0, c.before.before.loop-test.false, class_inside s.args.s.now l.loop.i (omega arith))) e
 
-returns-3 : tie.Need-returns-3 invariant-loop decreases-loop
-returns-3 c =
+returns_3 : tie.Need-returns-3 invariant-loop decreases-loop
+returns_3 c =
     let l = c.before.before.before in
     let s = start l in
     digits-done s.args.s.now s.args.at l.loop.v l.loop.i l.loop.invariant.3 l.loop.invariant.1
-    (digits-stop s.args.s.now l.loop.i (λ e. c.if2.false (c.before.class-at.ensures ∙ e))) (λ e. absurd (s.pre.2 e))
+    (digits_stop s.args.s.now l.loop.i (λ e. c.if2.false (c.before.class-at.ensures ∙ e))) (λ e. absurd (s.pre.2 e))
 
 pub read-digits-spec : {M : Type 1} → statement M
 read-digits-spec =
@@ -85,4 +85,4 @@ read-digits-spec =
     (tie.spec invariant-loop decreases-loop (λ c. search rules) (λ c κs. search rules) (λ c. search rules) (λ c. search rules)
     (λ c κs. search rules) sub-v (λ c. search rules) loop-holds (λ c. search rules) (λ c κs. search rules) returns
     mul-v (λ c κs. search rules) sub-v-2 add-v (λ c. search rules) (λ c. search rules) loop-again
-    (λ c κs. search rules) returns-2 returns-3)
+    (λ c κs. search rules) returns-2 returns_3)

@@ -5,7 +5,7 @@ use Prim.Native.Nat.{◌≤◌, ◌-◌, ◌+◌}
 use native.Mathlib.Omega.{arith}
 use lib.ListN.{length, drop}
 use Rattle.market.specs.Fields.{spaces}
-use Rattle.scan.proofs.numbers.Scanning.{spaces-more, spaces-stop, spaces-end}
+use Rattle.scan.proofs.numbers.Scanning.{spaces_more, spaces_stop, spaces_end}
 use Rattle.scan.proofs.numbers.skip_spaces.Statement.{statement}
 use Rattle.scan.proofs.numbers.skip_spaces.Tie as tie
 
@@ -19,19 +19,19 @@ returns : tie.Need-returns invariant-loop decreases-loop
 returns c =
     let l = c.before.before.before.before in
     let a = l.before.before.args in
-    omega (arith, spaces-stop a.s.now l.loop.i (λ e. c.if1.true (c.before.class_of.ensures ∙ e)))
+    omega (arith, spaces_stop a.s.now l.loop.i (λ e. c.if1.true (c.before.class_of.ensures ∙ e)))
 
 loop-again : tie.Need-loop-preserved invariant-loop decreases-loop
 loop-again c =
     let l = c.before.before.before.before in
     let a = l.before.before.args in
-    omega (arith, spaces-more a.s.now l.loop.i c.before.before.before.loop-test.true (sym c.before.class_of.ensures ∙ c.if1.false))
+    omega (arith, spaces_more a.s.now l.loop.i c.before.before.before.loop-test.true (sym c.before.class_of.ensures ∙ c.if1.false))
 
 returns-2 : tie.Need-returns-2 invariant-loop decreases-loop
 returns-2 c =
     let l = c.before in
     let a = l.before.before.args in
-    omega (arith, spaces-end a.s.now l.loop.i c.loop-test.false)
+    omega (arith, spaces_end a.s.now l.loop.i c.loop-test.false)
 
 pub skip-spaces-spec : {M : Type 1} → statement M
 skip-spaces-spec =

@@ -10,7 +10,7 @@ use borrow.Author.Rules.{rules}
 use Rattle.base.specs.Lists.{filter}
 use Rattle.matrix.specs.Matrix.{neighbours}
 use Rattle.levels.specs.Levels.{degree}
-use Rattle.levels.specs.code.Rows.{adjOf}
+use Rattle.levels.specs.Code.Rows.{adj_of}
 use Rattle.levels.proofs.Rows.{row_in, row_is}
 use Rattle.search.proofs.degree.degree.Statement.{statement}
 use Rattle.search.proofs.degree.degree.Tie as tie
@@ -20,7 +20,7 @@ columns-of-requires c κs = let a = c.before.before.before in rw c.wide.ensures 
 
 -- what is counted of its columns
 counted : (c : tie.After-columns-of) → let a = c.before.before.before.before in
-    length (filter (λ j. not (eqb j a.args.v)) c.columns_of.result.now) ≡ degree (adjOf a.args.n a.args.starts.now a.args.columns.now) a.args.v
+    length (filter (λ j. not (eqb j a.args.v)) c.columns_of.result.now) ≡ degree (adj_of a.args.n a.args.starts.now a.args.columns.now) a.args.v
 unfolding neighbours
 counted c =
     let a = c.before.before.before.before in

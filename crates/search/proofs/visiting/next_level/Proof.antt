@@ -5,17 +5,17 @@ use Prim.Native.Nat.{◌-◌, ◌<◌}
 use native.Mathlib.Omega.{arith}
 use lib.ListN.{take, get_or}
 use borrow.Author.Rules.{rules}
-use Rattle.matrix.specs.Matrix.{columnsOf}
-use Rattle.matrix.specs.code.Pattern.{pattern}
-use Rattle.levels.specs.code.Rows.{adjOf}
-use Rattle.search.specs.code.Search.{wave}
-use Rattle.levels.proofs.Rows.{row_in, row_is, row_below, rows-graph}
-use Rattle.search.proofs.Visits.{visit-row, Across, across-start, across-in, across-step, across-end}
+use Rattle.matrix.specs.Matrix.{columns_of}
+use Rattle.matrix.specs.Code.Pattern.{pattern}
+use Rattle.levels.specs.Code.Rows.{adj_of}
+use Rattle.search.specs.Code.Search.{wave}
+use Rattle.levels.proofs.Rows.{row_in, row_is, row_below, rows_graph}
+use Rattle.search.proofs.Visits.{visit_row, Across, across_start, across_in, across_step, across_end}
 use Rattle.search.proofs.visiting.next_level.Statement.{statement}
 use Rattle.search.proofs.visiting.next_level.Tie as tie
 
 abbrev invariant-loop : tie.invariant-loop
-invariant-loop starts columns marks₀ queue₀ n lo hi c m tail₀ i₀ marks queue tail i = Across (adjOf n starts columns) n c m marks₀ queue₀ lo hi marks queue tail i
+invariant-loop starts columns marks₀ queue₀ n lo hi c m tail₀ i₀ marks queue tail i = Across (adj_of n starts columns) n c m marks₀ queue₀ lo hi marks queue tail i
 
 abbrev decreases-loop : tie.decreases-loop
 decreases-loop starts columns marks₀ queue₀ n lo hi c m tail₀ i₀ marks queue tail i = hi - i
@@ -23,7 +23,7 @@ decreases-loop starts columns marks₀ queue₀ n lo hi c m tail₀ i₀ marks q
 loop-holds : tie.Need-loop-init invariant-loop decreases-loop
 loop-holds c =
     let a = c.before.before in
-    across-start (adjOf a.args.n a.args.starts.now a.args.columns.now) a.args.m a.args.lo a.requires.2 a.requires.1
+    across_start (adj_of a.args.n a.args.starts.now a.args.columns.now) a.args.m a.args.lo a.requires.2 a.requires.1
 
 element-copy-out-wide : tie.Need-element-copy-out-wide invariant-loop decreases-loop
 element-copy-out-wide c =
@@ -36,7 +36,7 @@ here : (c : tie.After-wide invariant-loop decreases-loop) →
     × (get_or c.before.before.before.loop.marks (get_or c.before.before.before.loop.queue c.before.before.before.loop.i 0) 0 ≢ c.before.before.before.before.before.before.args.c)
 here c =
     let a = c.before.before.before.before.before.before in
-    across-in c.before.before.before.loop.invariant (omega arith) (omega (arith, a.requires.1.small, a.requires.1.room, a.requires.1.queue_long)) a.requires.4
+    across_in c.before.before.before.loop.invariant (omega arith) (omega (arith, a.requires.1.small, a.requires.1.room, a.requires.1.queue_long)) a.requires.4
 
 below : (c : tie.After-wide invariant-loop decreases-loop) → c.wide.result < c.before.before.before.before.before.before.args.n
 below c = rw c.wide.ensures (here c).0
@@ -45,15 +45,15 @@ columns-of-requires : tie.Need-columns-of-requires invariant-loop decreases-loop
 columns-of-requires c κs = row_in c.before.before.before.before.before.before.requires.0 c.wide.result (below c)
 
 -- what is read are its columns
-columns-are : (c : tie.After-columns-of invariant-loop decreases-loop) → let a = c.before.before.before.before.before.before.before in
-    c.columns_of.result.now ≡ columnsOf (pattern a.args.n a.args.starts.now a.args.columns.now) c.before.wide.result
-columns-are c = c.columns_of.ensures ∙ row_is c.before.before.before.before.before.before.before.requires.0 c.before.wide.result (below c.before)
+columns_are : (c : tie.After-columns-of invariant-loop decreases-loop) → let a = c.before.before.before.before.before.before.before in
+    c.columns_of.result.now ≡ columns_of (pattern a.args.n a.args.starts.now a.args.columns.now) c.before.wide.result
+columns_are c = c.columns_of.ensures ∙ row_is c.before.before.before.before.before.before.before.requires.0 c.before.wide.result (below c.before)
 
 visit-all-requires : tie.Need-visit-all-requires invariant-loop decreases-loop
 visit-all-requires c κs =
     let a = c.before.before.before.before.before.before.before.before.before in (
       c.before.before.before.before.before.before.loop.invariant.ready,
-      rw (columns-are c.before.before) (row_below a.requires.0 c.before.before.before.wide.result),
+      rw (columns_are c.before.before) (row_below a.requires.0 c.before.before.before.wide.result),
       a.requires.3,
     )
 
@@ -63,13 +63,13 @@ loop-again c =
     let l = c.before.before.before.before.before.before.before.loop in
     let p = pattern a.args.n a.args.starts.now a.args.columns.now in
     let u = get_or l.queue l.i 0 in
-    across-step l.invariant (omega arith) (omega (arith, a.requires.1.small, a.requires.1.room, a.requires.1.queue_long)) a.requires.3
-    (λ x h. (rows-graph a.requires.0).below x u h)
-    (rw (visit-row p a.args.c a.args.m (wave l.marks (take l.tail l.queue)) u (here c.before.before.before.before).1)
-    (rw (columns-are c.before.before.before, c.before.before.before.before.wide.ensures) at c.visit-all.ensures))
+    across_step l.invariant (omega arith) (omega (arith, a.requires.1.small, a.requires.1.room, a.requires.1.queue_long)) a.requires.3
+    (λ x h. (rows_graph a.requires.0).below x u h)
+    (rw (visit_row p a.args.c a.args.m (wave l.marks (take l.tail l.queue)) u (here c.before.before.before.before).1)
+    (rw (columns_are c.before.before.before, c.before.before.before.before.wide.ensures) at c.visit-all.ensures))
 
 returns : tie.Need-returns invariant-loop decreases-loop
-returns c = across-end c.before.loop.invariant (omega arith)
+returns c = across_end c.before.loop.invariant (omega arith)
 
 pub next-level-spec : {M : Type 1} → statement M
 next-level-spec =

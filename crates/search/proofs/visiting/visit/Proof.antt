@@ -2,14 +2,14 @@
 use native.Mathlib.Omega.{arith}
 use borrow.Author.Rules.{rules}
 use Rattle.search.proofs.Waves.{some_left}
-use Rattle.search.proofs.Visits.{visit-old, visit-new}
+use Rattle.search.proofs.Visits.{visit_old, visit_new}
 use Rattle.search.proofs.visiting.visit.Statement.{statement}
 use Rattle.search.proofs.visiting.visit.Tie as tie
 
 returns : tie.Need-returns
 returns c =
     let a = c.before.before in
-    visit-old a.args.m a.args.v a.requires.0 c.if1.true
+    visit_old a.args.m a.args.v a.requires.0 c.if1.true
 
 element-write-queue : tie.Need-element-write-queue
 element-write-queue c =
@@ -19,7 +19,7 @@ element-write-queue c =
 returns-2 : tie.Need-returns-2
 returns-2 c =
     let a = c.before.before in
-    visit-new a.args.m a.args.v a.requires.0 a.requires.1 a.requires.2 c.if1.false
+    visit_new a.args.m a.args.v a.requires.0 a.requires.1 a.requires.2 c.if1.false
 
 pub visit-spec : {M : Type 1} → statement M
 visit-spec =

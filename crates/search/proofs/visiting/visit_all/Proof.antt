@@ -3,8 +3,8 @@ use mathlib.Core.Path.{◌≡◌, refl, subst}
 use Prim.Native.Nat.{ℕ, ◌+◌, ◌-◌}
 use native.Mathlib.Omega.{arith}
 use lib.ListN.{length, take}
-use Rattle.search.specs.code.Search.{wave}
-use Rattle.search.proofs.Visits.{Along, along-step, along-end}
+use Rattle.search.specs.Code.Search.{wave}
+use Rattle.search.proofs.Visits.{Along, along_step, along_end}
 use Rattle.search.proofs.visiting.visit_all.Statement.{statement}
 use Rattle.search.proofs.visiting.visit_all.Tie as tie
 
@@ -26,7 +26,7 @@ visit-requires c κs =
 -- what is left after the first row of the turn
 first : (c : tie.After-visit invariant-loop decreases-loop) → let l = c.before.before.before.before.before in let a = l.before.before.args in
     Along a.n a.c a.m a.rows.now (wave a.marks.now (take a.start a.queue.now)) c.visit.new.0 c.visit.new.1.0 c.visit.result (l.loop.i + 1)
-first c = along-step c.before.before.before.before.before.loop.invariant (omega arith) (rw c.before.wide_at.ensures.0 at c.visit.ensures)
+first c = along_step c.before.before.before.before.before.loop.invariant (omega arith) (rw c.before.wide_at.ensures.0 at c.visit.ensures)
 
 visit-requires-2 : tie.Need-visit-requires-2 invariant-loop decreases-loop
 visit-requires-2 c κs =
@@ -41,7 +41,7 @@ loop-again c =
     let a = l.before.before.args in
     let two : l.loop.i + 1 + 1 ≡ l.loop.i + 2 = omega arith in
     subst (λ (i : ℕ). Along a.n a.c a.m a.rows.now (wave a.marks.now (take a.start a.queue.now)) c.visit2.new.0 c.visit2.new.1.0 c.visit2.result i) two
-    (along-step (first v) (omega arith) (rw c.before.wide-at2.ensures.0 at c.visit2.ensures))
+    (along_step (first v) (omega arith) (rw c.before.wide-at2.ensures.0 at c.visit2.ensures))
 
 visit-requires-3 : tie.Need-visit-requires-3 invariant-loop decreases-loop
 visit-requires-3 c κs =
@@ -50,10 +50,10 @@ visit-requires-3 c κs =
     (l.loop.invariant.ready, omega (arith, a.requires.1 l.loop.i (omega arith), c.wide-at3.ensures.0), a.requires.2)
 
 returns : tie.Need-returns invariant-loop decreases-loop
-returns c = along-end (along-step c.before.before.before.before.before.before.loop.invariant (omega arith) (rw c.before.wide-at3.ensures.0 at c.visit3.ensures)) (omega arith)
+returns c = along_end (along_step c.before.before.before.before.before.before.loop.invariant (omega arith) (rw c.before.wide-at3.ensures.0 at c.visit3.ensures)) (omega arith)
 
 returns-2 : tie.Need-returns-2 invariant-loop decreases-loop
-returns-2 c = along-end c.before.before.loop.invariant (omega arith)
+returns-2 c = along_end c.before.before.loop.invariant (omega arith)
 
 pub visit-all-spec : {M : Type 1} → statement M
 visit-all-spec =

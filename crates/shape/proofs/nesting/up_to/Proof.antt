@@ -3,14 +3,14 @@ use mathlib.Core.Path.{◌≡◌, refl, sym, ◌∙◌}
 use Prim.Native.Nat.{◌≤◌}
 use native.Mathlib.Omega.{arith}
 use lib.Dec.{eqb}
-use Rattle.base.specs.Lists.{fromFirst}
-use Rattle.shape.specs.code.Shape.{pathOf}
+use Rattle.base.specs.Lists.{from_first}
+use Rattle.shape.specs.Code.Shape.{path_of}
 use Rattle.shape.proofs.Path.{up-found, up-past}
 use Rattle.shape.proofs.nesting.up_to.Statement.{statement}
 use Rattle.shape.proofs.nesting.up_to.Tie as tie
 
 abbrev invariant-loop : tie.invariant-loop
-invariant-loop path t parent up₀ up = (fromFirst (eqb parent) (pathOf path up) ≡ fromFirst (eqb parent) (pathOf path t)) × (up ≤ t)
+invariant-loop path t parent up₀ up = (from_first (eqb parent) (path_of path up) ≡ from_first (eqb parent) (path_of path t)) × (up ≤ t)
 
 abbrev decreases-loop : tie.decreases-loop
 decreases-loop path t parent up₀ up = up
@@ -31,7 +31,7 @@ loop-again c =
     (sym (up-past a.path.now l.loop.up a.parent (omega arith) c.if1.false) ∙ l.loop.invariant.0, omega arith)
 
 returns-2 : tie.Need-returns-2 invariant-loop decreases-loop
-unfolding pathOf
+unfolding path_of
 returns-2 c =
     let l = c.before in
     let e : l.loop.up ≡ 0 = omega arith in

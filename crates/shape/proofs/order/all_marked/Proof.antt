@@ -9,7 +9,7 @@ use lib.ListN.{get_or}
 use borrow.Author.Rules.{rules}
 use borrow.Author.Tests.{eq-eqb, ne_eqb}
 use Rattle.base.specs.Lists.{all, range}
-use Rattle.base.proofs.Left.{all_left, all-left-pass, all-left-fail, all-left-none}
+use Rattle.base.proofs.Left.{all_left, all-left-pass, all-left_fail, all-left-none}
 use Rattle.shape.proofs.order.all_marked.Statement.{statement}
 use Rattle.shape.proofs.order.all_marked.Tie as tie
 
@@ -29,7 +29,7 @@ returns : tie.Need-returns invariant-loop decreases-loop
 returns c =
     let l = c.before.before.before in
     let a = l.before.args in
-    sym (all-left-fail (marked a.marks.now) a.n l.loop.v (omega arith) (ne_eqb _ 1 c.if1.true)) ∙ l.loop.invariant.1
+    sym (all-left_fail (marked a.marks.now) a.n l.loop.v (omega arith) (ne_eqb _ 1 c.if1.true)) ∙ l.loop.invariant.1
 
 loop-again : tie.Need-loop-preserved invariant-loop decreases-loop
 loop-again c =

@@ -6,8 +6,8 @@ use Prim.Native.Nat.{ℕ, ◌+◌, ◌-◌, ◌≤◌}
 use native.Mathlib.Omega.{arith}
 use lib.ListN.{take}
 use borrow.Author.Rules.{rules}
-use Rattle.shape.specs.code.Shape.{Seen}
-use Rattle.shape.proofs.Seen.{seen-row, seen_other}
+use Rattle.shape.specs.Code.Shape.{Seen}
+use Rattle.shape.proofs.Seen.{seen_row, seen_other}
 use Rattle.shape.proofs.order.mark_rows.Statement.{statement}
 use Rattle.shape.proofs.order.mark_rows.Tie as tie
 
@@ -29,7 +29,7 @@ loop-again c =
     let a = l.before.args in
     let now-seen : List ℕ → Type 0 = Seen a.n (take (l.loop.i + 1) a.order.now) in (
       ⊎_elim
-          (λ w. subst now-seen (sym w.1) (seen-row a.n l.loop.i a.order.now l.loop.marks l.loop.invariant.0 (omega arith) w.0.taken (omega arith)))
+          (λ w. subst now-seen (sym w.1) (seen_row a.n l.loop.i a.order.now l.loop.marks l.loop.invariant.0 (omega arith) w.0.taken (omega arith)))
           (λ w. subst now-seen (sym w.1) (seen_other a.n l.loop.i a.order.now l.loop.marks l.loop.invariant.0 (omega arith) w.0.left))
           c.if1.branch,
       omega arith,

@@ -5,7 +5,7 @@ use native.Mathlib.Omega.{arith}
 use lib.ListN.{drop}
 use Rattle.plan.specs.Groups.{Group, records}
 use Rattle.plan.specs.Sound.{children}
-use Rattle.plan.specs.code.Checks.{recordAt}
+use Rattle.plan.specs.Code.Checks.{record_at}
 use Rattle.plan.proofs.Nested.{children-ended, children-past, children-over}
 use Rattle.shape.proofs.tiling.next_child.Statement.{statement}
 use Rattle.shape.proofs.tiling.next_child.Tie as tie
@@ -21,7 +21,7 @@ loop-holds c = (omega arith, omega arith, refl)
 
 -- the parent that was read
 parent : (c : tie.After-record-at invariant-loop decreases-loop) → let l = c.before.before in
-    (recordAt l.before.before.args.groups.now l.loop.i).parent ≡ c.record-at.result.parent
+    (record_at l.before.before.args.groups.now l.loop.i).parent ≡ c.record-at.result.parent
 parent c = sym (ap (λ (g : Group). g.parent) c.record-at.ensures.is)
 
 returns : tie.Need-returns invariant-loop decreases-loop
@@ -53,11 +53,11 @@ loop-again c =
     let a = l.before.before.args in (
       omega arith,
       omega arith,
-      l.loop.invariant.2 ∙ children-past a.count a.k l.loop.i a.groups.now (omega arith) (λ (e : (recordAt a.groups.now l.loop.i).parent ≡ a.k). c.before.before.if1.false (sym (parent r) ∙ e)),
+      l.loop.invariant.2 ∙ children-past a.count a.k l.loop.i a.groups.now (omega arith) (λ (e : (record_at a.groups.now l.loop.i).parent ≡ a.k). c.before.before.if1.false (sym (parent r) ∙ e)),
     )
 
-returns-3 : tie.Need-returns-3 invariant-loop decreases-loop
-returns-3 c =
+returns_3 : tie.Need-returns-3 invariant-loop decreases-loop
+returns_3 c =
     let l = c.before in
     let a = l.before.before.args in
     record { from_on = l.loop.invariant.0; within = l.loop.invariant.1; same = l.loop.invariant.2; child = λ (h : l.loop.i < a.count). absurd (omega arith) }
@@ -66,4 +66,4 @@ pub next-child-spec : {M : Type 1} → statement M
 next-child-spec =
     tie.close
     (tie.spec invariant-loop decreases-loop loop-holds (λ c κs. omega arith) returns returns-2 (λ c. omega arith) (λ c. omega arith)
-    loop-again returns-3)
+    loop-again returns_3)

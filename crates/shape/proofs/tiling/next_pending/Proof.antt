@@ -1,6 +1,6 @@
 -- `tiling::next_pending`: by the test of w.
 use borrow.Author.Tests.{eq-eqb, ne_eqb}
-use Rattle.plan.specs.code.Checks.{pending}
+use Rattle.plan.specs.Code.Checks.{pending}
 use Rattle.shape.proofs.tiling.next_pending.Statement.{statement}
 use Rattle.shape.proofs.tiling.next_pending.Tie as tie
 

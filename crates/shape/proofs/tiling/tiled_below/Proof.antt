@@ -7,7 +7,7 @@ use lib.ListN.{drop}
 use Rattle.base.proofs.Booleans.{fails, holds}
 use Rattle.plan.specs.Groups.{Group, records}
 use Rattle.plan.specs.Sound.{children}
-use Rattle.plan.specs.code.Checks.{recordAt, ofRecord, belowWhole, fitting, pending, complete, laid, tiles}
+use Rattle.plan.specs.Code.Checks.{record_at, of_record, below_whole, fitting, pending, complete, laid, tiles}
 use Rattle.plan.proofs.Laid.{fits}
 use Rattle.shape.proofs.ChildTurns.{leaf-tiles, first-tiles, next-tiles, last-tiles}
 use Rattle.shape.proofs.tiling.tiled_below.Statement.{statement}
@@ -15,8 +15,8 @@ use Rattle.shape.proofs.tiling.tiled_below.Tie as tie
 
 abbrev invariant-loop : tie.invariant-loop
 invariant-loop groups count k g i₀ s₀ f₀ w₀ i s f w =
-    (tiles (recordAt groups k) (children k (belowWhole count groups)) ≡ laid (recordAt groups k) s f w (children k (drop i (records count groups))))
-    × (k < i) × (i ≤ count) × (i < count → (recordAt groups i).parent ≡ k)
+    (tiles (record_at groups k) (children k (below_whole count groups)) ≡ laid (record_at groups k) s f w (children k (drop i (records count groups))))
+    × (k < i) × (i ≤ count) × (i < count → (record_at groups i).parent ≡ k)
 
 abbrev decreases-loop : tie.decreases-loop
 decreases-loop groups count k g i₀ s₀ f₀ w₀ i s f w = count - i
@@ -50,21 +50,21 @@ fits-requires c κs = tt
 
 -- the test of the child at i, and what is left after it
 turn : (c : tie.After-record-at2 invariant-loop decreases-loop) → let l = c.before.before in let a = l.before.before.before.before.before.args in let h = c.record-at2.result in
-    tiles (recordAt a.groups.now a.k) (children a.k (belowWhole a.count a.groups.now))
-    ≡ fitting l.loop.s l.loop.f l.loop.w (ofRecord h)
-    && laid (recordAt a.groups.now a.k) (l.loop.s + h.length) (l.loop.f + l.loop.w) (pending l.loop.w (ofRecord h)) (children a.k (drop (l.loop.i + 1) (records a.count a.groups.now)))
+    tiles (record_at a.groups.now a.k) (children a.k (below_whole a.count a.groups.now))
+    ≡ fitting l.loop.s l.loop.f l.loop.w (of_record h)
+    && laid (record_at a.groups.now a.k) (l.loop.s + h.length) (l.loop.f + l.loop.w) (pending l.loop.w (of_record h)) (children a.k (drop (l.loop.i + 1) (records a.count a.groups.now)))
 turn c =
     let l = c.before.before in
     let a = l.before.before.before.before.before.args in
     let more = c.before.loop-test.true in
     l.loop.invariant.0
-    ∙ next-tiles a.count a.k a.groups.now l.loop.i l.loop.s l.loop.f l.loop.w (recordAt a.groups.now a.k) c.record-at2.result more (l.loop.invariant.3 more) c.record-at2.ensures
+    ∙ next-tiles a.count a.k a.groups.now l.loop.i l.loop.s l.loop.f l.loop.w (record_at a.groups.now a.k) c.record-at2.result more (l.loop.invariant.3 more) c.record-at2.ensures
 
 returns-2 : tie.Need-returns-2 invariant-loop decreases-loop
 returns-2 c = sym (turn c.before.before ∙ rw (fails c.before.fits2.ensures c.if2.true))
 
 -- the child fits
-passed : (c : tie.Else2 invariant-loop decreases-loop) → let l = c.before.before.before.before in fitting l.loop.s l.loop.f l.loop.w (ofRecord c.before.before.record-at2.result) ≡ true
+passed : (c : tie.Else2 invariant-loop decreases-loop) → let l = c.before.before.before.before in fitting l.loop.s l.loop.f l.loop.w (of_record c.before.before.record-at2.result) ≡ true
 passed c = holds c.before.fits2.ensures c.if2.false
 
 sums : (c : tie.Else2 invariant-loop decreases-loop) → let l = c.before.before.before.before in let h = c.before.before.record-at2.result in
@@ -72,7 +72,7 @@ sums : (c : tie.Else2 invariant-loop decreases-loop) → let l = c.before.before
 sums c =
     let l = c.before.before.before.before in
     let small = c.before.before.record-at2.ensures.small in
-    let f = fits l.loop.s l.loop.f l.loop.w (ofRecord c.before.before.record-at2.result) (passed c) in
+    let f = fits l.loop.s l.loop.f l.loop.w (of_record c.before.before.record-at2.result) (passed c) in
     (omega (arith, small.start, small.length, f.start), omega (arith, small.first, small.workers, f.first, f.workers))
 
 add-s : tie.Need-overflow-add-s invariant-loop decreases-loop
@@ -110,18 +110,18 @@ loop-again c =
 ends-requires : tie.Need-ends-requires invariant-loop decreases-loop
 ends-requires c κs = c.before.before.before.before.record-at.ensures.small
 
-returns-3 : tie.Need-returns-3 invariant-loop decreases-loop
-returns-3 c =
+returns_3 : tie.Need-returns-3 invariant-loop decreases-loop
+returns_3 c =
     let l = c.before.before in
     let r = l.before.before.before in
     let a = r.before.before.args in
     c.ends.ensures
     ∙ ap (complete l.loop.s l.loop.f l.loop.w) r.record-at.ensures.is
-    ∙ sym (l.loop.invariant.0 ∙ last-tiles a.count a.k a.groups.now l.loop.i l.loop.s l.loop.f l.loop.w (recordAt a.groups.now a.k) c.before.loop-test.false)
+    ∙ sym (l.loop.invariant.0 ∙ last-tiles a.count a.k a.groups.now l.loop.i l.loop.s l.loop.f l.loop.w (record_at a.groups.now a.k) c.before.loop-test.false)
 
 pub tiled-below-spec : {M : Type 1} → statement M
 tiled-below-spec =
     tie.close
     (tie.spec invariant-loop decreases-loop (λ c κs. omega arith) (λ c. omega arith) next-child-requires returns loop-holds
     record-at-requires-2 fits-requires returns-2 add-s add-f next-pending-requires (λ c. omega arith)
-    next-child-requires-2 loop-less loop-again ends-requires returns-3)
+    next-child-requires-2 loop-less loop-again ends-requires returns_3)

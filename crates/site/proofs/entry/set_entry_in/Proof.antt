@@ -2,11 +2,11 @@
 use borrow.Author.Rules.{rules}
 use native.Mathlib.Omega.{arith}
 use mir.Facts.{to_z-of_z}
-use Rattle.words.specs.LittleEndian.{signedNumber}
-use Rattle.lent.specs.Bytes.{matrixIn}
-use Rattle.lent.proofs.Loads.{loaded-size, loaded-is, loaded-matrix}
+use Rattle.words.specs.LittleEndian.{signed_number}
+use Rattle.lent.specs.Bytes.{matrix_in}
+use Rattle.lent.proofs.Loads.{loaded_size, loaded_is, loaded_matrix}
 use Rattle.lent.proofs.Whole.{few-matrix}
-use Rattle.site.proofs.Changes.{entry-said, entry-cut}
+use Rattle.site.proofs.Changes.{entry_said, entry-cut}
 use Rattle.site.proofs.entry.set_entry_in.Statement.{statement}
 use Rattle.site.proofs.entry.set_entry_in.Tie as tie
 
@@ -27,18 +27,18 @@ slice-aggregate-set-entry-of : tie.Need-slice-aggregate-set-entry-of
 slice-aggregate-set-entry-of c =
     let list = c.before.before.before.before in
     let a = (start list.before.before.before.before).args in
-    loaded-size (signedNumber 4) 4 a.values.now _ list.load-i32.ensures.0 list.load-i32.ensures.1
+    loaded_size (signed_number 4) 4 a.values.now _ list.load-i32.ensures.0 list.load-i32.ensures.1
 
 slice-aggregate-set-entry-of-2 : tie.Need-slice-aggregate-set-entry-of-2
-slice-aggregate-set-entry-of-2 c = let t = c.before.before.before.before.before.before.before.before.before in loaded-size (signedNumber 8) 8 (start t).args.forces.now _ (sums t).load-i64.ensures.0 (sums t).load-i64.ensures.1
+slice-aggregate-set-entry-of-2 c = let t = c.before.before.before.before.before.before.before.before.before in loaded_size (signed_number 8) 8 (start t).args.forces.now _ (sums t).load-i64.ensures.0 (sums t).load-i64.ensures.1
 
 set-entry-of-requires : tie.Need-set-entry-of-requires
 set-entry-of-requires c κs =
     let list = c.before.before.before.before.before.before.before in
     let t = list.before.before.before.before in
     let a = (start t).args in (
-      record { moved = (moves t).load_signed.ensures; kept = loaded-is (signedNumber 8) 8 a.forces.now _ (sums t).load-i64.ensures.0 (sums t).load-i64.ensures.1 },
-      omega (arith, list.load-i32.ensures.0, loaded-size (signedNumber 4) 4 a.values.now _ list.load-i32.ensures.0 list.load-i32.ensures.1),
+      record { moved = (moves t).load_signed.ensures; kept = loaded_is (signed_number 8) 8 a.forces.now _ (sums t).load-i64.ensures.0 (sums t).load-i64.ensures.1 },
+      omega (arith, list.load-i32.ensures.0, loaded_size (signed_number 4) 4 a.values.now _ list.load-i32.ensures.0 list.load-i32.ensures.1),
     )
 
 returns : tie.Need-returns
@@ -49,27 +49,27 @@ returns c =
     let few = list.before.before.before in
     let t = few.before in
     let a = (start t).args in
-    let values = loaded-is (signedNumber 4) 4 a.values.now _ list.load-i32.ensures.0 list.load-i32.ensures.1 in
+    let values = loaded_is (signed_number 4) 4 a.values.now _ list.load-i32.ensures.0 list.load-i32.ensures.1 in
     let is = few-matrix a.n a.row-starts.now a.columns.now a.values.now (t.are-few.ensures few.if1.true) (starts t).Load-unsigned.ensures columns.load-unsigned2.ensures values in
-    entry-said (to_z-of_z (start t).ranges.value)
-    (entry-cut (matrixIn a.n a.row-starts.now a.columns.now a.values.now) _ a.movements.now a.forces.now is made.set-entry-of.ensures)
+    entry_said (to_z-of_z (start t).ranges.value)
+    (entry-cut (matrix_in a.n a.row-starts.now a.columns.now a.values.now) _ a.movements.now a.forces.now is made.set-entry-of.ensures)
 
 slice-aggregate-set-entry-of-3 : tie.Need-slice-aggregate-set-entry-of-3
 slice-aggregate-set-entry-of-3 c =
     let list = c.before.before.before.before in
     let a = (start list.before.before.before.before).args in
-    loaded-size (signedNumber 4) 4 a.values.now _ list.load-i322.ensures.0 list.load-i322.ensures.1
+    loaded_size (signed_number 4) 4 a.values.now _ list.load-i322.ensures.0 list.load-i322.ensures.1
 
 slice-aggregate-set-entry-of-4 : tie.Need-slice-aggregate-set-entry-of-4
-slice-aggregate-set-entry-of-4 c = let t = c.before.before.before.before.before.before.before.before.before in loaded-size (signedNumber 8) 8 (start t).args.forces.now _ (sums t).load-i64.ensures.0 (sums t).load-i64.ensures.1
+slice-aggregate-set-entry-of-4 c = let t = c.before.before.before.before.before.before.before.before.before in loaded_size (signed_number 8) 8 (start t).args.forces.now _ (sums t).load-i64.ensures.0 (sums t).load-i64.ensures.1
 
 set-entry-of-requires-2 : tie.Need-set-entry-of-requires-2
 set-entry-of-requires-2 c κs =
     let list = c.before.before.before.before.before.before.before in
     let t = list.before.before.before.before in
     let a = (start t).args in (
-      record { moved = (moves t).load_signed.ensures; kept = loaded-is (signedNumber 8) 8 a.forces.now _ (sums t).load-i64.ensures.0 (sums t).load-i64.ensures.1 },
-      omega (arith, list.load-i322.ensures.0, loaded-size (signedNumber 4) 4 a.values.now _ list.load-i322.ensures.0 list.load-i322.ensures.1),
+      record { moved = (moves t).load_signed.ensures; kept = loaded_is (signed_number 8) 8 a.forces.now _ (sums t).load-i64.ensures.0 (sums t).load-i64.ensures.1 },
+      omega (arith, list.load-i322.ensures.0, loaded_size (signed_number 4) 4 a.values.now _ list.load-i322.ensures.0 list.load-i322.ensures.1),
     )
 
 returns-2 : tie.Need-returns-2
@@ -79,10 +79,10 @@ returns-2 c =
     let list = columns.before.before.before in
     let t = list.before.before.before.before in
     let a = (start t).args in
-    let m = matrixIn a.n a.row-starts.now a.columns.now a.values.now in
-    let values = loaded-is (signedNumber 4) 4 a.values.now _ list.load-i322.ensures.0 list.load-i322.ensures.1 in
-    entry-said (to_z-of_z (start t).ranges.value)
-    (entry-cut m _ a.movements.now a.forces.now (loaded-matrix m (starts t).Load-unsigned.ensures columns.load-unsigned3.ensures values) made.set-entry-of2.ensures)
+    let m = matrix_in a.n a.row-starts.now a.columns.now a.values.now in
+    let values = loaded_is (signed_number 4) 4 a.values.now _ list.load-i322.ensures.0 list.load-i322.ensures.1 in
+    entry_said (to_z-of_z (start t).ranges.value)
+    (entry-cut m _ a.movements.now a.forces.now (loaded_matrix m (starts t).Load-unsigned.ensures columns.load-unsigned3.ensures values) made.set-entry-of2.ensures)
 
 pub set-entry-in-spec : {M : Type 1} → statement M
 set-entry-in-spec =

@@ -7,30 +7,30 @@ use native.Mathlib.Omega.{arith}
 use lib.ListN.{take, drop}
 use Rattle.base.proofs.Booleans.{fails, holds}
 use Rattle.matrix.specs.Matrix.{neighbours}
-use Rattle.matrix.specs.code.Pattern.{pattern}
-use Rattle.matrix.specs.Limits.{maxRows}
+use Rattle.matrix.specs.Code.Pattern.{pattern}
+use Rattle.matrix.specs.Limits.{max_rows}
 use Rattle.plan.specs.Groups.{records}
-use Rattle.plan.specs.Sound.{children, beyond, childrenSound, allSound}
-use Rattle.plan.specs.code.Checks.{recordAt, belowWhole}
-use Rattle.apart.specs.code.Marks.{UpTo}
+use Rattle.plan.specs.Sound.{children, beyond, children_sound, all_sound}
+use Rattle.plan.specs.Code.Checks.{record_at, below_whole}
+use Rattle.apart.specs.Code.Marks.{UpTo}
 use Rattle.apart.proofs.Touching.{unmarked}
 use Rattle.sound.proofs.GroupTests.{all-next, all-last}
 use Rattle.sound.proofs.below.all_sound.Statement.{statement}
 use Rattle.sound.proofs.below.all_sound.Tie as tie
 
 -- the groups from k on are sound
-abbrev soundFrom : (k n : ℕ) (starts columns order groups : List ℕ) (count i : ℕ) → Bool
-soundFrom k n starts columns order groups count i = allSound (beyond (neighbours (pattern n starts columns)) k) (take n order) (belowWhole count groups) i (drop i (records count groups))
+abbrev sound_from : (k n : ℕ) (starts columns order groups : List ℕ) (count i : ℕ) → Bool
+sound_from k n starts columns order groups count i = all_sound (beyond (neighbours (pattern n starts columns)) k) (take n order) (below_whole count groups) i (drop i (records count groups))
 
 abbrev invariant-loop : tie.invariant-loop
 invariant-loop n starts columns order groups count k marks₀ done₀ i₀ marks done i =
-    (soundFrom k n starts columns order groups count 0 ≡ soundFrom k n starts columns order groups count i) × UpTo (1024 * i) marks × UpTo (1024 * i) done × (i ≤ count)
+    (sound_from k n starts columns order groups count 0 ≡ sound_from k n starts columns order groups count i) × UpTo (1024 * i) marks × UpTo (1024 * i) done × (i ≤ count)
 
 abbrev decreases-loop : tie.decreases-loop
 decreases-loop n starts columns order groups count k marks₀ done₀ i₀ marks done i = count - i
 
 loop-holds : tie.Need-loop-init invariant-loop decreases-loop
-loop-holds c = (refl, unmarked maxRows refl, unmarked maxRows refl, omega arith)
+loop-holds c = (refl, unmarked max_rows refl, unmarked max_rows refl, omega arith)
 
 -- the start of the function
 abbrev start : tie.At-loop invariant-loop decreases-loop → tie.Start invariant-loop decreases-loop
@@ -53,14 +53,14 @@ sound-below-requires c κs =
 
 -- the test of group k, and the groups after it
 turn : (c : tie.In-loop invariant-loop decreases-loop) → let l = c.before in let a = (start l).args in
-    soundFrom a.k a.n a.starts.now a.columns.now a.order.now a.groups.now a.count 0
-    ≡ childrenSound (beyond (neighbours (pattern a.n a.starts.now a.columns.now)) a.k) (take a.n a.order.now) (recordAt a.groups.now l.loop.i) (children l.loop.i (belowWhole a.count a.groups.now))
-    && soundFrom a.k a.n a.starts.now a.columns.now a.order.now a.groups.now a.count (l.loop.i + 1)
+    sound_from a.k a.n a.starts.now a.columns.now a.order.now a.groups.now a.count 0
+    ≡ children_sound (beyond (neighbours (pattern a.n a.starts.now a.columns.now)) a.k) (take a.n a.order.now) (record_at a.groups.now l.loop.i) (children l.loop.i (below_whole a.count a.groups.now))
+    && sound_from a.k a.n a.starts.now a.columns.now a.order.now a.groups.now a.count (l.loop.i + 1)
 turn c =
     let l = c.before in
     let a = (start l).args in
     l.loop.invariant.0
-    ∙ all-next (beyond (neighbours (pattern a.n a.starts.now a.columns.now)) a.k) (take a.n a.order.now) (belowWhole a.count a.groups.now) a.count l.loop.i a.groups.now c.loop-test.true
+    ∙ all-next (beyond (neighbours (pattern a.n a.starts.now a.columns.now)) a.k) (take a.n a.order.now) (below_whole a.count a.groups.now) a.count l.loop.i a.groups.now c.loop-test.true
 
 returns : tie.Need-returns invariant-loop decreases-loop
 returns c = sym (turn c.before.before.before.before ∙ rw (fails c.before.sound-below.ensures.is c.if1.true))
@@ -87,7 +87,7 @@ returns-2 : tie.Need-returns-2 invariant-loop decreases-loop
 returns-2 c =
     let l = c.before in
     let a = (start l).args in
-    sym (l.loop.invariant.0 ∙ all-last (beyond (neighbours (pattern a.n a.starts.now a.columns.now)) a.k) (take a.n a.order.now) (belowWhole a.count a.groups.now) a.count l.loop.i a.groups.now c.loop-test.false)
+    sym (l.loop.invariant.0 ∙ all-last (beyond (neighbours (pattern a.n a.starts.now a.columns.now)) a.k) (take a.n a.order.now) (below_whole a.count a.groups.now) a.count l.loop.i a.groups.now c.loop-test.false)
 
 pub all-sound-spec : {M : Type 1} → statement M
 all-sound-spec =

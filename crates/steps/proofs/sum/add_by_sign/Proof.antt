@@ -12,7 +12,7 @@ use mir.Syntax.{w64}
 use mir.Val.{SFits}
 use mir.Facts.{to_z-of_z}
 use Rattle.base.specs.Integers.{fits64}
-use Rattle.base.proofs.Integers.{up, down, lin-fits, fits-lin, lin-add, lin-sub, lt_yes, lt_no}
+use Rattle.base.proofs.Integers.{up, down, lin_fits, fits_lin, lin_add, lin_sub, lt_yes, lt_no}
 use Rattle.steps.proofs.sum.add_by_sign.Statement.{statement}
 use Rattle.steps.proofs.sum.add_by_sign.Tie as tie
 
@@ -40,9 +40,9 @@ low : (c : tie.Then1) → SFits w64 (negsuc 9223372036854775807 -ℤ c.before.ar
 low c =
     let b = c.before.args.b in
     let h = lt_yes b (pos 0) (neg c) in
-    let f = fits-lin c.before.ranges.b in
-    let s = lin-sub (negsuc 9223372036854775807) b in
-    lin-fits (omega arith) (omega arith)
+    let f = fits_lin c.before.ranges.b in
+    let s = lin_sub (negsuc 9223372036854775807) b in
+    lin_fits (omega arith) (omega arith)
 
 -- 0 ≤ b
 nonneg : (c : tie.Else1) → lt_z c.before.args.b (pos 0) ≡ false
@@ -52,9 +52,9 @@ high : (c : tie.Else1) → SFits w64 (pos 9223372036854775807 -ℤ c.before.args
 high c =
     let b = c.before.args.b in
     let h = lt_no b (pos 0) (nonneg c) in
-    let f = fits-lin c.before.ranges.b in
-    let s = lin-sub (pos 9223372036854775807) b in
-    lin-fits (omega arith) (omega arith)
+    let f = fits_lin c.before.ranges.b in
+    let s = lin_sub (pos 9223372036854775807) b in
+    lin_fits (omega arith) (omega arith)
 
 -- a's test, in each arm
 least : (c : tie.Then2) → lt_z c.before.before.args.a (negsuc 9223372036854775807 -ℤ c.before.before.args.b) ≡ true
@@ -74,22 +74,22 @@ fit_low c =
     let a = c.before.before.args.a in
     let b = c.before.before.args.b in
     let h = lt_yes b (pos 0) (neg c.before) in
-    let f = fits-lin c.before.before.ranges.a in
+    let f = fits_lin c.before.before.ranges.a in
     let k = lt_no a (negsuc 9223372036854775807 -ℤ b) (kept_low c) in
-    let s = lin-sub (negsuc 9223372036854775807) b in
-    let t = lin-add a b in
-    lin-fits (omega arith) (omega arith)
+    let s = lin_sub (negsuc 9223372036854775807) b in
+    let t = lin_add a b in
+    lin_fits (omega arith) (omega arith)
 
 fit-high : (c : tie.Else3) → SFits w64 (c.before.before.args.a +ℤ c.before.before.args.b)
 fit-high c =
     let a = c.before.before.args.a in
     let b = c.before.before.args.b in
     let h = lt_no b (pos 0) (nonneg c.before) in
-    let f = fits-lin c.before.before.ranges.a in
+    let f = fits_lin c.before.before.ranges.a in
     let k = lt_no (pos 9223372036854775807 -ℤ b) a (kept_high c) in
-    let s = lin-sub (pos 9223372036854775807) b in
-    let t = lin-add a b in
-    lin-fits (omega arith) (omega arith)
+    let s = lin_sub (pos 9223372036854775807) b in
+    let t = lin_add a b in
+    lin_fits (omega arith) (omega arith)
 
 sub-if2 : tie.Need-overflow-sub-if2
 sub-if2 c = let f = low c in search rules
@@ -99,8 +99,8 @@ returns c =
     let a = c.before.before.args.a in
     let b = c.before.before.args.b in
     let k = lt_yes a (negsuc 9223372036854775807 -ℤ b) (least c) in
-    let s = lin-sub (negsuc 9223372036854775807) b in
-    let t = lin-add a b in
+    let s = lin_sub (negsuc 9223372036854775807) b in
+    let t = lin_add a b in
     rw (below (a +ℤ b) (omega arith))
 
 add-t5 : tie.Need-overflow-add-t5
@@ -114,19 +114,19 @@ returns-2 c =
     let a = c.before.before.args.a in
     let b = c.before.before.args.b in
     let k = lt_yes (pos 9223372036854775807 -ℤ b) a (most c) in
-    let s = lin-sub (pos 9223372036854775807) b in
-    let t = lin-add a b in
+    let s = lin_sub (pos 9223372036854775807) b in
+    let t = lin_add a b in
     rw (above (a +ℤ b) (omega arith))
 
 add-t7 : tie.Need-overflow-add-t7
 add-t7 c = let f = fit-high c in search rules
 
-returns-3 : tie.Need-returns-3
-returns-3 c = let f = fit_low c in rw (within _ f) (search rules)
+returns_3 : tie.Need-returns-3
+returns_3 c = let f = fit_low c in rw (within _ f) (search rules)
 
-returns-4 : tie.Need-returns-4
-returns-4 c = let f = fit-high c in rw (within _ f) (search rules)
+returns_4 : tie.Need-returns-4
+returns_4 c = let f = fit-high c in rw (within _ f) (search rules)
 
 pub add-by-sign-spec : {M : Type 1} → statement M
 add-by-sign-spec =
-    tie.close (tie.spec sub-if2 returns add-t5 sub-if3 returns-2 add-t7 returns-3 returns-4)
+    tie.close (tie.spec sub-if2 returns add-t5 sub-if3 returns-2 add-t7 returns_3 returns_4)

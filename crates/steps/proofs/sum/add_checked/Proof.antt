@@ -7,7 +7,7 @@ use mir.Val.{SFits}
 use mir.Facts.{to_z-of_z}
 use borrow.Author.Rules.{rules}
 use Rattle.base.proofs.Booleans.{and_left, and_right}
-use Rattle.base.proofs.Integers.{abs-add, fits-abs, fits-magnitude}
+use Rattle.base.proofs.Integers.{abs-add, fits-abs, fits_magnitude}
 use Rattle.steps.proofs.sum.add_checked.Statement.{statement}
 use Rattle.steps.proofs.sum.add_checked.Tie as tie
 
@@ -28,7 +28,7 @@ add-t6 : tie.Need-overflow-add-t6
 add-t6 c = let f = fits c in search rules
 
 returns : tie.Need-returns
-returns c = let f = fits c in rw (fits-magnitude _ (near c)) (search rules)
+returns c = let f = fits c in rw (fits_magnitude _ (near c)) (search rules)
 
 returns-2 : tie.Need-returns-2
 returns-2 c = let s = c.before.before.before.before in rw (to_z-of_z s.ranges.a, to_z-of_z s.ranges.b) at c.add-by-sign.ensures

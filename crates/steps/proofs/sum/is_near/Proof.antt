@@ -20,8 +20,8 @@ returns c = λ e. absurd (true≢false (sym e))
 returns-2 : tie.Need-returns-2
 returns-2 c = λ e. absurd (true≢false (sym e))
 
-returns-3 : tie.Need-returns-3
-returns-3 c = λ e. near c.before.before.args.z (simp (to_z-of_z c.before.before.ranges.z) at c.before.if1.false) (simp (to_z-of_z c.before.before.ranges.z) at c.if2.false)
+returns_3 : tie.Need-returns-3
+returns_3 c = λ e. near c.before.before.args.z (simp (to_z-of_z c.before.before.ranges.z) at c.before.if1.false) (simp (to_z-of_z c.before.before.ranges.z) at c.if2.false)
 
 pub is-near-spec : {M : Type 1} → statement M
-is-near-spec = tie.close (tie.spec returns returns-2 returns-3)
+is-near-spec = tie.close (tie.spec returns returns-2 returns_3)

@@ -7,7 +7,7 @@ use mir.Syntax.{w32, w64}
 use mir.Val.{SFits}
 use mir.Facts.{to_z-of_z}
 use borrow.Author.Rules.{rules, sfits_of}
-use Rattle.steps.proofs.TableUpdates.{by-low}
+use Rattle.steps.proofs.TableUpdates.{by_low}
 use Rattle.steps.proofs.updates.amount_of.Statement.{statement}
 use Rattle.steps.proofs.updates.amount_of.Tie as tie
 
@@ -16,7 +16,7 @@ other : (c : tie.After-by-turns) → c.by-turns.result < 4096
 other c =
     let s = c.before.before.before.before.before in
     let r = s.requires.1 in
-    let h : c.by-turns.result < s.requires.0 = rw (c.by-turns.ensures, c.before.wide.ensures) (by-low s.args.k s.args.p _ r.row_low (r.at_low _)) in
+    let h : c.by-turns.result < s.requires.0 = rw (c.by-turns.ensures, c.before.wide.ensures) (by_low s.args.k s.args.p _ r.row_low (r.at_low _)) in
     omega (arith, r.few)
 
 in-range : (c : tie.After-product) → SFits w64 c.product.result

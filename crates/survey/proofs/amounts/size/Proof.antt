@@ -6,7 +6,7 @@ use mir.Syntax.{w32, w64}
 use mir.Val.{SFits}
 use mir.Facts.{to_z-of_z, sfits_widen}
 use Rattle.base.proofs.Integers.{abs-sub, fits-abs}
-use Rattle.survey.proofs.Rows.{size-down, size-up}
+use Rattle.survey.proofs.Rows.{size_down, size-up}
 use borrow.Author.Rules.{rules}
 use Rattle.survey.proofs.amounts.size.Statement.{statement}
 use Rattle.survey.proofs.amounts.size.Tie as tie
@@ -31,7 +31,7 @@ sub-result c =
 returns : tie.Need-returns
 returns c =
     let a = c.before in
-    simp (to_z-of_z a.ranges.v, to_z-of_z (wide a), to_z-of_z (negated a)) (size-down a.args.v (simp (to_z-of_z a.ranges.v, to_z-of_z (wide a)) at c.if1.true))
+    simp (to_z-of_z a.ranges.v, to_z-of_z (wide a), to_z-of_z (negated a)) (size_down a.args.v (simp (to_z-of_z a.ranges.v, to_z-of_z (wide a)) at c.if1.true))
 
 returns-2 : tie.Need-returns-2
 returns-2 c =

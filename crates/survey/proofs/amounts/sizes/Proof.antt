@@ -10,19 +10,19 @@ use mir.Val.{SFits, of_z}
 use mir.Facts.{to_z-of_z}
 use borrow.Author.Rules.{rules}
 use Rattle.base.proofs.Integers.{fits-abs}
-use Rattle.survey.specs.code.Rows.{sizesTo}
-use Rattle.survey.proofs.Rows.{sizes-none, sizes-next, sizes-up}
+use Rattle.survey.specs.Code.Rows.{sizes_to}
+use Rattle.survey.proofs.Rows.{sizes_none, sizes_next, sizes_up}
 use Rattle.survey.proofs.amounts.sizes.Statement.{statement}
 use Rattle.survey.proofs.amounts.sizes.Tie as tie
 
 abbrev invariant-loop : tie.invariant-loop
-invariant-loop values sum₀ k₀ sum k = (k ≤ length values) × (sum ≡ of_z w64 (pos (sizesTo values k)))
+invariant-loop values sum₀ k₀ sum k = (k ≤ length values) × (sum ≡ of_z w64 (pos (sizes_to values k)))
 
 abbrev decreases-loop : tie.decreases-loop
 decreases-loop values sum₀ k₀ sum k = length values - k
 
-sum_fits : (c : tie.At-loop invariant-loop decreases-loop) → SFits w64 (pos (sizesTo c.before.args.values.now c.loop.k))
-sum_fits c = fits-abs (omega (arith, sizes-up c.before.args.values.now c.loop.k c.loop.invariant.0, c.before.requires))
+sum_fits : (c : tie.At-loop invariant-loop decreases-loop) → SFits w64 (pos (sizes_to c.before.args.values.now c.loop.k))
+sum_fits c = fits-abs (omega (arith, sizes_up c.before.args.values.now c.loop.k c.loop.invariant.0, c.before.requires))
 
 -- the value, its size, and the next sum
 narrow : (c : tie.After-size invariant-loop decreases-loop) → let l = c.before.before.before in SFits w32 (get_or l.before.args.values.now l.loop.k (pos 0))
@@ -34,16 +34,16 @@ made c = simp (to_z-of_z (narrow c)) at c.size.ensures
 made-fits : (c : tie.After-size invariant-loop decreases-loop) → SFits w64 c.size.result
 made-fits c = record { sfits = c.size.type-inv }
 
-next : (c : tie.After-size invariant-loop decreases-loop) → let l = c.before.before.before in pos (sizesTo l.before.args.values.now l.loop.k) +ℤ c.size.result ≡ pos (sizesTo l.before.args.values.now (suc l.loop.k))
-next c = let l = c.before.before.before in rw (made c, sizes-next l.before.args.values.now l.loop.k)
+next : (c : tie.After-size invariant-loop decreases-loop) → let l = c.before.before.before in pos (sizes_to l.before.args.values.now l.loop.k) +ℤ c.size.result ≡ pos (sizes_to l.before.args.values.now (suc l.loop.k))
+next c = let l = c.before.before.before in rw (made c, sizes_next l.before.args.values.now l.loop.k)
 
-next_fits : (c : tie.After-size invariant-loop decreases-loop) → let l = c.before.before.before in SFits w64 (pos (sizesTo l.before.args.values.now l.loop.k) +ℤ c.size.result)
+next_fits : (c : tie.After-size invariant-loop decreases-loop) → let l = c.before.before.before in SFits w64 (pos (sizes_to l.before.args.values.now l.loop.k) +ℤ c.size.result)
 next_fits c =
     let l = c.before.before.before in
-    rw (next c) (fits-abs (omega (arith, sizes-up l.before.args.values.now (suc l.loop.k) c.before.before.loop-test.true, l.before.requires)))
+    rw (next c) (fits-abs (omega (arith, sizes_up l.before.args.values.now (suc l.loop.k) c.before.before.loop-test.true, l.before.requires)))
 
 loop-holds : tie.Need-loop-init invariant-loop decreases-loop
-loop-holds c = (omega arith, rw (sizes-none c.args.values.now))
+loop-holds c = (omega arith, rw (sizes_none c.args.values.now))
 
 add-sum : tie.Need-overflow-add-sum invariant-loop decreases-loop
 add-sum c = let l = c.before.before.before in rw l.loop.invariant.1 (simp (to_z-of_z (sum_fits l), to_z-of_z (made-fits c)) (next_fits c))

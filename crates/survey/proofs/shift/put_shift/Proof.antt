@@ -11,16 +11,16 @@ use mir.Facts.{to_z-of_z}
 use Rattle.base.proofs.Fill.{filled, length-filled, filled_next}
 use Rattle.matrix.specs.Matrix.{lookup}
 use Rattle.survey.specs.Survey.{with_sign}
-use Rattle.survey.specs.code.Rows.{Passed}
+use Rattle.survey.specs.Code.Rows.{Passed}
 use Rattle.survey.proofs.Rows.{passed_none}
 use Rattle.survey.proofs.shift.put_shift.Statement.{statement}
 use Rattle.survey.proofs.shift.put_shift.Tie as tie
 
-abbrev signAt : List ℕ → List ℤ → ℕ → ℕ → ℤ
-signAt columns values t j = with_sign t (lookup j columns values)
+abbrev sign_at : List ℕ → List ℤ → ℕ → ℕ → ℤ
+sign_at columns values t j = with_sign t (lookup j columns values)
 
 abbrev invariant-loop : tie.invariant-loop
-invariant-loop columns values t n out₀ k₀ j₀ out k j = (j ≤ n) × Passed columns k j × (out ≡ filled (signAt columns values t) out₀ j)
+invariant-loop columns values t n out₀ k₀ j₀ out k j = (j ≤ n) × Passed columns k j × (out ≡ filled (sign_at columns values t) out₀ j)
 
 abbrev decreases-loop : tie.decreases-loop
 decreases-loop columns values t n out₀ k₀ j₀ out k j = n - j
@@ -58,10 +58,10 @@ loop-again c =
     let a = l.before.before in
     let f : SFits w32 s.with-sign.result = record { sfits = s.with-sign.type-inv } in
     let g : SFits w32 v.value-at.result = record { sfits = v.value-at.type-inv } in
-    let is : s.with-sign.result ≡ signAt a.args.columns.now a.args.values.now a.args.t l.loop.j = (simp (to_z-of_z g) at s.with-sign.ensures) ∙ ap (with_sign a.args.t) v.value-at.ensures in (
+    let is : s.with-sign.result ≡ sign_at a.args.columns.now a.args.values.now a.args.t l.loop.j = (simp (to_z-of_z g) at s.with-sign.ensures) ∙ ap (with_sign a.args.t) v.value-at.ensures in (
       omega arith,
       c.past.ensures,
-      rw (to_z-of_z f, is, l.loop.invariant.2) (filled_next (signAt a.args.columns.now a.args.values.now a.args.t) a.args.out.now (pos 0) l.loop.j (omega (arith, a.requires.long))),
+      rw (to_z-of_z f, is, l.loop.invariant.2) (filled_next (sign_at a.args.columns.now a.args.values.now a.args.t) a.args.out.now (pos 0) l.loop.j (omega (arith, a.requires.long))),
     )
 
 same_length : tie.Need-same-length invariant-loop decreases-loop

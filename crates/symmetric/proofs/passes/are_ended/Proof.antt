@@ -3,7 +3,7 @@ use mathlib.Core.Path.{refl}
 use Prim.Native.Nat.{◌-◌}
 use borrow.Author.Rules.{rules}
 use Rattle.base.specs.Lists.{range}
-use Rattle.symmetric.specs.code.Cursors.{ended}
+use Rattle.symmetric.specs.Code.Cursors.{ended}
 use Rattle.base.proofs.Found.{Found, found_none, found_number, found-numbers}
 use Rattle.symmetric.proofs.passes.are_ended.Statement.{statement}
 use Rattle.symmetric.proofs.passes.are_ended.Tie as tie

@@ -5,29 +5,29 @@ use Prim.Native.Nat.{◌+◌, ◌-◌, ◌≤◌}
 use native.Mathlib.Omega.{arith}
 use lib.ListN.{length, get_or}
 use borrow.Author.Tests.{not-true, not-false}
-use Rattle.matrix.specs.Limits.{maxRows}
-use Rattle.matrix.specs.Matrix.{Matrix, matrixOf}
-use Rattle.symmetric.specs.code.Cursors.{Cursors}
+use Rattle.matrix.specs.Limits.{max_rows}
+use Rattle.matrix.specs.Matrix.{Matrix, matrix_of}
+use Rattle.symmetric.specs.Code.Cursors.{Cursors}
 use Rattle.matrix.proofs.Checks.{shape}
 use Rattle.symmetric.proofs.RowsMet.{RowsMet, rows_none, rows_next, rows-many, rows_all}
 use Rattle.symmetric.proofs.passes.meet_rows.Statement.{statement}
 use Rattle.symmetric.proofs.passes.meet_rows.Tie as tie
 
 abbrev invariant-loop : tie.invariant-loop
-invariant-loop n starts columns values cursors₀ lower₀ i₀ cursors lower i = RowsMet (matrixOf n starts columns values) lower i cursors × (length cursors ≡ length cursors₀)
+invariant-loop n starts columns values cursors₀ lower₀ i₀ cursors lower i = RowsMet (matrix_of n starts columns values) lower i cursors × (length cursors ≡ length cursors₀)
 
 abbrev decreases-loop : tie.decreases-loop
 decreases-loop n starts columns values cursors₀ lower₀ i₀ cursors lower i = n - i
 
 abbrev given : tie.Start invariant-loop decreases-loop → Matrix
-given c = let a = c.args in matrixOf a.n a.starts.now a.columns.now a.values.now
+given c = let a = c.args in matrix_of a.n a.starts.now a.columns.now a.values.now
 
 -- where the function starts, from its loop
 abbrev start : tie.At-loop invariant-loop decreases-loop → tie.Start invariant-loop decreases-loop
 start c = c.before.before.before.before
 
 -- there are few rows
-low : (c : tie.At-loop invariant-loop decreases-loop) → (start c).args.n ≤ maxRows
+low : (c : tie.At-loop invariant-loop decreases-loop) → (start c).args.n ≤ max_rows
 low c = (shape (given (start c)) (start c).requires.0).few
 
 loop-holds : tie.Need-loop-init invariant-loop decreases-loop
@@ -93,8 +93,8 @@ loop-again c =
     let d = c.before.before.before.before.before in
     (next c.before.before, d.meet-row.auto.1.1.1.1.1.0 ∙ d.before.before.before.loop.invariant.1)
 
-same-length-2 : tie.Need-same-length-2 invariant-loop decreases-loop
-same-length-2 c = c.before.before.loop.invariant.1
+same-length_2 : tie.Need-same-length-2 invariant-loop decreases-loop
+same-length_2 c = c.before.before.loop.invariant.1
 
 returns-2 : tie.Need-returns-2 invariant-loop decreases-loop
 returns-2 c =
@@ -106,11 +106,11 @@ are-ended-requires c κs =
     let l = c.before.before.before in
     ((shape (given (start l)) (start l).requires.0).starts-long, l.loop.invariant.0.placed.size)
 
-same-length-3 : tie.Need-same-length-3 invariant-loop decreases-loop
-same-length-3 c = c.before.before.before.before.loop.invariant.1
+same-length_3 : tie.Need-same-length-3 invariant-loop decreases-loop
+same-length_3 c = c.before.before.before.before.loop.invariant.1
 
-returns-3 : tie.Need-returns-3 invariant-loop decreases-loop
-returns-3 c =
+returns_3 : tie.Need-returns-3 invariant-loop decreases-loop
+returns_3 c =
     let l = c.before.before.before.before in
     c.are-ended.ensures ∙ rows_all (given (start l)) (start l).requires.0 l.loop.invariant.0 c.before.before.before.loop-test.false c.before.before.if2.false
 
@@ -119,4 +119,4 @@ meet-rows-spec =
     tie.close
     (tie.spec invariant-loop decreases-loop loop-holds meet-row-requires same_length returns mul-lower slice-read-lower mul-lower-2
     shared-slice-read-lower sub-lower cast-lower add-lower (λ c. omega arith) (λ c. omega arith) loop-again
-    same-length-2 returns-2 are-ended-requires same-length-3 returns-3)
+    same-length_2 returns-2 are-ended-requires same-length_3 returns_3)

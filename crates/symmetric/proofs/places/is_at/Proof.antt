@@ -16,13 +16,13 @@ returns c = rw (le-ltb _ _ c.if1.true)
 returns-2 : tie.Need-returns-2
 returns-2 c = rw (lt-ltb _ _ c.before.before.if1.false, ne_eqb _ _ c.if2.true)
 
-returns-3 : tie.Need-returns-3
-returns-3 c =
+returns_3 : tie.Need-returns-3
+returns_3 c =
     let t = c.before.before in
     rw (lt-ltb _ _ t.before.before.if1.false, eq-eqb _ _ t.if2.false) (sym (same_false _ _ (λ e. c.if3.true (ap (of_z w32) e))))
 
-returns-4 : tie.Need-returns-4
-returns-4 c =
+returns_4 : tie.Need-returns-4
+returns_4 c =
     let t = c.before.before in
     let a = t.before.before.before in
     let f : SFits w32 (get_or a.args.values.now a.args.p (pos 0)) = record { sfits = c.before.if32.given } in
@@ -31,5 +31,5 @@ returns-4 c =
 pub is-at-spec : {M : Type 1} → statement M
 is-at-spec =
     tie.close
-    (tie.spec returns (λ c. omega arith) (λ c. omega arith) returns-2 (λ c. omega arith) (λ c. omega arith) returns-3
-    returns-4)
+    (tie.spec returns (λ c. omega arith) (λ c. omega arith) returns-2 (λ c. omega arith) (λ c. omega arith) returns_3
+    returns_4)

@@ -14,10 +14,10 @@ cast-if2 c = omega (arith, c.shared-slice-known.given c.before.before.args.p)
 returns-2 : tie.Need-returns-2
 returns-2 c = rw (lt-ltb _ _ c.before.before.if1.false, ne_eqb _ _ c.if2.true) (omega arith)
 
-returns-3 : tie.Need-returns-3
-returns-3 c = rw (lt-ltb _ _ c.before.before.if1.false, eq-eqb _ _ c.if2.false)
+returns_3 : tie.Need-returns-3
+returns_3 c = rw (lt-ltb _ _ c.before.before.if1.false, eq-eqb _ _ c.if2.false)
 
 pub past-spec : {M : Type 1} → statement M
 past-spec =
     tie.close
-    (tie.spec returns (λ c. search rules) (λ c. search rules) cast-if2 returns-2 (λ c. search rules) returns-3)
+    (tie.spec returns (λ c. search rules) (λ c. search rules) cast-if2 returns-2 (λ c. search rules) returns_3)

@@ -5,13 +5,13 @@ use mathlib.Core.List.{◌++◌}
 use native.Mathlib.Omega.{arith}
 use lib.ListN.{length, take, drop}
 use lib.Seq.{length-take-le}
-use Rattle.base.specs.Verdicts.{replyOf}
+use Rattle.base.specs.Verdicts.{reply_of}
 use Rattle.base.specs.declared.Verdict.{Verdict}
 use Rattle.market.specs.Parse.{parse}
-use Rattle.market.specs.FullRows.{readReply}
+use Rattle.market.specs.FullRows.{read_reply}
 use Rattle.lent.specs.Word.{word}
-use Rattle.texts.specs.Lent.{readIn}
-use Rattle.lent.proofs.Answers.{begins-at, begins-fits, begins-size}
+use Rattle.texts.specs.Lent.{read_in}
+use Rattle.lent.proofs.Answers.{begins_at, begins-fits, begins-size}
 use Rattle.texts.proofs.TextReads.{same-reply, Held, read-refused, read_held, read-stored}
 use Rattle.texts.proofs.read.read_of.Statement.{statement}
 use Rattle.texts.proofs.read.read_of.Tie as tie
@@ -44,7 +44,7 @@ abbrev columns : tie.After-store-i32 → tie.After-store-u322
 columns t = t.before.before.before.before.before
 
 -- the reply of lists that are lent on cut
-same : (w : tie.After-read) → let r = rooms w in let a = (start (room r)).args in readReply (parse a.text.now) (length (take (room r).least.result a.starts.now)) (length (take r.before.least2.result a.columns.now)) (length (take r.least3.result a.values.now)) ≡ readIn a.text.now a.start-bytes.now a.column-bytes.now a.value-bytes.now
+same : (w : tie.After-read) → let r = rooms w in let a = (start (room r)).args in read_reply (parse a.text.now) (length (take (room r).least.result a.starts.now)) (length (take r.before.least2.result a.columns.now)) (length (take r.least3.result a.values.now)) ≡ read_in a.text.now a.start-bytes.now a.column-bytes.now a.value-bytes.now
 same w =
     let r = rooms w in
     let s = start (room r) in
@@ -56,7 +56,7 @@ held : (c : tie.After-answer) → let w = made c in let l = w.read.last.1 in let
 held c =
     let w = made c in
     let e = w.read.ensures in
-    read_held (same w) (ap replyOf (sym c.answer.given.1) ∙ e.0) _ _ _ e.1.0 e.1.1.0 e.1.1.1 _ _ _
+    read_held (same w) (ap reply_of (sym c.answer.given.1) ∙ e.0) _ _ _ e.1.0 e.1.1.0 e.1.1.1 _ _ _
 
 slice-aggregate-read : tie.Need-slice-aggregate-read
 slice-aggregate-read c = let r = c.before.before.before in sym (length-take-le r.least.result (start r).args.starts.now (omega arith))
@@ -72,28 +72,28 @@ returns c =
     let t = c.before in
     let w = t.before.before.before.before.before.before.before in
     let said = sym t.enum_told.given.1 in
-    read-refused (same w) (ap replyOf said ∙ w.read.ensures.0) (c.word_of.ensures ∙ ap (λ (r : Verdict). word (replyOf r)) (sym said))
+    read-refused (same w) (ap reply_of said ∙ w.read.ensures.0) (c.word_of.ensures ∙ ap (λ (r : Verdict). word (reply_of r)) (sym said))
 
 slice-read-wide : tie.Need-slice-read-wide
-slice-read-wide c = omega (arith, begins-fits (held c.before.before).starts-begin)
+slice-read-wide c = omega (arith, begins-fits (held c.before.before).starts_begin)
 
 slice-reshare-prefix-store-u32 : tie.Need-slice-reshare-prefix-store-u32
-slice-reshare-prefix-store-u32 c = begins-fits (held c.before.before.before).starts-begin
+slice-reshare-prefix-store-u32 c = begins-fits (held c.before.before.before).starts_begin
 
 slice-aggregate-store-u32 : tie.Need-slice-aggregate-store-u32
-slice-aggregate-store-u32 c = begins-size (held c.before.before.before.before).starts-begin
+slice-aggregate-store-u32 c = begins-size (held c.before.before.before.before).starts_begin
 
 slice-reshare-prefix-store-u32-2 : tie.Need-slice-reshare-prefix-store-u32-2
-slice-reshare-prefix-store-u32-2 c = let w = counted c.before.before in begins-fits (begins-at (held (told w)).columns-begin w.wide.ensures)
+slice-reshare-prefix-store-u32-2 c = let w = counted c.before.before in begins-fits (begins_at (held (told w)).columns_begin w.wide.ensures)
 
 slice-aggregate-store-u32-2 : tie.Need-slice-aggregate-store-u32-2
-slice-aggregate-store-u32-2 c = let w = counted c.before.before.before in begins-size (begins-at (held (told w)).columns-begin w.wide.ensures)
+slice-aggregate-store-u32-2 c = let w = counted c.before.before.before in begins-size (begins_at (held (told w)).columns_begin w.wide.ensures)
 
 slice-reshare-prefix-store-i32 : tie.Need-slice-reshare-prefix-store-i32
-slice-reshare-prefix-store-i32 c = let w = counted (starts c.before.before) in begins-fits (begins-at (held (told w)).values-begin w.wide.ensures)
+slice-reshare-prefix-store-i32 c = let w = counted (starts c.before.before) in begins-fits (begins_at (held (told w)).values_begin w.wide.ensures)
 
 slice-aggregate-store-i32 : tie.Need-slice-aggregate-store-i32
-slice-aggregate-store-i32 c = let w = counted (starts c.before.before.before) in begins-size (begins-at (held (told w)).values-begin w.wide.ensures)
+slice-aggregate-store-i32 c = let w = counted (starts c.before.before.before) in begins-size (begins_at (held (told w)).values_begin w.wide.ensures)
 
 returns-2 : tie.Need-returns-2
 returns-2 c =

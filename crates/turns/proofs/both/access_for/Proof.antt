@@ -4,17 +4,17 @@ use Prim.Native.Nat.{ℕ, ◌/◌, ◌≤◌, ◌<◌}
 use native.Mathlib.Omega.{arith}
 use lib.ListN.{length-set}
 use borrow.Author.Rules.{rules}
-use Rattle.crews.specs.Crews.{Crew, crew0, crew1, crewNumber}
-use Rattle.turns.proofs.BothLists.{put-own, put_other}
+use Rattle.crews.specs.Crews.{Crew, crew0, crew1, crew_number}
+use Rattle.turns.proofs.BothLists.{put_own, put_other}
 use Rattle.turns.proofs.both.access_for.Statement.{statement}
 use Rattle.turns.proofs.both.access_for.Tie as tie
 
 -- a byte below 16 is for crew 0, one from there on for crew 1
-is0 : {byte : ℕ} → byte < 16 → (d : Crew) → byte / 16 ≡ crewNumber d → d ≡ crew0
+is0 : {byte : ℕ} → byte < 16 → (d : Crew) → byte / 16 ≡ crew_number d → d ≡ crew0
 is0 l crew0 n = refl
 is0 l crew1 n = absurd (omega arith)
 
-is1 : {byte : ℕ} → 16 ≤ byte → (d : Crew) → byte / 16 ≡ crewNumber d → d ≡ crew1
+is1 : {byte : ℕ} → 16 ≤ byte → (d : Crew) → byte / 16 ≡ crew_number d → d ≡ crew1
 is1 l crew0 n = absurd (omega arith)
 is1 l crew1 n = refl
 
@@ -32,9 +32,9 @@ returns c =
     let t = s.requires in
     let l = x.before.before.before.before.before.before.if1.true in (
       record {
-        made = λ d n. rw (is0 l d n) (rw (put-own a.made.now crew0 refl t.1, put-own a.held.now crew0 refl t.2, put-own a.targets.now crew0 refl t.3) x.access.ensures);
-        state-kept = λ d n. rw (is0 l d n) (rw (put_other a.made.now crew0 refl _, put_other a.held.now crew0 refl _) refl);
-        targets-kept = λ d n. rw (is0 l d n) (put_other a.targets.now crew0 refl _);
+        made = λ d n. rw (is0 l d n) (rw (put_own a.made.now crew0 refl t.1, put_own a.held.now crew0 refl t.2, put_own a.targets.now crew0 refl t.3) x.access.ensures);
+        state_kept = λ d n. rw (is0 l d n) (rw (put_other a.made.now crew0 refl _, put_other a.held.now crew0 refl _) refl);
+        targets_kept = λ d n. rw (is0 l d n) (put_other a.targets.now crew0 refl _);
       },
       length-set a.held.now _ _,
     )
@@ -53,9 +53,9 @@ returns-2 c =
     let t = s.requires in
     let l = x.before.before.before.before.before.before.if1.false in (
       record {
-        made = λ d n. rw (is1 l d n) (rw (put-own a.made.now crew1 refl t.1, put-own a.held.now crew1 refl t.2, put-own a.targets.now crew1 refl t.3) x.access2.ensures);
-        state-kept = λ d n. rw (is1 l d n) (rw (put_other a.made.now crew1 refl _, put_other a.held.now crew1 refl _) refl);
-        targets-kept = λ d n. rw (is1 l d n) (put_other a.targets.now crew1 refl _);
+        made = λ d n. rw (is1 l d n) (rw (put_own a.made.now crew1 refl t.1, put_own a.held.now crew1 refl t.2, put_own a.targets.now crew1 refl t.3) x.access2.ensures);
+        state_kept = λ d n. rw (is1 l d n) (rw (put_other a.made.now crew1 refl _, put_other a.held.now crew1 refl _) refl);
+        targets_kept = λ d n. rw (is1 l d n) (put_other a.targets.now crew1 refl _);
       },
       length-set a.held.now _ _,
     )

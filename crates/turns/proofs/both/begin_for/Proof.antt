@@ -6,10 +6,10 @@ use native.Mathlib.Omega.{arith}
 use lib.ListN.{length, get_or, set, length-set}
 use borrow.Author.Tests.{le-leb, lt-leb}
 use borrow.Author.Rules.{rules}
-use Rattle.crews.specs.Crews.{Crew, crew1, other, crewNumber, own_of}
-use Rattle.turns.specs.code.Both.{both}
-use Rattle.turns.specs.code.Turned.{misnamed}
-use Rattle.turns.proofs.BothLists.{crew-of, two-there, own_at, other-number, put-own, put_other, put-beside}
+use Rattle.crews.specs.Crews.{Crew, crew1, other, crew_number, own_of}
+use Rattle.turns.specs.Code.Both.{both}
+use Rattle.turns.specs.Code.Turned.{misnamed}
+use Rattle.turns.proofs.BothLists.{crew-of, two-there, own_at, other-number, put_own, put_other, put_beside}
 use Rattle.turns.proofs.both.begin_for.Statement.{statement}
 use Rattle.turns.proofs.both.begin_for.Tie as tie
 
@@ -23,7 +23,7 @@ returns c = record {
   halted = λ f. sym (crewless c);
   entered = λ z. absurd (omega (arith, crewless c));
   gone = λ z. absurd (omega (arith, crewless c));
-  adds-kept = λ z. absurd (omega (arith, crewless c));
+  adds_kept = λ z. absurd (omega (arith, crewless c));
 }
 
 stranger : (c : tie.Then2) → let a = c.before.before.before.args in misnamed a.who a.workers ≡ 10
@@ -34,7 +34,7 @@ returns-2 c = record {
   halted = λ f. sym (stranger c);
   entered = λ z. absurd (omega (arith, stranger c));
   gone = λ z. absurd (omega (arith, stranger c));
-  adds-kept = λ z. absurd (omega (arith, stranger c));
+  adds_kept = λ z. absurd (omega (arith, stranger c));
 }
 
 -- ---- one that names both
@@ -44,10 +44,10 @@ none c = rw (lt-leb _ _ c.before.if1.false, lt-leb _ _ c.if2.false) refl
 
 -- there is a list for each crew
 targets-two : (s : tie.Start) → 1 < length s.args.targets.now
-targets-two s = two-there s.args.targets.now (omega (arith, (s.requires.1 crew1).targets-long))
+targets-two s = two-there s.args.targets.now (omega (arith, (s.requires.1 crew1).targets_long))
 
 adds-two : (s : tie.Start) → 1 < length s.args.adds.now
-adds-two s = two-there s.args.adds.now (omega (arith, (s.requires.1 crew1).adds-long))
+adds-two s = two-there s.args.adds.now (omega (arith, (s.requires.1 crew1).adds_long))
 
 -- after the other crew's update is given up
 abbrev given : (s : tie.Start) → List (List ℕ)
@@ -56,25 +56,25 @@ given s = let a = s.args in set a.targets.now (1 - a.who / 16) (set (get_or a.ta
 given-two : (s : tie.Start) → 1 < length (given s)
 given-two s = rw length-set (targets-two s)
 
-gone-other : (s : tie.Start) (d : Crew) → s.args.who / 16 ≡ crewNumber d → let a = s.args in own_of (both (given s)) (other d) ≡ set (own_of (both a.targets.now) (other d)) (a.who % 16) 4096
+gone-other : (s : tie.Start) (d : Crew) → s.args.who / 16 ≡ crew_number d → let a = s.args in own_of (both (given s)) (other d) ≡ set (own_of (both a.targets.now) (other d)) (a.who % 16) 4096
 gone-other s d n =
     let a = s.args in
     let m = other-number a.targets.now d n in
-    put-own a.targets.now (other d) m (targets-two s) ∙ ap (λ (xs : List ℕ). set xs (a.who % 16) 4096) (own_at a.targets.now (other d) m)
+    put_own a.targets.now (other d) m (targets-two s) ∙ ap (λ (xs : List ℕ). set xs (a.who % 16) 4096) (own_at a.targets.now (other d) m)
 
 -- its update is at hand
-returns-3 : tie.Need-returns-3
-returns-3 c =
+returns_3 : tie.Need-returns-3
+returns_3 c =
     let s = c.before.before.before.before.before in
     let a = s.args in
     record {
       halted = λ f. absurd (f (none c.before.before));
       entered = λ z d n.
-          let l : get_or (own_of (both a.targets.now) d) (a.who % 16) 0 < 4096 = rw (own_at (given s) d n, put-beside a.targets.now d n _) at c.if3.true in
+          let l : get_or (own_of (both a.targets.now) d) (a.who % 16) 0 < 4096 = rw (own_at (given s) d n, put_beside a.targets.now d n _) at c.if3.true in
           let h = s.requires.1 d in
-          rw (put-beside a.targets.now d n _) (record { told = sym (h.is (a.who % 16) (omega arith) l).free; known = λ q. l; hand = h });
+          rw (put_beside a.targets.now d n _) (record { told = sym (h.is (a.who % 16) (omega arith) l).free; known = λ q. l; hand = h });
       gone = λ z d n. gone-other s d n;
-      adds-kept = λ z d n. refl;
+      adds_kept = λ z d n. refl;
     }
 
 begin-requires : tie.Need-begin-requires
@@ -93,14 +93,14 @@ begin-requires c κs =
         own_at a.displaced.now d n,
         own_at a.made.now d n,
         own_at (given s) d n,
-        put-beside a.targets.now d n _,
+        put_beside a.targets.now d n _,
         own_at a.adds.now d n,
       )
           (s.requires.1 d),
     )
 
-returns-4 : tie.Need-returns-4
-returns-4 c =
+returns_4 : tie.Need-returns-4
+returns_4 c =
     let e = c.before.before.before.before.before.before.before.before.before in
     let s = e.before.before.before in
     let a = s.args in
@@ -108,8 +108,8 @@ returns-4 c =
       halted = λ f. absurd (f (none e));
       entered = λ z d n.
           rw (
-            put-own (given s) d n (given-two s),
-            put-own a.adds.now d n (adds-two s),
+            put_own (given s) d n (given-two s),
+            put_own a.adds.now d n (adds-two s),
             ← own_at a.blocks.now d n,
             ← own_at a.made.now (other d) (other-number a.made.now d n),
             ← own_at a.displaced.now d n,
@@ -117,7 +117,7 @@ returns-4 c =
           )
           c.begin.ensures;
       gone = λ z d n. put_other (given s) d n _ ∙ gone-other s d n;
-      adds-kept = λ z d n. put_other a.adds.now d n _;
+      adds_kept = λ z d n. put_other a.adds.now d n _;
     }
 
 pub begin-for-spec : {M : Type 1} → statement M
@@ -125,6 +125,6 @@ begin-for-spec =
     tie.close
     (tie.spec (λ c. search rules) returns returns-2 (λ c. search rules) (λ c. search rules) (λ c. search rules)
     (λ c. search rules) (λ c. search rules) (λ c. search rules) (λ c. search rules) (λ c. search rules)
-    (λ c. search rules) returns-3 (λ c. search rules) (λ c. search rules) (λ c. search rules) (λ c. search rules)
+    (λ c. search rules) returns_3 (λ c. search rules) (λ c. search rules) (λ c. search rules) (λ c. search rules)
     (λ c. search rules) (λ c. search rules) (λ c. search rules) (λ c. search rules) (λ c. search rules)
-    (λ c. search rules) (λ c. search rules) (λ c. search rules) (λ c. search rules) begin-requires returns-4)
+    (λ c. search rules) (λ c. search rules) (λ c. search rules) (λ c. search rules) begin-requires returns_4)

@@ -5,8 +5,8 @@ use native.Mathlib.Omega.{arith}
 use lib.ListN.{get_or}
 use borrow.Author.Rules.{rules}
 use borrow.Author.Tests.{lt-ltb, le-ltb}
-use Rattle.tables.specs.code.Laid.{updatesIn}
-use Rattle.steps.specs.code.Steps.{placeNext, rowNext}
+use Rattle.tables.specs.Code.Laid.{updates_in}
+use Rattle.steps.specs.Code.Steps.{place_next, row_next}
 use Rattle.turns.proofs.inside.is_inside.Statement.{statement}
 use Rattle.turns.proofs.inside.is_inside.Tie as tie
 
@@ -14,18 +14,18 @@ abbrev entry : tie.After-start → tie.Start
 entry c = c.before.before.before.before
 
 -- the worker has an update left
-left : (c : tie.After-start) → let a = (entry c).args in get_or a.made.now a.w 0 / 2 < updatesIn a.first.now a.w
+left : (c : tie.After-start) → let a = (entry c).args in get_or a.made.now a.w 0 / 2 < updates_in a.first.now a.w
 left c = omega (arith, c.before.if1.false, c.before.before.accesses.ensures)
 
 -- .. that stands inside the table
-place : (c : tie.After-start) → let a = (entry c).args in placeNext a.first.now a.made.now a.w < 69632
+place : (c : tie.After-start) → let a = (entry c).args in place_next a.first.now a.made.now a.w < 69632
 place c =
     let s = entry c in
     let r = s.pre.1.2.bounded.rising in
     omega (arith, left c, s.pre.0, r.rises s.args.w s.pre.0, r.few (s.args.w + 1) (omega (arith, s.pre.0)))
 
 -- its row
-read : (c : tie.After-wide) → let a = (entry c.before.before).args in c.wide.result ≡ rowNext a.first.now a.row.now a.made.now a.w
+read : (c : tie.After-wide) → let a = (entry c.before.before).args in c.wide.result ≡ row_next a.first.now a.row.now a.made.now a.w
 read c = c.wide.ensures
 
 low : (c : tie.After-wide) → c.wide.result < 4096
@@ -33,10 +33,10 @@ low c =
     let s = entry c.before.before in
     let a = s.args in
     let b = s.pre.1.2.bounded in
-    rw (read c) (omega (arith, b.row_low (placeNext a.first.now a.made.now a.w), b.rows_few))
+    rw (read c) (omega (arith, b.row_low (place_next a.first.now a.made.now a.w), b.rows_few))
 
 -- .. whose first update is not after it
-begun : (c : tie.After-wide) → let a = (entry c.before.before).args in get_or a.begins.now c.wide.result 0 ≤ placeNext a.first.now a.made.now a.w
+begun : (c : tie.After-wide) → let a = (entry c.before.before).args in get_or a.begins.now c.wide.result 0 ≤ place_next a.first.now a.made.now a.w
 begun c = let s = entry c.before.before in rw (read c) (s.pre.1.2.begun s.args.w _ s.pre.0 (left c.before.before))
 
 accesses-requires : tie.Need-accesses-requires
@@ -69,8 +69,8 @@ mul-result-2 c = omega (arith, begun c.before, place c.before.before.before)
 mul-result-3 : tie.Need-overflow-mul-result-3
 mul-result-3 c = omega (arith, place c.before.before.before)
 
-add-result : tie.Need-overflow-add-result
-add-result c = omega (arith, place c.before.before.before)
+add_result : tie.Need-overflow-add-result
+add_result c = omega (arith, place c.before.before.before)
 
 returns-2 : tie.Need-returns-2
 returns-2 c =
@@ -82,4 +82,4 @@ is-inside-spec =
     tie.close
     (tie.spec (λ c. search rules) (λ c. search rules) accesses-requires returns (λ c. search rules)
     (λ c. search rules) add_wide cast-wide mul_wide element-copy-out-wide (λ c κs. search rules) mul-result
-    element-copy-out-result mul-result-2 mul-result-3 add-result returns-2)
+    element-copy-out-result mul-result-2 mul-result-3 add_result returns-2)

@@ -3,17 +3,17 @@ use mathlib.Core.Path.{◌≡◌, refl}
 use mathlib.Core.Logic.{◌≢◌}
 use mathlib.Core.Bool.{true}
 use Prim.Native.Nat.{ℕ, zero, suc}
-use Rattle.crews.specs.Crews.{unlessAway}
+use Rattle.crews.specs.Crews.{unless_away}
 use Rattle.turns.proofs.turn.elsewhere.Statement.{statement}
 use Rattle.turns.proofs.turn.elsewhere.Tie as tie
 
 returns : tie.Need-returns
-unfolding unlessAway
+unfolding unless_away
 returns c = rw c.if1.true refl
 
 -- another reason comes first
-first : (k : ℕ) → k ≢ 0 → k ≡ unlessAway k true
-unfolding unlessAway
+first : (k : ℕ) → k ≢ 0 → k ≡ unless_away k true
+unfolding unless_away
 first zero d = absurd (d refl)
 first (suc k) d = refl
 

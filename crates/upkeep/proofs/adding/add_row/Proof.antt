@@ -7,7 +7,7 @@ use lib.ListN.{length, get_or, take}
 use mir.Syntax.{w32, w64}
 use mir.Val.{SFits, to_z, of_z}
 use mir.Facts.{to_z-of_z}
-use Rattle.upkeep.specs.code.Sums.{Added}
+use Rattle.upkeep.specs.Code.Sums.{Added}
 use Rattle.upkeep.proofs.RowAdded.{none_passed, Turn, turn, one-passed, all-passed}
 use borrow.Author.Rules.{rules}
 use Rattle.upkeep.proofs.adding.add_row.Statement.{statement}

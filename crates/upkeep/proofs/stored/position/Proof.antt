@@ -6,7 +6,7 @@ use mathlib.Core.Logic.{◌≢◌}
 use native.Mathlib.Omega.{arith}
 use Prim.Native.Nat.{ℕ, ◌≤◌, ◌<◌, ◌-◌}
 use lib.ListN.{length, get_or}
-use Rattle.base.proofs.Positions.{position_first, position-nowhere}
+use Rattle.base.proofs.Positions.{position_first, position_nowhere}
 use Rattle.upkeep.proofs.stored.position.Statement.{statement}
 use Rattle.upkeep.proofs.stored.position.Tie as tie
 
@@ -30,7 +30,7 @@ returns-2 c =
     let l = c.before in
     let a = l.before.args in
     let end : l.loop.k ≡ length a.list.now = omega (arith, l.loop.invariant.0, c.loop-test.false) in
-    end ∙ sym (position-nowhere a.list.now a.v (λ i m. l.loop.invariant.1 i (omega (arith, end))))
+    end ∙ sym (position_nowhere a.list.now a.v (λ i m. l.loop.invariant.1 i (omega (arith, end))))
 
 pub position-spec : {M : Type 1} → statement M
 position-spec =

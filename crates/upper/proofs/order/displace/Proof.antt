@@ -6,8 +6,8 @@ use lib.ListN.{length, get_or}
 use mir.Syntax.{w32}
 use mir.Facts.{to_z-of_z}
 use Rattle.matrix.specs.Matrix.{displacement}
-use Rattle.upper.specs.code.Upper.{Displaced}
-use Rattle.upper.proofs.PositionTable.{displaced-none, displaced-next}
+use Rattle.upper.specs.Code.Upper.{Displaced}
+use Rattle.upper.proofs.PositionTable.{displaced_none, displaced_next}
 use borrow.Author.Rules.{rules, sfits_of}
 use Rattle.upper.proofs.order.displace.Statement.{statement}
 use Rattle.upper.proofs.order.displace.Tie as tie
@@ -19,7 +19,7 @@ abbrev decreases-loop : tie.decreases-loop
 decreases-loop displacements order displaced₀ p₀ displaced p = length displacements - p
 
 loop-holds : tie.Need-loop-init invariant-loop decreases-loop
-loop-holds c = (search rules, displaced-none _ _ _ c.before.requires.3)
+loop-holds c = (search rules, displaced_none _ _ _ c.before.requires.3)
 
 shared-slice-copy-out-displaced : tie.Need-shared-slice-copy-out-displaced invariant-loop decreases-loop
 shared-slice-copy-out-displaced c =
@@ -37,7 +37,7 @@ loop-again c =
     let a = s.args in (
       search rules,
       rw (to_z-of_z {w = w32} {z = get_or a.displacements.now w.wide_at.result (pos 0)} (sfits_of c.displaced.given), w.wide_at.ensures.0)
-          (displaced-next a.displacements.now a.order.now l.loop.p (search rules) l.loop.displaced l.loop.invariant.1),
+          (displaced_next a.displacements.now a.order.now l.loop.p (search rules) l.loop.displaced l.loop.invariant.1),
     )
 
 returns : tie.Need-returns invariant-loop decreases-loop

@@ -4,7 +4,7 @@ use Prim.Native.Nat.{ℕ, ◌-◌, ◌≤◌}
 use lib.ListN.{get_or, take}
 use lib.Seq.{get_or-take}
 use Rattle.plan.proofs.Once.{once}
-use Rattle.upper.specs.code.Upper.{Positions}
+use Rattle.upper.specs.Code.Upper.{Positions}
 use Rattle.upper.proofs.PositionTable.{positions-none, positions-next, row_below}
 use borrow.Author.Rules.{rules}
 use Rattle.upper.proofs.order.positions.Statement.{statement}

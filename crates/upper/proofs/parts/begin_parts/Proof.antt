@@ -4,9 +4,9 @@ use Prim.Native.Nat.{ℕ, ◌-◌, ◌≤◌, ◌<◌}
 use native.Mathlib.Omega.{arith}
 use lib.ListN.{length, get_or, take}
 use lib.Seq.{get_or-take}
-use Rattle.matrix.specs.Matrix.{matrixOf, Matrix}
-use Rattle.matrix.proofs.Matrix.{matrix-facts}
-use Rattle.upper.specs.code.Upper.{Begun, part_at}
+use Rattle.matrix.specs.Matrix.{matrix_of, Matrix}
+use Rattle.matrix.proofs.Matrix.{matrix_facts}
+use Rattle.upper.specs.Code.Upper.{Begun, part_at}
 use Rattle.upper.proofs.PlacedRows.{row_low}
 use Rattle.upper.proofs.PositionTable.{begun-none, begun-next}
 use Rattle.upper.proofs.PartRows.{start-few}
@@ -25,7 +25,7 @@ abbrev start : tie.At-loop invariant-loop decreases-loop → tie.Start invariant
 start l = l.before.before.before
 
 abbrev matrix : tie.Start invariant-loop decreases-loop → Matrix
-matrix s = matrixOf s.args.n s.args.starts.now s.requires.0.0 s.requires.0.1
+matrix s = matrix_of s.args.n s.args.starts.now s.requires.0.0 s.requires.0.1
 
 -- the row at p, and where it starts
 row : (c : tie.After-wide-at invariant-loop decreases-loop) → let l = c.before.before in let a = (start l).args in c.wide_at.result ≡ get_or (take a.n a.order.now) l.loop.p 0
@@ -47,9 +47,9 @@ bounds c =
     let s = start l in
     let o = s.pre.0.2.ordered in
     let m = matrix s in
-    let f = matrix-facts m o.matrix in
+    let f = matrix_facts m o.matrix in
     let low : c.wide_at.result < s.args.n = omega (arith, row c, row_low m (take s.args.n s.args.order.now) o l.loop.p c.before.loop-test.true) in
-    record { few = f.few; low = low; inside = omega (arith, f.startsLong); early = start-few m o.matrix c.wide_at.result low }
+    record { few = f.few; low = low; inside = omega (arith, f.starts_long); early = start-few m o.matrix c.wide_at.result low }
 
 loop-holds : tie.Need-loop-init invariant-loop decreases-loop
 loop-holds c = (search rules, begun-none _ _ _ c.before.before.requires.1)

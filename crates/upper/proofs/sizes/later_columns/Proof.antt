@@ -5,14 +5,14 @@ use native.Mathlib.Omega.{arith}
 use lib.ListN.{length, get_or, take}
 use lib.Seq.{take-length}
 use lib.Dec.{ltb}
-use Rattle.upper.specs.code.Upper.{laterIn}
+use Rattle.upper.specs.Code.Upper.{later_in}
 use Rattle.upper.proofs.SizeRows.{later-next, later-few, byte_le}
 use borrow.Author.Rules.{rules}
 use Rattle.upper.proofs.sizes.later_columns.Statement.{statement}
 use Rattle.upper.proofs.sizes.later_columns.Tie as tie
 
 abbrev invariant-loop : tie.invariant-loop
-invariant-loop columns position p later₀ k₀ later k = (k ≤ length columns) × (later ≡ length (laterIn position p (take k columns)))
+invariant-loop columns position p later₀ k₀ later k = (k ≤ length columns) × (later ≡ length (later_in position p (take k columns)))
 
 abbrev decreases-loop : tie.decreases-loop
 decreases-loop columns position p later₀ k₀ later k = length columns - k

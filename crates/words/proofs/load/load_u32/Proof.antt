@@ -6,7 +6,7 @@ use native.Mathlib.Omega.{arith}
 use lib.ListN.{set}
 use Rattle.words.specs.LittleEndian.{number}
 use Rattle.words.proofs.Digits.{four-at}
-use Rattle.words.proofs.Blocks.{Loading, load-none, load-more, load-all}
+use Rattle.words.proofs.Blocks.{Loading, load-none, load_more, load-all}
 use Rattle.words.proofs.load.load_u32.Statement.{statement}
 use Rattle.words.proofs.load.load_u32.Tie as tie
 
@@ -34,7 +34,7 @@ first : (c : tie.After-read-u32 invariant-loop decreases-loop) → let l = c.bef
 first c =
     let l = c.before.before in
     let a = (entry l).args in
-    load-more number 4 a.bytes.now a.out.now l.before.least.result l.loop.out l.loop.k c.read_u32.result (omega arith) (omega arith) (omega arith)
+    load_more number 4 a.bytes.now a.out.now l.before.least.result l.loop.out l.loop.k c.read_u32.result (omega arith) (omega arith) (omega arith)
     (c.read_u32.ensures ∙ four-at a.bytes.now (l.loop.k * 4) (omega arith))
     l.loop.invariant
 
@@ -48,7 +48,7 @@ loop-again c =
     let out = set l.loop.out l.loop.k c.before.read_u32.result in
     let two : l.loop.k + 1 + 1 ≡ l.loop.k + 2 = omega arith in
     subst (λ (k : ℕ). Loading number 4 a.bytes.now a.out.now l.before.least.result (set out (l.loop.k + 1) c.read-u322.result) k) two
-    (load-more number 4 a.bytes.now a.out.now l.before.least.result out (l.loop.k + 1) c.read-u322.result (omega arith) (omega arith) (omega arith)
+    (load_more number 4 a.bytes.now a.out.now l.before.least.result out (l.loop.k + 1) c.read-u322.result (omega arith) (omega arith) (omega arith)
     (c.read-u322.ensures ∙ four-at a.bytes.now ((l.loop.k + 1) * 4) (omega arith))
     (first c.before))
 
@@ -61,7 +61,7 @@ last : (c : tie.After-read-u323 invariant-loop decreases-loop) → let l = c.bef
 last c =
     let l = c.before.before.before in
     let a = (entry l).args in
-    load-more number 4 a.bytes.now a.out.now l.before.least.result l.loop.out l.loop.k c.read-u323.result (omega arith) (omega arith) (omega arith)
+    load_more number 4 a.bytes.now a.out.now l.before.least.result l.loop.out l.loop.k c.read-u323.result (omega arith) (omega arith) (omega arith)
     (c.read-u323.ensures ∙ four-at a.bytes.now (l.loop.k * 4) (omega arith))
     l.loop.invariant
 
@@ -74,8 +74,8 @@ returns c =
     let a = (entry l).args in
     (l.before.least.ensures, load-all number 4 a.bytes.now a.out.now l.before.least.result (set l.loop.out l.loop.k c.read-u323.result) (l.loop.k + 1) (omega arith) (last c))
 
-same-length-2 : tie.Need-same-length-2 invariant-loop decreases-loop
-same-length-2 c = c.before.before.loop.invariant.long
+same-length_2 : tie.Need-same-length-2 invariant-loop decreases-loop
+same-length_2 c = c.before.before.loop.invariant.long
 
 returns-2 : tie.Need-returns-2 invariant-loop decreases-loop
 returns-2 c =
@@ -89,4 +89,4 @@ load-u32-spec =
     (tie.spec invariant-loop decreases-loop (λ c κs. search rules) loop-holds (λ c. search rules) (λ c. search rules) (λ c κs. search rules)
     (λ c. search rules) slice-write-out (λ c. search rules) (λ c. search rules) (λ c κs. search rules) (λ c. search rules)
     (λ c. search rules) slice-write-out-2 (λ c. search rules) (λ c. search rules) loop-again (λ c. search rules) (λ c κs. search rules)
-    (λ c. search rules) slice-write-out-3 same_length returns same-length-2 returns-2)
+    (λ c. search rules) slice-write-out-3 same_length returns same-length_2 returns-2)

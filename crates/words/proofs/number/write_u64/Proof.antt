@@ -3,7 +3,7 @@ use borrow.Author.Rules.{rules}
 use mathlib.Core.Path.{◌∙◌}
 use Prim.Native.Nat.{◌/◌, ◌%◌}
 use Rattle.words.specs.LittleEndian.{bytes_of}
-use Rattle.words.proofs.Digits.{length-bytesOf, eight-bytes}
+use Rattle.words.proofs.Digits.{length-bytes_of, eight_bytes}
 use Rattle.words.proofs.Copies.{sets-append}
 use Rattle.words.proofs.number.write_u64.Statement.{statement}
 use Rattle.words.proofs.number.write_u64.Tie as tie
@@ -16,7 +16,7 @@ returns c =
     let low = bytes_of 4 (a.v % 4294967296) in
     let high = bytes_of 4 (a.v / 4294967296) in
     second.write-u322.ensures
-    ∙ rw (first.write-u32.ensures, eight-bytes a.v, sets-append a.bytes.now a.at low high, length-bytesOf 4 (a.v % 4294967296))
+    ∙ rw (first.write-u32.ensures, eight_bytes a.v, sets-append a.bytes.now a.at low high, length-bytes_of 4 (a.v % 4294967296))
 
 pub write-u64-spec : {M : Type 1} → statement M
 write-u64-spec =

@@ -1,7 +1,7 @@
 -- `of_i64` meets its contract: a number from 0 on as it is, one below 0 by the top less -1 - z.
 use mathlib.Core.Path.{refl, sym, ◌∙◌}
 use mir.Syntax.{w64}
-use Rattle.words.proofs.Twos.{ofSigned-is, kept, Below, flip}
+use Rattle.words.proofs.Twos.{of_signed-is, kept, Below, flip}
 use Rattle.words.proofs.signs.of_i64.Statement.{statement}
 use Rattle.words.proofs.signs.of_i64.Tie as tie
 
@@ -11,7 +11,7 @@ cast-result c = (kept w64 18446744073709551615 refl c.before.args.z c.before.ran
 returns : tie.Need-returns
 returns c =
     (kept w64 18446744073709551615 refl c.before.args.z c.before.ranges.z c.if1.true).is
-    ∙ sym (ofSigned-is w64 8 refl c.before.args.z)
+    ∙ sym (of_signed-is w64 8 refl c.before.args.z)
 
 below : (c : tie.Else1) → Below w64 18446744073709551615 refl c.before.args.z
 below c = flip w64 18446744073709551615 refl c.before.args.z c.before.ranges.z c.if1.false
@@ -26,7 +26,7 @@ sub-result-2 : tie.Need-overflow-sub-result-2
 sub-result-2 c = (below c).below
 
 returns-2 : tie.Need-returns-2
-returns-2 c = (below c).is ∙ sym (ofSigned-is w64 8 refl c.before.args.z)
+returns-2 c = (below c).is ∙ sym (of_signed-is w64 8 refl c.before.args.z)
 
 pub of-i64-spec : {M : Type 1} → statement M
 of-i64-spec =

@@ -21,12 +21,12 @@ whole c =
     let e : c.before.magnitude.result ≡ nat_abs s.args.v = simp (to_z-of_z s.ranges.v) at c.before.magnitude.ensures in
     omega (arith, c.width.ensures, ap (λ (k : ℕ). length (natural k)) e, length-integer s.args.v)
 
-add-result : tie.Need-overflow-add-result
-add-result c = let s = c.before.before in simp (to_z-of_z s.ranges.v) (omega (arith, whole c, integer-few s.args.v))
+add_result : tie.Need-overflow-add-result
+add_result c = let s = c.before.before in simp (to_z-of_z s.ranges.v) (omega (arith, whole c, integer-few s.args.v))
 
 returns : tie.Need-returns
 returns c = simp (to_z-of_z c.before.before.ranges.v) (whole c)
 
 pub integer-width-spec : {M : Type 1} → statement M
 integer-width-spec =
-    tie.close (tie.spec (λ c κs. search rules) (λ c κs. search rules) (λ c. search rules) add-result returns)
+    tie.close (tie.spec (λ c κs. search rules) (λ c κs. search rules) (λ c. search rules) add_result returns)

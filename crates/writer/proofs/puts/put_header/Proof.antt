@@ -5,7 +5,7 @@ use Prim.Native.Nat.{◌-◌}
 use native.Mathlib.Omega.{arith}
 use Rattle.market.specs.Bytes.{header}
 use Rattle.market.proofs.Written.{header-length}
-use Rattle.writer.proofs.puts.Putting.{Copying, copying-start, copying-more, copying-end}
+use Rattle.writer.proofs.puts.Putting.{Copying, copying_start, copying_more, copying_end}
 use Rattle.writer.proofs.puts.put_header.Statement.{statement}
 use Rattle.writer.proofs.puts.put_header.Tie as tie
 
@@ -16,21 +16,21 @@ abbrev decreases-loop : tie.decreases-loop
 decreases-loop text₀ i₀ text i = 51 - i
 
 loop-holds : tie.Need-loop-init invariant-loop decreases-loop
-loop-holds c = copying-start header c.args.text.now (omega (arith, c.requires, header-length))
+loop-holds c = copying_start header c.args.text.now (omega (arith, c.requires, header-length))
 
 slice-write-text : tie.Need-slice-write-text invariant-loop decreases-loop
 slice-write-text c = let g = c.before.loop.invariant in omega (arith, header-length, g.room, g.long)
 
 loop-again : tie.Need-loop-preserved invariant-loop decreases-loop
 unfolding header
-loop-again c = copying-more c.before.loop.invariant c.loop-test.true
+loop-again c = copying_more c.before.loop.invariant c.loop-test.true
 
 same_length : tie.Need-same-length invariant-loop decreases-loop
 same_length c = c.before.loop.invariant.long
 
 returns : tie.Need-returns invariant-loop decreases-loop
 unfolding header
-returns c = copying-end c.before.loop.invariant c.loop-test.false refl
+returns c = copying_end c.before.loop.invariant c.loop-test.false refl
 
 pub put-header-spec : {M : Type 1} → statement M
 put-header-spec =

@@ -7,9 +7,9 @@ use lib.IntN.{nat_abs}
 use lib.ListN.{length, length-set}
 use mir.Facts.{to_z-of_z}
 use Rattle.market.specs.Text.{natural, integer}
-use Rattle.writer.specs.code.Puts.{Put}
+use Rattle.writer.specs.Code.Puts.{Put}
 use Rattle.market.proofs.Decimal.{decimal-some}
-use Rattle.writer.proofs.puts.Signs.{length-integer, put-value}
+use Rattle.writer.proofs.puts.Signs.{length-integer, put_value}
 use Rattle.writer.proofs.puts.put_integer.Statement.{statement}
 use Rattle.writer.proofs.puts.put_integer.Tie as tie
 
@@ -22,7 +22,7 @@ whole : (c : tie.After-put-number) → let s = c.before.before.before.before in 
 whole c =
     let m = c.before in
     let s = m.before.before.before in
-    put-value s.args.v s.requires (simp (to_z-of_z s.ranges.v, size m) at c.put-number.ensures)
+    put_value s.args.v s.requires (simp (to_z-of_z s.ranges.v, size m) at c.put-number.ensures)
 
 slice-write-text : tie.Need-slice-write-text
 slice-write-text c = let s = c.before in omega (arith, s.requires, length-integer s.args.v, decimal-some 9 (nat_abs s.args.v))

@@ -5,8 +5,8 @@ use Prim.Native.Nat.{◌+◌}
 use native.Mathlib.Omega.{arith}
 use lib.ListN.{length}
 use Rattle.market.specs.Text.{natural}
-use Rattle.writer.proofs.puts.Digits.{length-digit, length_digits}
-use Rattle.writer.proofs.puts.Spelling.{Spelling, spelling-start, spelling-more, spelling-last}
+use Rattle.writer.proofs.puts.Digits.{length_digit, length_digits}
+use Rattle.writer.proofs.puts.Spelling.{Spelling, spelling_start, spelling_more, spelling_last}
 use Rattle.writer.proofs.puts.put_number.Statement.{statement}
 use Rattle.writer.proofs.puts.put_number.Tie as tie
 
@@ -23,7 +23,7 @@ loop-holds : tie.Need-loop-init invariant-loop decreases-loop
 loop-holds c =
     let s = c.before.before in
     let e : s.args.at + c.width.result ≡ s.args.at + length (natural s.args.v) = omega (arith, c.width.ensures) in
-    (spelling-start s.args.v s.args.at s.args.text.now (search rules) s.requires e, e)
+    (spelling_start s.args.v s.args.at s.args.text.now (search rules) s.requires e, e)
 
 sub-i : tie.Need-overflow-sub-i invariant-loop decreases-loop
 sub-i c = let g = c.before.loop.invariant.0 in omega (arith, g.here, length_digits c.before.loop.x c.loop-test.true g.small)
@@ -32,19 +32,19 @@ slice-write-text : tie.Need-slice-write-text invariant-loop decreases-loop
 slice-write-text c = let g = c.before.loop.invariant.0 in omega (arith, g.here, g.inside, g.long, length_digits c.before.loop.x c.loop-test.true g.small)
 
 loop-again : tie.Need-loop-preserved invariant-loop decreases-loop
-loop-again c = let l = c.before in (spelling-more l.loop.invariant.0 c.loop-test.true, l.loop.invariant.1)
+loop-again c = let l = c.before in (spelling_more l.loop.invariant.0 c.loop-test.true, l.loop.invariant.1)
 
 sub-i-2 : tie.Need-overflow-sub-i-2 invariant-loop decreases-loop
-sub-i-2 c = let g = c.before.loop.invariant.0 in omega (arith, g.here, length-digit c.before.loop.x c.loop-test.false)
+sub-i-2 c = let g = c.before.loop.invariant.0 in omega (arith, g.here, length_digit c.before.loop.x c.loop-test.false)
 
 slice-write-text-2 : tie.Need-slice-write-text-2 invariant-loop decreases-loop
-slice-write-text-2 c = let g = c.before.loop.invariant.0 in omega (arith, g.here, g.inside, g.long, length-digit c.before.loop.x c.loop-test.false)
+slice-write-text-2 c = let g = c.before.loop.invariant.0 in omega (arith, g.here, g.inside, g.long, length_digit c.before.loop.x c.loop-test.false)
 
 same_length : tie.Need-same-length invariant-loop decreases-loop
-same_length c = let l = c.before in (spelling-last l.loop.invariant.0 c.loop-test.false l.loop.invariant.1).long
+same_length c = let l = c.before in (spelling_last l.loop.invariant.0 c.loop-test.false l.loop.invariant.1).long
 
 returns : tie.Need-returns invariant-loop decreases-loop
-returns c = let l = c.before in spelling-last l.loop.invariant.0 c.loop-test.false l.loop.invariant.1
+returns c = let l = c.before in spelling_last l.loop.invariant.0 c.loop-test.false l.loop.invariant.1
 
 pub put-number-spec : {M : Type 1} → statement M
 put-number-spec =

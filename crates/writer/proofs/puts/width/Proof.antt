@@ -4,7 +4,7 @@ use mathlib.Core.Path.{◌≡◌}
 use Prim.Native.Nat.{◌-◌, ◌≤◌}
 use native.Mathlib.Nat.{pow-le-pow_right}
 use native.Mathlib.Omega.{arith}
-use Rattle.writer.proofs.puts.Widths.{Reached, reached-start, reached-more}
+use Rattle.writer.proofs.puts.Widths.{Reached, reached-start, reached_more}
 use Rattle.writer.proofs.puts.width.Statement.{statement}
 use Rattle.writer.proofs.puts.width.Tie as tie
 
@@ -18,13 +18,13 @@ loop-holds : tie.Need-loop-init invariant-loop decreases-loop
 loop-holds c = (reached-start c.args.v (search rules), c.requires.0)
 
 add-digits : tie.Need-overflow-add-digits invariant-loop decreases-loop
-add-digits c = let g = reached-more c.before.loop.invariant.0 in omega arith
+add-digits c = let g = reached_more c.before.loop.invariant.0 in omega arith
 
 mul_power : tie.Need-overflow-mul-power invariant-loop decreases-loop
 mul_power c = let g = c.before.loop.invariant.0 in let l : c.before.loop.k ≤ 9 = omega arith in omega (arith, pow-le-pow_right {n = 10} (omega arith) l)
 
 loop-again : tie.Need-loop-preserved invariant-loop decreases-loop
-loop-again c = (reached-more c.before.loop.invariant.0, omega arith)
+loop-again c = (reached_more c.before.loop.invariant.0, omega arith)
 
 returns : tie.Need-returns invariant-loop decreases-loop
 returns c =

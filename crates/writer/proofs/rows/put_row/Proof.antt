@@ -10,14 +10,14 @@ use mir.Syntax.{w32}
 use mir.Val.{SFits}
 use mir.Facts.{to_z-of_z}
 use Rattle.market.specs.Parse.{Triplet}
-use Rattle.writer.specs.code.Puts.{fromDiagonal, ifLower, lines_of}
-use Rattle.writer.proofs.puts.Putting.{Putting, Next, putting-start, putting-room, putting-more, putting-end}
-use Rattle.writer.proofs.rows.Entries.{lines-append, diagonal-next, diagonal-end}
+use Rattle.writer.specs.Code.Puts.{from_diagonal, if_lower, lines_of}
+use Rattle.writer.proofs.puts.Putting.{Putting, Next, putting_start, putting_room, putting_more, putting_end}
+use Rattle.writer.proofs.rows.Entries.{lines-append, diagonal_next, diagonal_end}
 use Rattle.writer.proofs.rows.put_row.Statement.{statement}
 use Rattle.writer.proofs.rows.put_row.Tie as tie
 
 abbrev invariant-loop : tie.invariant-loop
-invariant-loop text₀ at j columns values p₀ k₀ text p k = (k ≤ length columns) × Putting (lines_of (fromDiagonal j columns values)) (lines_of (fromDiagonal j (drop k columns) (drop k values))) at p text₀ text
+invariant-loop text₀ at j columns values p₀ k₀ text p k = (k ≤ length columns) × Putting (lines_of (from_diagonal j columns values)) (lines_of (from_diagonal j (drop k columns) (drop k values))) at p text₀ text
 
 abbrev decreases-loop : tie.decreases-loop
 decreases-loop text₀ at j columns values p₀ k₀ text p k = length columns - k
@@ -28,31 +28,31 @@ in-range c = sfits_of c.put-entry-arg2.given
 
 -- what is left begins with the next entry's line
 next : (c : tie.In-loop invariant-loop decreases-loop) → let l = c.before in let a = l.before.before.before.args in
-    Next (lines_of (fromDiagonal a.j (drop l.loop.k a.columns.now) (drop l.loop.k a.values.now))) (lines_of (ifLower a.j (get_or a.columns.now l.loop.k 0) (get_or a.values.now l.loop.k (pos 0)))) (lines_of (fromDiagonal a.j (drop (l.loop.k + 1) a.columns.now) (drop (l.loop.k + 1) a.values.now)))
+    Next (lines_of (from_diagonal a.j (drop l.loop.k a.columns.now) (drop l.loop.k a.values.now))) (lines_of (if_lower a.j (get_or a.columns.now l.loop.k 0) (get_or a.values.now l.loop.k (pos 0)))) (lines_of (from_diagonal a.j (drop (l.loop.k + 1) a.columns.now) (drop (l.loop.k + 1) a.values.now)))
 next c =
     let l = c.before in
     let s = l.before.before.before in
     record {
-      is = ap (λ (es : List Triplet). lines_of es) (diagonal-next s.args.j s.args.columns.now s.args.values.now l.loop.k c.loop-test.true s.requires.0.beside)
-          ∙ lines-append (ifLower s.args.j (get_or s.args.columns.now l.loop.k 0) (get_or s.args.values.now l.loop.k (pos 0))) (fromDiagonal s.args.j (drop (l.loop.k + 1) s.args.columns.now) (drop (l.loop.k + 1) s.args.values.now));
+      is = ap (λ (es : List Triplet). lines_of es) (diagonal_next s.args.j s.args.columns.now s.args.values.now l.loop.k c.loop-test.true s.requires.0.beside)
+          ∙ lines-append (if_lower s.args.j (get_or s.args.columns.now l.loop.k 0) (get_or s.args.values.now l.loop.k (pos 0))) (from_diagonal s.args.j (drop (l.loop.k + 1) s.args.columns.now) (drop (l.loop.k + 1) s.args.values.now));
     }
 
 loop-holds : tie.Need-loop-init invariant-loop decreases-loop
-loop-holds c = let s = c.before.before in (omega arith, putting-start (lines_of (fromDiagonal s.args.j s.args.columns.now s.args.values.now)) s.args.at s.args.text.now s.requires.1)
+loop-holds c = let s = c.before.before in (omega arith, putting_start (lines_of (from_diagonal s.args.j s.args.columns.now s.args.values.now)) s.args.at s.args.text.now s.requires.1)
 
 put-entry-requires : tie.Need-put-entry-requires invariant-loop decreases-loop
 put-entry-requires c κs =
     let i = c.before.before.before in
     let l = i.before in
     let s = l.before.before.before in
-    (s.requires.0.low, s.requires.0.columns l.loop.k i.loop-test.true, simp (to_z-of_z (in-range c)) (putting-room l.loop.invariant.1 (next i)))
+    (s.requires.0.low, s.requires.0.columns l.loop.k i.loop-test.true, simp (to_z-of_z (in-range c)) (putting_room l.loop.invariant.1 (next i)))
 
 loop-again : tie.Need-loop-preserved invariant-loop decreases-loop
 loop-again c =
     let e = c.before.before in
     let i = e.before.before.before.before in
     let l = i.before in
-    (omega arith, putting-more l.loop.invariant.1 (next i) (simp (to_z-of_z (in-range e.before)) at e.put-entry.ensures))
+    (omega arith, putting_more l.loop.invariant.1 (next i) (simp (to_z-of_z (in-range e.before)) at e.put_entry.ensures))
 
 same_length : tie.Need-same-length invariant-loop decreases-loop
 same_length c = let l = c.before in l.loop.invariant.1.put.long
@@ -61,7 +61,7 @@ returns : tie.Need-returns invariant-loop decreases-loop
 returns c =
     let l = c.before in
     let a = l.before.before.before.args in
-    putting-end l.loop.invariant.1 (ap (λ (es : List Triplet). lines_of es) (diagonal-end a.j a.columns.now a.values.now l.loop.k c.loop-test.false))
+    putting_end l.loop.invariant.1 (ap (λ (es : List Triplet). lines_of es) (diagonal_end a.j a.columns.now a.values.now l.loop.k c.loop-test.false))
 
 pub put-row-spec : {M : Type 1} → statement M
 put-row-spec =

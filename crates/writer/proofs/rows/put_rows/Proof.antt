@@ -5,26 +5,26 @@ use mathlib.Core.List.{List}
 use Prim.Native.Nat.{◌≤◌, ◌-◌, ◌+◌}
 use native.Mathlib.Omega.{arith}
 use lib.ListN.{length, take, drop}
-use Rattle.matrix.specs.Matrix.{Matrix, matrixOf}
-use Rattle.matrix.specs.code.Checks.{RowIn}
+use Rattle.matrix.specs.Matrix.{Matrix, matrix_of}
+use Rattle.matrix.specs.Code.Checks.{RowIn}
 use Rattle.market.specs.Parse.{Triplet}
 use Rattle.market.specs.Text.{lower}
-use Rattle.writer.specs.code.Puts.{fromDiagonal, lines_of}
-use Rattle.writer.proofs.puts.Putting.{Putting, Next, putting-start, putting-room, putting-more, putting-end}
+use Rattle.writer.specs.Code.Puts.{from_diagonal, lines_of}
+use Rattle.writer.proofs.puts.Putting.{Putting, Next, putting_start, putting_room, putting_more, putting_end}
 use Rattle.writer.proofs.rows.Entries.{lines-append}
-use Rattle.writer.proofs.rows.Rows.{lowerLeft, left-first, left_end, row-starts-inside, row-values-inside, row-taken, left-taken}
+use Rattle.writer.proofs.rows.Rows.{lower_left, left-first, left_end, row-starts-inside, row-values-inside, row-taken, left-taken}
 use Rattle.writer.proofs.rows.put_rows.Statement.{statement}
 use Rattle.writer.proofs.rows.put_rows.Tie as tie
 
 abbrev invariant-loop : tie.invariant-loop
-invariant-loop text₀ at n starts columns values p₀ j₀ text p j = (j ≤ n) × Putting (lines_of (lower (matrixOf n starts columns values))) (lines_of (lowerLeft (matrixOf n starts columns values) j)) at p text₀ text
+invariant-loop text₀ at n starts columns values p₀ j₀ text p j = (j ≤ n) × Putting (lines_of (lower (matrix_of n starts columns values))) (lines_of (lower_left (matrix_of n starts columns values) j)) at p text₀ text
 
 abbrev decreases-loop : tie.decreases-loop
 decreases-loop text₀ at n starts columns values p₀ j₀ text p j = n - j
 
 -- the matrix that the lists hold
 abbrev held : tie.Start invariant-loop decreases-loop → Matrix
-held s = matrixOf s.args.n s.args.starts.now s.args.columns.now s.args.values.now
+held s = matrix_of s.args.n s.args.starts.now s.args.columns.now s.args.values.now
 
 -- row j lies inside the lists
 columns-inside : (c : tie.In-loop invariant-loop decreases-loop) → let l = c.before in let s = l.before.before.before.before in RowIn s.args.starts.now (length s.args.columns.now) l.loop.j
@@ -39,18 +39,18 @@ part c xs = take (c.wide2.result - c.before.before.wide.result) (drop c.before.b
 
 -- what is left begins with the lines of row j
 next : (c : tie.After-wide2 invariant-loop decreases-loop) → let l = c.before.before.before.before.before in let s = l.before.before.before.before in
-    Next (lines_of (lowerLeft (held s) l.loop.j)) (lines_of (fromDiagonal l.loop.j (part c s.args.columns.now) (part c s.args.values.now))) (lines_of (lowerLeft (held s) (l.loop.j + 1)))
+    Next (lines_of (lower_left (held s) l.loop.j)) (lines_of (from_diagonal l.loop.j (part c s.args.columns.now) (part c s.args.values.now))) (lines_of (lower_left (held s) (l.loop.j + 1)))
 next c =
     let v = c.before.before in
     let i = v.before.before in
     let l = i.before in
     let s = l.before.before.before.before in
-    record { is = ap (λ (es : List Triplet). lines_of es) (left-taken (held s) s.requires.0 l.loop.j i.loop-test.true v.wide.ensures c.wide2.ensures) ∙ lines-append (fromDiagonal l.loop.j (part c s.args.columns.now) (part c s.args.values.now)) (lowerLeft (held s) (l.loop.j + 1)) }
+    record { is = ap (λ (es : List Triplet). lines_of es) (left-taken (held s) s.requires.0 l.loop.j i.loop-test.true v.wide.ensures c.wide2.ensures) ∙ lines-append (from_diagonal l.loop.j (part c s.args.columns.now) (part c s.args.values.now)) (lower_left (held s) (l.loop.j + 1)) }
 
 loop-holds : tie.Need-loop-init invariant-loop decreases-loop
 loop-holds c =
     let s = c.before.before.before in
-    (omega arith, subst (λ (left : List Triplet). Putting (lines_of (lower (held s))) (lines_of left) s.args.at s.args.at s.args.text.now s.args.text.now) (sym (left-first (held s))) (putting-start (lines_of (lower (held s))) s.args.at s.args.text.now s.requires.1))
+    (omega arith, subst (λ (left : List Triplet). Putting (lines_of (lower (held s))) (lines_of left) s.args.at s.args.at s.args.text.now s.args.text.now) (sym (left-first (held s))) (putting_start (lines_of (lower (held s))) s.args.at s.args.text.now s.requires.1))
 
 shared-slice-read-wide : tie.Need-shared-slice-read-wide invariant-loop decreases-loop
 shared-slice-read-wide c = let r = columns-inside c.before in omega arith
@@ -89,14 +89,14 @@ put-row-requires c κs =
     let i = v.before.before in
     let l = i.before in
     let s = l.before.before.before.before in
-    (row-taken (held s) s.requires.0 l.loop.j i.loop-test.true v.wide.ensures w.wide2.ensures, putting-room l.loop.invariant.1 (next w))
+    (row-taken (held s) s.requires.0 l.loop.j i.loop-test.true v.wide.ensures w.wide2.ensures, putting_room l.loop.invariant.1 (next w))
 
 loop-again : tie.Need-loop-preserved invariant-loop decreases-loop
 loop-again c =
     let r = c.before.before in
     let w = r.before.before.before.before in
     let l = w.before.before.before.before.before in
-    (omega arith, putting-more l.loop.invariant.1 (next w) r.put-row.ensures)
+    (omega arith, putting_more l.loop.invariant.1 (next w) r.put-row.ensures)
 
 same_length : tie.Need-same-length invariant-loop decreases-loop
 same_length c = let l = c.before in l.loop.invariant.1.put.long
@@ -105,7 +105,7 @@ returns : tie.Need-returns invariant-loop decreases-loop
 returns c =
     let l = c.before in
     let s = l.before.before.before.before in
-    putting-end l.loop.invariant.1 (ap (λ (es : List Triplet). lines_of es) (left_end (held s) l.loop.j c.loop-test.false))
+    putting_end l.loop.invariant.1 (ap (λ (es : List Triplet). lines_of es) (left_end (held s) l.loop.j c.loop-test.false))
 
 pub put-rows-spec : {M : Type 1} → statement M
 put-rows-spec =

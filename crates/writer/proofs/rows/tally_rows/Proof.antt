@@ -5,25 +5,25 @@ use mathlib.Core.List.{List}
 use Prim.Native.Nat.{◌≤◌, ◌-◌, ◌+◌, ◌*◌}
 use native.Mathlib.Omega.{arith}
 use lib.ListN.{length}
-use Rattle.matrix.specs.Matrix.{Matrix, matrixOf}
-use Rattle.matrix.specs.code.Checks.{RowIn}
+use Rattle.matrix.specs.Matrix.{Matrix, matrix_of}
+use Rattle.matrix.specs.Code.Checks.{RowIn}
 use Rattle.market.specs.Parse.{Triplet}
 use Rattle.market.specs.Text.{lower}
 use Rattle.market.proofs.Lower.Count.{lower-few}
-use Rattle.writer.proofs.rows.Tallies.{Tallying, tallying-start, tallying-more, tallying-small, tallying-end}
-use Rattle.writer.proofs.rows.Rows.{lowerLeft, left-first, left_end, row-starts-inside, row-values-inside, row-taken, left-taken}
+use Rattle.writer.proofs.rows.Tallies.{Tallying, tallying_start, tallying_more, tallying_small, tallying_end}
+use Rattle.writer.proofs.rows.Rows.{lower_left, left-first, left_end, row-starts-inside, row-values-inside, row-taken, left-taken}
 use Rattle.writer.proofs.rows.tally_rows.Statement.{statement}
 use Rattle.writer.proofs.rows.tally_rows.Tie as tie
 
 abbrev invariant-loop : tie.invariant-loop
-invariant-loop n starts columns values entries₀ bytes₀ j₀ entries bytes j = (j ≤ n) × Tallying (lower (matrixOf n starts columns values)) (lowerLeft (matrixOf n starts columns values) j) entries bytes
+invariant-loop n starts columns values entries₀ bytes₀ j₀ entries bytes j = (j ≤ n) × Tallying (lower (matrix_of n starts columns values)) (lower_left (matrix_of n starts columns values) j) entries bytes
 
 abbrev decreases-loop : tie.decreases-loop
 decreases-loop n starts columns values entries₀ bytes₀ j₀ entries bytes j = n - j
 
 -- the matrix that the lists hold
 abbrev held : tie.Start invariant-loop decreases-loop → Matrix
-held s = matrixOf s.args.n s.args.starts.now s.args.columns.now s.args.values.now
+held s = matrix_of s.args.n s.args.starts.now s.args.columns.now s.args.values.now
 
 -- row j lies inside the lists
 columns-inside : (c : tie.In-loop invariant-loop decreases-loop) → let l = c.before in let s = l.before.before.before in RowIn s.args.starts.now (length s.args.columns.now) l.loop.j
@@ -34,25 +34,25 @@ values-inside c = let l = c.before in let s = l.before.before.before in row-valu
 
 -- one row more
 counted : (c : tie.After-tally-row invariant-loop decreases-loop) → let l = c.before.before.before.before.before.before.before.before in let s = l.before.before.before in
-    Tallying (lower (held s)) (lowerLeft (held s) (l.loop.j + 1)) (l.loop.entries + c.tally-row.result.entries) (l.loop.bytes + c.tally-row.result.bytes)
+    Tallying (lower (held s)) (lower_left (held s) (l.loop.j + 1)) (l.loop.entries + c.tally-row.result.entries) (l.loop.bytes + c.tally-row.result.bytes)
 counted c =
     let w = c.before.before.before in
     let v = w.before.before in
     let i = v.before.before in
     let l = i.before in
     let s = l.before.before.before in
-    tallying-more l.loop.invariant.1 (left-taken (held s) s.requires l.loop.j i.loop-test.true v.wide.ensures w.wide2.ensures) c.tally-row.ensures
+    tallying_more l.loop.invariant.1 (left-taken (held s) s.requires l.loop.j i.loop-test.true v.wide.ensures w.wide2.ensures) c.tally-row.ensures
 
 -- the numbers stay small
 small : (c : tie.After-tally-row invariant-loop decreases-loop) → let l = c.before.before.before.before.before.before.before.before in (l.loop.entries + c.tally-row.result.entries ≤ 32768) × (l.loop.bytes + c.tally-row.result.bytes ≤ 34 * 32768)
 small c =
     let s = c.before.before.before.before.before.before.before.before.before.before.before in
-    let t = tallying-small (counted c) in
+    let t = tallying_small (counted c) in
     let few = lower-few (held s) s.requires in
     (omega arith, omega arith)
 
 loop-holds : tie.Need-loop-init invariant-loop decreases-loop
-loop-holds c = let s = c.before.before in (omega arith, subst (λ (left : List Triplet). Tallying (lower (held s)) left 0 0) (sym (left-first (held s))) (tallying-start (lower (held s))))
+loop-holds c = let s = c.before.before in (omega arith, subst (λ (left : List Triplet). Tallying (lower (held s)) left 0 0) (sym (left-first (held s))) (tallying_start (lower (held s))))
 
 shared-slice-read-wide : tie.Need-shared-slice-read-wide invariant-loop decreases-loop
 shared-slice-read-wide c = let r = columns-inside c.before in omega arith
@@ -106,7 +106,7 @@ returns : tie.Need-returns invariant-loop decreases-loop
 returns c =
     let l = c.before in
     let s = l.before.before.before in
-    tallying-end l.loop.invariant.1 (left_end (held s) l.loop.j c.loop-test.false)
+    tallying_end l.loop.invariant.1 (left_end (held s) l.loop.j c.loop-test.false)
 
 pub tally-rows-spec : {M : Type 1} → statement M
 tally-rows-spec =

@@ -3,8 +3,8 @@ use mathlib.Core.Path.{◌≡◌, ◌∙◌}
 use Prim.Native.Nat.{◌-◌, ◌≤◌}
 use borrow.Author.Rules.{rules}
 use borrow.Author.Tests.{le-leb, lt-leb}
-use Rattle.machine.specs.code.Tests.{all_below, done}
-use Rattle.machine.proofs.AllBelow.{below-pass, below-fail, below_none}
+use Rattle.machine.specs.Code.Tests.{all_below, done}
+use Rattle.machine.proofs.AllBelow.{below-pass, below_fail, below_none}
 use Rattle.machine.proofs.state.State.is_finished.Statement.{statement}
 use Rattle.machine.proofs.state.State.is_finished.Tie as tie
 
@@ -21,7 +21,7 @@ returns : tie.Need-returns invariant-loop decreases-loop
 returns c =
     let l = c.before.before.before.before.before in
     let a = l.before.args in
-    below-fail (done a.t2 a.self.made) l.loop.w (search rules) (lt-leb _ _ (rw (c.before.accesses.ensures, c.before.before.before.moves.ensures) at c.if1.true)) ∙ l.loop.invariant.1
+    below_fail (done a.t2 a.self.made) l.loop.w (search rules) (lt-leb _ _ (rw (c.before.accesses.ensures, c.before.before.before.moves.ensures) at c.if1.true)) ∙ l.loop.invariant.1
 
 loop-again : tie.Need-loop-preserved invariant-loop decreases-loop
 loop-again c =

@@ -7,10 +7,10 @@ use lib.ListN.{length, get_or}
 use borrow.Author.Rules.{rules}
 use Rattle.base.proofs.Booleans.{fails, holds}
 use Rattle.plan.specs.Groups.{Group, width}
-use Rattle.plan.specs.code.Checks.{recordAt}
-use Rattle.steps.specs.code.Steps.{stateWith}
-use Rattle.steps.proofs.TableSteps.{pick-worker}
-use Rattle.machine.proofs.RunTurns.{Tables, Picked, Running, entered-refused, entered-worker, entered-ready, entered-made, running-start, running_none, running-halt, running-past, running-renewed, running-on}
+use Rattle.plan.specs.Code.Checks.{record_at}
+use Rattle.steps.specs.Code.Steps.{state_with}
+use Rattle.steps.proofs.TableSteps.{pick_worker}
+use Rattle.machine.proofs.RunTurns.{Tables, Picked, Running, entered-refused, entered-worker, entered-ready, entered-made, running_start, running_none, running_halt, running_past, running_renewed, running_on}
 use Rattle.machine.proofs.state.State.walk.Statement.{statement}
 use Rattle.machine.proofs.state.State.walk.Tie as tie
 
@@ -30,7 +30,7 @@ invariant-loop sums₀ schedule rule groups ends first row begins parts leaves d
       displaced = displaced;
       at = at;
       beside = beside;
-    }) rule (stateWith made₀ held₀ sums₀) schedule taken k (stateWith made held sums) blocks stops targets adds
+    }) rule (state_with made₀ held₀ sums₀) schedule taken k (state_with made held sums) blocks stops targets adds
 
 abbrev decreases-loop : tie.decreases-loop
 decreases-loop sums₀ schedule rule groups ends first row begins parts leaves displaced at beside made₀ held₀ whole blocks₀ stops₀ targets₀ adds₀ taken₀ k₀ k-end sums made held blocks stops targets adds taken k =
@@ -49,7 +49,7 @@ abbrev entry : tie.At-loop invariant-loop decreases-loop → tie.Start invariant
 entry l = start (whole l)
 
 -- the whole has all workers, of whom there are at most sixteen
-crew : (r : tie.After-record-at invariant-loop decreases-loop) → r.record-at.result.workers ≡ (recordAt (start r).args.groups.now 0).workers
+crew : (r : tie.After-record-at invariant-loop decreases-loop) → r.record-at.result.workers ≡ (record_at (start r).args.groups.now 0).workers
 crew r = ap (λ (g : Group). g.workers) r.record-at.ensures.is
 
 few : (r : tie.After-record-at invariant-loop decreases-loop) → r.record-at.result.workers ≤ 16
@@ -61,13 +61,13 @@ record-at-requires c κs = let R = c.before.before.before.before.before.requires
 find-requires : tie.Need-find-requires invariant-loop decreases-loop
 find-requires c κs = (start c.before.before.before).pre.1
 
-made-long : (s : tie.Start invariant-loop decreases-loop) → length s.args.self.made ≡ 16
-made-long s = let g = s.well-formed in search rules
+made_long : (s : tie.Start invariant-loop decreases-loop) → length s.args.self.made ≡ 16
+made_long s = let g = s.well-formed in search rules
 
 loop-holds : tie.Need-loop-init invariant-loop decreases-loop
 loop-holds c =
     let r = c.before.before.before.before in
-    (search rules, search rules, refl, running-start (crew r) (record { long = made-long (start r); blocked = c.find.ensures.0; ahead = c.find.ensures.1 }) (search rules))
+    (search rules, search rules, refl, running_start (crew r) (record { long = made_long (start r); blocked = c.find.ensures.0; ahead = c.find.ensures.1 }) (search rules))
 
 -- ---- a pick
 
@@ -110,8 +110,8 @@ tables l =
 
 -- what became of it
 picked : (j : tie.Joined1 invariant-loop decreases-loop) → let e = j.before in let l = (turn e).before in
-    Picked (tables l) l.loop.blocks (stateWith l.loop.made l.loop.held l.loop.sums) (get_or (entry l).args.schedule.now l.loop.k 0) j.if1.number
-    (stateWith j.if1.made j.if1.held j.if1.sums) j.if1.targets e.enter.new.1.1.1.1.1.1.1.1.1.1.1.1.1.0
+    Picked (tables l) l.loop.blocks (state_with l.loop.made l.loop.held l.loop.sums) (get_or (entry l).args.schedule.now l.loop.k 0) j.if1.number
+    (state_with j.if1.made j.if1.held j.if1.sums) j.if1.targets e.enter.new.1.1.1.1.1.1.1.1.1.1.1.1.1.0
 picked j =
     let e = j.before in
     let l = (turn e).before in
@@ -136,7 +136,7 @@ renew-requires c κs =
     let j = o.before in
     let l = (turn j.before).before in
     let a = (entry l).args in
-    (pick-worker a.first.now a.row.now a.leaves.now l.loop.blocks (few (whole l)) (picked j).made o.if2.true, (entry l).pre.1)
+    (pick_worker a.first.now a.row.now a.leaves.now l.loop.blocks (few (whole l)) (picked j).made o.if2.true, (entry l).pre.1)
 
 -- ---- a pick that is refused
 
@@ -150,7 +150,7 @@ returns c =
     let t = turn j.before in
     let l = t.before in
     rw c.ended.ensures
-    (running-halt l.loop.inv.3 (few (whole l)) (entry l).pre.1 t.loop-test.taken (picked j) p.before.if2.false (fails p.passes.ensures c.before.if4.true))
+    (running_halt l.loop.inv.3 (few (whole l)) (entry l).pre.1 t.loop-test.taken (picked j) p.before.if2.false (fails p.passes.ensures c.before.if4.true))
 
 -- ---- the next turn
 
@@ -170,12 +170,12 @@ loop-again c =
     let test = t.loop-test.taken in
     ⊎_elim
     (λ x. rw (x.6, x.7, x.8, x.9)
-    (omega (arith, test), omega (arith, l.loop.inv.1), sums-long j, running-renewed r (few (whole l)) R test (picked j) x.0.taken x.4.ensures.0))
+    (omega (arith, test), omega (arith, l.loop.inv.1), sums-long j, running_renewed r (few (whole l)) R test (picked j) x.0.taken x.4.ensures.0))
     (⊎_elim
     (λ x. rw (x.6, x.7, x.8, x.9)
-    (omega (arith, test), omega (arith, l.loop.inv.1), sums-long j, running-on r (few (whole l)) R test (picked j) x.0.taken x.4.ensures.0 (x.4.ensures.1 x.5.left)))
+    (omega (arith, test), omega (arith, l.loop.inv.1), sums-long j, running_on r (few (whole l)) R test (picked j) x.0.taken x.4.ensures.0 (x.4.ensures.1 x.5.left)))
     (λ x. rw (x.3, x.4, x.5, x.6)
-    (omega (arith, test), omega (arith, l.loop.inv.1), sums-long j, running-past r (few (whole l)) R test (picked j) x.0.left (holds x.1.ensures x.2.left))))
+    (omega (arith, test), omega (arith, l.loop.inv.1), sums-long j, running_past r (few (whole l)) R test (picked j) x.0.left (holds x.1.ensures x.2.left))))
     c.if2.branch
 
 -- ---- after the loop

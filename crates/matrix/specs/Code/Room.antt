@@ -1,0 +1,10 @@
+-- Room for the lists of every matrix.
+use Rattle.std.specs.Prelude.{ℕ, ◌+◌, ◌*◌}
+use Rattle.matrix.specs.Limits.{max_rows, max_entries}
+
+-- where each row starts, and where the last ends; and the entries of full rows
+abbrev pub max_starts : ℕ
+max_starts = max_rows + 1
+
+abbrev pub max_cells : ℕ
+max_cells = 2 * max_entries

@@ -1,0 +1,67 @@
+-- A step by the tables that a call makes, and what the code makes of it.
+use Rattle.std.specs.Prelude.{◌≡◌, ◌≢◌, List, ℕ, zero, suc, ◌+◌, ◌*◌, ◌-◌, ◌/◌, ◌≤◌, ◌<◌, eqb, leb, ltb, ℤ, length, get_or}
+use Rattle.run.specs.Job.{Job}
+use Rattle.run.specs.Updates.{Update, count, accesses, next}
+use Rattle.run.specs.Machine.{reason, Outcome, moved, halted, onward, step_if}
+use Rattle.run.specs.State.{State}
+use Rattle.plan.specs.Sound.{max_workers}
+use Rattle.tables.specs.Code.Laid.{max_updates, updates_in, Bounded}
+use Rattle.steps.specs.Code.Updates.{entry_place, update_in}
+
+abbrev pub state_with : (made : List ℕ) (held sums : List ℤ) → State
+state_with made held sums = record { made = made; held = held; sums = sums }
+
+-- ---- a step by the tables
+
+-- the place of the update of worker w's next access
+abbrev pub place_next : (first made : List ℕ) → ℕ → ℕ
+place_next first made w = get_or first w 0 + count made w / 2
+
+-- the position of the row that makes it
+abbrev pub row_next : (first row made : List ℕ) → ℕ → ℕ
+row_next first row made w = get_or row (place_next first made w) 0
+
+-- its number among the row's
+abbrev pub number_next : (first row begins made : List ℕ) → ℕ → ℕ
+number_next first row begins made w = place_next first made w - get_or begins (row_next first row made w) 0
+
+-- the update
+abbrev pub update_next : (first row begins parts : List ℕ) (displaced : List ℤ) (at : List ℕ) (beside : List ℤ) (made : List ℕ) → ℕ → Update
+update_next first row begins parts displaced at beside made w = update_in parts displaced at beside (row_next first row made w) (number_next first row begins made w)
+
+-- why a step is refused, 10 before 12 before 13; 0: it is taken
+abbrev pub reason_at : (workers : ℕ) (first row leaves blocks made : List ℕ) → ℕ → ℕ
+reason_at workers first row leaves blocks made w =
+    reason (ltb w workers) (leb (2 * updates_in first w) (count made w)) (eqb (get_or blocks (get_or leaves (row_next first row made w) 0) 0) 1)
+
+-- ---- what the code needs for a step
+
+-- every worker's updates stand inside the table, those of a row from where they begin on, their entries inside the
+-- tables of these, and are of two of n rows
+pub record StepTables (n : ℕ) (first row begins parts leaves at : List ℕ) (beside : List ℤ) : Type 0 where
+  pub bounded : Bounded n first row leaves
+  pub at_low : (k : ℕ) → get_or at k 0 < n
+  pub long : length beside ≡ length at
+  pub room : length at ≤ max_updates
+  pub begun : (w k : ℕ) → w < max_workers → k < updates_in first w → get_or begins (get_or row (get_or first w 0 + k) 0) 0 ≤ get_or first w 0 + k
+  pub inside : (w k : ℕ) → w < max_workers → k < updates_in first w
+      → entry_place parts (get_or row (get_or first w 0 + k) 0) (get_or first w 0 + k - get_or begins (get_or row (get_or first w 0 + k) 0) 0) < length at
+
+-- .. and for the updates to be job j's: they are, at all counts that fewer than so many picks can lead to from these
+pub record UpdatesAhead (j : Job) (made : List ℕ) (picks : ℕ) (first row begins parts : List ℕ) (displaced : List ℤ) (at : List ℕ) (beside : List ℤ) : Type 0 where
+  pub is : (new : List ℕ) (w : ℕ) → w < max_workers → count made w ≤ count new w → count new w < count made w + picks → count new w < accesses j w
+      → update_next first row begins parts displaced at beside new w ≡ next j new w
+
+-- ---- what it makes of one
+
+-- a pick's answer, 0 or why it is refused, and the state after it, as the machine's
+unfoldable pub outcome_of : (number : ℕ) → State → Outcome State
+outcome_of zero t = moved t
+outcome_of (suc k) t = halted (suc k)
+
+-- A pick of worker w with update u, refused for this reason or none: its answer, and the state after it, the old one
+-- where it is refused, else with one access more
+pub record PickMade (why : ℕ) (s : State) (w : ℕ) (u : Update) (number : ℕ) (t : State) : Type 0 where
+  pub is : outcome_of number t ≡ step_if why s w u
+  pub kept : number ≢ 0 → t ≡ s
+  pub counted : number ≡ 0 → t.made ≡ onward s.made w
