@@ -69,7 +69,8 @@ def main(argv):
         return new
 
     camel = {snake(it) for it in specs | proofs if snake(it) != it}
-    lemmas = {it for it in proofs if it in camel}  # a lemma that would have its function's name gets _lem
+    # a lemma that would have its function's name gets _lem, but for two that are fields
+    lemmas = {it for it in proofs if it in camel} - {"starts_first", "one_more"}
 
     texts, together = {}, []
     for path in files("specs/**/*.antt", "proofs/**/*.antt", "src/**/*.rt", "must-fail/*.edit") :

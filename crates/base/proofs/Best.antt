@@ -1,5 +1,5 @@
 -- The best of some elements is one of them; the best of some numbers is the first of them by score.
-use mathlib.Core.Path.{◌≡◌, refl, sym, ap, ◌∙◌, fun_ext}
+use mathlib.Core.Path.{◌≡◌, refl, sym, ap, ◌∙◌, fun_ext, subst}
 use mathlib.Core.Logic.{◌⊎◌, inl, inr, ◌≢◌}
 use mathlib.Core.Bool.{Bool, true, false, cond, true≢false}
 use mathlib.Core.List.{List, [], ◌∷◌, ◌++◌}
@@ -19,7 +19,7 @@ module _ {ℓ} {A : Type ℓ} (P : A → Type 0) (score : A → ℕ) where
   pub best-is : (x : A) (xs : List A) → P x → Each P xs → P (best score x xs)
   unfolding best
   best-is x [] p h = p
-  best-is x (y ∷ ys) p h = best-is _ ys (go (ltb (score y) (score x))) h.1
+  best-is x (y ∷ ys) p h = best-is (cond (ltb (score y) (score x)) y x) ys (go (ltb (score y) (score x))) h.1
     where
       go : (b : Bool) → P (cond b y x)
       go true = h.0
@@ -40,7 +40,7 @@ module _ (score : ℕ → ℕ) where
           (all-each (λ u. mine u ≡ true) mine (λ u k. k) xs (of-all mine xs (λ u k. rw k (or_true (eqb u x)))))
 
       go : (eqb v (best score x xs) ≡ true) ⊎ (false ≡ true) → is_in (x ∷ xs) v ≡ true
-      go (inl e) = rw (eqb-true v (best score x xs) e) one
+      go (inl e) = subst (λ (u : ℕ). is_in (x ∷ xs) u ≡ true) (sym (eqb-true v (best score x xs) e)) one
       go (inr e) = absurd (true≢false (sym e))
 
   -- of some numbers there is one

@@ -28,9 +28,9 @@ no_record gs numbers = refl
 abbrev pub begin : (gs : List Group) (numbers : List ℕ) → Begun gs
 begin gs numbers = record { k = 0; numbers = numbers; within = omega arith; in-plan = omega arith; is = no_record gs numbers }
 
-pub one_more_lem : (gs : List Group) (k : ℕ) (d : Group) → k < length gs → flat (map group_of (take (k + 1) gs)) ≡ flat (map group_of (take k gs)) ++ fields_of (group_of (get_or gs k d))
+pub one_more : (gs : List Group) (k : ℕ) (d : Group) → k < length gs → flat (map group_of (take (k + 1) gs)) ≡ flat (map group_of (take k gs)) ++ fields_of (group_of (get_or gs k d))
 unfolding flat
-one_more_lem gs k d l =
+one_more gs k d l =
     rw (add-one k, take-suc gs k d l, map-append group_of (take k gs) (get_or gs k d ∷ []), flat_append (map group_of (take k gs)) (group_of (get_or gs k d) ∷ []))
     (rw (append-nil (fields_of (group_of (get_or gs k d)))))
 
@@ -42,7 +42,7 @@ next {gs} t d l f ns e = record {
   numbers = ns;
   within = omega arith;
   in-plan = omega arith;
-  is = e ∙ rw t.is (sym (one_more_lem gs t.k d l));
+  is = e ∙ rw t.is (sym (one_more gs t.k d l));
 }
 
 -- with as many as a plan may have

@@ -27,7 +27,7 @@ module _ {j : Job} {sizes : List ℕ} (t : Sized j sizes) {i w s e : ℕ} (h : S
     pub few : p < max_rows
     pub some : 1 ≤ get_or sizes p 0
     pub room_for : next_of j w p + 2 * get_or sizes p 0 ≤ max_updates + 1
-    pub one_more_lem : length (up_to j w (suc p)) + 1 ≡ length (up_to j w p) + 2 * get_or sizes p 0
+    pub one_more : length (up_to j w (suc p)) + 1 ≡ length (up_to j w p) + 2 * get_or sizes p 0
     pub begins : begin_of j p ≡ next_of j w p
     pub updates-are : length (row_updates j p) + 1 ≡ 2 * get_or sizes p 0
 
@@ -36,7 +36,7 @@ module _ {j : Job} {sizes : List ℕ} (t : Sized j sizes) {i w s e : ℕ} (h : S
     few = omega (arith, low, (matrix_facts j.matrix t.accepted.matrix).few);
     some = omega (arith, t.is p low);
     room_for = omega (arith, more, room j t.accepted w (suc p) h.worker low);
-    one_more_lem = more;
+    one_more = more;
     begins = ap (λ (v : ℕ). next_of j v p) (h.mine p a b);
     updates-are = omega (arith, row-length j p, t.is p low);
   }

@@ -39,15 +39,15 @@ passing test zero = []
 passing test (suc w) = cond (test w) (w ∷ passing test w) (passing test w)
 
 module _ (test : ℕ → Bool) where
-  one_more_lem : (w : ℕ) → bits (passing test (suc w)) ≡ bool_byte (test w) * 2 ^ w + bits (passing test w)
+  one_more : (w : ℕ) → bits (passing test (suc w)) ≡ bool_byte (test w) * 2 ^ w + bits (passing test w)
   unfolding passing
-  one_more_lem w = joined (test w) w (passing test w)
+  one_more w = joined (test w) w (passing test w)
 
   -- they have bits below 2 ^ k
   pub bits_below : (k : ℕ) → bits (passing test k) < 2 ^ k
   unfolding passing bits
   bits_below zero = lit< tt
-  bits_below (suc w) = rw (one_more_lem w, pow-suc) (go (test w) (2 ^ w) (bits (passing test w)) (bits_below w))
+  bits_below (suc w) = rw (one_more w, pow-suc) (go (test w) (2 ^ w) (bits (passing test w)) (bits_below w))
     where
       go : (b : Bool) (p s : ℕ) → s < p → bool_byte b * p + s < p * 2
       go true p s h = omega arith
@@ -58,7 +58,7 @@ module _ (test : ℕ → Bool) where
   bits-turn w b l e =
       let S : ℕ = bits (passing test w) in
       ap (bit_or S) (shl_exact {a = bool_byte b} 1 w 16 (byte_low b) (omega arith)) ∙ or_shifted_r (bool_byte b) w S (bits_below w)
-      ∙ ap (λ (t : Bool). bool_byte t * 2 ^ w + S) e ∙ sym (one_more_lem w) ∙ ap (λ (k : ℕ). bits (passing test k)) (sym (add-one w))
+      ∙ ap (λ (t : Bool). bool_byte t * 2 ^ w + S) e ∙ sym (one_more w) ∙ ap (λ (k : ℕ). bits (passing test k)) (sym (add-one w))
 
   -- as many bits as workers
   pub bits-count : (k : ℕ) → ones (bits (passing test k)) ≡ length (passing test k)

@@ -72,7 +72,7 @@ module _ (m : Matrix) (ok : is_matrix m ≡ true) (xs ys : List ℕ) (zs : List 
         some = its.some;
         few = its.few;
         starts-long = rw length-append (omega (arith, its.starts-long));
-        starts_first_lem = start-kept 0 (omega arith) ∙ its.starts_first;
+        starts_first = start-kept 0 (omega arith) ∙ its.starts_first;
         columns-long = rw (end, length-append) (omega (arith, its.columns-long));
         values-long = rw (end, length-append) (omega (arith, its.values-long));
         rising = range_all (rises (m.starts ++ xs)) m.n (λ i l. rw (start-kept i (omega arith), start-kept (suc i) l) (all-range (rises m.starts) m.n i its.rising l));

@@ -96,7 +96,7 @@ pub record Shape (m : Matrix) : Type 0 where
   pub some : 1 ≤ m.n
   pub few : m.n ≤ max_rows
   pub starts-long : m.n < length m.starts
-  pub starts_first_lem : get_or m.starts 0 0 ≡ 0
+  pub starts_first : get_or m.starts 0 0 ≡ 0
   pub columns-long : get_or m.starts m.n 0 ≤ length m.columns
   pub values-long : get_or m.starts m.n 0 ≤ length m.values
   pub rising : all (rises m.starts) (range 0 m.n) ≡ true
@@ -107,7 +107,7 @@ shape m h = record {
   some = leb-true 1 m.n (conj_first (leb 1 m.n) (size_tests m) sizes);
   few = leb-true m.n max_rows (at 0);
   starts-long = leb-true (suc m.n) (length m.starts) (at 1);
-  starts_first_lem = eqb-true (get_or m.starts 0 0) 0 (at 2);
+  starts_first = eqb-true (get_or m.starts 0 0) 0 (at 2);
   columns-long = leb-true (get_or m.starts m.n 0) (length m.columns) (at 3);
   values-long = leb-true (get_or m.starts m.n 0) (length m.values) (at 4);
   rising = and_right (conj (leb 1 m.n) (size_tests m)) (all (rises m.starts) (range 0 m.n)) h;

@@ -48,7 +48,7 @@ module _ (m : Matrix) where
         some = s.some;
         few = s.few;
         starts-long = rw length-take (omega (arith, s.few, s.starts-long));
-        starts_first_lem = start-same m s.few 0 (omega arith) ∙ s.starts_first;
+        starts_first = start-same m s.few 0 (omega arith) ∙ s.starts_first;
         columns-long = rw (end, length-take) (omega (arith, s.columns-long));
         values-long = rw (end, length-take) (omega (arith, s.values-long));
         rising = range_all (rises (cut m).starts) m.n (λ i l. rises-same m s.few i l ∙ all-range (rises m.starts) m.n i s.rising l);
@@ -71,7 +71,7 @@ module _ (m : Matrix) where
           some = s.some;
           few = s.few;
           starts-long = omega (arith, s.starts-long, length-take max_starts m.starts);
-          starts_first_lem = sym (start-same m s.few 0 (omega arith)) ∙ s.starts_first;
+          starts_first = sym (start-same m s.few 0 (omega arith)) ∙ s.starts_first;
           columns-long = omega (arith, end, s.columns-long, length-take max_cells m.columns);
           values-long = omega (arith, end, s.values-long, length-take max_cells m.values);
           rising = range_all (rises m.starts) m.n (λ i l. sym (rises-same m s.few i l) ∙ all-range (rises (cut m).starts) m.n i s.rising l);

@@ -377,7 +377,7 @@ module _ (n : ℕ) (starts columns values : List ℕ) (i j : ℕ) (v : ℤ) (mov
         some = whole.some;
         few = whole.few;
         starts-long = whole.starts-long;
-        starts_first_lem = whole.starts_first;
+        starts_first = whole.starts_first;
         columns-long = whole.columns-long;
         values-long = long-enough;
         rising = whole.rising;

@@ -24,9 +24,9 @@ use Rattle.picking.proofs.Turns.{shut_none}
 abbrev Grown : (made new : List ℕ) → Type 0
 Grown made new = (v : ℕ) → count made v ≤ count new v
 
-one_more_lem : (made : List ℕ) (w : ℕ) → w < length made → Grown made (onward made w)
+one_more : (made : List ℕ) (w : ℕ) → w < length made → Grown made (onward made w)
 unfolding onward
-one_more_lem made w l v = go (same_or v w)
+one_more made w l v = go (same_or v w)
   where
     go : (v ≡ w) ⊎ (v ≢ w) → count made v ≤ count (set made w (suc (count made w))) v
     go (inl q) = rw q (omega (arith, get_or-set_same made w (suc (count made w)) 0 l))
@@ -34,7 +34,7 @@ one_more_lem made w l v = go (same_or v w)
 
 -- the counts after a pick
 pick_grown : {why : ℕ} {s t : State} {w : ℕ} {u : Update} (number : ℕ) → w < length s.made → PickMade why s w u number t → Grown s.made t.made
-pick_grown zero l h v = rw (h.counted refl) (one_more_lem _ _ l v)
+pick_grown zero l h v = rw (h.counted refl) (one_more _ _ l v)
 pick_grown (suc k) l h v = omega (arith, ap (λ (r : State). count r.made v) (h.kept (λ q. omega arith)))
 
 pick_long : {why : ℕ} {s t : State} {w : ℕ} {u : Update} (number : ℕ) → PickMade why s w u number t → length t.made ≡ length s.made

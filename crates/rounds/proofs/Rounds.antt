@@ -71,9 +71,9 @@ module _ (j : Job) (ok : Accepted j) where
     unfolding passed_of place_of
     stop ws vs w h l = let e = stops j (facts j ok) s (inv j ok cs) ws vs w h l in told (ws ++ (w ∷ vs)) ∙ rw (e.0, e.1) refl
 
-    one_more_lem : (ws : List ℕ) → taken_in (run_answers j (cs ++ (rounds ws ∷ []))) ≡ taken_in (run_answers j cs) + taken_of (answer j s (rounds ws))
+    one_more : (ws : List ℕ) → taken_in (run_answers j (cs ++ (rounds ws ∷ []))) ≡ taken_in (run_answers j cs) + taken_of (answer j s (rounds ws))
     unfolding run_answers run_state
-    one_more_lem ws = taken_more j (fresh j.matrix.n) cs (rounds ws)
+    one_more ws = taken_more j (fresh j.matrix.n) cs (rounds ws)
 
   -- as many rounds as there are accesses left
   finishes : (cs : List Call) (rs : List (List ℕ)) → all (is_round j) rs ≡ true → whole_run j ≤ taken_in (run_answers j cs) + length rs → finished_run j (cs ++ map rounds rs) ≡ true
@@ -83,8 +83,8 @@ module _ (j : Job) (ok : Accepted j) where
       (finishes (cs ++ (rounds r ∷ [])) rs (and_right (is_round j r) (all (is_round j) rs) h) (left (finished_run j cs) refl))
     where
       left : (b : Bool) → finished_run j cs ≡ b → whole_run j ≤ taken_in (run_answers j (cs ++ (rounds r ∷ []))) + length rs
-      left true o = omega (arith, one_more_lem cs r, (run cs).enough o)
-      left false o = omega (arith, one_more_lem cs r, gets_on cs r (and_left (is_round j r) (all (is_round j) rs) h) o)
+      left true o = omega (arith, one_more cs r, (run cs).enough o)
+      left false o = omega (arith, one_more cs r, gets_on cs r (and_left (is_round j r) (all (is_round j) rs) h) o)
 
   one-run : (cs : List Call) → Rounds j cs
   one-run cs = record {

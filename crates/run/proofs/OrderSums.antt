@@ -23,8 +23,8 @@ unfoldable times : ℕ → ℤ → ℤ
 times zero z = pos 0
 times (suc k) z = z +ℤ times k z
 
-one_more_lem : (k : ℕ) → 1 + k ≡ suc k
-one_more_lem k = omega arith
+one_more : (k : ℕ) → 1 + k ≡ suc k
+one_more k = omega arith
 
 none_more : (k : ℕ) → 0 + k ≡ k
 none_more k = omega arith
@@ -36,7 +36,7 @@ sum-counts f n [] h = sym (sum-zero (λ v. times 0 (f v)) n (λ v. refl))
 sum-counts f n (x ∷ xs) h =
     ap (λ (z : ℤ). f x +ℤ z) (sum-counts f n xs h.1) ∙ +ℤ_comm (f x) (sumℤ (λ v. times (count v xs) (f v)) n)
     ∙ sym (sum_more (λ v. times (count v xs) (f v)) (λ v. times (bit (eqb v x) + count v xs) (f v)) (f x) n x h.0
-    (rw (eq-eqb x x refl) (ap (λ (k : ℕ). times k (f x)) (one_more_lem (count x xs)) ∙ +ℤ_comm (f x) (times (count x xs) (f x))))
+    (rw (eq-eqb x x refl) (ap (λ (k : ℕ). times k (f x)) (one_more (count x xs)) ∙ +ℤ_comm (f x) (times (count x xs) (f x))))
     (λ v d. rw (ne_eqb v x d) (ap (λ (k : ℕ). times k (f v)) (none_more (count v xs)))))
 
 -- the sum over a list that has each number once

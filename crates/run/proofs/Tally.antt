@@ -35,9 +35,9 @@ module _ (j : Job) (few : workers j ≤ max_workers) where
     more : made_in new ≡ made_in made + k
     long : length new ≡ max_workers
 
-  one_more_lem : (made : List ℕ) (w : ℕ) → length made ≡ max_workers → w < workers j → made_in (added made w) ≡ made_in made + 1
+  one_more : (made : List ℕ) (w : ℕ) → length made ≡ max_workers → w < workers j → made_in (added made w) ≡ made_in made + 1
   unfolding added
-  one_more_lem made w l h =
+  one_more made w l h =
       sum-below_more (count made) (count (set made w (suc (count made w)))) 1 (workers j) w h
       (get_or-set_same made w (suc (count made w)) 0 (omega arith) ∙ (let e : suc (count made w) ≡ count made w + 1 = omega arith in e))
       (λ v d. get_or-set_other made w v (suc (count made w)) 0 d)
@@ -50,7 +50,7 @@ module _ (j : Job) (few : workers j ≤ max_workers) where
     where
       go : (k : ℕ) → ending j made w ≡ k → Tally (added made w) (note j (added made w) ws).counts (note j (added made w) ws).taken
           → Tally made (note j made (w ∷ ws)).counts (note j made (w ∷ ws)).taken
-      go zero e ih = rw (note_on j made w ws e) (record { more = omega (arith, ih.more, one_more_lem made w l (ending_in j made w e)); long = ih.long })
+      go zero e ih = rw (note_on j made w ws e) (record { more = omega (arith, ih.more, one_more made w l (ending_in j made w e)); long = ih.long })
       go (suc k) e ih = rw (note_end j made w ws k e) (record { more = omega arith; long = l })
 
   -- a round
@@ -63,7 +63,7 @@ module _ (j : Job) (few : workers j ≤ max_workers) where
           → Tally made (note_round j made (w ∷ ws)).state (note_round j made (w ∷ ws)).taken
       go zero e ih =
           let t = ih (added made w) (length-set made w (suc (count made w)) ∙ l) in
-          rw (pass_on skips (note_one j) made w ws (added made w) (noted_on j made w e)) (record { more = omega (arith, t.more, one_more_lem made w l (ending_in j made w e)); long = t.long })
+          rw (pass_on skips (note_one j) made w ws (added made w) (noted_on j made w e)) (record { more = omega (arith, t.more, one_more made w l (ending_in j made w e)); long = t.long })
       go (suc k) e ih = by (skips (suc k)) refl
         where
           by : (b : Bool) → skips (suc k) ≡ b → Tally made (note_round j made (w ∷ ws)).state (note_round j made (w ∷ ws)).taken

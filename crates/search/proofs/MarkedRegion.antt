@@ -86,8 +86,8 @@ module _ {adj : ℕ → List ℕ} {n : ℕ} (graph : Graph adj n) (T : List ℕ)
     vs = concat (map adj ring)
 
     -- one join more: who is adjacent to the ring, and who was marked
-    one_more_lem : (v : ℕ) → is_in vs v || near adj j T v ≡ near adj (suc j) T v
-    one_more_lem v = both_ways (is_in vs v || near adj j T v) (near adj (suc j) T v) (λ h. to (or_cases (is_in vs v) (near adj j T v) h)) (λ h. fro (near_cases adj j T v h))
+    one_more : (v : ℕ) → is_in vs v || near adj j T v ≡ near adj (suc j) T v
+    one_more v = both_ways (is_in vs v || near adj j T v) (near adj (suc j) T v) (λ h. to (or_cases (is_in vs v) (near adj j T v) h)) (λ h. fro (near_cases adj j T v h))
       where
         to : (is_in vs v ≡ true) ⊎ (near adj j T v ≡ true) → near adj (suc j) T v ≡ true
         to (inl a) = let (u, b, c) = any-get (is_in ring) (adj v) (sym (adjacent_to graph ring v) ∙ a) in near_step adj j T u v b (s.ring u c)
@@ -104,7 +104,7 @@ module _ {adj : ℕ → List ℕ} {n : ℕ} (graph : Graph adj n) (T : List ℕ)
     -- the last ring: the columns of its rows are the rows adjacent to them, and themselves
     pub rings_last : (columns : ℕ → List ℕ) → ((u v : ℕ) → is_in (adj u) v ≡ is_in (columns u) v && not (eqb v u)) → {marks' : List ℕ} → Marked (concat (map columns ring)) marks marks'
         → (v : ℕ) → get_or marks' v 0 ≡ bit (near adj (suc j) T v)
-    rings_last columns is m v = m.is v ∙ ap (cond (is_in (concat (map columns ring)) v) 1) (s.within v) ∙ either (is_in (concat (map columns ring)) v) (near adj j T v) ∙ ap bit (same ∙ one_more_lem v)
+    rings_last columns is m v = m.is v ∙ ap (cond (is_in (concat (map columns ring)) v) 1) (s.within v) ∙ either (is_in (concat (map columns ring)) v) (near adj j T v) ∙ ap bit (same ∙ one_more v)
       where
         either : (a b : Bool) → cond a 1 (bit b) ≡ bit (a || b)
         either true b = refl
@@ -122,7 +122,7 @@ module _ {adj : ℕ → List ℕ} {n : ℕ} (graph : Graph adj n) (T : List ℕ)
     ne e = omega arith
 
     below : (x : ℕ) → is_in (vs s) x ≡ true → x < n
-    below x h = near-below adj graph (suc j) T low x (sym (one_more_lem s x) ∙ rw h refl)
+    below x h = near-below adj graph (suc j) T low x (sym (one_more s x) ∙ rw h refl)
 
     abbrev grew : Grown n 0 1 (wave marks (take hi queue)) (wave marks' (take r queue')) (vs s)
     grew = after_grown (vs s) s.ready ne below after
@@ -141,8 +141,8 @@ module _ {adj : ℕ → List ℕ} {n : ℕ} (graph : Graph adj n) (T : List ℕ)
     rings_step = record {
       ready = after.ready;
       up = omega (arith, after_tail (vs s) s.ready ne below after);
-      within = λ v. grew.marks-is v ∙ rw (s.within v) (either (near adj j T v) (is_in (vs s) v)) ∙ ap bit (one_more_lem s v);
-      ring = λ u h. sym (one_more_lem s u) ∙ rw (and_right (not (near adj j T u)) (is_in (vs s) u) (sym (found-is u) ∙ h)) refl;
+      within = λ v. grew.marks-is v ∙ rw (s.within v) (either (near adj j T v) (is_in (vs s) v)) ∙ ap bit (one_more s v);
+      ring = λ u h. sym (one_more s u) ∙ rw (and_right (not (near adj j T u)) (is_in (vs s) u) (sym (found-is u) ∙ h)) refl;
       inner = λ u v h o c. near_step adj j T u v c (old u (near adj j T u) (is_in (vs s) u) refl refl h o);
     }
       where
@@ -155,7 +155,7 @@ module _ {adj : ℕ → List ℕ} {n : ℕ} (graph : Graph adj n) (T : List ℕ)
         old : (u : ℕ) (b x : Bool) → near adj j T u ≡ b → is_in (vs s) u ≡ x → near adj (suc j) T u ≡ true → is_in (slice hi r queue') u ≡ false → near adj j T u ≡ true
         old u true x e f h o = e
         old u false true e f h o = absurd (true≢false (rw (e, f) at (sym (found-is u) ∙ o)))
-        old u false false e f h o = absurd (true≢false (sym h ∙ sym (one_more_lem s u) ∙ rw (e, f) refl))
+        old u false false e f h o = absurd (true≢false (sym h ∙ sym (one_more s u) ∙ rw (e, f) refl))
 
 -- a group of all rows is its region
 pub all-within : {adj : ℕ → List ℕ} {n : ℕ} → Graph adj n → (T : List ℕ) → ((v : ℕ) → is_in T v ≡ true → v < n) → (marks : List ℕ) → ((v : ℕ) → get_or marks v 0 ≡ bit (is_in T v)) → unreached n marks ≡ n

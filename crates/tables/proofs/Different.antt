@@ -30,8 +30,8 @@ bit-or true b = omega arith
 bit-or false b = omega arith
 
 -- the numbers that are v or pass a test are at most one more than those that do
-pub one_more_lem : (v : ℕ) (f : ℕ → Bool) (n : ℕ) → sum_below (λ u. bit (eqb u v || f u)) n ≤ 1 + sum_below (λ u. bit (f u)) n
-one_more_lem v f n =
+pub one_more : (v : ℕ) (f : ℕ → Bool) (n : ℕ) → sum_below (λ u. bit (eqb u v || f u)) n ≤ 1 + sum_below (λ u. bit (f u)) n
+one_more v f n =
     omega (
       arith,
       one_below v n,
@@ -42,4 +42,4 @@ one_more_lem v f n =
 -- the different numbers of a list are no more than its length
 pub different : (n : ℕ) (xs : List ℕ) → sum_below (λ v. bit (is_in xs v)) n ≤ length xs
 different n [] = omega (arith, sum-below_bound (λ v. 0) n 0 (λ v l. omega arith))
-different n (x ∷ xs) = omega (arith, different n xs, one_more_lem x (is_in xs) n)
+different n (x ∷ xs) = omega (arith, different n xs, one_more x (is_in xs) n)

@@ -11,7 +11,7 @@ use Rattle.compress.specs.Code.Arrays.{triplets_of}
 use Rattle.reader.specs.Code.Entries.{EntryAt, Held, remaining}
 use Rattle.reader.specs.Code.Marks.{marked, bit_of, Marks}
 use Rattle.reader.proofs.marks.Triangle.{marks_more}
-use Rattle.reader.proofs.entries.Turns.{one_more_lem, taken-line, held_more}
+use Rattle.reader.proofs.entries.Turns.{one_more, taken-line, held_more}
 
 -- the state of the loop: i of the m entries are read and marked, and the lines from p on decide what all of them make
 pub record Going (all : Parsed) (s : List ℕ) (n m k : ℕ) (rs cs : List ℕ) (vs : List ℤ) (ms : List ℕ) (p i : ℕ) : Type 0 where
@@ -26,6 +26,6 @@ pub going_more : {all : Parsed} {s : List ℕ} {n m k : ℕ} {rs cs : List ℕ} 
 going_more {s = s} {k = k} {p = p} g more {r} {c} z {v} l e new eq small em =
     record {
       held = held_more g.held s p more v z l e;
-      marks = rw (one_more_lem g.held s p more v z l e) (marks_more g.marks (triplet r c v) l.0 eq small em);
+      marks = rw (one_more g.held s p more v z l e) (marks_more g.marks (triplet r c v) l.0 eq small em);
       same = taken-line g.held s p more v z l e new k ∙ g.same;
     }

@@ -60,13 +60,13 @@ module _ {n m : ℕ} {rs cs : List ℕ} {vs : List ℤ} {i : ℕ} (g : Held n m 
 
       -- the value is w in the array
       module _ {w : ℤ} (e : w ≡ v) where
-        pub one_more_lem : triplets_of (i + 1) (set rs i r) (set cs i c) (set vs i w) ≡ triplets_of i rs cs vs ++ triplet r c v ∷ []
-        one_more_lem = let a = g.arrays in rw e (triplets_more i r c v rs cs vs (omega (arith, g.total, a.rows)) (omega (arith, g.total, a.columns)) (omega (arith, g.total, a.values)))
+        pub one_more : triplets_of (i + 1) (set rs i r) (set cs i c) (set vs i w) ≡ triplets_of i rs cs vs ++ triplet r c v ∷ []
+        one_more = let a = g.arrays in rw e (triplets_more i r c v rs cs vs (omega (arith, g.total, a.rows)) (omega (arith, g.total, a.columns)) (omega (arith, g.total, a.values)))
 
         pub taken-line : is_among (triplets_of i rs cs vs) r c ≡ false → (k : ℕ) → remaining s n m k (set rs i r) (set cs i c) (set vs i w) z (i + 1) ≡ remaining s n m k rs cs vs p i
         taken-line t k =
             let f : k + (i + 1) ≡ suc (k + i) = omega arith in
-            rw (one_more_lem, f, turn) (sym (l.2 (m - (i + 1)) (k + i) (triplets_of i rs cs vs) ∙ rw t))
+            rw (one_more, f, turn) (sym (l.2 (m - (i + 1)) (k + i) (triplets_of i rs cs vs) ∙ rw t))
 
         pub held_more : Held n m (set rs i r) (set cs i c) (set vs i w) (i + 1)
         held_more =
