@@ -16,7 +16,7 @@ use std::num::wrapping_add_u32;
 pub const LAST: u32 = 5;
 
 // The member set and the arrived set, bit 0 for worker 0; bit 0 of status and of enable; the count of releases.
-#[derive(Drop)]
+#[derive(Clone, Copy)]
 pub struct Barrier {
     pub members: u16,
     pub arrived: u16,
@@ -26,7 +26,7 @@ pub struct Barrier {
 }
 
 // What a write replies, and the unit after it.
-#[derive(Drop)]
+#[derive(Clone, Copy)]
 pub struct Written {
     pub verdict: Verdict,
     pub unit: Barrier,

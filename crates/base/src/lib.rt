@@ -8,7 +8,7 @@ pub mod slices;
 
 // What a call replies: accepted, with its count; or refused, with a number and a place. `reply_of` of
 // specs/Verdicts.antt says it in document 01's words.
-#[derive(Drop)]
+#[derive(Clone, Copy)]
 pub enum Verdict {
     Accepted(u32),
     Refused(u32, u32),

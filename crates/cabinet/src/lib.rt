@@ -21,7 +21,7 @@ use plan::fields::MAX_FIELDS;
 use words::load::load_i64;
 
 // What a call is told beside the lists.
-#[derive(Drop)]
+#[derive(Clone, Copy)]
 struct Asked {
     n: u32,
     group_count: u32,

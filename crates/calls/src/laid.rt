@@ -25,14 +25,14 @@ use tables::MAX_UPDATES;
 use upper::order::displace;
 
 // What is wanted beside the lists.
-#[derive(Drop)]
+#[derive(Clone, Copy)]
 pub struct Wanted {
     pub state: State,
     pub call: Call,
 }
 
 // Whether there is room for the tables, and what the picks come to if there is.
-#[derive(Drop)]
+#[derive(Clone, Copy)]
 pub struct Tried {
     pub fits: bool,
     pub done: Done,

@@ -35,7 +35,7 @@ use upper::sizes::sizes_of;
 
 // What is asked of a run: that it take the picks of a lent schedule, who is ready, its forces for a lent list, what
 // the picks of a lent schedule would do, that it take those of them whose workers can move.
-#[derive(Drop)]
+#[derive(Clone, Copy)]
 pub enum Call {
     Picks,
     ReadySet,
@@ -46,7 +46,7 @@ pub enum Call {
 
 // The answer: picks taken, and what ended them where; a bit for each worker, and their count; forces, which stand in
 // the lent list; a refusal's number and place; or picks with what ended them, and the bits and count after them.
-#[derive(Drop)]
+#[derive(Clone, Copy)]
 pub enum Response {
     Picked(usize, u32, usize),
     Ready(u16, u32),
@@ -56,7 +56,7 @@ pub enum Response {
 }
 
 // The state after a call, and its answer.
-#[derive(Drop)]
+#[derive(Clone, Copy)]
 pub struct Done {
     pub state: State,
     pub answer: Response,

@@ -22,7 +22,7 @@ use plan::fields::{BLUE, Group, RED, put};
 use sort::{MAX_LEVELS, level_sort};
 
 // A group that is split: its record's index, its depth, where it starts, its workers and its load.
-#[derive(Drop)]
+#[derive(Clone, Copy)]
 pub struct Parent {
     pub index: u32,
     pub depth: u32,
@@ -33,7 +33,7 @@ pub struct Parent {
 
 // What is left of a group's stretch: how many rows are done, the next worker, how many are free, and the next record's
 // index.
-#[derive(Drop)]
+#[derive(Clone, Copy)]
 pub struct Left {
     pub done: u32,
     pub first: u32,
@@ -42,14 +42,14 @@ pub struct Left {
 }
 
 // A group that is split, and what is left of it.
-#[derive(Drop)]
+#[derive(Clone, Copy)]
 pub struct Rest {
     pub up: Parent,
     pub left: Left,
 }
 
 // A pair: how many levels and workers it takes, how many of its rows are red, and how many it has.
-#[derive(Drop)]
+#[derive(Clone, Copy)]
 pub struct Pair {
     pub levels: usize,
     pub workers: u32,

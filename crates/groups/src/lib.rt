@@ -129,7 +129,7 @@ fn size_for(room: usize) -> usize
 }
 
 // What the planner made: groups in a flat list, how many, and the answer.
-#[derive(Drop)]
+#[derive(Clone, Copy)]
 struct Made {
     numbers: [u32; MAX_FIELDS],
     count: usize,

@@ -21,7 +21,7 @@ pub(crate) fn line_length(input: &[u8]) -> usize
 }
 
 // Workers and p, or none.
-#[derive(Drop)]
+#[derive(Clone, Copy)]
 pub(crate) enum Parameters {
     Given(u32, u32),
     Missing,

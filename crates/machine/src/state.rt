@@ -22,7 +22,7 @@ use tables::{FIRSTS, MAX_UPDATES};
 use waits::{find, renew};
 
 // Accesses made, and the number held, of each of 16 workers.
-#[derive(Drop)]
+#[derive(Clone, Copy)]
 pub struct State {
     pub made: [u32; MAX_WORKERS],
     pub held: [i64; MAX_WORKERS],
@@ -30,7 +30,7 @@ pub struct State {
 
 // What becomes of a schedule at a pick that its worker cannot make, for it is done or waits: it ends there, or passes
 // over it. Any other refusal ends it.
-#[derive(Drop)]
+#[derive(Clone, Copy)]
 pub enum Rule {
     Stop,
     Skip,
@@ -48,7 +48,7 @@ pub fn passes(rule: Rule, number: u32) -> bool
 
 // What a schedule comes to: the state, how many picks were taken, how many came before the one that ended it, and that
 // one's number; 0 if none did.
-#[derive(Drop)]
+#[derive(Clone, Copy)]
 pub struct Walked {
     pub state: State,
     pub taken: usize,

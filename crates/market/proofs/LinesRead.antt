@@ -2,7 +2,7 @@
 use mathlib.Core.Path.{◌≡◌, refl}
 use mathlib.Core.Bool.{Bool, true, false, not, ◌||◌}
 use mathlib.Core.List.{List, [], ◌∷◌, ◌++◌}
-use Prim.Native.Nat.{ℕ, suc, ◌+◌, ◌≤◌, ◌<◌}
+use Prim.Native.Nat.{ℕ, suc, ◌≤◌, ◌<◌}
 use native.Mathlib.Omega.{arith}
 use lib.Dec.{eqb}
 use lib.IntN.{ℤ, nat_abs}
@@ -13,9 +13,8 @@ use Rattle.base.specs.Integers.{within}
 use Rattle.base.proofs.Booleans.{and_left, and_right, is_false}
 use Rattle.base.proofs.Each.{all-each}
 use Rattle.matrix.specs.Limits.{max_value}
-use Rattle.market.specs.Parse.{Triplet, matrix_text, is_at, is_among, is_entry, comments, parse}
+use Rattle.market.specs.Parse.{Triplet, matrix_text, is_at, is_among, is_entry, parse}
 use Rattle.market.specs.Texts.{Lines, entries_of, text_of_lines, entry_on, Allowed}
-use Rattle.market.proofs.Inside.{inside}
 use Rattle.market.proofs.Spaced.{Good, Clean, lines-parsed}
 
 -- an entry of n rows

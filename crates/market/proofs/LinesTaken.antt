@@ -3,7 +3,7 @@ use mathlib.Core.Path.{◌≡◌, refl, sym, ap, ◌∙◌, subst}
 use mathlib.Core.Logic.{◌⊎◌, inl, inr}
 use mathlib.Core.Bool.{Bool, true, false, not, ◌&&◌, cond}
 use mathlib.Core.List.{List, [], ◌∷◌, ◌++◌, append_assoc, append-nil, map}
-use Prim.Native.Nat.{ℕ, zero, suc, ◌+◌, ◌-◌, ◌≤◌, ◌<◌}
+use Prim.Native.Nat.{ℕ, zero, suc, ◌-◌, ◌≤◌, ◌<◌}
 use native.Mathlib.Omega.{arith}
 use lib.Dec.{leb, ltb, eqb}
 use lib.IntN.{pos, negsuc}
@@ -26,7 +26,6 @@ use Rattle.market.proofs.Spaced.{Clean}
 use Rattle.market.proofs.Stored.{Fits, fits-inside}
 use Rattle.market.proofs.Taken.{line_taken}
 use Rattle.market.proofs.Once.{each-get, filter-two}
-use Rattle.market.proofs.Cells.{first}
 
 -- ---- what is passed over, and what is taken
 

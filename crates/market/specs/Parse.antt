@@ -1,5 +1,5 @@
 -- A matrix text is parsed: n and the stored entries in the order of their lines, or a refusal with its line.
-use Rattle.std.specs.Prelude.{Bool, true, false, ◌&&◌, not, cond, List, [], ◌∷◌, ◌++◌, ℕ, zero, suc, ◌+◌, ◌-◌, leb, ltb, eqb, ℤ, pos, negsuc, length, drop}
+use Rattle.std.specs.Prelude.{Bool, true, false, ◌&&◌, not, cond, List, [], ◌∷◌, ◌++◌, ℕ, zero, suc, ◌-◌, leb, ltb, eqb, ℤ, pos, negsuc, length, drop}
 use Rattle.base.specs.Lists.{any, is_empty, begins}
 use Rattle.base.specs.Integers.{within}
 use Rattle.base.specs.Refusals as why

@@ -11,8 +11,7 @@ use quarters::bytes::load_crews;
 use quarters::{picks_both_in, ready_both_in};
 
 // A list of picks for both, made one load or store at a time.
-#[unsafe(no_mangle)]
-pub extern "C" fn mzk_picks_both(
+pub fn mzk_picks_both(
     n: u32,
     row_starts: &[u8],
     columns: &[u8],
@@ -55,8 +54,7 @@ pub extern "C" fn mzk_picks_both(
 }
 
 // The workers of each whose next pick would be taken.
-#[unsafe(no_mangle)]
-pub extern "C" fn mzk_ready_both(
+pub fn mzk_ready_both(
     n: u32,
     row_starts: &[u8],
     columns: &[u8],

@@ -7,8 +7,7 @@ use site::entry::set_entry_in;
 use site::movement::set_movement_in;
 
 // A new displacement for one row.
-#[unsafe(no_mangle)]
-pub extern "C" fn mzk_set_movement(
+pub fn mzk_set_movement(
     n: u32,
     row_starts: &[u8],
     columns: &[u8],
@@ -26,8 +25,7 @@ pub extern "C" fn mzk_set_movement(
 }
 
 // A new value for a stored entry and its mirror.
-#[unsafe(no_mangle)]
-pub extern "C" fn mzk_set_entry(
+pub fn mzk_set_entry(
     n: u32,
     row_starts: &[u8],
     columns: &[u8],

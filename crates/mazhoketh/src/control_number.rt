@@ -7,8 +7,7 @@ ghost use Rattle.control.specs.ControlNumber.{control_number};
 
 use control::control;
 
-#[unsafe(no_mangle)]
-pub extern "C" fn mzk_control(forces: &[u8]) -> u64
+pub fn mzk_control(forces: &[u8]) -> u64
     ensures { result ≡ word (accepted (control_number (signed 8 forces.now))) }
 {
     control(forces) as u64

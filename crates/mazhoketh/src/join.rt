@@ -6,8 +6,7 @@ ghost use Rattle.shop.specs.Lent.{JoinAnswered};
 use shop::sew::join_in;
 
 // The joined net of two nets and the places of the second's rows.
-#[unsafe(no_mangle)]
-pub extern "C" fn mzk_join(
+pub fn mzk_join(
     n1: u32,
     row_starts1: &[u8],
     columns1: &[u8],

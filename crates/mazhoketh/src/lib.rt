@@ -1,4 +1,4 @@
-// The C interface: exported functions on numbers and byte lists.
+// The calls of the C interface, on numbers and byte lists; mazhoketh_c exports them.
 #![tactic(auto)]
 
 pub mod barrier_unit;

@@ -16,35 +16,21 @@ use texts::read::read_in;
 use texts::write::write_in;
 
 // The matrix of a text.
-#[unsafe(no_mangle)]
-pub extern "C" fn mzk_read(
-    text: &[u8],
-    row_starts: &mut [u8],
-    columns: &mut [u8],
-    values: &mut [u8],
-) -> u64
+pub fn mzk_read(text: &[u8], row_starts: &mut [u8], columns: &mut [u8], values: &mut [u8]) -> u64
     ensures { ReadAnswered text.now row_starts.old columns.old values.old result row_starts.new columns.new values.new }
 {
     read_in(text, row_starts, columns, values)
 }
 
 // A matrix as text.
-#[unsafe(no_mangle)]
-pub extern "C" fn mzk_write(
-    n: u32,
-    row_starts: &[u8],
-    columns: &[u8],
-    values: &[u8],
-    text: &mut [u8],
-) -> u64
+pub fn mzk_write(n: u32, row_starts: &[u8], columns: &[u8], values: &[u8], text: &mut [u8]) -> u64
     ensures { Answered (write_reply (matrix_in n row_starts.now columns.now values.now) (length text.old)) (written (matrix_in n row_starts.now columns.now values.now)) text.old result text.new }
 {
     write_in(n, row_starts, columns, values, text)
 }
 
 // The forces of a matrix and movements.
-#[unsafe(no_mangle)]
-pub extern "C" fn mzk_product(
+pub fn mzk_product(
     n: u32,
     row_starts: &[u8],
     columns: &[u8],
@@ -58,8 +44,7 @@ pub extern "C" fn mzk_product(
 }
 
 // The plan of a matrix at a distance.
-#[unsafe(no_mangle)]
-pub extern "C" fn mzk_plan(
+pub fn mzk_plan(
     n: u32,
     row_starts: &[u8],
     columns: &[u8],
@@ -76,8 +61,7 @@ pub extern "C" fn mzk_plan(
 }
 
 // Whether a plan is sound at a distance for a matrix.
-#[unsafe(no_mangle)]
-pub extern "C" fn mzk_check(
+pub fn mzk_check(
     n: u32,
     row_starts: &[u8],
     columns: &[u8],

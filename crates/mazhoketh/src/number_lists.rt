@@ -9,16 +9,14 @@ use lent::word::word_of;
 use numbers::read::read;
 use numbers::write::write;
 
-#[unsafe(no_mangle)]
-pub extern "C" fn mzk_numbers_read(text: &[u8], list: &mut [u8]) -> u64
+pub fn mzk_numbers_read(text: &[u8], list: &mut [u8]) -> u64
     ensures { Answered (read_numbers_reply (listed text.now) (length list.old / 8)) (signed_bytes 8 (numbers_in (listed text.now))) list.old result list.new }
 {
     let answer = read(text, list);
     word_of(answer)
 }
 
-#[unsafe(no_mangle)]
-pub extern "C" fn mzk_numbers_write(list: &[u8], text: &mut [u8]) -> u64
+pub fn mzk_numbers_write(list: &[u8], text: &mut [u8]) -> u64
     ensures { Answered (write_numbers_reply (signed 8 list.now) (length text.old)) (numbers_text (signed 8 list.now)) text.old result text.new }
 {
     let answer = write(list, text);

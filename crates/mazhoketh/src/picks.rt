@@ -10,8 +10,7 @@ use cabinet::{look_in, take_in};
 use calls::Call;
 
 // The picks that would be taken, what would end them, and who would be ready then.
-#[unsafe(no_mangle)]
-pub extern "C" fn mzk_preview(
+pub fn mzk_preview(
     n: u32,
     row_starts: &[u8],
     columns: &[u8],
@@ -46,8 +45,7 @@ pub extern "C" fn mzk_preview(
 }
 
 // A list of picks, made one load or store at a time.
-#[unsafe(no_mangle)]
-pub extern "C" fn mzk_picks(
+pub fn mzk_picks(
     n: u32,
     row_starts: &[u8],
     columns: &[u8],
@@ -81,8 +79,7 @@ pub extern "C" fn mzk_picks(
 }
 
 // .. those whose workers are done or wait are passed over.
-#[unsafe(no_mangle)]
-pub extern "C" fn mzk_rounds(
+pub fn mzk_rounds(
     n: u32,
     row_starts: &[u8],
     columns: &[u8],

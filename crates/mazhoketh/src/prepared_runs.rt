@@ -14,8 +14,7 @@ use rack::prepare::prepare_in;
 use rack::{ready, take};
 
 // The prepared list of a job.
-#[unsafe(no_mangle)]
-pub extern "C" fn mzk_prepare(
+pub fn mzk_prepare(
     n: u32,
     row_starts: &[u8],
     columns: &[u8],
@@ -43,13 +42,7 @@ pub extern "C" fn mzk_prepare(
 }
 
 // A list of picks, made one load or store at a time.
-#[unsafe(no_mangle)]
-pub extern "C" fn mzk_prepared_picks(
-    prepared: &[u8],
-    state: &mut [u8],
-    sums: &mut [u8],
-    picks: &[u8],
-) -> u64
+pub fn mzk_prepared_picks(prepared: &[u8], state: &mut [u8], sums: &mut [u8], picks: &[u8]) -> u64
     ensures { KeptPicks prepared.now state.old sums.old (calls.picks picks.now) result state.new sums.new }
 {
     let answer = take(prepared, state, sums, picks, Rule::Stop);
@@ -57,13 +50,7 @@ pub extern "C" fn mzk_prepared_picks(
 }
 
 // .. those whose workers are done or wait are passed over.
-#[unsafe(no_mangle)]
-pub extern "C" fn mzk_prepared_rounds(
-    prepared: &[u8],
-    state: &mut [u8],
-    sums: &mut [u8],
-    picks: &[u8],
-) -> u64
+pub fn mzk_prepared_rounds(prepared: &[u8], state: &mut [u8], sums: &mut [u8], picks: &[u8]) -> u64
     ensures { KeptRounds prepared.now state.old sums.old (rounds picks.now) result state.new sums.new }
 {
     let answer = take(prepared, state, sums, picks, Rule::Skip);
@@ -71,8 +58,7 @@ pub extern "C" fn mzk_prepared_rounds(
 }
 
 // The workers whose next pick would be taken.
-#[unsafe(no_mangle)]
-pub extern "C" fn mzk_prepared_ready(prepared: &[u8], state: &[u8], sums: &[u8]) -> u64
+pub fn mzk_prepared_ready(prepared: &[u8], state: &[u8], sums: &[u8]) -> u64
     ensures { result ≡ word (reply_to (answer_kept prepared.now state.now sums.now ready_set)) }
 {
     let answer = ready(prepared, state, sums);
@@ -80,13 +66,7 @@ pub extern "C" fn mzk_prepared_ready(prepared: &[u8], state: &[u8], sums: &[u8])
 }
 
 // The forces of a finished run.
-#[unsafe(no_mangle)]
-pub extern "C" fn mzk_prepared_forces(
-    prepared: &[u8],
-    state: &[u8],
-    sums: &[u8],
-    forces: &mut [u8],
-) -> u64
+pub fn mzk_prepared_forces(prepared: &[u8], state: &[u8], sums: &[u8], forces: &mut [u8]) -> u64
     ensures { ForcesAnswered (answer_kept prepared.now state.now sums.now (force_list (length forces.old / 8))) forces.old result forces.new }
 {
     let answer = rack::forces(prepared, state, sums, forces);

@@ -11,8 +11,7 @@ use cabinet::look_in;
 use calls::Call;
 
 // The workers whose next pick would be taken.
-#[unsafe(no_mangle)]
-pub extern "C" fn mzk_ready(
+pub fn mzk_ready(
     n: u32,
     row_starts: &[u8],
     columns: &[u8],
@@ -46,8 +45,7 @@ pub extern "C" fn mzk_ready(
 }
 
 // The forces of a finished run.
-#[unsafe(no_mangle)]
-pub extern "C" fn mzk_forces(
+pub fn mzk_forces(
     n: u32,
     row_starts: &[u8],
     columns: &[u8],

@@ -6,8 +6,7 @@ ghost use Rattle.desk.specs.Lent.{SurveyAnswered};
 use desk::reach::survey_in;
 
 // The amount of each row, and the shift that reaches one row's.
-#[unsafe(no_mangle)]
-pub extern "C" fn mzk_survey(
+pub fn mzk_survey(
     n: u32,
     row_starts: &[u8],
     columns: &[u8],

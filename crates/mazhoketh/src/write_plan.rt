@@ -7,14 +7,7 @@ ghost use Rattle.planfile.specs.File.{file_of};
 use lent::word::word_of;
 use planfile::write::write;
 
-#[unsafe(no_mangle)]
-pub extern "C" fn mzk_write_plan(
-    n: u32,
-    order: &[u8],
-    groups: &[u8],
-    group_count: u32,
-    file: &mut [u8],
-) -> u64
+pub fn mzk_write_plan(n: u32, order: &[u8], groups: &[u8], group_count: u32, file: &mut [u8]) -> u64
     ensures { Answered (write_plan_reply n order.now groups.now group_count (length file.old)) (file_of (lent_plan n order.now groups.now group_count)) file.old result file.new }
 {
     let answer = write(n, order, groups, group_count, file);

@@ -14,7 +14,7 @@ const MANY: u64 = 10000000000000000000;
 const TENTH: u64 = 1000000000000000000;
 
 // The value of some digits, and the position after them.
-#[derive(Drop)]
+#[derive(Clone, Copy)]
 pub(crate) struct Digits {
     pub(crate) value: u64,
     pub(crate) next: usize,

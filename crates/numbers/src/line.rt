@@ -16,7 +16,7 @@ pub(crate) const LARGEST: u64 = 18446744073709551615;
 
 // A line's number, in two's complement, and where the next line begins; or a number that passes 64 bits; or a line that
 // breaks the form.
-#[derive(Drop)]
+#[derive(Clone, Copy)]
 pub(crate) enum Line {
     Number(u64, usize),
     Past,

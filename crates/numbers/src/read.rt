@@ -17,7 +17,7 @@ use words::number::write_u64;
 pub(crate) const NUMBER: usize = 8;
 
 // How many numbers a text has; or why it is refused, and at which line.
-#[derive(Drop)]
+#[derive(Clone, Copy)]
 enum Judged {
     Numbers(usize),
     Faulty(u32, usize),

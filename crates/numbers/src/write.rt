@@ -18,7 +18,7 @@ use std::num::wrapping_add_u32;
 use words::number::read_u64;
 
 // How many bytes a text takes, if there is room; or what 32 bits keep of that.
-#[derive(Drop)]
+#[derive(Clone, Copy)]
 enum Size {
     Fits(usize),
     Short(u32),

@@ -12,7 +12,7 @@ use prepared::{HEAD, MARK, MOST, ROW, UPDATE};
 use words::number::read_u32;
 
 // What a head says: the rows, the workers of the plan, the updates.
-#[derive(Drop)]
+#[derive(Clone, Copy)]
 pub struct Sizes {
     pub rows: usize,
     pub crew: usize,

@@ -8,7 +8,7 @@ use words::number::{read_u32, read_u64, write_u64};
 use words::signs::{of_i64, to_i64};
 
 // An update: what it adds, the position of its sum, and of its row.
-#[derive(Drop)]
+#[derive(Clone, Copy)]
 pub struct Entry {
     pub amount: i64,
     pub target: usize,

@@ -1,5 +1,5 @@
 -- A plan: an order of the rows, and the records of its groups.
-use Rattle.std.specs.Prelude.{List, [], ◌∷◌, map, ℕ, zero, suc, take, drop, get_or, length}
+use Rattle.std.specs.Prelude.{List, [], ◌∷◌, map, ℕ, zero, suc, take, drop, get_or}
 use Rattle.base.specs.Lists.{concat}
 use Rattle.plan.specs.declared.fields.Group as code
 

@@ -19,7 +19,7 @@ pub const RED: u32 = 1;
 pub const BLUE: u32 = 2;
 
 // A group's record.
-#[derive(Drop)]
+#[derive(Clone, Copy)]
 pub struct Group {
     pub start: u32,
     pub length: u32,
@@ -31,7 +31,7 @@ pub struct Group {
 }
 
 // .. with numbers so wide that the sum of two does not wrap.
-#[derive(Drop)]
+#[derive(Clone, Copy)]
 pub struct Record {
     pub start: usize,
     pub length: usize,

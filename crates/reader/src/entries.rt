@@ -14,14 +14,14 @@ use matrix::limits::{MAX_ENTRIES, MAX_ROWS};
 const STRIDE: u32 = MAX_ROWS as u32;
 
 // A text's rows and count of entries, or its refusal with number and line.
-#[derive(Drop)]
+#[derive(Clone, Copy)]
 pub(crate) enum Scanned {
     Matrix(usize, usize),
     Rejected(u32, u32),
 }
 
 // How many entries are in the arrays, and where the next line stands.
-#[derive(Drop)]
+#[derive(Clone, Copy)]
 pub(crate) struct Reached {
     pub count: usize,
     pub pos: usize,

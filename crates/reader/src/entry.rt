@@ -45,7 +45,7 @@ fn is_entry(n: usize, row: u64, column: u64, v: i64) -> bool
 }
 
 // An entry line's place, counted from 0, its value and the position of the next line; or the number of its refusal.
-#[derive(Drop)]
+#[derive(Clone, Copy)]
 pub(crate) enum Entry {
     At {
         row: u32,

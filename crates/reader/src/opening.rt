@@ -27,7 +27,7 @@ pub(crate) fn has_header(s: &[u8]) -> bool
 }
 
 // The position after a line's line feed, if it has one.
-#[derive(Drop)]
+#[derive(Clone, Copy)]
 pub(crate) enum LineEnd {
     At(usize),
     No,
@@ -49,7 +49,7 @@ fn line_end(s: &[u8], at: usize) -> LineEnd
 }
 
 // A line's number and position.
-#[derive(Drop)]
+#[derive(Clone, Copy)]
 pub(crate) struct LineStart {
     pub line: u32,
     pub pos: usize,

@@ -95,7 +95,7 @@ module _ (gs : List Group) (down : (k : ℕ) → 0 < k → k < length gs → (gr
   none-leaf : (i : ℕ) → under gs i ≡ none → IsLeaf gs i
   none-leaf i e k a l p = subst (Some (λ g B. Unit {0})) e (at_child gs (Some (λ g B. Unit {0})) i k l p (λ next. inl tt) (λ g B next s. inr s) (suc i) (omega (arith, down k a l)))
 
-  lies_up : {r i : ℕ} (c : ℕ) → 0 < c → c < length gs → (group_at gs c).parent ≡ r → LiesIn gs c i → LiesIn gs r i
+  lies_up : {r : ℕ} (c : ℕ) {i : ℕ} → 0 < c → c < length gs → (group_at gs c).parent ≡ r → LiesIn gs c i → LiesIn gs r i
   lies_up c a l e itself = by_parent a l (subst (LiesIn gs _) (sym e) itself)
   lies_up c a l e (by_parent x y z) = by_parent x y (lies_up c a l e z)
 

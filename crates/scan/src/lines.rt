@@ -8,7 +8,7 @@ use crate::classes::{LINE_END, SIGN, SPACE, class_at, class_of};
 use crate::numbers::{Number, read_field, read_number, skip_spaces};
 
 // A value and the position after it, or none.
-#[derive(Drop)]
+#[derive(Clone, Copy)]
 pub(crate) enum Value {
     At(i64, usize),
     No,
@@ -51,7 +51,7 @@ fn read_value_field(s: &[u8], at: usize) -> Value
 }
 
 // A line's three fields and the position of the next line; or a line that breaks the form.
-#[derive(Drop)]
+#[derive(Clone, Copy)]
 pub enum Fields {
     Line {
         row: u64,

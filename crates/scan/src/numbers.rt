@@ -10,7 +10,7 @@ use base::bytes::wide64;
 use base::numbers::least;
 
 // A number and the position after it, or none.
-#[derive(Drop)]
+#[derive(Clone, Copy)]
 pub enum Number {
     At(u64, usize),
     No,

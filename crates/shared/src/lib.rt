@@ -30,14 +30,14 @@ use upper::upper;
 
 // The ready sets of both: a bit for each worker, and their count, of crew 0 and of crew 1; or a refusal's number and
 // place.
-#[derive(Drop)]
+#[derive(Clone, Copy)]
 pub enum Sets {
     Ready(u16, u32, u16, u32),
     Refused(u32, u32),
 }
 
 // The states after a call of picks, and its answer.
-#[derive(Drop)]
+#[derive(Clone, Copy)]
 pub struct BothDone {
     pub crews: Crews,
     pub answer: Response,

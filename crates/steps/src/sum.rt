@@ -6,7 +6,7 @@ const MOST: i64 = 9223372036854775807;
 
 const LEAST: i64 = -9223372036854775808;
 
-#[derive(Drop)]
+#[derive(Clone, Copy)]
 pub enum Sum {
     Fits(i64),
     Passes,

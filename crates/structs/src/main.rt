@@ -16,7 +16,7 @@ use libc::STDOUT_FILENO;
 use plan::fields::Group;
 
 // Five groups, and the planner's answer.
-#[derive(Drop)]
+#[derive(Clone, Copy)]
 struct Five {
     groups: [Group; 5],
     answer: Verdict,

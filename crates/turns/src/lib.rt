@@ -29,7 +29,7 @@ use steps::NONE;
 use tables::{FIRSTS, MAX_UPDATES};
 
 // The state of each crew's run: accesses made, and the number held, of each of 16 workers.
-#[derive(Drop)]
+#[derive(Clone, Copy)]
 pub struct Crews {
     pub made0: [u32; MAX_WORKERS],
     pub held0: [i64; MAX_WORKERS],
@@ -39,7 +39,7 @@ pub struct Crews {
 
 // What a schedule comes to: the states, how many picks were taken, and the number of the one that ended it; 0 if none
 // did.
-#[derive(Drop)]
+#[derive(Clone, Copy)]
 pub struct Turned {
     pub crews: Crews,
     pub taken: usize,

@@ -10,7 +10,7 @@ use crate::puts::{line_width, put_line};
 use base::numbers::wide;
 
 // How many entries, and how many bytes their lines take.
-#[derive(Drop)]
+#[derive(Clone, Copy)]
 pub(crate) struct Tally {
     pub entries: usize,
     pub bytes: usize,

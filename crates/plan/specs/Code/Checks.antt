@@ -1,7 +1,7 @@
 -- Records where they stand in a flat list, and `tiled` one child at a time.
-use Rattle.std.specs.Prelude.{◌≡◌, Bool, true, ◌&&◌, cond, List, [], ◌∷◌, ℕ, ◌+◌, ◌*◌, ◌^◌, ◌<◌, eqb, leb, length, drop}
+use Rattle.std.specs.Prelude.{◌≡◌, Bool, true, ◌&&◌, cond, List, [], ◌∷◌, ℕ, ◌+◌, ◌*◌, ◌^◌, ◌<◌, eqb, leb, drop}
 use Rattle.base.specs.Lists.{filter}
-use Rattle.plan.specs.Groups.{Group, whole, red, blue, width, of_fields, records}
+use Rattle.plan.specs.Groups.{Group, red, blue, width, of_fields, records}
 use Rattle.plan.specs.Sound.{depth_first, tiled}
 use Rattle.plan.specs.declared.fields.Record.{Record}
 

@@ -1,0 +1,38 @@
+// Two nets sewn together.
+ghost use Rattle.words.specs.LittleEndian.{unsigned};
+ghost use Rattle.lent.specs.Bytes.{matrix_in};
+ghost use Rattle.shop.specs.Lent.{JoinAnswered};
+
+// The joined net of two nets and the places of the second's rows.
+#[unsafe(no_mangle)]
+pub extern "C" fn mzk_join(
+    n1: u32,
+    row_starts1: &[u8],
+    columns1: &[u8],
+    values1: &[u8],
+    n2: u32,
+    row_starts2: &[u8],
+    columns2: &[u8],
+    values2: &[u8],
+    places: &[u8],
+    row_starts: &mut [u8],
+    columns: &mut [u8],
+    values: &mut [u8],
+) -> u64
+    ensures { JoinAnswered (matrix_in n1 row_starts1.now columns1.now values1.now) (matrix_in n2 row_starts2.now columns2.now values2.now) (unsigned 4 places.now) row_starts.old columns.old values.old result row_starts.new columns.new values.new }
+{
+    mazhoketh::join::mzk_join(
+        n1,
+        row_starts1,
+        columns1,
+        values1,
+        n2,
+        row_starts2,
+        columns2,
+        values2,
+        places,
+        row_starts,
+        columns,
+        values,
+    )
+}

@@ -1,0 +1,96 @@
+// The calls that make or check a matrix, a plan or a product.
+ghost use Rattle.std.specs.Prelude.{◌≡◌, ◌/◌, length};
+ghost use Rattle.matrix.specs.Product.{product, product_reply};
+ghost use Rattle.market.specs.Text.{written, write_reply};
+ghost use Rattle.plan.specs.Sound.{check_reply};
+ghost use Rattle.words.specs.LittleEndian.{unsigned, signed, signed_bytes};
+ghost use Rattle.lent.specs.Bytes.{matrix_in};
+ghost use Rattle.lent.specs.Word.{word, Answered};
+ghost use Rattle.texts.specs.Lent.{ReadAnswered};
+ghost use Rattle.office.specs.Lent.{PlanAnswered};
+
+// The matrix of a text.
+#[unsafe(no_mangle)]
+pub extern "C" fn mzk_read(
+    text: &[u8],
+    row_starts: &mut [u8],
+    columns: &mut [u8],
+    values: &mut [u8],
+) -> u64
+    ensures { ReadAnswered text.now row_starts.old columns.old values.old result row_starts.new columns.new values.new }
+{
+    mazhoketh::nets::mzk_read(text, row_starts, columns, values)
+}
+
+// A matrix as text.
+#[unsafe(no_mangle)]
+pub extern "C" fn mzk_write(
+    n: u32,
+    row_starts: &[u8],
+    columns: &[u8],
+    values: &[u8],
+    text: &mut [u8],
+) -> u64
+    ensures { Answered (write_reply (matrix_in n row_starts.now columns.now values.now) (length text.old)) (written (matrix_in n row_starts.now columns.now values.now)) text.old result text.new }
+{
+    mazhoketh::nets::mzk_write(n, row_starts, columns, values, text)
+}
+
+// The forces of a matrix and movements.
+#[unsafe(no_mangle)]
+pub extern "C" fn mzk_product(
+    n: u32,
+    row_starts: &[u8],
+    columns: &[u8],
+    values: &[u8],
+    movements: &[u8],
+    forces: &mut [u8],
+) -> u64
+    ensures { Answered (product_reply (matrix_in n row_starts.now columns.now values.now) (signed 4 movements.now) (length forces.old / 8)) (signed_bytes 8 (product (matrix_in n row_starts.now columns.now values.now) (signed 4 movements.now))) forces.old result forces.new }
+{
+    mazhoketh::nets::mzk_product(n, row_starts, columns, values, movements, forces)
+}
+
+// The plan of a matrix at a distance.
+#[unsafe(no_mangle)]
+pub extern "C" fn mzk_plan(
+    n: u32,
+    row_starts: &[u8],
+    columns: &[u8],
+    values: &[u8],
+    workers: u32,
+    p: u32,
+    k: u32,
+    order: &mut [u8],
+    groups: &mut [u8],
+) -> u64
+    ensures { PlanAnswered (matrix_in n row_starts.now columns.now values.now) workers p k order.old groups.old result order.new groups.new }
+{
+    mazhoketh::nets::mzk_plan(n, row_starts, columns, values, workers, p, k, order, groups)
+}
+
+// Whether a plan is sound at a distance for a matrix.
+#[unsafe(no_mangle)]
+pub extern "C" fn mzk_check(
+    n: u32,
+    row_starts: &[u8],
+    columns: &[u8],
+    values: &[u8],
+    order: &[u8],
+    groups: &[u8],
+    group_count: u32,
+    k: u32,
+) -> u64
+    ensures { result ≡ word (check_reply (matrix_in n row_starts.now columns.now values.now) (unsigned 4 order.now) (unsigned 4 groups.now) group_count k) }
+{
+    mazhoketh::nets::mzk_check(
+        n,
+        row_starts,
+        columns,
+        values,
+        order,
+        groups,
+        group_count,
+        k,
+    )
+}
