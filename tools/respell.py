@@ -80,7 +80,7 @@ def main(argv):
         for k in range(0, len(pieces), 2):
             def one(m):
                 new = turn(m.group(0))
-                if new in lemmas and new == m.group(0) and "/proofs/" in path and (m.string[m.start() - 1 : m.start()] != "." or m.string[m.start() - 4 : m.start()] == "own."):
+                if new in lemmas and new == m.group(0) and "/proofs/" in path and not ("/crews/" in path and new == "in_order") and (m.string[m.start() - 1 : m.start()] != "." or m.string[m.start() - 4 : m.start()] == "own."):
                     new += "_lem"
                 seen[new].add(m.group(0))
                 return new

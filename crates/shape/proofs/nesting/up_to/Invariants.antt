@@ -1,0 +1,15 @@
+-- `nesting::up_to`: the parent is looked for from the end of the path on.
+use mathlib.Core.Path.{◌≡◌, refl, sym, ◌∙◌}
+use Prim.Native.Nat.{◌≤◌}
+use native.Mathlib.Omega.{arith}
+use lib.Dec.{eqb}
+use Rattle.base.specs.Lists.{from_first}
+use Rattle.shape.specs.Code.Shape.{path_of}
+use Rattle.shape.proofs.Path.{up-found, up-past}
+use Rattle.shape.proofs.nesting.up_to.Given as goal
+
+abbrev pub invariant-loop-up : goal.invariant-loop-up
+invariant-loop-up l = (from_first (eqb l.parent) (path_of l.path l.up) ≡ from_first (eqb l.parent) (path_of l.path l.t)) × (l.up ≤ l.t)
+
+abbrev pub decreases-loop-up : goal.decreases-loop-up
+decreases-loop-up l = l.up

@@ -1,0 +1,14 @@
+use mathlib.Core.Path.{refl}
+use Prim.Native.Nat.{◌-◌}
+use borrow.Author.Rules.{rules}
+use Rattle.base.specs.Lists.{range}
+use Rattle.symmetric.specs.Code.Cursors.{ended}
+use Rattle.base.proofs.Found.{Found, found_none, found_number, found-numbers}
+use Rattle.symmetric.proofs.passes.are_ended.Goals as goal
+
+pub loop-i-preserved : goal.loop-i-preserved
+loop-i-preserved c =
+    found_number _ _ c.loop-i.invariant c.loop-i-test.true refl
+
+pub returns : goal.returns
+returns c = found-numbers _ _ c.loop-i.invariant c.loop-i-test.false

@@ -1,0 +1,41 @@
+use mathlib.Core.Path.{◌≡◌, refl, sym, ◌∙◌}
+use Prim.Native.Nat.{◌+◌, ◌-◌, ◌≤◌}
+use native.Mathlib.Omega.{arith}
+use lib.ListN.{length, get_or}
+use borrow.Author.Tests.{not-true, not-false}
+use Rattle.matrix.specs.Limits.{max_rows}
+use Rattle.matrix.specs.Matrix.{Matrix, matrix_of}
+use Rattle.symmetric.specs.Code.Cursors.{Cursors}
+use Rattle.matrix.proofs.Checks.{shape}
+use Rattle.symmetric.proofs.RowsMet.{RowsMet, rows_none, rows_next, rows-many, rows_all}
+use Rattle.symmetric.proofs.passes.meet_rows.Goals as goal
+
+pub loop-i-init : goal.loop-i-init
+loop-i-init c = (rows_none _ c.requires.1, refl)
+
+pub bounds-starts-i : goal.bounds-starts-i
+bounds-starts-i c =
+    let given : Matrix = let a = c.args in matrix_of a.n a.starts.now a.columns.now a.values.now in
+    omega (arith, (shape given c.requires.0).starts-long)
+
+pub loop-i-preserved : goal.loop-i-preserved
+loop-i-preserved c =
+    let given : Matrix = let a = c.args in matrix_of a.n a.starts.now a.columns.now a.values.now in
+    let met : Cursors given (c.loop-i.i + 1) c.meet_row.new.cursors = c.meet_row.ensures.yes (not-false _ c.if-not-meet_row.false) in
+    let next : let a = c.args in let cursors = c.meet_row.new.cursors in RowsMet given (c.loop-i.lower + (get_or cursors c.loop-i.i 0 - get_or a.starts.now c.loop-i.i 0)) (c.loop-i.i + 1) cursors = rows_next given c.loop-i.invariant.0 c.loop-i-test.true met in
+    (next, c.meet_row.auto.1.1.1.1.1.0 ∙ c.loop-i.invariant.1)
+
+pub returns-then-lower-gt-MAX_ENTRIES : goal.returns-then-lower-gt-MAX_ENTRIES
+returns-then-lower-gt-MAX_ENTRIES c =
+    let given : Matrix = let a = c.args in matrix_of a.n a.starts.now a.columns.now a.values.now in
+    sym (rows-many given c.requires.0 c.loop-i.invariant.0 c.loop-i-test.false c.if-lower-gt-MAX_ENTRIES.true)
+
+pub are_ended-requires : goal.are_ended-requires
+are_ended-requires c =
+    let given : Matrix = let a = c.args in matrix_of a.n a.starts.now a.columns.now a.values.now in
+    ((shape given c.requires.0).starts-long, c.loop-i.invariant.0.placed.size)
+
+pub returns : goal.returns
+returns c =
+    let given : Matrix = let a = c.args in matrix_of a.n a.starts.now a.columns.now a.values.now in
+    c.are_ended.ensures ∙ rows_all given c.requires.0 c.loop-i.invariant.0 c.loop-i-test.false c.if-lower-gt-MAX_ENTRIES.false

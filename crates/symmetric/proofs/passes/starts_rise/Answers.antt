@@ -1,0 +1,14 @@
+use Prim.Native.Nat.{◌-◌}
+use native.Mathlib.Numerals.{add-one}
+use borrow.Author.Rules.{rules}
+use Rattle.base.specs.Lists.{range}
+use Rattle.matrix.specs.Code.Checks.{rises}
+use Rattle.base.proofs.Found.{Found, found_none, found_number, found-numbers}
+use Rattle.symmetric.proofs.passes.starts_rise.Goals as goal
+
+pub loop-i-preserved : goal.loop-i-preserved
+loop-i-preserved c =
+    found_number _ _ c.loop-i.invariant c.loop-i-test.true (rw (add-one c.loop-i.i))
+
+pub returns : goal.returns
+returns c = found-numbers _ _ c.loop-i.invariant c.loop-i-test.false
