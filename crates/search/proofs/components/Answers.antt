@@ -16,6 +16,18 @@ loop-i-init c =
       omega arith,
     )
 
+pub component-k-requires : goal.component-k-requires
+component-k-requires c =
+    (c.requires.0, c.requires.1, omega arith, c.loop-i.invariant.0)
+
+pub loop-i-preserved : goal.loop-i-preserved
+loop-i-preserved c =
+    let l = c.loop-i in (
+      c.component-k.ensures.0,
+      kept_trans c.args.marks.now l.marks c.component-k.new.marks l.invariant.1 c.component-k.ensures.1,
+      omega arith,
+    )
+
 pub returns : goal.returns
 returns c =
     let l = c.loop-i in

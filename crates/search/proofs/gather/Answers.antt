@@ -18,3 +18,13 @@ pub collect-requires : goal.collect-requires
 collect-requires c =
     let marked : at_mark c.args.n c.mark.new.marks 1 ≡ filter (is_in c.args.order.now) (range 0 c.args.n) = marked-are c.args.n c.args.order.now c.args.marks.now c.mark.new.marks c.requires.4 c.mark.ensures in
     (c.requires.0, c.requires.2 ∙ sym (ap length marked ∙ own-length c.requires.1))
+
+pub returns : goal.returns
+returns c =
+    let marked : at_mark c.args.n c.mark.new.marks 1 ≡ filter (is_in c.args.order.now) (range 0 c.args.n) = marked-are c.args.n c.args.order.now c.args.marks.now c.mark.new.marks c.requires.4 c.mark.ensures in
+    record {
+      own_is = c.collect.ensures ∙ marked;
+      long = c.mark.ensures.long ∙ c.requires.3;
+      all = ap length c.collect.ensures;
+      marked = marked-bit c.args.order.now c.args.marks.now c.mark.new.marks c.requires.4 c.mark.ensures;
+    }

@@ -6,6 +6,9 @@ use Rattle.levels.specs.Code.Rows.{adj_of}
 use Rattle.search.proofs.MarkedRegion.{region-is, region-small}
 use Rattle.search.proofs.search.Goals as goal
 
+pub mark_region-requires : goal.mark_region-requires
+mark_region-requires c = (c.requires.0, c.requires.2, c.requires.3, c.requires.1.below, c.requires.4, c.requires.5, c.requires.6)
+
 pub components-requires : goal.components-requires
 components-requires c =
     let m = c.mark_region in

@@ -14,6 +14,9 @@ use Rattle.levels.specs.Code.Rows.{adj_of}
 use Rattle.levels.proofs.Rows.{row_in, row_is}
 use Rattle.search.proofs.degree.degree.Goals as goal
 
+pub columns_of-requires : goal.columns_of-requires
+columns_of-requires c = rw c.wide.ensures (row_in c.requires.0 c.args.v c.requires.1)
+
 pub others-requires : goal.others-requires
 unfolding neighbours
 others-requires c =

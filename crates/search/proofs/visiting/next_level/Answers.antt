@@ -12,6 +12,14 @@ use Rattle.levels.proofs.Rows.{row_in, row_is, row_below, rows_graph}
 use Rattle.search.proofs.Visits.{visit_row, Across, across_start, across_in, across_step, across_end}
 use Rattle.search.proofs.visiting.next_level.Goals as goal
 
+pub loop-i-init : goal.loop-i-init
+loop-i-init c =
+    across_start (adj_of c.args.n c.args.starts.now c.args.columns.now) c.args.m c.args.lo c.requires.2 c.requires.1
+
+pub bounds-queue-i : goal.bounds-queue-i
+bounds-queue-i c =
+    omega (arith, c.requires.1.small, c.requires.1.room)
+
 pub columns_of-requires : goal.columns_of-requires
 columns_of-requires c =
     let here : (get_or c.loop-i.queue c.loop-i.i 0 < c.args.n) × (get_or c.loop-i.marks (get_or c.loop-i.queue c.loop-i.i 0) 0 ≢ c.args.c) = across_in c.loop-i.invariant (omega arith) (omega (arith, c.requires.1.small, c.requires.1.room, c.requires.1.queue_long)) c.requires.4 in
