@@ -1,11 +1,9 @@
-use borrow.Author.Rules.{rules}
 use mathlib.Core.Path.{◌≡◌, sym, ◌∙◌}
-use Prim.Native.Nat.{◌+◌, ◌-◌, ◌≤◌, ◌<◌, min}
 use native.Mathlib.Omega.{arith}
-use lib.ListN.{length, get_or}
+use lib.ListN.{get_or}
 use Rattle.market.specs.Bytes.{class_of}
 use Rattle.scan.proofs.numbers.Scanning.{class_inside, digits_stop, digit_range}
-use Rattle.scan.proofs.numbers.Digits.{Digits, digits-first, digits_step, digits-done, digits-many, digits-small}
+use Rattle.scan.proofs.numbers.Digits.{digits-first, digits_step, digits-done, digits-many}
 use Rattle.scan.proofs.numbers.read_digits.Goals as goal
 
 pub overflow_sub-v : goal.overflow_sub-v
@@ -27,8 +25,7 @@ overflow_sub-v-in-loop-i c =
 
 pub loop-i-preserved : goal.loop-i-preserved
 loop-i-preserved c =
-    let digit : class_of (get_or c.args.s.now c.loop-i.i 0) ≡ 1 = sym c.class_of.ensures ∙ c.if-class_of-ne-DIGIT.false in
-    (
+    let digit : class_of (get_or c.args.s.now c.loop-i.i 0) ≡ 1 = sym c.class_of.ensures ∙ c.if-class_of-ne-DIGIT.false in (
       c.loop-i.invariant.0,
       omega (arith, c.loop-i.invariant.1),
       omega arith,

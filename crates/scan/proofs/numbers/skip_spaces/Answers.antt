@@ -1,9 +1,5 @@
-use borrow.Author.Rules.{rules}
-use mathlib.Core.Path.{◌≡◌, sym, ◌∙◌}
-use Prim.Native.Nat.{◌≤◌, ◌-◌, ◌+◌}
+use mathlib.Core.Path.{sym, ◌∙◌}
 use native.Mathlib.Omega.{arith}
-use lib.ListN.{length, drop}
-use Rattle.market.specs.Fields.{spaces}
 use Rattle.scan.proofs.numbers.Scanning.{spaces_more, spaces_stop, spaces_end}
 use Rattle.scan.proofs.numbers.skip_spaces.Goals as goal
 
