@@ -1,19 +1,11 @@
 -- `nesting::depth_first`: the test of the records that are left, from the path of the last one.
-use mathlib.Core.Path.{◌≡◌, refl, sym, ap, ◌∙◌}
-use mathlib.Core.Bool.{◌&&◌}
-use mathlib.Core.List.{◌∷◌}
-use Prim.Native.Nat.{◌+◌, ◌-◌, ◌≤◌}
-use native.Mathlib.Omega.{arith}
-use lib.Dec.{eqb, leb}
-use lib.ListN.{length, drop, length-set}
-use borrow.Author.Rules.{rules}
-use borrow.Author.Tests.{le-leb, lt-leb, eq-eqb, ne_eqb}
-use Rattle.plan.specs.Groups.{Group, records}
-use Rattle.plan.specs.Sound.{max_depth, depth_first}
+use mathlib.Core.Path.{◌≡◌}
+use Prim.Native.Nat.{◌-◌, ◌≤◌}
+use lib.ListN.{length, drop}
+use Rattle.plan.specs.Groups.{records}
+use Rattle.plan.specs.Sound.{depth_first}
 use Rattle.shape.specs.Code.Shape.{path_of}
 use Rattle.plan.specs.Code.Checks.{stands_depth_first}
-use Rattle.plan.proofs.FlatRecords.{records-none}
-use Rattle.shape.proofs.Path.{path_push, depth-turn}
 use Rattle.shape.proofs.nesting.depth_first.Given as goal
 
 abbrev pub invariant-loop-i : goal.invariant-loop-i

@@ -1,11 +1,11 @@
 use mathlib.Core.Path.{◌≡◌, refl, sym, ◌∙◌}
-use Prim.Native.Nat.{◌≤◌}
 use native.Mathlib.Omega.{arith}
-use lib.Dec.{eqb}
-use Rattle.base.specs.Lists.{from_first}
 use Rattle.shape.specs.Code.Shape.{path_of}
 use Rattle.shape.proofs.Path.{up-found, up-past}
 use Rattle.shape.proofs.nesting.up_to.Goals as goal
+
+pub loop-up-init : goal.loop-up-init
+loop-up-init c = (refl, omega arith)
 
 pub returns-then-path-up : goal.returns-then-path-up
 returns-then-path-up c =

@@ -1,11 +1,9 @@
 -- `nesting::up_to`: the parent is looked for from the end of the path on.
-use mathlib.Core.Path.{◌≡◌, refl, sym, ◌∙◌}
+use mathlib.Core.Path.{◌≡◌}
 use Prim.Native.Nat.{◌≤◌}
-use native.Mathlib.Omega.{arith}
 use lib.Dec.{eqb}
 use Rattle.base.specs.Lists.{from_first}
 use Rattle.shape.specs.Code.Shape.{path_of}
-use Rattle.shape.proofs.Path.{up-found, up-past}
 use Rattle.shape.proofs.nesting.up_to.Given as goal
 
 abbrev pub invariant-loop-up : goal.invariant-loop-up

@@ -1,15 +1,11 @@
 -- `order::all_marked`: the rows from v on are all that is left to test.
-use mathlib.Core.Path.{◌≡◌, sym, ◌∙◌}
+use mathlib.Core.Path.{◌≡◌}
 use mathlib.Core.Bool.{Bool}
 use mathlib.Core.List.{List}
 use Prim.Native.Nat.{ℕ, ◌-◌, ◌≤◌}
-use native.Mathlib.Omega.{arith}
 use lib.Dec.{eqb}
 use lib.ListN.{get_or}
-use borrow.Author.Rules.{rules}
-use borrow.Author.Tests.{eq-eqb, ne_eqb}
 use Rattle.base.specs.Lists.{all, range}
-use Rattle.base.proofs.Left.{all_left, all-left-pass, all-left_fail, all-left-none}
 use Rattle.shape.proofs.order.all_marked.Given as goal
 
 abbrev marked : List ℕ → ℕ → Bool

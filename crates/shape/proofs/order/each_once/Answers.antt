@@ -1,7 +1,6 @@
 -- `order::each_once`: an order of n numbers has each row once if every row is marked.
 use mathlib.Core.Path.{refl, ◌∙◌}
 use native.Mathlib.Omega.{arith}
-use borrow.Author.Rules.{rules}
 use Rattle.matrix.specs.Limits.{max_rows}
 use Rattle.shape.proofs.Seen.{seen_none, seen_once}
 use Rattle.shape.proofs.order.each_once.Goals as goal

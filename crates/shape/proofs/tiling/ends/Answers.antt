@@ -1,5 +1,4 @@
 -- `tiling::ends`: test by test.
-use native.Mathlib.Omega.{arith}
 use borrow.Author.Tests.{eq-eqb, ne_eqb}
 use Rattle.plan.specs.Code.Checks.{complete}
 use Rattle.shape.proofs.tiling.ends.Goals as goal

@@ -1,12 +1,9 @@
 -- `tiling::next_child`: no child is passed.
-use mathlib.Core.Path.{◌≡◌, refl, sym, ap, ◌∙◌}
-use Prim.Native.Nat.{◌-◌, ◌≤◌, ◌<◌}
-use native.Mathlib.Omega.{arith}
+use mathlib.Core.Path.{◌≡◌}
+use Prim.Native.Nat.{◌-◌, ◌≤◌}
 use lib.ListN.{drop}
-use Rattle.plan.specs.Groups.{Group, records}
+use Rattle.plan.specs.Groups.{records}
 use Rattle.plan.specs.Sound.{children}
-use Rattle.plan.specs.Code.Checks.{record_at}
-use Rattle.plan.proofs.Nested.{children-ended, children-past, children-over}
 use Rattle.shape.proofs.tiling.next_child.Given as goal
 
 abbrev pub invariant-loop-i : goal.invariant-loop-i

@@ -1,15 +1,10 @@
 -- `tiling::tiled_below`: the tests of the children that are left.
-use mathlib.Core.Path.{◌≡◌, sym, ap, ◌∙◌}
-use mathlib.Core.Bool.{true, ◌&&◌}
-use Prim.Native.Nat.{◌+◌, ◌-◌, ◌^◌, ◌≤◌, ◌<◌}
-use native.Mathlib.Omega.{arith}
+use mathlib.Core.Path.{◌≡◌}
+use Prim.Native.Nat.{◌-◌, ◌≤◌, ◌<◌}
 use lib.ListN.{drop}
-use Rattle.base.proofs.Booleans.{fails, holds}
-use Rattle.plan.specs.Groups.{Group, records}
+use Rattle.plan.specs.Groups.{records}
 use Rattle.plan.specs.Sound.{children}
-use Rattle.plan.specs.Code.Checks.{record_at, of_record, below_whole, fitting, pending, complete, laid, tiles}
-use Rattle.plan.proofs.Laid.{fits}
-use Rattle.shape.proofs.ChildTurns.{leaf-tiles, first-tiles, next-tiles, last-tiles}
+use Rattle.plan.specs.Code.Checks.{record_at, below_whole, laid, tiles}
 use Rattle.shape.proofs.tiling.tiled_below.Given as goal
 
 abbrev pub invariant-loop-i : goal.invariant-loop-i

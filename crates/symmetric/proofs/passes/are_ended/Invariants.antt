@@ -1,10 +1,8 @@
 -- `passes::are_ended`: what was found of the rows passed decides, with those that are left.
-use mathlib.Core.Path.{refl}
 use Prim.Native.Nat.{◌-◌}
-use borrow.Author.Rules.{rules}
 use Rattle.base.specs.Lists.{range}
 use Rattle.symmetric.specs.Code.Cursors.{ended}
-use Rattle.base.proofs.Found.{Found, found_none, found_number, found-numbers}
+use Rattle.base.proofs.Found.{Found}
 use Rattle.symmetric.proofs.passes.are_ended.Given as goal
 
 abbrev pub invariant-loop-i : goal.invariant-loop-i

@@ -1,5 +1,4 @@
 -- `passes::is_regular`: as many cursors as a matrix has rows at most.
-use borrow.Author.Rules.{rules}
 use Rattle.matrix.proofs.Checks.{shape}
 use Rattle.symmetric.proofs.passes.is_regular.Goals as goal
 

@@ -3,7 +3,6 @@ use mathlib.Core.Path.{sym, ◌∙◌}
 use Prim.Native.Nat.{suc}
 use native.Mathlib.Omega.{arith}
 use lib.ListN.{length}
-use borrow.Author.Rules.{rules}
 use borrow.Author.Tests.{lt-leb, ne_eqb}
 use Rattle.matrix.specs.Code.Checks.{shaped}
 use Rattle.matrix.proofs.Checks.{shape_fails, shape-rises}
@@ -23,6 +22,9 @@ returns-then-starts-n c =
 
 pub returns-then-starts-ne0 : goal.returns-then-starts-ne0
 returns-then-starts-ne0 c = sym (shape_fails _ 2 (ne_eqb _ 0 c.if-starts-ne0.true))
+
+pub overflow_cast-end : goal.overflow_cast-end
+overflow_cast-end c = omega (arith, c.type_inv.starts c.args.n)
 
 pub returns-then-columns-end : goal.returns-then-columns-end
 returns-then-columns-end c = sym (shape_fails _ 3 (lt-leb _ _ c.if-columns-end.true))

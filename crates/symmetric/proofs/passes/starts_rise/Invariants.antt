@@ -1,10 +1,8 @@
 -- `passes::starts_rise`: what was found of the rows passed decides, with those that are left.
 use Prim.Native.Nat.{◌-◌}
-use native.Mathlib.Numerals.{add-one}
-use borrow.Author.Rules.{rules}
 use Rattle.base.specs.Lists.{range}
 use Rattle.matrix.specs.Code.Checks.{rises}
-use Rattle.base.proofs.Found.{Found, found_none, found_number, found-numbers}
+use Rattle.base.proofs.Found.{Found}
 use Rattle.symmetric.proofs.passes.starts_rise.Given as goal
 
 abbrev pub invariant-loop-i : goal.invariant-loop-i

@@ -1,6 +1,5 @@
 -- `row::is_at`: test by test.
 use mathlib.Core.Path.{sym, ap}
-use native.Mathlib.Omega.{arith}
 use lib.IntN.{pos}
 use lib.ListN.{get_or}
 use mir.Syntax.{w32}
@@ -8,6 +7,12 @@ use mir.Val.{SFits, of_z}
 use borrow.Author.Tests.{lt-ltb, le-ltb, eq-eqb, ne_eqb}
 use Rattle.base.proofs.Integers.{same_refl, same_false, bits-eq}
 use Rattle.symmetric.proofs.places.is_at.Goals as goal
+
+pub returns-then-end-p : goal.returns-then-end-p
+returns-then-end-p c = rw (le-ltb _ _ c.if-end-p.true)
+
+pub returns-then-columns-p : goal.returns-then-columns-p
+returns-then-columns-p c = rw (lt-ltb _ _ c.if-end-p.false, ne_eqb _ _ c.if-columns-p.true)
 
 pub returns-then-values-p : goal.returns-then-values-p
 returns-then-values-p c =
