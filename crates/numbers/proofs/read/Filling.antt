@@ -1,5 +1,5 @@
 -- The loop that stores the numbers of a text.
-use Rattle.std.proofs.Common.{◌≡◌, ℕ, ◌+◌, ◌*◌, ◌<◌, ◌≤◌, List, [], ◌∷◌, ◌++◌, length, get_or, take, drop, ℤ, pos, sym, ap, ◌∙◌, ⊎_elim, append_assoc, arith, length-append, take_all}
+use Rattle.std.proofs.Common.{◌≡◌, ℕ, ◌+◌, ◌*◌, ◌<◌, ◌≤◌, List, [], ◌∷◌, ◌++◌, length, get_or, take, drop, ℤ, pos, refl, sym, ap, ◌∙◌, inl, inr, ⊎_elim, append_assoc, arith, length-append, take_all}
 use lib.Seq.{sets, get_or-append_seam}
 use types.Run.{OneOf}
 use denote.Enum.Declared.{tag_of}
@@ -36,6 +36,11 @@ module _ (s : List ℕ) (good : listed s ≡ numbers (numbers_in (listed s))) wh
   -- there is a number
   never : {X : Type 0} {q p : ℕ} → listed s ≡ faulty q p → X
   never e = let z : ◌≡◌ {A = ℕ} 0 1 = cc in absurd (omega arith)
+
+  pub other_line : (l : Line) → ((bits next : ℕ) → l ≡ Number bits next → ⊥) → OneOf (1 ∷ 2 ∷ []) (tag_of the_type l)
+  other_line (Number bits next) h = absurd (h bits next refl)
+  other_line Past h = inl refl
+  other_line Broken h = inr refl
 
   pub always_number : {k at : ℕ} → Judging s k at → at < length s → (l : Line) → OneOf (1 ∷ 2 ∷ []) (tag_of the_type l) → l ≡ line_at at (number_on (drop at s)) → ⊥
   always_number j h (Number bits next) o e = ⊎_elim (λ y. omega arith) (λ y. omega arith) o
