@@ -1,0 +1,18 @@
+-- `ready::ready_workers`: the blocked groups, then one bit a worker.
+use mathlib.Core.Path.{◌≡◌, ap, ◌∙◌}
+use native.Mathlib.Omega.{arith}
+use Rattle.plan.specs.Groups.{Group}
+use Rattle.plan.specs.Code.Checks.{record_at}
+use Rattle.machine.proofs.BlockedLeaves.{whole-crew, waits-of}
+use Rattle.machine.proofs.ready.ready_workers.Goals as goal
+
+pub ready_bits-requires : goal.ready_bits-requires
+ready_bits-requires c =
+    let crew : c.record_at-whole.result.workers ≡ (record_at c.args.groups.now 0).workers = ap (λ (g : Group). g.workers) c.record_at-whole.ensures.is in
+    let p = c.requires in (omega (arith, crew, p.0), p.2)
+
+pub returns : goal.returns
+returns c j begins ok is laid =
+    let crew : c.record_at-whole.result.workers ≡ (record_at c.args.groups.now 0).workers = ap (λ (g : Group). g.workers) c.record_at-whole.ensures.is in
+    let p = c.requires in
+    c.ready_bits.ensures j begins _ (crew ∙ whole-crew j _ _ p.1.some is) laid (waits-of j ok _ _ is laid _ _ c.find_blocked.ensures p.1)
