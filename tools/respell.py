@@ -19,6 +19,9 @@ mod le lt eq min max suc zero and or not any all snoc cond ltb leb eqb bit pos n
 # names of the toolchain's own libraries that a crate here has too
 KEPT = {"and-true", "returns-2"}
 
+# fields of records, which two crates write in their proofs
+FIELDS = {("crews", "in_order"), ("control", "in_bytes")}
+
 
 def snake(part):
     """isIn -> is_in; a part that begins with a capital is a type and stays"""
@@ -80,7 +83,7 @@ def main(argv):
         for k in range(0, len(pieces), 2):
             def one(m):
                 new = turn(m.group(0))
-                if new in lemmas and new == m.group(0) and "/proofs/" in path and (m.string[m.start() - 1 : m.start()] != "." or m.string[m.start() - 4 : m.start()] == "own."):
+                if new in lemmas and new == m.group(0) and "/proofs/" in path and (path.split("/")[1], new) not in FIELDS and (m.string[m.start() - 1 : m.start()] != "." or m.string[m.start() - 4 : m.start()] == "own."):
                     new += "_lem"
                 seen[new].add(m.group(0))
                 return new

@@ -82,7 +82,7 @@ control-numbers = record {
   small = number_small;
   counted = λ xs. weighed_remainders xs (length xs);
   adds = added-number;
-  in_bytes_lem = bytes_read;
+  in_bytes = bytes_read;
   changes = λ xs i v h e. none_multiple (weighed_change xs i v) (omega (arith, e, changed-number xs i v h, number_small xs, remainder-small (weighed_change xs i v)));
   keeps = λ xs i v h m. (changed-number xs i v h ∙ omega (arith, multiple_none (weighed_change xs i v) m, number_small xs));
 }

@@ -33,9 +33,9 @@ module _ (r : Roof) (s : Two State) where
       worker crew0 = omega arith
       worker crew1 = omega arith
 
-  pub in_order_lem : PicksInOrder r s
+  pub in_order : PicksInOrder r s
   unfolding crew_refusal unless_away is_away crew_ready crew_step step
-  in_order_lem = record {
+  in_order = record {
     named = named;
     crewless = λ b l. turn-none r s b (omega arith);
     own_first = λ c w k e. crew_end r s c w k (rw e refl);

@@ -26,7 +26,7 @@ use Rattle.crews.specs.Crews.{Crew, crew0, crew1, other, crew_number, Two, own_o
 use Rattle.crews.specs.Calls.{BothCall, ready_sets, BothAnswer, one, sets, ready_for, ready_both, denied_both, answer_both}
 use Rattle.crews.specs.TwoCrews.{AcceptedRoof, both_fresh, both_state, both_answers, finished_for, taken_for, none_ready, Takes, OwnRun, BothRuns, bring, Unmoved, TwoCrews}
 use Rattle.crews.proofs.Rows.{begun}
-use Rattle.crews.proofs.InOrder.{named, in_order_lem}
+use Rattle.crews.proofs.InOrder.{named, in_order}
 use Rattle.crews.proofs.Reached.{reached, answered, walked}
 use Rattle.crews.proofs.Kept.{put_each, fresh-both, step-taken, both-fine, all_known}
 use Rattle.crews.proofs.Together.{moving, inside-moves, not-refused, in_ready}
@@ -155,4 +155,4 @@ module _ (r : Roof) (ok : AcceptedRoof r) (c : Crew) (x : List ℤ) (fits : are_
 
 -- every list of calls for both on every accepted roof
 pub two-crews : TwoCrews
-two-crews = record { begun = begun; in_order_lem = in_order_lem; both_runs = both_runs; unmoved = unmoved; lent = lent_both }
+two-crews = record { begun = begun; in_order = in_order; both_runs = both_runs; unmoved = unmoved; lent = lent_both }

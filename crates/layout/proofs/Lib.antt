@@ -6,3 +6,7 @@ pub mod LeafRows
 pub mod CountRows
 pub mod FilledRows
 pub mod GivenRows
+pub mod CountUpdatesNames
+pub mod LeafUpdatesNames
+pub mod LayNames
+pub mod PutLeafNames

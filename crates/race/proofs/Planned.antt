@@ -16,7 +16,7 @@ use Rattle.base.proofs.Graph.{Graph}
 use Rattle.levels.specs.Levels.{own_levels}
 use Rattle.levels.proofs.Proper.{Proper, proper-range, proper-same, proper-left, proper-right}
 use Rattle.levels.proofs.Own.{Beyond, own_same, own-beyond}
-use Rattle.plan.specs.Groups.{Group, Plan, whole}
+use Rattle.plan.specs.Groups.{Group, Plan}
 use Rattle.plan.specs.Sound.{max_workers, max_depth, max_groups, each_once, depth_first, beyond, all_sound, sound}
 use Rattle.plan.proofs.Once.{same_once}
 use Rattle.extents.specs.Extents.{Policy}

@@ -12,11 +12,10 @@ use Rattle.base.specs.Replies.{in_turn}
 use Rattle.base.proofs.Booleans.{and_left, and_right}
 use Rattle.base.proofs.Lists.{all-range}
 use Rattle.run.specs.Job.{Job, Accepted, workers}
-use Rattle.run.specs.Machine.{over}
 use Rattle.run.specs.State.{State, fresh}
 use Rattle.run.specs.Rounds.{round}
 use Rattle.run.specs.Calls.{place_of, passed_of, answer_of, state_check, answer, after}
-use Rattle.run.specs.Answers.{Call, rounds, Answer, picked, forces}
+use Rattle.run.specs.Answers.{Call, rounds, picked, forces}
 use Rattle.run.specs.Sequence.{answers_from, state_after}
 use Rattle.run.specs.EveryRun.{taken_of, taken_in, run_state, run_answers, finished_run, whole_run, EveryRun}
 use Rattle.run.proofs.Able.{able-refusal}

@@ -7,7 +7,7 @@ use native.Mathlib.Omega.{arith}
 use Rattle.run.specs.Job.{Job}
 use Rattle.run.specs.Machine.{Outcome, moved, halted, step, one_more, steps}
 use Rattle.run.specs.Schedule.{one_taken, one_skipped, pass}
-use Rattle.run.specs.Rounds.{skips, round, taken_by}
+use Rattle.run.specs.Rounds.{skips, taken_by}
 use Rattle.run.specs.State.{State}
 use Rattle.run.proofs.Passes.{pass_on, pass_skip, pass_end}
 use Rattle.run.proofs.Rounds.{no_skips, taken_on, taken_skip, taken_end}

@@ -5,7 +5,7 @@ use Rattle.base.specs.Lists.{all, is_in, range}
 use Rattle.base.specs.Refusals as why
 use Rattle.matrix.specs.Product.{product}
 use Rattle.run.specs.Job.{Job, Accepted, workers}
-use Rattle.run.specs.Machine.{halted, step, Stepped, steps}
+use Rattle.run.specs.Machine.{halted, step, steps}
 use Rattle.run.specs.Schedule.{pass, skips_none}
 use Rattle.run.specs.State.{State}
 use Rattle.run.specs.Rounds.{skips, round, taken_by}

@@ -8,11 +8,9 @@ use lib.IntN.{ℤ, pos, nat_abs, ◌-ℤ◌}
 use lib.ListN.{length, get_or, set}
 use lib.Seq.{ext_get_or}
 use borrow.Author.Tests.{leb-true, lt-ltb, le-ltb}
-use Rattle.base.specs.Verdicts.{reply_of}
 use Rattle.base.specs.Integers.{within}
 use Rattle.base.specs.Refusals as why
 use Rattle.base.specs.Replies.{Reply, accepted, refused, in_turn}
-use Rattle.base.specs.declared.Verdict.{Verdict}
 use Rattle.base.proofs.Integers.{abs-sub}
 use Rattle.base.proofs.Replies.{accepted-all}
 use Rattle.matrix.specs.Limits.{max_displacement}

@@ -5,3 +5,7 @@ pub mod JoinRows
 pub mod SizeRows
 pub mod PartRows
 pub mod RowParts
+pub mod JoinNames
+pub mod BeginPartsNames
+pub mod PartSizesNames
+pub mod LayEntriesNames

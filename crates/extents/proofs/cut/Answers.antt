@@ -1,4 +1,5 @@
 -- `cut` meets its contract.
+use mathlib.Core.Path.{sym}
 use Prim.Native.Nat.{◌-◌}
 use native.Mathlib.Omega.{arith}
 use borrow.Author.Rules.{rules}
@@ -7,6 +8,9 @@ use lib.Seq.{length-take-le}
 use Rattle.extents.proofs.Ends.{sum-split}
 use Rattle.extents.proofs.PairEnd.{cut-is}
 use Rattle.extents.proofs.cut.Goals as goal
+
+pub slice_bounds-nearest_end-end : goal.slice_bounds-nearest_end-end
+slice_bounds-nearest_end-end c = let a = c.args in sym (length-take-le (length a.loads.now - a.reach) a.loads.now (omega arith))
 
 pub nearest_end-requires : goal.nearest_end-requires
 nearest_end-requires c =

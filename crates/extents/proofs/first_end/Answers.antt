@@ -1,10 +1,14 @@
 use mathlib.Core.Path.{sym, ◌∙◌}
 use Prim.Native.Nat.{◌+◌, ◌-◌}
 use native.Mathlib.Omega.{arith}
+use lib.Seq.{length-take-le}
 use Rattle.extents.specs.Extents.{serves}
 use Rattle.extents.proofs.Ends.{sum-next, sum-split}
 use Rattle.extents.proofs.FirstEnd.{seek_start, seek_next, seek_found, seek_none}
 use Rattle.extents.proofs.first_end.Goals as goal
+
+pub slice_bounds-total-end : goal.slice_bounds-total-end
+slice_bounds-total-end c = let a = c.args in sym (length-take-le (a.least - 1) a.loads.now (omega arith))
 
 pub total-q-requires : goal.total-q-requires
 total-q-requires c = let a = c.args in omega (arith, sum-split (a.least - 1) a.loads.now)

@@ -1,9 +1,14 @@
+use mathlib.Core.Path.{sym}
 use Prim.Native.Nat.{◌+◌}
 use native.Mathlib.Omega.{arith}
 use lib.ListN.{get_or}
+use lib.Seq.{length-take-le}
 use Rattle.extents.proofs.Ends.{product-few, sum-next, sum-split}
 use Rattle.extents.proofs.NearestEnd.{nearing_start, nearing_nearer, nearing_further, nearing_past, nearing_end}
 use Rattle.extents.proofs.nearest_end.Goals as goal
+
+pub slice_bounds-total-end : goal.slice_bounds-total-end
+slice_bounds-total-end c = let a = c.args in sym (length-take-le a.k a.loads.now (omega arith))
 
 pub total-q-requires : goal.total-q-requires
 total-q-requires c = let a = c.args in omega (arith, sum-split a.k a.loads.now)

@@ -1,8 +1,9 @@
 -- `next_extent` meets its contract.
-use mathlib.Core.Path.{ap, ◌∙◌}
+use mathlib.Core.Path.{sym, ap, ◌∙◌}
 use native.Mathlib.Omega.{arith}
 use Prim.Native.Nat.{ℕ}
 use borrow.Author.Rules.{rules}
+use lib.Seq.{length-take-le}
 use Rattle.extents.specs.Extents.{nearest}
 use Rattle.extents.specs.Code.Scans.{policy_of}
 use Rattle.extents.proofs.Ends.{product-few, nearest-few, sum-split}
@@ -13,6 +14,9 @@ pub returns-then-all-k : goal.returns-then-all-k
 returns-then-all-k c =
     let a = c.args in
     extent-none a.w a.load (policy_of a.policy) a.free a.loads.now c.first_end-k.result c.first_end-k.ensures.0 c.if-all-k.true
+
+pub slice_bounds-total-end : goal.slice_bounds-total-end
+slice_bounds-total-end c = sym (length-take-le c.first_end-k.result c.args.loads.now (omega arith))
 
 pub total-requires : goal.total-requires
 total-requires c = omega (arith, sum-split c.first_end-k.result c.args.loads.now)

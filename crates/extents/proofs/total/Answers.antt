@@ -1,6 +1,9 @@
+use mathlib.Core.Path.{◌∙◌, ap}
 use Prim.Native.Nat.{◌+◌}
 use native.Mathlib.Omega.{arith}
 use borrow.Author.Rules.{rules}
+use lib.Seq.{take_all}
+use Rattle.base.specs.Lists.{sum}
 use Rattle.extents.proofs.Ends.{sum-next, sum-split}
 use Rattle.extents.proofs.total.Goals as goal
 
@@ -14,3 +17,8 @@ pub loop-k-preserved : goal.loop-k-preserved
 loop-k-preserved c =
     let l = c.loop-k in
     (search rules, omega (arith, sum-next c.args.loads.now l.k (omega arith)))
+
+pub returns : goal.returns
+returns c =
+    let l = c.loop-k in
+    l.invariant.1 ∙ ap sum (take_all l.k c.args.loads.now (search rules))

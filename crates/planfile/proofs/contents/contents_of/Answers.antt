@@ -1,5 +1,4 @@
 -- `contents_of` meets its contract.
-use borrow.Author.Rules.{rules}
 use mathlib.Core.Path.{refl}
 use Rattle.planfile.specs.File.{contents}
 use Rattle.planfile.proofs.contents.contents_of.Goals as goal

@@ -1,5 +1,4 @@
 -- `freedoms_in` meets its contract.
-use borrow.Author.Rules.{rules}
 use mathlib.Core.Path.{ap}
 use Prim.Native.Nat.{ℕ, ◌/◌}
 use Rattle.planfile.specs.File.{freedoms_in}

@@ -1,5 +1,4 @@
 -- `groups_in` meets its contract.
-use borrow.Author.Rules.{rules}
 use mathlib.Core.Path.{ap}
 use Prim.Native.Nat.{ℕ, ◌*◌, ◌/◌}
 use Rattle.plan.specs.Groups.{width}

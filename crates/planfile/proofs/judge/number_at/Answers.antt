@@ -1,5 +1,4 @@
 -- `number_at` meets its contract.
-use borrow.Author.Rules.{rules}
 use mathlib.Core.Path.{◌∙◌}
 use Rattle.words.proofs.Bytes.{four_number}
 use Rattle.planfile.proofs.judge.number_at.Goals as goal

@@ -1,5 +1,4 @@
 -- `read::read` meets its contract: two copies, where the reply is an accepted one.
-use borrow.Author.Rules.{rules}
 use mathlib.Core.Path.{sym, ap, ◌∙◌}
 use Prim.Native.Nat.{◌+◌, ◌*◌, ◌≤◌}
 use native.Mathlib.Omega.{arith}
@@ -11,11 +10,15 @@ use Rattle.words.proofs.Bytes.{IsByte}
 use Rattle.planfile.proofs.Parts.{Readable, read-accepted, whole_file, order_copied, groups_copied}
 use Rattle.planfile.proofs.read.read.Goals as goal
 
-pub returns-in_default-clause-order : goal.returns-in_default-clause-order
-returns-in_default-clause-order c = ?
-
-pub returns-in_default-clause-groups : goal.returns-in_default-clause-groups
-returns-in_default-clause-groups c = ?
+pub returns-in_default : goal.returns-in_default
+returns-in_default c =
+    let m = c.reply-answer in
+    let q = ap reply_of c.in_default.is in
+    record {
+      replies = m.ensures;
+      order = sym (lent-refused _ _ (reply_of m.result) _ _ q);
+      groups = sym (lent-refused _ _ (reply_of m.result) _ _ q);
+    }
 
 pub freedoms_in-n-requires : goal.freedoms_in-n-requires
 freedoms_in-n-requires c =
@@ -66,8 +69,15 @@ copy-requires-2 c =
     let r = readable in
     (omega (arith, whole_file r, c.freedoms_in-n.ensures, c.groups_in-fields.ensures), omega (arith, r.fields, c.groups_in-fields.ensures))
 
-pub returns-clause-order : goal.returns-clause-order
-returns-clause-order c = ?
-
-pub returns-clause-groups : goal.returns-clause-groups
-returns-clause-groups c = ?
+pub returns : goal.returns
+returns c =
+    let readable : let a = c.args in Readable a.file.now a.order.now a.groups.now = read-accepted _ _ _ _ (sym c.reply-answer.ensures ∙ ap reply_of c.in-Accepted.is) in
+    let m = c.reply-answer in
+    let r = readable in
+    let bytes = each-of-get IsByte c.args.file.now 0 (λ i. omega (arith, c.type_inv.file i)) in
+    let q = ap reply_of c.in-Accepted.is in
+    record {
+      replies = m.ensures;
+      order = c.copy.ensures ∙ rw c.freedoms_in-n.ensures (order_copied r bytes) ∙ sym (lent-accepted _ _ (reply_of m.result) _ q);
+      groups = c.copy-2.ensures ∙ rw (c.freedoms_in-n.ensures, c.groups_in-fields.ensures) (groups_copied r bytes) ∙ sym (lent-accepted _ _ (reply_of m.result) _ q);
+    }

@@ -1,5 +1,4 @@
 -- `fill` meets its contract: the table and two copies are the file.
-use borrow.Author.Rules.{rules}
 use mathlib.Core.Path.{◌∙◌}
 use native.Mathlib.Omega.{arith}
 use Rattle.base.proofs.Each.{each-of-get}
@@ -14,12 +13,12 @@ contents_of-table-requires c = let s = sized _ _ c.requires.sized in (s.few, s.r
 pub copy-requires : goal.copy-requires
 copy-requires c =
     let w = c.requires in
-    (omega (arith, w.rows), rw c.store_u32.auto.1.0 (omega (arith, room _ _ _ _ c.args.file.now w)))
+    (omega (arith, w.rows), rw c.store_u32.auto.bytes (omega (arith, room _ _ _ _ c.args.file.now w)))
 
 pub copy-requires-2 : goal.copy-requires-2
 copy-requires-2 c =
     let w = c.requires in
-    (omega (arith, w.fields), rw (c.copy.auto.1.1.1.0, c.store_u32.auto.1.0) (omega (arith, room _ _ _ _ c.args.file.now w)))
+    (omega (arith, w.fields), rw (c.copy.auto.to, c.store_u32.auto.bytes) (omega (arith, room _ _ _ _ c.args.file.now w)))
 
 pub returns : goal.returns
 returns c =
