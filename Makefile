@@ -19,8 +19,8 @@ CRATES = crates.txt $(shell find crates -name out -prune -o \
 
 all: $(LIBRARY) $(PROGRAMS)
 
-# $(call prove,CRATE,COMMAND,FILE): a step of the prover in a crate's folder, told in a line, and a copy of the file that
-# it makes in the crate's out/.
+# $(call prove,CRATE,COMMAND,FILE): a step of the prover in a crate's folder, told in a line, and a copy of the file
+# that it makes in the crate's out/.
 define prove
 	@mkdir -p target/make $(@D)
 	@echo "  PROVE  $(@F)  (minutes, if from nothing: target/make/$(@F).log)"

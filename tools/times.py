@@ -7,8 +7,8 @@
 
 One row a crate, dearest first: when it was proved, and how many seconds after the last of its libraries that was, which
 counts the wait for a processor too; when its tests were; how many functions it has, and how many must-fail edits were
-refused. A crate that an earlier run proved is `kept`. The edits are tried beside the proofs and told at the end, so they
-have no times of their own.
+refused. A crate that an earlier run proved is `kept`. The edits are tried beside the proofs and told at the end, so
+they have no times of their own.
 """
 import os
 import re
