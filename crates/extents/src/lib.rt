@@ -9,7 +9,7 @@ ghost use Rattle.extents.specs.Code.Scans.{max_load, policy_of, ends_on, nearest
 
 // What the rules take: a colour has at least reach levels, a pair twice as many, and closeness is to be above p per
 // cent.
-#[derive(Drop)]
+#[derive(Clone, Copy)]
 pub struct Policy {
     pub reach: usize,
     pub p: u32,

@@ -1,0 +1,62 @@
+-- `enter` meets its contract.
+use mathlib.Core.Path.{◌≡◌, sym, ◌∙◌}
+use Prim.Native.Nat.{◌*◌, ◌<◌}
+use native.Mathlib.Omega.{arith}
+use lib.ListN.{get_or}
+use borrow.Author.Tests.{le-ltb}
+use borrow.Author.Rules.{rules}
+use Rattle.run.specs.Machine.{reason}
+use Rattle.tables.specs.Code.Laid.{updates_in}
+use Rattle.steps.proofs.TableSteps.{reason-none}
+use Rattle.steps.proofs.UpdatesAtHand.{put_at_hand, put_known, target-low}
+use Rattle.steps.proofs.enter.Goals as goal
+
+-- no worker of the plan
+pub returns-then-workers-w : goal.returns-then-workers-w
+unfolding reason
+returns-then-workers-w c = record { told = rw (le-ltb _ _ c.if-workers-w.true); known = λ q. absurd (omega arith); hand = c.requires.2 }
+
+pub offset_bounds-targets-w : goal.offset_bounds-targets-w
+offset_bounds-targets-w c =
+    let worker : c.args.w < 16 = omega (arith, c.if-workers-w.false, c.requires.0) in
+    let h = worker in search rules
+
+pub bounds-targets-w : goal.bounds-targets-w
+bounds-targets-w c =
+    let worker : c.args.w < 16 = omega (arith, c.if-workers-w.false, c.requires.0) in
+    let h = worker in search rules
+
+-- its update is at hand
+pub returns-then-targets-w-lt-NONE : goal.returns-then-targets-w-lt-NONE
+returns-then-targets-w-lt-NONE c =
+    let worker : c.args.w < 16 = omega (arith, c.if-workers-w.false, c.requires.0) in
+    record { told = sym (c.requires.2.is c.args.w worker c.if-targets-w-lt-NONE.true).free; known = λ q. c.if-targets-w-lt-NONE.true; hand = c.requires.2 }
+
+pub refusal-why-requires : goal.refusal-why-requires
+refusal-why-requires c = (c.requires.0, (_, c.requires.1.1.bounded))
+
+pub returns-then-why-ne0 : goal.returns-then-why-ne0
+returns-then-why-ne0 c = record { told = c.refusal-why.ensures; known = λ q. absurd (c.if-why-ne0.true q); hand = c.requires.2 }
+
+pub look_up-requires : goal.look_up-requires
+look_up-requires c =
+    let worker : c.args.w < 16 = omega (arith, c.if-workers-w.false, c.requires.0) in
+    let none : c.refusal-why.result ≡ 0 = search rules in
+    let left : let a = c.args in get_or a.made.now a.w 0 < 2 * updates_in a.first.now a.w = let a = c.args in
+    (reason-none a.w a.workers (get_or a.made.now a.w 0) (2 * updates_in a.first.now a.w) _ (sym c.refusal-why.ensures ∙ none)).1 in
+    (worker, left, (_, _, c.requires.1.1))
+
+pub returns : goal.returns
+returns c =
+    let worker : c.args.w < 16 = omega (arith, c.if-workers-w.false, c.requires.0) in
+    let none : c.refusal-why.result ≡ 0 = search rules in
+    let a = c.args in
+    let t = c.requires.1.1 in
+    let low = target-low a.workers a.first.now a.row.now a.begins.now a.parts.now a.leaves.now a.blocks.now a.displaced.now a.at.now a.beside.now t a.made.now a.w in
+    let free = sym c.refusal-why.ensures ∙ none in
+    rw (c.look_up.ensures.targets, c.look_up.ensures.adds)
+    (record {
+      told = sym free;
+      known = λ q. put_known a.w worker c.requires.2 (omega (arith, low, t.bounded.rows_few));
+      hand = put_at_hand a.w worker c.requires.2 free;
+    })

@@ -1,0 +1,9 @@
+-- `updates::by_turns` meets its contract.
+use borrow.Author.Tests.{eq-eqb, ne_eqb}
+use Rattle.steps.proofs.updates.by_turns.Goals as goal
+
+pub returns-then-k-eq0 : goal.returns-then-k-eq0
+returns-then-k-eq0 c = rw (eq-eqb _ _ c.if-k-eq0.true)
+
+pub returns-else-k-eq0 : goal.returns-else-k-eq0
+returns-else-k-eq0 c = rw (ne_eqb _ _ c.if-k-eq0.false)
