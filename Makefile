@@ -4,7 +4,7 @@
 #   make test      all tests; needs cargo, gcc, g++, pkg-config and script too
 #   make install   header, library, pkg-config file, programs and manual page under PREFIX (/usr/local), after DESTDIR
 #                  if it is set
-#   make clean     removes target/
+#   make clean     removes target/, and what the prover keeps in crates/*/out/
 #
 # What the prover says goes to target/make/*.log, and is shown where a proof fails.
 
@@ -14,25 +14,26 @@ CFLAGS = -O2 -Wall -Wextra
 
 LIBRARY = target/staticlib/libmazhoketh.a
 PROGRAMS = target/bin/netplan target/bin/mzk
-CRATES = crates.txt $(shell find crates -name '*.rt' -o -name '*.antt' -o -name stdin -o -name stdout)
+CRATES = crates.txt $(shell find crates -name out -prune -o \
+	\( -name '*.rt' -o -name '*.antt' -o -name stdin -o -name stdout \) -print)
 
 all: $(LIBRARY) $(PROGRAMS)
 
-# $(call prove,NAME,COMMAND): a step of the prover, told in a line. What it leaves unchanged is touched, as it is up to
-# date.
+# $(call prove,CRATE,COMMAND,FILE): a step of the prover in a crate's folder, told in a line, and a copy of the file
+# that it makes in the crate's out/.
 define prove
-	@mkdir -p target/make
-	@echo "  PROVE  $(1)  (minutes, if from nothing: target/make/$(1).log)"
-	@$(2) > target/make/$(1).log 2>&1 || { cat target/make/$(1).log; exit 1; }
-	@touch $@
+	@mkdir -p target/make $(@D)
+	@echo "  PROVE  $(@F)  (minutes, if from nothing: target/make/$(@F).log)"
+	@(cd crates/$(1) && $(2)) > target/make/$(@F).log 2>&1 || { cat target/make/$(@F).log; exit 1; }
+	@cp crates/$(1)/out/$(3) $@
 endef
 
 $(LIBRARY): $(CRATES)
-	$(call prove,libmazhoketh.a,rt staticlib mazhoketh)
+	$(call prove,mazhoketh_c,rt lib,libmazhoketh_c.a)
 
-# One step of the prover at a time: both work in target/.
+# One step of the prover at a time: both prove the crates that they share. The program is run on its sample.
 target/bin/netplan: $(CRATES) | $(LIBRARY)
-	$(call prove,netplan,rt check netplan)
+	$(call prove,netplan,rt run < stdin,netplan)
 
 target/bin/mzk: $(wildcard mzk/*.c mzk/*.h) include/mazhoketh.h $(LIBRARY) Makefile
 	@mkdir -p target/bin
@@ -60,7 +61,7 @@ install: all
 	@sed 's|@PREFIX@|$(PREFIX)|; s|@VERSION@|$(VERSION)|' mazhoketh.pc.in > $(INTO)/lib/pkgconfig/mazhoketh.pc
 
 clean:
-	@rm -rf target
+	@rm -rf target crates/*/out
 
 .PHONY: all test install clean
 .DELETE_ON_ERROR:

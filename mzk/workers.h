@@ -2,7 +2,7 @@
  *
  * A worker works its rows in turn, with plain loads and stores. Before a row it looks whether every worker has shown as
  * many moves as the row's gate asks for; rows that follow each other behind one gate are a stretch, and after a stretch
- * it shows its own moves. That this is enough is theorem race-free (crates/prepared/specs/RaceFree.antt): any two
+ * it shows its own moves. That this is enough is theorem race_free (crates/prepared/specs/RaceFree.antt): any two
  * accesses of different workers to one sum are ordered by the gates, so there is no data race; and every course that
  * workers take is a run of document 01's machine that refuses no pick, so no sum passes 64 bits, the sums are the
  * product at the end, and until then somebody gets on once all have shown their moves.

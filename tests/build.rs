@@ -1,4 +1,4 @@
-//! Where the static library of the verified crates stands: `rt staticlib mazhoketh` writes it.
+//! Where the static library of the verified crates stands: `make` builds it.
 
 fn main() {
     let root = std::env::var("CARGO_MANIFEST_DIR").expect("cargo names the package's folder");

@@ -1,6 +1,6 @@
 #!/bin/sh
 # Runs a round of the fuzzing and the command with threads under valgrind; any error ends it with status 1.
-# Needs valgrind, and the library: rt staticlib mazhoketh.
+# Needs valgrind, and the library: make.
 set -eu
 cd "$(dirname "$0")"
 cargo build --offline --bin fuzz

@@ -2,15 +2,16 @@
 """What a sceptic must read: the definitions that the promises rest on, and no others.
 
 The promises are what docs/THEOREMS.md links: a contract as [crate::function] with ../crates/..rt, a theorem as [name]
-with ../crates/..antt; and the contract of every function of crates/mazhoketh for C. Their words are followed
-through crates/*/specs. The files to read are printed in the order of crates.txt and of each specs/Lib.antt: their
-lines, how many of these are of definitions that a promise rests on (comments left out), and the path; or only what the
-named ones rest on, as `tools/believed.py every-run`. --check fails if a promise rests on something of specs/code, which
-is for the contracts of inner functions, or if a definition of specs beside it carries no promise.
+with ../crates/..antt; and the contracts of the functions for C, of crates/mazhoketh and of crates/mazhoketh_c. Their
+words are followed through crates/*/specs. The files to read are printed in the order of crates.txt and of each
+specs/Lib.antt: their lines, how many of these are of definitions that a promise rests on (comments left out), and the
+path; or only what the named ones rest on, as `tools/believed.py every_run`. --check fails if a promise rests on
+something of specs/Code, which is for the contracts of inner functions, or if a definition of specs beside it carries no
+promise.
 """
 import glob, os, re, sys
 
-USE = r"use Rattle·(\w+)(?:·specs)?\.specs\.([\w.]+?)(?:\.\{([^}]*)\}| as (\w+));?$"
+USE = r"use Rattle\.(\w+)\.specs\.([\w.]+?)(?:\.\{([^}]*)\}| as ([\w-]+));?$"
 SKIP = r"\s*(--|use |pub mod |infix|module )"  # a line that defines nothing
 HEAD = r"\s*(abbrev|unfoldable|pub record|pub data) "
 
@@ -25,7 +26,7 @@ def imports(text):
     for crate, module, names, alias in re.findall(USE, text, re.M):
         short[alias] = (crate, module)
         for name in names.split(", "):
-            words[name.split(" as ")[-1]] = (crate, module, name.split(" as ")[0])
+            words[name.split(" as ")[-1].strip("◌")] = (crate, module, name.split(" as ")[0])
     return words, short
 
 
@@ -51,11 +52,11 @@ for path in glob.glob("crates/*/specs/**/[A-Z]*.antt", recursive=True):
             key = (*file, re.match(r"\s*(?:(?:abbrev|unfoldable|pub|record|data) )*(\S+)", lines[0]).group(1))
             defined[key] = paragraph
             fields = re.findall(r"^  (?:pub )?(\S+) :", "\n".join(lines[1:]), re.M)  # or constructors
-            for part in [key[2], key[2].strip("_"), *fields]:
+            for part in [key[2], key[2].strip("◌"), *fields]:
                 part_of.setdefault((*file, part), key)
 
-exports = glob.glob("crates/mazhoketh/src/*.rt")
-promises = {(name, path) for path in exports for name in re.findall(r'"C" fn (\w+)', read(path))}
+exports = glob.glob("crates/mazhoketh/src/*.rt") + glob.glob("crates/mazhoketh_c/src/*.rt")
+promises = {(name, path) for path in exports for name in re.findall(r"\bfn (mzk_\w+)", read(path))}
 link = r"\[(?:\w+::)?([\w-]+)\](?:\(|: )\.\./(crates/\S+?\.(?:rt|antt))\b"  # in the text, or at its end
 promises |= set(re.findall(link, read("docs/THEOREMS.md")))
 only = {word for word in sys.argv[1:] if word != "--check"}
@@ -74,7 +75,7 @@ while wanted:
     wanted |= set(named(defined[key], meaning[key[:2]], key[:2])) - believed
 
 total = [0, 0]
-for crate in re.findall(r"^(\w+):", read("crates.txt"), re.M):
+for crate in re.findall(r"^(\w+)[^:#\n]*:", read("crates.txt"), re.M):
     for module in re.findall(r"pub mod (\w+)", "".join(map(read, glob.glob("crates/%s/specs/Lib.antt" % crate)))):
         lines = [line for key in believed if key[:2] == (crate, module) for line in defined[key].split("\n")]
         resting = len([line for line in lines if not re.match(r"\s*--", line)])
@@ -83,7 +84,7 @@ for crate in re.findall(r"^(\w+):", read("crates.txt"), re.M):
             total = [a + b for a, b in zip(total, sizes)]
             print("%5d %5d  %s" % (*sizes, path_of[crate, module]))
 print("%5d %5d  in all" % tuple(total))
-wrong = ["a promise rests on " + ".".join(key) for key in believed if "code." in key[1]]
-wrong += ["no promise rests on " + ".".join(key) for key in defined.keys() - believed if "code." not in key[1]]
+wrong = ["a promise rests on " + ".".join(key) for key in believed if "Code." in key[1]]
+wrong += ["no promise rests on " + ".".join(key) for key in defined.keys() - believed if "Code." not in key[1]]
 if "--check" in sys.argv and wrong:
     sys.exit("\n".join(sorted(wrong)))

@@ -14,7 +14,7 @@ use mazhoketh_tests::oracle::planner::{self, Plan};
 use mazhoketh_tests::oracle::prng::Prng;
 use mazhoketh_tests::oracle::{damage, netplan, nets, plan_file, plans};
 
-/// The program that `rt check netplan` builds, and the most bytes that it takes.
+/// The program `netplan`, which `make` builds, and the most bytes that it takes.
 const NETPLAN: &str = concat!(env!("CARGO_MANIFEST_DIR"), "/../target/bin/netplan");
 const LONGEST: usize = 24_576;
 
@@ -31,7 +31,7 @@ fn run_netplan(line: &str, text: &[u8]) -> String {
         .stdout(Stdio::piped())
         .stderr(Stdio::piped())
         .spawn()
-        .expect("`rt check netplan` has built the program");
+        .expect("`make` has built the program");
     let mut stdin = program.stdin.take().expect("its input is a pipe");
     let input = [line.as_bytes(), text].concat();
     stdin.write_all(&input).expect("all input is read");

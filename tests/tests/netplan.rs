@@ -1,4 +1,4 @@
-//! The program `netplan`, which `rt check netplan` builds, beside the other implementation.
+//! The program `netplan`, which `make` builds, beside the other implementation.
 
 use std::fs::File;
 use std::io::Write;
@@ -22,7 +22,7 @@ fn run(input: &[u8]) -> String {
         .stdout(Stdio::piped())
         .stderr(Stdio::piped())
         .spawn()
-        .expect("`rt check netplan` has built the program");
+        .expect("`make` has built the program");
     let mut stdin = program.stdin.take().expect("its input is a pipe");
     let fed = stdin.write_all(input);
     drop(stdin);

@@ -2,20 +2,38 @@
 // output.
 #![tactic(auto)]
 
-use libc::{STDERR_FILENO, STDIN_FILENO, STDOUT_FILENO};
-use listing::{MAX_INPUT, MAX_OUTPUT, listing};
+ghost use Rattle.std.specs.Prelude.{◌≤◌, length, take};
+ghost use Rattle.std.specs.Io.KnownBytes.{Consumes};
 
-// One byte more than the longest input is read, so that a longer one is told from it. An input that cannot be read
-// further has ended. A program has no exit status to give: output that cannot be written is said on standard error.
-fn main() {
+use listing::{MAX_INPUT, MAX_OUTPUT, listing};
+use std::io;
+use std::io::{Read, Write};
+
+// Reads until the bytes are full or the input has ended, and returns how many were read. An input that cannot be read
+// further has ended.
+fn read_full<R: Read>(input: &mut R, bytes: &mut [u8]) -> usize
+    ensures bound { result ≤ length bytes.new }
+    ensures consumed { Consumes (R.remaining input.old) (R.remaining input.new) (take result bytes.new) }
+{
+    let mut done = 0;
+    while done < bytes.len() {
+        match input.read(&mut bytes[done..]) {
+            Ok(0) | Err(_) => break,
+            Ok(n) => done += n,
+        }
+    }
+    done
+}
+
+// One byte more than the longest input is read, so that a longer one is told from it. Output that cannot be written is
+// said on standard error.
+fn main(rt: HostRuntime) -> io::Result<()> {
     let mut input = [0u8; MAX_INPUT + 1];
-    let size = io::read_full(STDIN_FILENO, &mut input);
+    let size = read_full(&mut rt.stdin(), &mut input);
     let mut output = [0u8; MAX_OUTPUT];
     let written = listing(&input[..size], &mut output);
-    if !io::write_all(STDOUT_FILENO, &output[..written]) {
-        io::write_all(
-            STDERR_FILENO,
-            b"netplan: standard output cannot be written\n",
-        );
+    if rt.stdout().write_all(&output[..written]).is_err() {
+        eprintln!(rt; "netplan: standard output cannot be written")?;
     }
+    Ok(())
 }

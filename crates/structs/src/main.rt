@@ -12,8 +12,8 @@ ghost use Rattle.race.specs.Planner.{plan, plan_reply};
 ghost use Rattle.groups.specs.Structs.{of_group};
 
 use base::Verdict;
-use libc::STDOUT_FILENO;
 use plan::fields::Group;
+use std::io;
 
 // Five groups, and the planner's answer.
 #[derive(Clone, Copy)]
@@ -69,46 +69,28 @@ fn check_in(
     groups::check(n, starts, columns, values, order, &list, DISTANCE)
 }
 
-// Writes a space and a number.
-fn put_number(x: u32) {
-    io::write_all(STDOUT_FILENO, b" ");
-    io::print_decimal(STDOUT_FILENO, x as u64);
-}
-
 // Writes an answer's line.
-fn put_answer(answer: Verdict) {
+fn put_answer(rt: &impl Print, answer: Verdict) -> io::Result<()> {
     match answer {
-        Verdict::Accepted(count) => {
-            io::write_all(STDOUT_FILENO, b"accepted");
-            put_number(count);
-        }
-        Verdict::Refused(number, place) => {
-            io::write_all(STDOUT_FILENO, b"refused");
-            put_number(number);
-            put_number(place);
-        }
+        Verdict::Accepted(count) => println!(rt; "accepted {count}"),
+        Verdict::Refused(number, place) => println!(rt; "refused {number} {place}"),
     }
-    io::write_all(STDOUT_FILENO, b"\n");
 }
 
 // Writes a group's line: its fields.
-fn put_group(g: Group) {
-    io::write_all(STDOUT_FILENO, b"group");
-    put_number(g.start);
-    put_number(g.length);
-    put_number(g.first);
-    put_number(g.workers);
-    put_number(g.colour);
-    put_number(g.parent);
-    put_number(g.depth);
-    io::write_all(STDOUT_FILENO, b"\n");
+fn put_group(rt: &impl Print, g: Group) -> io::Result<()> {
+    println!(rt;
+        "group {} {} {} {} {} {} {}",
+        g.start, g.length, g.first, g.workers, g.colour, g.parent, g.depth
+    )
 }
 
 // Writes the lines of five groups.
-fn put_groups(groups: [Group; 5]) {
+fn put_groups(rt: &impl Print, groups: [Group; 5]) -> io::Result<()> {
     for k in 0..5 {
-        put_group(groups[k]);
+        put_group(rt, groups[k])?;
     }
+    Ok(())
 }
 
 // A group that stands for none.
@@ -152,18 +134,25 @@ fn raised(g: Group) -> Group {
 }
 
 // Checks a plan of eight rows: it is sound; with a group twice, or one at another depth, it is not.
-fn put_checks(starts: &[u32], columns: &[u32], values: &[i32], order: &[u32], groups: [Group; 5]) {
-    put_answer(check_in(8, starts, columns, values, order, groups));
+fn put_checks(
+    rt: &impl Print,
+    starts: &[u32],
+    columns: &[u32],
+    values: &[i32],
+    order: &[u32],
+    groups: [Group; 5],
+) -> io::Result<()> {
+    put_answer(rt, check_in(8, starts, columns, values, order, groups))?;
     let mut twice = groups;
     twice[2] = groups[1];
-    put_answer(check_in(8, starts, columns, values, order, twice));
+    put_answer(rt, check_in(8, starts, columns, values, order, twice))?;
     let mut other = groups;
     other[1] = raised(groups[1]);
-    put_answer(check_in(8, starts, columns, values, order, other));
+    put_answer(rt, check_in(8, starts, columns, values, order, other))
 }
 
 // The chain is planned for two workers, and its plan is checked.
-fn chain() {
+fn chain(rt: &impl Print) -> io::Result<()> {
     let starts = [0u32, 2, 5, 8, 11, 14, 17, 20, 22];
     let columns = chain_columns();
     let values = chain_values();
@@ -180,21 +169,21 @@ fn chain() {
     );
     let groups = made.groups;
     let answer = made.answer;
-    put_answer(answer);
-    put_groups(groups);
-    put_checks(&starts, &columns, &values, &order, groups);
+    put_answer(rt, answer)?;
+    put_groups(rt, groups)?;
+    put_checks(rt, &starts, &columns, &values, &order, groups)
 }
 
 // Sixteen unjoined rows and four workers need more than five groups.
-fn unjoined() {
+fn unjoined(rt: &impl Print) -> io::Result<()> {
     let starts = [0u32; 17];
     let mut order = [0u32; 16];
     let made = plan_in(16, &starts, &[], &[], 4, 60, &mut order, [none(); 5]);
     let answer = made.answer;
-    put_answer(answer);
+    put_answer(rt, answer)
 }
 
-fn main() {
-    chain();
-    unjoined();
+fn main(rt: HostRuntime) -> io::Result<()> {
+    chain(&rt)?;
+    unjoined(&rt)
 }
