@@ -1,0 +1,20 @@
+-- `survey_in` meets its contract: the lists are decoded as far as they can reach.
+use Rattle.words.specs.LittleEndian.{signed}
+use Rattle.lent.specs.Bytes.{matrix_in}
+use Rattle.lent.proofs.Loads.{loaded_matrix}
+use Rattle.lent.proofs.Whole.{few-matrix}
+use Rattle.desk.proofs.Surveys.{survey-cut}
+use Rattle.desk.proofs.reach.survey_in.Goals as goal
+
+pub returns-then-are_few : goal.returns-then-are_few
+returns-then-are_few c =
+    let a = c.args in
+    survey-cut (matrix_in a.n a.row_starts.now a.columns.now a.values.now) (signed 4 a.movements.now) a.t a.row
+    (few-matrix a.n a.row_starts.now a.columns.now a.values.now (c.are_few.ensures c.if-are_few.true) c.load_unsigned-rows.ensures c.load_unsigned.ensures c.load_signed.ensures)
+    c.load_signed-surveyed.ensures c.survey_of.ensures
+
+pub returns : goal.returns
+returns c =
+    let a = c.args in
+    let m = matrix_in a.n a.row_starts.now a.columns.now a.values.now in
+    survey-cut m (signed 4 a.movements.now) a.t a.row (loaded_matrix m c.load_unsigned-rows.ensures c.load_unsigned-2.ensures c.load_signed-2.ensures) c.load_signed-surveyed.ensures c.survey_of-2.ensures
