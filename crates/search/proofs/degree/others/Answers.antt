@@ -28,7 +28,7 @@ loop-i-preserved c =
     let next = filter-next (λ j. not (eqb j a.v)) a.row.now l.i (omega arith) in
     let column = get_or a.row.now l.i 0 in
     elim c.if-row-i.branch [
-      then-row-i w ↦ (omega arith, omega (arith, w.k-is, l.invariant.1, next, ap (λ (b : Bool). bit (not b)) (ne_eqb column a.v w.if-row-i.true)))
+      | then-row-i w ↦ (omega arith, omega (arith, w.k-is, l.invariant.1, next, ap (λ (b : Bool). bit (not b)) (ne_eqb column a.v w.if-row-i.true)))
       | else-row-i w ↦ (omega arith, omega (arith, w.k-is, l.invariant.1, next, ap (λ (b : Bool). bit (not b)) (eq-eqb column a.v w.if-row-i.false)))
     ]
 

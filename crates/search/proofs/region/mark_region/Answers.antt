@@ -34,8 +34,7 @@ copy-requires c =
 
 pub loop-j-init : goal.loop-j-init
 loop-j-init c =
-    let low : (v : ℕ) → is_in c.args.own.now v ≡ true → v < c.args.n = λ v h. let (i, l, e) = get_in c.args.own.now v h in omega (arith, c.requires.3 i l) in
-    (
+    let low : (v : ℕ) → is_in c.args.own.now v ≡ true → v < c.args.n = λ v h. let (i, l, e) = get_in c.args.own.now v h in omega (arith, c.requires.3 i l) in (
       rw c.copy.ensures (rings_start (rows_graph c.requires.0) c.args.own.now low c.args.marks.now c.args.queue.now c.requires.0.small c.requires.1 c.requires.2 c.requires.4 c.requires.5),
       omega (arith, c.if-reach-lt2.false),
     )

@@ -30,8 +30,7 @@ pub visit_all-tail-requires : goal.visit_all-tail-requires
 visit_all-tail-requires c =
     let here : (get_or c.loop-i.queue c.loop-i.i 0 < c.args.n) × (get_or c.loop-i.marks (get_or c.loop-i.queue c.loop-i.i 0) 0 ≢ c.args.c) = across_in c.loop-i.invariant (omega arith) (omega (arith, c.requires.1.small, c.requires.1.room, c.requires.1.queue_long)) c.requires.4 in
     let below : c.wide.result < c.args.n = rw c.wide.ensures here.0 in
-    let columns_are : c.columns_of.result.now ≡ columns_of (pattern c.args.n c.args.starts.now c.args.columns.now) c.wide.result = c.columns_of.ensures ∙ row_is c.requires.0 c.wide.result below in
-    (
+    let columns_are : c.columns_of.result.now ≡ columns_of (pattern c.args.n c.args.starts.now c.args.columns.now) c.wide.result = c.columns_of.ensures ∙ row_is c.requires.0 c.wide.result below in (
       c.loop-i.invariant.ready,
       rw columns_are (row_below c.requires.0 c.wide.result),
       c.requires.3,
