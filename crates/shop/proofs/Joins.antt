@@ -21,7 +21,6 @@ use Rattle.matrix.specs.Tabulated.{tabulated}
 use Rattle.matrix.proofs.Matrix.{matrix_facts}
 use Rattle.matrix.specs.Code.Room.{max_starts, max_cells}
 use Rattle.matrix.proofs.Cut.{cut, cut-matrix, cut-columns, cut-entry}
-use Rattle.words.proofs.Blocks.{decoded}
 use Rattle.words.specs.LittleEndian.{unsigned, signed, bytes_of, signed_bytes_of, unsigned_bytes, signed_bytes, stored}
 use Rattle.lent.specs.Word.{word}
 use Rattle.lent.proofs.Answers.{answered-same, Begins, begins, begins_at, begins-stored}
