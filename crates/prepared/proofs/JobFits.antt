@@ -6,7 +6,7 @@ use Prim.Native.Nat.{ℕ, zero, suc, ◌+◌, ◌*◌, ◌-◌, ◌^◌, ◌≤�
 use native.Mathlib.Omega.{arith}
 use lib.Dec.{eqb}
 use lib.IntN.{ℤ, pos, negsuc, nat_abs, ◌*ℤ◌}
-use lib.ListN.{length, length-map}
+use lib.ListN.{length-map}
 use Rattle.base.specs.Lists.{concat, range, filter, keep, position_of}
 use Rattle.base.proofs.Each.{Each, each_append}
 use Rattle.base.proofs.Integers.{abs-mul-le}

@@ -1,23 +1,22 @@
 -- One prepared list serves all movements.
-use mathlib.Core.Path.{◌≡◌, refl, sym, ap, ◌∙◌, fun_ext, subst}
+use mathlib.Core.Path.{◌≡◌, refl, sym, ap, ◌∙◌, fun_ext}
 use mathlib.Core.Logic.{◌⊎◌, inl, inr, ◌≢◌}
-use mathlib.Core.Bool.{Bool, true, false, ◌&&◌, cond}
+use mathlib.Core.Bool.{Bool, true, false}
 use mathlib.Core.List.{List, [], ◌∷◌, ◌++◌, map, append_assoc, append-nil}
 use Prim.Native.Nat.{ℕ, zero, suc, ◌+◌, ◌*◌, ◌≤◌, ◌<◌}
 use native.Mathlib.Omega.{arith}
-use lib.Dec.{eqb, leb}
-use lib.ListN.{length, get_or, replicate, length-append, length-replicate, get_or-replicate}
+use lib.Dec.{eqb}
+use lib.ListN.{length, replicate, length-replicate, get_or-replicate}
 use lib.IntN.{ℤ, pos, ◌*ℤ◌, *ℤ-one, one}
 use borrow.Author.Tests.{eq-eqb, ne_eqb}
 use Rattle.base.specs.Lists.{concat, range, all, is_in, sum_below, position_of}
 use Rattle.base.specs.Integers.{within}
-use Rattle.base.specs.Replies.{in_turn}
 use Rattle.base.proofs.Booleans.{or_true}
 use Rattle.matrix.specs.Matrix.{displacement, are_displacements}
 use Rattle.plan.specs.Groups.{Group}
 use Rattle.plan.specs.Sound.{max_workers}
 use Rattle.run.specs.Job.{Job, Accepted, workers, row_at}
-use Rattle.run.specs.Tree.{owner_in, tree}
+use Rattle.run.specs.Tree.{tree}
 use Rattle.run.specs.Updates.{Update, entry_at, displacement_at, later, with_each, row_updates, owner, when, up_to, updates, accesses}
 use Rattle.run.specs.Machine.{all_made, over, original, counts_fine, is_state}
 use Rattle.run.specs.State.{State}
@@ -25,9 +24,9 @@ use Rattle.run.specs.Answers.{force_list}
 use Rattle.run.specs.Calls.{state_check, answer_of, answer}
 use Rattle.run.proofs.Accepted.{row_below}
 use Rattle.run.proofs.RowUpdates.{row-length, later-in}
-use Rattle.run.proofs.Work.{cum, cum_suc}
+use Rattle.run.proofs.Work.{cum_suc}
 use Rattle.prepared.specs.Gates.{gate_in, end_in, gate}
-use Rattle.prepared.specs.Format.{Lists, lists_of}
+use Rattle.prepared.specs.Format.{lists_of}
 use Rattle.prepared.specs.Movements.{unit, next_target, source_of, times, with_updates, OtherMovement, OtherMovements}
 
 -- ---- the job with movements 1

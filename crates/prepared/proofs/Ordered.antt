@@ -2,7 +2,7 @@
 -- make one of the two wait, and it can only wait for the other.
 use mathlib.Core.Path.{◌≡◌, refl, sym, ap, ◌∙◌, subst}
 use mathlib.Core.Logic.{◌⊎◌, inl, inr, ◌≢◌}
-use mathlib.Core.Bool.{Bool, true, false, ◌||◌, cond}
+use mathlib.Core.Bool.{Bool, true, false, cond}
 use mathlib.Core.List.{List, map}
 use Prim.Native.Nat.{ℕ, zero, suc, ◌/◌, ◌≤◌, ◌<◌}
 use native.Mathlib.Omega.{arith}
@@ -14,7 +14,7 @@ use Rattle.base.proofs.Booleans.{or_cases, or_left_false, or_right_false, same_o
 use Rattle.base.proofs.Lists.{map-range-zero}
 use Rattle.plan.specs.Sound.{max_workers}
 use Rattle.run.specs.Job.{Job, Accepted, workers}
-use Rattle.run.specs.Updates.{Update, count, updates, accesses, no_update, next, waits}
+use Rattle.run.specs.Updates.{count, updates, accesses, no_update, next, waits}
 use Rattle.run.proofs.Able.{Able}
 use Rattle.run.proofs.Accepted.{tree_of, facts}
 use Rattle.run.proofs.Owners.{owned}

@@ -2,7 +2,7 @@
 use mathlib.Core.Path.{◌≡◌, refl, sym, ap, ◌∙◌, subst}
 use mathlib.Core.Logic.{◌⊎◌, inl, inr, ◌≢◌}
 use mathlib.Core.Bool.{Bool, true, false}
-use mathlib.Core.List.{List, [], ◌∷◌, ◌++◌}
+use mathlib.Core.List.{List, [], ◌∷◌}
 use Prim.Native.Nat.{ℕ, zero, suc, ◌*◌, ◌/◌, ◌≤◌, ◌<◌}
 use native.Mathlib.Omega.{arith}
 use lib.ListN.{length, get_or, take, set, length-append, length-set}
@@ -13,16 +13,14 @@ use Rattle.base.proofs.Sums.{sum_same}
 use lib.Seq.{get_or-set_same, get_or-set_other}
 use Rattle.base.specs.Replies.{in_turn}
 use Rattle.base.proofs.Booleans.{same_or}
-use Rattle.matrix.specs.Product.{product}
 use Rattle.plan.specs.Sound.{max_workers}
 use Rattle.run.specs.Job.{Job, Accepted, workers}
 use Rattle.run.specs.Updates.{Update, count, updates, accesses, no_update, next, waits}
-use Rattle.run.specs.Machine.{refusal, moved, onward, step, Stepped, one_more, steps, over, original}
+use Rattle.run.specs.Machine.{moved, Stepped, one_more, steps, over}
 use Rattle.run.specs.State.{State, fresh}
-use Rattle.run.specs.Answers.{picks, picked}
 use Rattle.run.specs.Calls.{place_of, picked_of, state_check, answer_of, after_of, answer, after}
 use Rattle.run.specs.Sequence.{answers_from, state_after}
-use Rattle.run.specs.OneAccess.{Access, loads_and_stores, OneAccess, Walk, stay, and_then}
+use Rattle.run.specs.OneAccess.{Access, OneAccess, stay, and_then}
 use Rattle.run.specs.EveryRun.{run_state, run_answers}
 use Rattle.run.proofs.Amounts.{landed, landed_next}
 use Rattle.run.proofs.Invariant.{so_far, Inv, inv_fresh, zero-count}

@@ -1,5 +1,4 @@
 -- `load_signed` meets its contract.
-use borrow.Author.Rules.{rules}
 use Rattle.words.specs.LittleEndian.{signed_number}
 use Rattle.lent.proofs.Loads.{loaded_size, loaded_is}
 use Rattle.lent.proofs.lists.load_signed.Goals as goal

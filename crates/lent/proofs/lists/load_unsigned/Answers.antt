@@ -1,5 +1,4 @@
 -- `load_unsigned` meets its contract.
-use borrow.Author.Rules.{rules}
 use Rattle.words.specs.LittleEndian.{number}
 use Rattle.lent.proofs.Loads.{loaded_size, loaded_is}
 use Rattle.lent.proofs.lists.load_unsigned.Goals as goal

@@ -1,5 +1,4 @@
 -- `word_of` meets its contract, case by case.
-use borrow.Author.Rules.{rules}
 use Rattle.lent.specs.Word.{word}
 use Rattle.lent.proofs.word.word_of.Goals as goal
 
