@@ -6,3 +6,4 @@ pub mod Walks
 pub mod Ready
 pub mod Heads
 pub mod InOrder
+pub mod RefusalNames
