@@ -2,4 +2,3 @@ pub mod CheckReply
 pub mod Flattening
 pub mod Gathering
 pub mod PlanReply
-pub mod Walking
