@@ -1,16 +1,13 @@
 -- What a call on an accepted job comes to, and one on lent lists: a check refuses it, or it is the call on their job.
 use mathlib.Core.Path.{◌≡◌, refl, sym, ap, ◌∙◌}
-use mathlib.Core.Logic.{◌≢◌, ⊎_elim}
+use mathlib.Core.Logic.{◌≢◌}
 use mathlib.Core.Bool.{Bool, true, false, cond}
-use mathlib.Core.List.{List, [], ◌∷◌}
+use mathlib.Core.List.{List}
 use Prim.Native.Nat.{ℕ, zero, suc}
-use native.Mathlib.Omega.{arith}
 use lib.IntN.{ℤ}
 use lib.Count.{ones}
 use lib.Dec.{leb}
 use lib.ListN.{length}
-use types.Run.{OneOf}
-use denote.Enum.Declared.{tag_of}
 use borrow.Author.Tests.{ne_eqb}
 use Rattle.base.specs.Refusals as why
 use Rattle.base.proofs.Booleans.{clash}
@@ -38,7 +35,6 @@ use Rattle.calls.specs.declared.Call.TheVariants as asked
 use Rattle.calls.specs.Performed.{as_call, Performed}
 use Rattle.calls.specs.Code.Listed.{Listed}
 use Rattle.calls.specs.Code.Made.{Made, is_taken, rule_of, taking, told_by, Taken}
-use Rattle.calls.specs.contracts.Call.{the_type}
 use Rattle.calls.proofs.InTurn.{turn-refused, turn-accepted}
 
 -- another number of sums
@@ -58,36 +54,32 @@ place-some (suc k) past d = refl
 
 -- ---- what is asked
 
--- it is no preview
-pub not-preview : (c : code.Call) → OneOf (0 ∷ 1 ∷ 2 ∷ 4 ∷ []) (tag_of the_type c) → c ≢ asked.Preview
-not-preview c h e = let g : OneOf (0 ∷ 1 ∷ 2 ∷ 4 ∷ []) 3 = rw e at h in ⊎_elim (λ y. omega arith) (⊎_elim (λ y. omega arith) (⊎_elim (λ y. omega arith) (λ y. omega arith))) g
-
--- .. takes no picks, and is no force list
-pub asks_ready : (c : code.Call) → OneOf (0 ∷ 1 ∷ 3 ∷ 4 ∷ []) (tag_of the_type c) → is_taken c ≡ false → c ≢ asked.Preview → c ≡ asked.ReadySet
+-- it takes no picks, and is neither a force list nor a preview
+pub asks_ready : (c : code.Call) → c ≢ asked.ForceList → is_taken c ≡ false → c ≢ asked.Preview → c ≡ asked.ReadySet
 unfolding is_taken
 asks_ready asked.Picks h d f = absurd (clash refl d)
 asks_ready asked.ReadySet h d f = refl
-asks_ready asked.ForceList h d f = absurd (⊎_elim (λ y. omega arith) (⊎_elim (λ y. omega arith) (⊎_elim (λ y. omega arith) (λ y. omega arith))) h)
+asks_ready asked.ForceList h d f = absurd (h refl)
 asks_ready asked.Preview h d f = absurd (f refl)
 asks_ready asked.Rounds h d f = absurd (clash refl d)
 
 -- other calls than a preview tell of picks what ended them
-pub told-picks : (c : code.Call) → OneOf (0 ∷ 1 ∷ 2 ∷ 4 ∷ []) (tag_of the_type c) → (ended there : answers.Answer) → ended ≡ told_by c ended there
+pub told-picks : (c : code.Call) → c ≢ asked.Preview → (ended there : answers.Answer) → ended ≡ told_by c ended there
 unfolding told_by
 told-picks asked.Picks h ended there = refl
 told-picks asked.ReadySet h ended there = refl
 told-picks asked.ForceList h ended there = refl
-told-picks asked.Preview h ended there = absurd (⊎_elim (λ y. omega arith) (⊎_elim (λ y. omega arith) (⊎_elim (λ y. omega arith) (λ y. omega arith))) h)
+told-picks asked.Preview h ended there = absurd (h refl)
 told-picks asked.Rounds h ended there = refl
 
 -- other calls than rounds stop at every refused pick
-pub rule_stops : (c : code.Call) → OneOf (0 ∷ 1 ∷ 2 ∷ 3 ∷ []) (tag_of the_type c) → Stop ≡ rule_of c
+pub rule_stops : (c : code.Call) → c ≢ asked.Rounds → Stop ≡ rule_of c
 unfolding rule_of
 rule_stops asked.Picks h = refl
 rule_stops asked.ReadySet h = refl
 rule_stops asked.ForceList h = refl
 rule_stops asked.Preview h = refl
-rule_stops asked.Rounds h = absurd (⊎_elim (λ y. omega arith) (⊎_elim (λ y. omega arith) (⊎_elim (λ y. omega arith) (λ y. omega arith))) h)
+rule_stops asked.Rounds h = absurd (h refl)
 
 -- ---- on an accepted job
 
