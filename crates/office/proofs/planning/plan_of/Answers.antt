@@ -33,7 +33,7 @@ slice_bounds-store_u32-end c =
     let given : Matrix = let a = c.args in matrix_of a.n a.starts.now a.columns.now a.values.now in
     let same : let a = c.args in plan_reply given a.workers a.p a.k (length (take c.least-order_room.result a.order.now)) (length (take c.least-groups_room.result a.groups.now)) ≡ plan_in given a.workers a.p a.k a.order_bytes.now a.group_bytes.now = let a = c.args in
     same-reply given a.workers a.p a.k a.order.now a.groups.now a.order_bytes.now a.group_bytes.now c.requires c.least-order_room.ensures c.least-groups_room.ensures in
-    let held : let a = c.args in Held given a.workers a.p a.k a.order_bytes.now a.group_bytes.now c.in-Accepted.count (c.plan-answer.new.order ++ drop c.least-order_room.result a.order.now) (c.plan-answer.new.groups ++ drop c.least-groups_room.result a.groups.now) = let e = c.plan-answer.ensures in
+    let held : let l = c.plan-answer.new in let a = c.args in Held given a.workers a.p a.k a.order_bytes.now a.group_bytes.now c.in-Accepted.count (l.order ++ drop c.least-order_room.result a.order.now) (l.groups ++ drop c.least-groups_room.result a.groups.now) = let e = c.plan-answer.ensures in
     plan-held same (ap reply_of (sym c.in-Accepted.is) ∙ e.reply) _ _ e.lent_order e.lent_groups _ _ in
     begins-fits held.order-begins
 
@@ -42,7 +42,7 @@ slice_bounds-store_u32-end-2 c =
     let given : Matrix = let a = c.args in matrix_of a.n a.starts.now a.columns.now a.values.now in
     let same : let a = c.args in plan_reply given a.workers a.p a.k (length (take c.least-order_room.result a.order.now)) (length (take c.least-groups_room.result a.groups.now)) ≡ plan_in given a.workers a.p a.k a.order_bytes.now a.group_bytes.now = let a = c.args in
     same-reply given a.workers a.p a.k a.order.now a.groups.now a.order_bytes.now a.group_bytes.now c.requires c.least-order_room.ensures c.least-groups_room.ensures in
-    let held : let a = c.args in Held given a.workers a.p a.k a.order_bytes.now a.group_bytes.now c.in-Accepted.count (c.plan-answer.new.order ++ drop c.least-order_room.result a.order.now) (c.plan-answer.new.groups ++ drop c.least-groups_room.result a.groups.now) = let e = c.plan-answer.ensures in
+    let held : let l = c.plan-answer.new in let a = c.args in Held given a.workers a.p a.k a.order_bytes.now a.group_bytes.now c.in-Accepted.count (l.order ++ drop c.least-order_room.result a.order.now) (l.groups ++ drop c.least-groups_room.result a.groups.now) = let e = c.plan-answer.ensures in
     plan-held same (ap reply_of (sym c.in-Accepted.is) ∙ e.reply) _ _ e.lent_order e.lent_groups _ _ in
     begins-size held.order-begins
 
@@ -51,7 +51,7 @@ slice_bounds-store_u32-end-3 c =
     let given : Matrix = let a = c.args in matrix_of a.n a.starts.now a.columns.now a.values.now in
     let same : let a = c.args in plan_reply given a.workers a.p a.k (length (take c.least-order_room.result a.order.now)) (length (take c.least-groups_room.result a.groups.now)) ≡ plan_in given a.workers a.p a.k a.order_bytes.now a.group_bytes.now = let a = c.args in
     same-reply given a.workers a.p a.k a.order.now a.groups.now a.order_bytes.now a.group_bytes.now c.requires c.least-order_room.ensures c.least-groups_room.ensures in
-    let held : let a = c.args in Held given a.workers a.p a.k a.order_bytes.now a.group_bytes.now c.in-Accepted.count (c.plan-answer.new.order ++ drop c.least-order_room.result a.order.now) (c.plan-answer.new.groups ++ drop c.least-groups_room.result a.groups.now) = let e = c.plan-answer.ensures in
+    let held : let l = c.plan-answer.new in let a = c.args in Held given a.workers a.p a.k a.order_bytes.now a.group_bytes.now c.in-Accepted.count (l.order ++ drop c.least-order_room.result a.order.now) (l.groups ++ drop c.least-groups_room.result a.groups.now) = let e = c.plan-answer.ensures in
     plan-held same (ap reply_of (sym c.in-Accepted.is) ∙ e.reply) _ _ e.lent_order e.lent_groups _ _ in
     begins-fits held.groups_begin
 
@@ -60,7 +60,7 @@ slice_bounds-store_u32-end-4 c =
     let given : Matrix = let a = c.args in matrix_of a.n a.starts.now a.columns.now a.values.now in
     let same : let a = c.args in plan_reply given a.workers a.p a.k (length (take c.least-order_room.result a.order.now)) (length (take c.least-groups_room.result a.groups.now)) ≡ plan_in given a.workers a.p a.k a.order_bytes.now a.group_bytes.now = let a = c.args in
     same-reply given a.workers a.p a.k a.order.now a.groups.now a.order_bytes.now a.group_bytes.now c.requires c.least-order_room.ensures c.least-groups_room.ensures in
-    let held : let a = c.args in Held given a.workers a.p a.k a.order_bytes.now a.group_bytes.now c.in-Accepted.count (c.plan-answer.new.order ++ drop c.least-order_room.result a.order.now) (c.plan-answer.new.groups ++ drop c.least-groups_room.result a.groups.now) = let e = c.plan-answer.ensures in
+    let held : let l = c.plan-answer.new in let a = c.args in Held given a.workers a.p a.k a.order_bytes.now a.group_bytes.now c.in-Accepted.count (l.order ++ drop c.least-order_room.result a.order.now) (l.groups ++ drop c.least-groups_room.result a.groups.now) = let e = c.plan-answer.ensures in
     plan-held same (ap reply_of (sym c.in-Accepted.is) ∙ e.reply) _ _ e.lent_order e.lent_groups _ _ in
     begins-size held.groups_begin
 
@@ -69,6 +69,6 @@ returns c =
     let given : Matrix = let a = c.args in matrix_of a.n a.starts.now a.columns.now a.values.now in
     let same : let a = c.args in plan_reply given a.workers a.p a.k (length (take c.least-order_room.result a.order.now)) (length (take c.least-groups_room.result a.groups.now)) ≡ plan_in given a.workers a.p a.k a.order_bytes.now a.group_bytes.now = let a = c.args in
     same-reply given a.workers a.p a.k a.order.now a.groups.now a.order_bytes.now a.group_bytes.now c.requires c.least-order_room.ensures c.least-groups_room.ensures in
-    let held : let a = c.args in Held given a.workers a.p a.k a.order_bytes.now a.group_bytes.now c.in-Accepted.count (c.plan-answer.new.order ++ drop c.least-order_room.result a.order.now) (c.plan-answer.new.groups ++ drop c.least-groups_room.result a.groups.now) = let e = c.plan-answer.ensures in
+    let held : let l = c.plan-answer.new in let a = c.args in Held given a.workers a.p a.k a.order_bytes.now a.group_bytes.now c.in-Accepted.count (l.order ++ drop c.least-order_room.result a.order.now) (l.groups ++ drop c.least-groups_room.result a.groups.now) = let e = c.plan-answer.ensures in
     plan-held same (ap reply_of (sym c.in-Accepted.is) ∙ e.reply) _ _ e.lent_order e.lent_groups _ _ in
     plan-stored held c.word_of-2.ensures c.store_u32.ensures c.store_u32-2.ensures
