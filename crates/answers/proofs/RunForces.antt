@@ -1,6 +1,6 @@
 -- Forces, which are made beside the lent list.
 use mathlib.Core.Path.{◌≡◌, refl, sym, ap, ◌∙◌}
-use mathlib.Core.Logic.{⊎_elim}
+use mathlib.Core.Logic.{◌≢◌}
 use mathlib.Core.Bool.{Bool, true, false, cond}
 use mathlib.Core.List.{List, [], ◌∷◌, ◌++◌}
 use Prim.Native.Nat.{ℕ, zero, suc, ◌/◌, ◌≤◌, min}
@@ -9,8 +9,6 @@ use lib.Dec.{leb}
 use lib.IntN.{ℤ, pos}
 use lib.ListN.{length, take, drop, get_or, replicate, length-append, length-take, length-drop}
 use lib.Seq.{take_all, take-append-le, length-take-le}
-use types.Run.{OneOf}
-use denote.Enum.Declared.{tag_of}
 use borrow.Author.Tests.{leb-true}
 use Rattle.base.specs.Replies.{Check, in_turn, lent}
 use Rattle.base.proofs.Fill.{length-made}
@@ -25,7 +23,6 @@ use Rattle.run.specs.Answers.{Answer, forces, denied, shown}
 use Rattle.calls.specs.Performed.{as_call, as_answer, Performed}
 use Rattle.calls.specs.declared.Call as asked
 use Rattle.calls.specs.declared.Call.TheVariants.{Picks, ReadySet, ForceList, Preview, Rounds}
-use Rattle.calls.specs.contracts.Response.{the_type}
 use Rattle.calls.specs.declared.Response.{Response}
 use Rattle.calls.specs.declared.Response.TheVariants.{Picked, Ready, Forces, Refused, Previewed}
 use Rattle.words.specs.LittleEndian.{signed_bytes, stored}
@@ -110,12 +107,12 @@ module _ (k room : ℕ) (e : k ≡ min room max_rows) where
 -- ---- the store
 
 -- other answers leave the list
-pub forces-kept : (r : Response) → OneOf (0 ∷ 1 ∷ 3 ∷ 4 ∷ []) (tag_of the_type r) → (zs : List ℤ) (bytes : List ℕ) → bytes ≡ lent (reply_to (as_answer r zs)) (force_bytes (as_answer r zs)) bytes
+pub forces-kept : (r : Response) → r ≢ Forces → (zs : List ℤ) (bytes : List ℕ) → bytes ≡ lent (reply_to (as_answer r zs)) (force_bytes (as_answer r zs)) bytes
 unfolding reply_to force_bytes lent
 forces-kept (Picked k zero p) h zs bytes = refl
 forces-kept (Picked k (suc q) p) h zs bytes = refl
 forces-kept (Ready b k) h zs bytes = refl
-forces-kept Forces h zs bytes = absurd (⊎_elim (λ e. omega arith) (⊎_elim (λ e. omega arith) (⊎_elim (λ e. omega arith) (λ e. omega arith))) h)
+forces-kept Forces h zs bytes = absurd (h refl)
 forces-kept (Refused q p) h zs bytes = refl
 forces-kept (Previewed k zero p b n) h zs bytes = refl
 forces-kept (Previewed k (suc q) p b n) h zs bytes = refl

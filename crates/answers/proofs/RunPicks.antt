@@ -1,6 +1,6 @@
 -- A call on a run whose state and sums are decoded; and picks, which are stored.
 use mathlib.Core.Path.{◌≡◌, refl, sym, ap, ◌∙◌}
-use mathlib.Core.Logic.{◌⊎◌, inl, inr, ◌≢◌, ⊎_elim}
+use mathlib.Core.Logic.{◌⊎◌, inl, inr, ◌≢◌}
 use mathlib.Core.Bool.{Bool, true, false, cond}
 use mathlib.Core.List.{List, [], ◌∷◌, ◌++◌}
 use Prim.Native.Nat.{ℕ, zero, suc, ◌+◌, ◌*◌, ◌/◌, ◌%◌, ◌^◌, ◌≤◌, ◌<◌}
@@ -9,8 +9,6 @@ use lib.Dec.{eqb, leb}
 use lib.IntN.{ℤ}
 use lib.ListN.{length, take, length-append, length-take}
 use lib.Seq.{take_at, take_all, length-take-le}
-use types.Run.{OneOf}
-use denote.Enum.Declared.{tag_of}
 use borrow.Author.Tests.{eqb-true, eq-eqb}
 use Rattle.base.specs.Refusals as why
 use Rattle.base.specs.Replies as replies
@@ -30,7 +28,6 @@ use Rattle.run.specs.Answers.{Call, picks, ready_set, force_list, preview, round
 use Rattle.machine.specs.Record.{state_of}
 use Rattle.machine.specs.declared.state.State as code
 use Rattle.calls.specs.Performed.{as_answer}
-use Rattle.calls.specs.contracts.Response.{the_type}
 use Rattle.calls.specs.declared.Response.{Response}
 use Rattle.calls.specs.declared.Response.TheVariants.{Picked, Ready, Forces, Refused, Previewed}
 use Rattle.calls.proofs.JobChecked.{job-given}
@@ -282,13 +279,13 @@ same-reply k zero p b n = refl
 same-reply k (suc q) p b n = refl
 
 -- other answers have no set
-pub set-none : (r : Response) → OneOf (0 ∷ 1 ∷ 2 ∷ 3 ∷ []) (tag_of the_type r) → (zs : List ℤ) → 0 ≡ set_in (as_answer r zs)
+pub set-none : (r : Response) → ((t q p b k : ℕ) → r ≢ Previewed t q p b k) → (zs : List ℤ) → 0 ≡ set_in (as_answer r zs)
 unfolding set_in
 set-none (Picked k q p) h zs = refl
 set-none (Ready b k) h zs = refl
 set-none Forces h zs = refl
 set-none (Refused q p) h zs = refl
-set-none (Previewed t q p b k) h zs = absurd (⊎_elim (λ e. omega arith) (⊎_elim (λ e. omega arith) (⊎_elim (λ e. omega arith) (λ e. omega arith))) h)
+set-none (Previewed t q p b k) h zs = absurd (h t q p b k refl)
 
 -- a preview's set lies above its picks
 pub preview-fits : (r : Response) → Looks r → {w v : ℕ} → w ≡ word (reply_to (as_answer r [])) → v ≡ set_in (as_answer r []) → (v ≡ 0) ⊎ (w + v < 2 ^ 64)
@@ -300,14 +297,10 @@ preview-fits (Refused q p) h e f = inl f
 preview-fits (Previewed t zero p b k) h e f = let g = h t 0 p b k refl in inr (omega (arith, g.taken_low, g.count_low, g.bits_low))
 preview-fits (Previewed t (suc q) p b k) h e f = let g = h t (suc q) p b k refl in inr (omega (arith, g.number_low, g.place_low, g.count_low, g.bits_low))
 
--- an answer of another kind than picks
-pub not-picked : (r : Response) → OneOf (1 ∷ 2 ∷ 3 ∷ 4 ∷ []) (tag_of the_type r) → (k q p : ℕ) → r ≢ Picked k q p
-not-picked r h k q p e = let g : OneOf (1 ∷ 2 ∷ 3 ∷ 4 ∷ []) 0 = rw e at h in ⊎_elim (λ y. omega arith) (⊎_elim (λ y. omega arith) (⊎_elim (λ y. omega arith) (λ y. omega arith))) g
-
--- .. has its own word in rounds
-pub round-other : (r : Response) → OneOf (1 ∷ 2 ∷ 3 ∷ 4 ∷ []) (tag_of the_type r) → (zs : List ℤ) → word (reply_to (as_answer r zs)) ≡ round_word (as_answer r zs)
+-- an answer of another kind than picks has its own word in rounds
+pub round-other : (r : Response) → ((k q p : ℕ) → r ≢ Picked k q p) → (zs : List ℤ) → word (reply_to (as_answer r zs)) ≡ round_word (as_answer r zs)
 unfolding round_word
-round-other (Picked k q p) h zs = absurd (not-picked (Picked k q p) h k q p refl)
+round-other (Picked k q p) h zs = absurd (h k q p refl)
 round-other (Ready b k) h zs = refl
 round-other Forces h zs = refl
 round-other (Refused q p) h zs = refl
@@ -320,9 +313,9 @@ round-ended t zero p h = absurd (h refl)
 round-ended t (suc q) p h = refl
 
 -- other answers leave both lists
-pub picks-kept : (r : Response) → OneOf (1 ∷ 2 ∷ 3 ∷ 4 ∷ []) (tag_of the_type r) → (zs : List ℤ) (new old : List ℕ) → old ≡ left_by (as_answer r zs) new old
+pub picks-kept : (r : Response) → ((k q p : ℕ) → r ≢ Picked k q p) → (zs : List ℤ) (new old : List ℕ) → old ≡ left_by (as_answer r zs) new old
 unfolding left_by
-picks-kept (Picked k q p) h zs new old = absurd (⊎_elim (λ e. omega arith) (⊎_elim (λ e. omega arith) (⊎_elim (λ e. omega arith) (λ e. omega arith))) h)
+picks-kept (Picked k q p) h zs new old = absurd (h k q p refl)
 picks-kept (Ready b k) h zs new old = refl
 picks-kept Forces h zs new old = refl
 picks-kept (Refused q p) h zs new old = refl
