@@ -1,2 +1,3 @@
 pub mod RoofChecked
 pub mod Sharing
+pub mod RoofStates

@@ -3,10 +3,8 @@ use mathlib.Core.Bool.{not}
 use mathlib.Core.Path.{ap}
 use mathlib.Core.Path.{◌≡◌, refl, sym, ap₂, ◌∙◌}
 use mathlib.Core.Bool.{◌&&◌}
-use mathlib.Core.List.{List}
-use Prim.Native.Nat.{ℕ, ◌/◌}
-use lib.IntN.{ℤ}
-use lib.ListN.{length, take}
+use Prim.Native.Nat.{◌/◌}
+use lib.ListN.{length}
 use Rattle.base.proofs.Booleans.{fails, holds}
 use Rattle.base.proofs.Lists.{get_d_zeros}
 use Rattle.matrix.specs.Matrix.{matrix_of}
@@ -14,24 +12,17 @@ use Rattle.plan.specs.Groups.{width}
 use Rattle.plan.specs.Sound.{max_workers}
 use Rattle.run.specs.Job.{job_of}
 use Rattle.tables.specs.Code.Laid.{max_updates, Counted}
-use Rattle.upper.specs.Code.Upper.{Sizes}
-use Rattle.layout.specs.Code.UpdateTable.{Given, Planned}
 use Rattle.layout.proofs.GivenRows.{lent_of, planned-of}
 use Rattle.layout.proofs.UpdateRoom.{rising-of}
 use Rattle.steps.proofs.GivenTables.{triangle-of}
 use Rattle.machine.specs.Code.Tests.{all_below, fine}
 use Rattle.calls.proofs.Prepared.{given-many, given_displaced, counted-state}
-use Rattle.crews.specs.Crews.{Crew, crew0, crew1, Two, own_of, Roof, job_for}
+use Rattle.crews.specs.Crews.{Crew, crew0, crew1, Roof, job_for}
 use Rattle.crews.specs.Calls.{roof_of}
 use Rattle.turns.specs.Records.{states_of}
 use Rattle.shared.proofs.Sharing.{are_states, picks-refused, picks-stay, picks-answered, picks-left}
+use Rattle.shared.proofs.RoofStates.{roof-planned}
 use Rattle.shared.proofs.take_picks.Goals as goal
-
--- the plan of each crew's job, by the sizes
-planned : (n count : ℕ) (starts columns : List ℕ) (values : List ℤ) (x : Two (List ℤ)) (order groups : List ℕ) {sizes : List ℕ} → ((c : Crew) → Given n starts columns values (own_of x c) order groups count)
-    → Sizes (matrix_of n starts columns values) (take n order) n sizes → (d : Crew) → Planned (job_for (roof_of (matrix_of n starts columns values) x order groups count) d) groups count sizes
-unfolding roof_of job_of
-planned n count starts columns values x order groups g h d = planned-of (g d) h
 
 pub upper-requires : goal.upper-requires
 upper-requires c = (lent_of (c.requires.0 crew0), refl, refl, get_d_zeros max_updates, refl)
@@ -44,8 +35,7 @@ unfolding roof_of job_of
 are_fine-requires c =
     let roof : Roof = let a = c.args in
     roof_of (matrix_of (length a.sums0.now) a.starts.now a.columns.now a.values.now) (record { of0 = a.displacements0.now; of1 = a.displacements1.now }) a.order.now a.groups.now (length a.groups.now / width) in
-    let is_planned : (d : Crew) → Planned (job_for roof d) c.args.groups.now (length c.args.groups.now / width) c.upper.new.sizes = let a = c.args in planned (length a.sums0.now) (length a.groups.now / width) a.starts.now a.columns.now a.values.now (record { of0 = a.displacements0.now; of1 = a.displacements1.now }) a.order.now a.groups.now c.requires.0 c.upper.ensures.0 in
-    let counted : (d : Crew) → Counted (job_for roof d) c.first_updates-first.result = λ d. c.first_updates-first.ensures _ (is_planned d) in
+    let counted : (d : Crew) → Counted (job_for roof d) c.first_updates-first.result = λ d. c.first_updates-first.ensures _ (roof-planned _ c.requires.0 c.upper.ensures.0 d) in
     rising-of _ (c.requires.0 crew0).accepted (counted crew0)
 
 pub returns-then-not-are_fine : goal.returns-then-not-are_fine
@@ -53,8 +43,7 @@ unfolding roof_of job_of
 returns-then-not-are_fine c =
     let roof : Roof = let a = c.args in
     roof_of (matrix_of (length a.sums0.now) a.starts.now a.columns.now a.values.now) (record { of0 = a.displacements0.now; of1 = a.displacements1.now }) a.order.now a.groups.now (length a.groups.now / width) in
-    let is_planned : (d : Crew) → Planned (job_for roof d) c.args.groups.now (length c.args.groups.now / width) c.upper.new.sizes = let a = c.args in planned (length a.sums0.now) (length a.groups.now / width) a.starts.now a.columns.now a.values.now (record { of0 = a.displacements0.now; of1 = a.displacements1.now }) a.order.now a.groups.now c.requires.0 c.upper.ensures.0 in
-    let counted : (d : Crew) → Counted (job_for roof d) c.first_updates-first.result = λ d. c.first_updates-first.ensures _ (is_planned d) in
+    let counted : (d : Crew) → Counted (job_for roof d) c.first_updates-first.result = λ d. c.first_updates-first.ensures _ (roof-planned _ c.requires.0 c.upper.ensures.0 d) in
     let states : let a = c.args in are_states roof (states_of a.crews a.sums0.now a.sums1.now) ≡ all_below (fine c.first_updates-first.result a.crews.made0) max_workers && all_below (fine c.first_updates-first.result a.crews.made1) max_workers = let g = c.requires in
     ap₂ ◌&&◌ (counted-state (g.0 crew0) (counted crew0) _ refl) (counted-state (g.0 crew1) (counted crew1) _ g.1) in
     let no = states ∙ fails c.are_fine.ensures (ap not c.if-not-are_fine.true) in
@@ -77,11 +66,10 @@ unfolding roof_of job_of
 take-turned-requires c =
     let roof : Roof = let a = c.args in
     roof_of (matrix_of (length a.sums0.now) a.starts.now a.columns.now a.values.now) (record { of0 = a.displacements0.now; of1 = a.displacements1.now }) a.order.now a.groups.now (length a.groups.now / width) in
-    let is_planned : (d : Crew) → Planned (job_for roof d) c.args.groups.now (length c.args.groups.now / width) c.upper.new.sizes = let a = c.args in planned (length a.sums0.now) (length a.groups.now / width) a.starts.now a.columns.now a.values.now (record { of0 = a.displacements0.now; of1 = a.displacements1.now }) a.order.now a.groups.now c.requires.0 c.upper.ensures.0 in
-    let counted : (d : Crew) → Counted (job_for roof d) c.first_updates-first.result = λ d. c.first_updates-first.ensures _ (is_planned d) in
+    let counted : (d : Crew) → Counted (job_for roof d) c.first_updates-first.result = λ d. c.first_updates-first.ensures _ (roof-planned _ c.requires.0 c.upper.ensures.0 d) in
     let g = c.requires in (
       roof,
-      is_planned,
+      roof-planned _ c.requires.0 c.upper.ensures.0,
       counted,
       triangle-of _ _ (rw (given-many (g.0 crew0)) at c.displace.ensures) c.upper.ensures.1,
       refl,
@@ -93,13 +81,12 @@ unfolding roof_of job_of
 returns c =
     let roof : Roof = let a = c.args in
     roof_of (matrix_of (length a.sums0.now) a.starts.now a.columns.now a.values.now) (record { of0 = a.displacements0.now; of1 = a.displacements1.now }) a.order.now a.groups.now (length a.groups.now / width) in
-    let is_planned : (d : Crew) → Planned (job_for roof d) c.args.groups.now (length c.args.groups.now / width) c.upper.new.sizes = let a = c.args in planned (length a.sums0.now) (length a.groups.now / width) a.starts.now a.columns.now a.values.now (record { of0 = a.displacements0.now; of1 = a.displacements1.now }) a.order.now a.groups.now c.requires.0 c.upper.ensures.0 in
-    let counted : (d : Crew) → Counted (job_for roof d) c.first_updates-first.result = λ d. c.first_updates-first.ensures _ (is_planned d) in
+    let counted : (d : Crew) → Counted (job_for roof d) c.first_updates-first.result = λ d. c.first_updates-first.ensures _ (roof-planned _ c.requires.0 c.upper.ensures.0 d) in
     let states : let a = c.args in are_states roof (states_of a.crews a.sums0.now a.sums1.now) ≡ all_below (fine c.first_updates-first.result a.crews.made0) max_workers && all_below (fine c.first_updates-first.result a.crews.made1) max_workers = let g = c.requires in
     ap₂ ◌&&◌ (counted-state (g.0 crew0) (counted crew0) _ refl) (counted-state (g.0 crew1) (counted crew1) _ g.1) in
     let g = c.requires in
     let yes = states ∙ holds c.are_fine.ensures (ap not c.if-not-are_fine.false) in
-    let is = c.take-turned.ensures roof is_planned counted
+    let is = c.take-turned.ensures roof (roof-planned _ c.requires.0 c.upper.ensures.0) counted
     (triangle-of _ _ (rw (given-many (g.0 crew0)) at c.displace.ensures) c.upper.ensures.1)
     (triangle-of _ _ (rw (given-many (g.0 crew1)) at c.displace-2.ensures) c.upper.ensures.1) in
     rw (c.answered-2.ensures.0, c.answered-2.ensures.1)
