@@ -1,5 +1,5 @@
 -- Where the rows and the workers of a plan stand in its tables.
-use Rattle.std.specs.Prelude.{◌≡◌, List, ℕ, ◌+◌, ◌*◌, ◌-◌, ◌<◌, length, get_or}
+use Rattle.std.specs.Prelude.{◌≡◌, List, ℕ, ◌+◌, ◌*◌, ◌<◌, length, get_or}
 use Rattle.plan.specs.Sound.{max_workers}
 use Rattle.tables.specs.Code.Laid.{updates_in}
 use Rattle.prepared.specs.Format.{mark}
