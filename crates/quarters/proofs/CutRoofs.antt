@@ -23,7 +23,7 @@ use Rattle.run.specs.State.{State}
 use Rattle.lent.proofs.Loads.{plan-of-cut}
 use Rattle.answers.proofs.CutJobs.{updates-same, refusal-same, ready-same, state-same}
 use Rattle.answers.proofs.RunCalls.{records_fit, displaced, cut-plan}
-use Rattle.crews.specs.Crews.{Crew, crew0, crew1, other, Two, own_of, Roof, in_row, is_away, crew_refusal, crew_step, turn_for, turn, turns, crew_ready}
+use Rattle.crews.specs.Crews.{Crew, crew0, crew1, other, Two, own_of, Roof, in_row, is_away, crew_refusal, crew_step, turn_for, turn, crew_ready}
 use Rattle.crews.specs.Calls.{picks_both, ready_sets, ready_for, ready_both, state_checks, denied_both, answer_both, after_both, roof_of, roof_checks, answer_both_lent, after_both_lent}
 use Rattle.calls.specs.declared.Response.{Response}
 use Rattle.shared.specs.Performed.{PicksMade}
