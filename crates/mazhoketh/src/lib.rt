@@ -12,5 +12,5 @@ pub mod picks;
 pub mod prepared_runs;
 pub mod read_plan;
 pub mod runs;
-pub mod survey;
+pub mod surveys;
 pub mod write_plan;

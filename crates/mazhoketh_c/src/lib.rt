@@ -12,5 +12,5 @@ mod picks;
 mod prepared_runs;
 mod read_plan;
 mod runs;
-mod survey;
+mod surveys;
 mod write_plan;

@@ -18,7 +18,7 @@ pub extern "C" fn mzk_survey(
 ) -> u64
     ensures { SurveyAnswered (matrix_in n row_starts.now columns.now values.now) (signed 4 movements.now) t row amounts.old shift.old result amounts.new shift.new }
 {
-    mazhoketh::survey::mzk_survey(
+    mazhoketh::surveys::mzk_survey(
         n, row_starts, columns, values, movements, t, row, amounts, shift,
     )
 }
