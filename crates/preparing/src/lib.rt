@@ -106,7 +106,8 @@ fn size_of(n: usize, count: u32) -> usize
     HEAD + count as usize * UPDATE + n * ROW
 }
 
-// Writes the prepared list of an accepted job, if there is room for it.
+// Writes the prepared list of an accepted job, if there is room for it. Its arrays are not there while a job is checked.
+#[inline(never)]
 fn store_job(
     n: u32,
     starts: &[u32],

@@ -1,6 +1,7 @@
 // set_movement: a new displacement.
 ghost use Rattle.matrix.specs.Matrix.{matrix_of};
 ghost use Rattle.lent.specs.Bytes.{matrix_in};
+ghost use Rattle.lent.specs.Code.Few.{IsFew};
 ghost use Rattle.upkeep.specs.Upkeep.{new_displacement};
 ghost use Rattle.site.specs.Lent.{MovementAnswered};
 ghost use Rattle.site.specs.Code.Decoded.{Decoded};
@@ -39,7 +40,46 @@ fn set_movement_of(
     word_of(answer)
 }
 
-pub fn set_movement_in(
+// For a net with few entries: short arrays, in a frame of their own.
+#[inline(never)]
+fn set_movement_few(
+    n: u32,
+    row_starts: &[u8],
+    columns: &[u8],
+    values: &[u8],
+    movements: &mut [u8],
+    forces: &mut [u8],
+    row: u32,
+    value: i32,
+) -> u64
+    requires { IsFew columns.now × IsFew values.now }
+    ensures { MovementAnswered (matrix_in n row_starts.now columns.now values.now) (new_displacement row value) movements.old forces.old result movements.new forces.new }
+{
+    let mut starts = [0u32; MAX_STARTS];
+    let mut displacements = [0i32; MAX_STARTS];
+    let mut sums = [0i64; MAX_STARTS];
+    let rows = load_unsigned(row_starts, &mut starts);
+    let moved = load_i32(movements, &mut displacements);
+    let kept = load_i64(forces, &mut sums);
+    let mut column_list = [0u32; FEW_CELLS];
+    let mut value_list = [0i32; FEW_CELLS];
+    set_movement_of(
+        n,
+        rows,
+        load_unsigned(columns, &mut column_list),
+        load_signed(values, &mut value_list),
+        &mut displacements[..moved],
+        &mut sums[..kept],
+        row,
+        value,
+        movements,
+        forces,
+    )
+}
+
+// For any net.
+#[inline(never)]
+fn set_movement_many(
     n: u32,
     row_starts: &[u8],
     columns: &[u8],
@@ -57,22 +97,6 @@ pub fn set_movement_in(
     let rows = load_unsigned(row_starts, &mut starts);
     let moved = load_i32(movements, &mut displacements);
     let kept = load_i64(forces, &mut sums);
-    if are_few(columns, values) {
-        let mut column_list = [0u32; FEW_CELLS];
-        let mut value_list = [0i32; FEW_CELLS];
-        return set_movement_of(
-            n,
-            rows,
-            load_unsigned(columns, &mut column_list),
-            load_signed(values, &mut value_list),
-            &mut displacements[..moved],
-            &mut sums[..kept],
-            row,
-            value,
-            movements,
-            forces,
-        );
-    }
     let mut column_list = [0u32; MAX_CELLS];
     let mut value_list = [0i32; MAX_CELLS];
     set_movement_of(
@@ -86,5 +110,27 @@ pub fn set_movement_in(
         value,
         movements,
         forces,
+    )
+}
+
+pub fn set_movement_in(
+    n: u32,
+    row_starts: &[u8],
+    columns: &[u8],
+    values: &[u8],
+    movements: &mut [u8],
+    forces: &mut [u8],
+    row: u32,
+    value: i32,
+) -> u64
+    ensures { MovementAnswered (matrix_in n row_starts.now columns.now values.now) (new_displacement row value) movements.old forces.old result movements.new forces.new }
+{
+    if are_few(columns, values) {
+        return set_movement_few(
+            n, row_starts, columns, values, movements, forces, row, value,
+        );
+    }
+    set_movement_many(
+        n, row_starts, columns, values, movements, forces, row, value,
     )
 }
