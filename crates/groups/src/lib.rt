@@ -1,6 +1,5 @@
-// "The plan's groups are a list of records": here in a lent slice of structs. The borrow checker covers no function
-// over such a slice, so there are four, and thin: each is proved by a walk of its own. The work is done on flat lists,
-// by covered functions.
+// "The plan's groups are a list of records": here in a lent slice of structs. The work is done on flat lists; thin
+// functions copy the records between the two.
 #![tactic(auto)]
 
 ghost use Rattle.std.specs.Prelude.{◌≡◌, ◌++◌, map, ◌+◌, ◌*◌, ◌≤◌, ◌<◌, min, length, take};
