@@ -10,6 +10,7 @@ use lib.IntN.{ℤ, pos}
 use lib.ListN.{length, take, drop, get_or, replicate, length-append, length-take, length-drop}
 use lib.Seq.{take_all, take-append-le, length-take-le}
 use borrow.Author.Tests.{leb-true}
+use Rattle.base.specs.declared.Refusal.{Refusal}
 use Rattle.base.specs.Replies.{Check, in_turn, lent}
 use Rattle.base.proofs.Fill.{length-made}
 use Rattle.matrix.specs.Limits.{max_rows}
@@ -19,12 +20,13 @@ use Rattle.run.specs.Machine.{over, original}
 use Rattle.base.specs.Lists.{position_of}
 use Rattle.run.specs.State.{State}
 use Rattle.run.specs.Calls.{picked_of, passed_of, ready_of, forces_of, answer_of, state_check, answer, job_checks, answer_lent}
-use Rattle.run.specs.Answers.{Answer, forces, denied, shown}
-use Rattle.calls.specs.Performed.{as_call, as_answer, Performed}
+use Rattle.run.specs.Answers.{Answer, picked, previewed, forces, denied, shown}
+use Rattle.calls.specs.Performed.{as_call, as_answer, end_number, end_place, Performed}
 use Rattle.calls.specs.declared.Call as asked
 use Rattle.calls.specs.declared.Call.TheVariants.{Picks, ReadySet, ForceList, Preview, Rounds}
 use Rattle.calls.specs.declared.Response.{Response}
-use Rattle.calls.specs.declared.Response.TheVariants.{Picked, Ready, Forces, Refused, Previewed}
+use Rattle.calls.specs.declared.Response.TheVariants.{Picked, Ready, Forces, Previewed}
+use Rattle.std.proofs.Common.{Result, Ok, Err}
 use Rattle.words.specs.LittleEndian.{signed_bytes, stored}
 use Rattle.answers.specs.Runs.{reply_to, force_bytes}
 use Rattle.answers.specs.Code.Ran.{ForcesFit}
@@ -65,11 +67,11 @@ given m x order groups count s call ws room =
     of ForceList zs f = go (over (job_of m x order groups count) s.made) (leb m.n room) refl zs f
 
 -- a call that has the first part of an array for its forces
-module _ {m : Matrix} {x : List ℤ} {order groups : List ℕ} {count : ℕ} {s : State} (call : asked.Call) (ws : List ℕ) (size : ℕ) {old : List ℤ} (answer : Response) {t : State} {part : List ℤ}
+module _ {m : Matrix} {x : List ℤ} {order groups : List ℕ} {count : ℕ} {s : State} (call : asked.Call) (ws : List ℕ) (size : ℕ) {old : List ℤ} (answer : Result Response Refusal) {t : State} {part : List ℤ}
     (h : Performed m x order groups count s (as_call call ws size) old (as_answer answer (take m.n part)) t part) where
-  enough : answer ≡ Forces → (m.n ≤ length part) × (m.n ≤ size)
+  enough : answer ≡ Ok Forces → (m.n ≤ length part) × (m.n ≤ size)
   enough f =
-      let g = given m x order groups count s call ws size (take m.n part) (sym h.answers ∙ ap (λ (r : Response). as_answer r (take m.n part)) f) in
+      let g = given m x order groups count s call ws size (take m.n part) (sym h.answers ∙ ap (λ (r : Result Response Refusal). as_answer r (take m.n part)) f) in
       (omega (arith, g.0, length-take m.n part), g.1)
 
   -- what is asked before they are stored
@@ -80,12 +82,12 @@ module _ {m : Matrix} {x : List ℤ} {order groups : List ℕ} {count : ℕ} {s 
   pub performed_made : (rest : List ℤ) → Performed m x order groups count s (as_call call ws size) old (as_answer answer (take m.n (part ++ rest))) t part
   performed_made rest = record { answers = go answer refl ∙ h.answers; leaves = h.leaves; forces = h.forces }
     where
-      go : (r : Response) → answer ≡ r → as_answer r (take m.n (part ++ rest)) ≡ as_answer r (take m.n part)
-      go Forces f = ap forces (take-append-le m.n part rest (enough f).0)
-      go (Picked k q p) f = refl
-      go (Ready b k) f = refl
-      go (Refused q p) f = refl
-      go (Previewed t q p b k) f = refl
+      go : (r : Result Response Refusal) → answer ≡ r → as_answer r (take m.n (part ++ rest)) ≡ as_answer r (take m.n part)
+      go (Ok Forces) f = ap forces (take-append-le m.n part rest (enough f).0)
+      go (Ok (Picked k x)) f = refl
+      go (Ok (Ready b k)) f = refl
+      go (Ok (Previewed t x b k)) f = refl
+      go (Err x) f = refl
 
 -- ---- the array
 
@@ -107,15 +109,21 @@ module _ (k room : ℕ) (e : k ≡ min room max_rows) where
 -- ---- the store
 
 -- other answers leave the list
-pub forces-kept : (r : Response) → r ≢ Forces → (zs : List ℤ) (bytes : List ℕ) → bytes ≡ lent (reply_to (as_answer r zs)) (force_bytes (as_answer r zs)) bytes
+pub forces-kept : (r : Result Response Refusal) → r ≢ Ok Forces → (zs : List ℤ) (bytes : List ℕ) → bytes ≡ lent (reply_to (as_answer r zs)) (force_bytes (as_answer r zs)) bytes
 unfolding reply_to force_bytes lent
-forces-kept (Picked k zero p) h zs bytes = refl
-forces-kept (Picked k (suc q) p) h zs bytes = refl
-forces-kept (Ready b k) h zs bytes = refl
-forces-kept Forces h zs bytes = absurd (h refl)
-forces-kept (Refused q p) h zs bytes = refl
-forces-kept (Previewed k zero p b n) h zs bytes = refl
-forces-kept (Previewed k (suc q) p b n) h zs bytes = refl
+forces-kept (Ok (Picked k x)) h zs bytes = go (end_number x)
+  where
+    go : (q : ℕ) → bytes ≡ lent (reply_to (picked k q (end_place x))) (force_bytes (picked k q (end_place x))) bytes
+    go zero = refl
+    go (suc q) = refl
+forces-kept (Ok (Ready b k)) h zs bytes = refl
+forces-kept (Ok Forces) h zs bytes = absurd (h refl)
+forces-kept (Err e) h zs bytes = refl
+forces-kept (Ok (Previewed k x b n)) h zs bytes = go (end_number x)
+  where
+    go : (q : ℕ) → bytes ≡ lent (reply_to (previewed k q (end_place x) b n)) (force_bytes (previewed k q (end_place x) b n)) bytes
+    go zero = refl
+    go (suc q) = refl
 
 -- forces for which there is room
 pub forces-stored : (zs : List ℤ) (bytes : List ℕ) {new : List ℕ} → length zs ≤ length bytes / 8 → new ≡ stored (signed_bytes 8 (take (length bytes / 8) zs)) bytes

@@ -11,6 +11,7 @@ use lib.ListN.{length, take, length-append, length-take}
 use lib.Seq.{take_at, take_all, length-take-le}
 use borrow.Author.Tests.{eqb-true, eq-eqb}
 use Rattle.base.specs.Refusals as why
+use Rattle.base.specs.declared.Refusal.{Refusal}
 use Rattle.base.specs.Replies as replies
 use Rattle.base.specs.Replies.{Check, in_turn}
 use Rattle.base.proofs.Booleans.{and_left}
@@ -27,9 +28,11 @@ use Rattle.run.specs.Calls.{place_of, picked_of, passed_of, ready_of, forces_of,
 use Rattle.run.specs.Answers.{Call, picks, ready_set, force_list, preview, rounds, Answer, picked, denied, previewed, shown, bits_told, count_told}
 use Rattle.machine.specs.Record.{state_of}
 use Rattle.machine.specs.declared.state.State as code
-use Rattle.calls.specs.Performed.{as_answer}
+use Rattle.calls.specs.Performed.{as_answer, end_number, end_place}
 use Rattle.calls.specs.declared.Response.{Response}
-use Rattle.calls.specs.declared.Response.TheVariants.{Picked, Ready, Forces, Refused, Previewed}
+use Rattle.calls.specs.declared.Response.TheVariants.{Picked, Ready, Forces, Previewed}
+use Rattle.calls.specs.declared.Stop.{Stop}
+use Rattle.std.proofs.Common.{Option, Result, Ok, Err}
 use Rattle.calls.proofs.JobChecked.{job-given}
 use Rattle.words.specs.LittleEndian.{number, signed_number, signed, signed_bytes, stored}
 use Rattle.words.proofs.Blocks.{length_decoded}
@@ -251,7 +254,7 @@ module _ (m : Matrix) (x : List ℤ) (order groups : List ℕ) (count : ℕ) (c 
 -- a call in bytes, of which the first sums of an array are those that it was lent
 pub ran : (m : Matrix) (x : List ℤ) (order groups : List ℕ) (count : ℕ) (c : Call) (state sums : List ℕ) (r : code.State) {zs : List ℤ}
     → (length state ≡ state_bytes → StateIs r state) → zs ≡ cond (eqb (length state) state_bytes) (take max_starts (signed 8 sums)) []
-    → {bytes : List ℕ} {answer : Response} {after : code.State} {part : List ℤ} (rest : List ℤ) {left : List ℕ} → length part ≡ length zs
+    → {bytes : List ℕ} {answer : Result Response Refusal} {after : code.State} {part : List ℤ} (rest : List ℤ) {left : List ℕ} → length part ≡ length zs
     → Called m x order groups count (state_of r zs) c bytes answer (state_of after part) left → RanLent m x order groups count state sums bytes c answer after (part ++ rest) left
 ran m x order groups count c state sums r is lent {bytes} rest long h =
     let told = h.answers ∙ decoded m x order groups count c state sums r is lent in
@@ -278,33 +281,56 @@ unfolding reply_to
 same-reply k zero p b n = refl
 same-reply k (suc q) p b n = refl
 
+-- answers of other kinds
+pub no_picks : (y : Response) → ((k : ℕ) (e : Option Stop) → y ≢ Picked k e) → (k q p : ℕ) → as_answer (Ok y) [] ≢ picked k q p
+no_picks (Picked n e) h k q p x = h n e refl
+no_picks (Ready b n) h k q p x = absurd (let z : ◌≡◌ {A = ℕ} 0 1 = cc in omega arith)
+no_picks Forces h k q p x = absurd (let z : ◌≡◌ {A = ℕ} 0 1 = cc in omega arith)
+no_picks (Previewed t e b n) h k q p x = absurd (let z : ◌≡◌ {A = ℕ} 0 1 = cc in omega arith)
+
+pub no_preview : (y : Response) → ((t : ℕ) (e : Option Stop) (b k : ℕ) → y ≢ Previewed t e b k) → (t q p b k : ℕ) → as_answer (Ok y) [] ≢ previewed t q p b k
+no_preview (Picked n e) h t q p b k x = absurd (let z : ◌≡◌ {A = ℕ} 0 1 = cc in omega arith)
+no_preview (Ready c n) h t q p b k x = absurd (let z : ◌≡◌ {A = ℕ} 0 1 = cc in omega arith)
+no_preview Forces h t q p b k x = absurd (let z : ◌≡◌ {A = ℕ} 0 1 = cc in omega arith)
+no_preview (Previewed u e c n) h t q p b k x = h u e c n refl
+
+pub err-picked : {A : Type 0} (x : Refusal) {k q p : ℕ} → as_answer (Err x) [] ≡ picked k q p → A
+err-picked x e = absurd (let z : ◌≡◌ {A = ℕ} 0 1 = cc in omega arith)
+
+pub err-round : (x : Refusal) (zs : List ℤ) → word (reply_to (as_answer (Err x) zs)) ≡ round_word (as_answer (Err x) zs)
+unfolding round_word
+err-round x zs = refl
+
 -- other answers have no set
-pub set-none : (r : Response) → ((t q p b k : ℕ) → r ≢ Previewed t q p b k) → (zs : List ℤ) → 0 ≡ set_in (as_answer r zs)
+pub set-none : (r : Result Response Refusal) → ((t q p b k : ℕ) → as_answer r [] ≢ previewed t q p b k) → (zs : List ℤ) → 0 ≡ set_in (as_answer r zs)
 unfolding set_in
-set-none (Picked k q p) h zs = refl
-set-none (Ready b k) h zs = refl
-set-none Forces h zs = refl
-set-none (Refused q p) h zs = refl
-set-none (Previewed t q p b k) h zs = absurd (h t q p b k refl)
+set-none (Ok (Picked k e)) h zs = refl
+set-none (Ok (Ready b k)) h zs = refl
+set-none (Ok Forces) h zs = refl
+set-none (Ok (Previewed t e b k)) h zs = absurd (h t _ _ b k refl)
+set-none (Err e) h zs = refl
 
 -- a preview's set lies above its picks
-pub preview-fits : (r : Response) → Looks r → {w v : ℕ} → w ≡ word (reply_to (as_answer r [])) → v ≡ set_in (as_answer r []) → (v ≡ 0) ⊎ (w + v < 2 ^ 64)
+pub preview-fits : (r : Result Response Refusal) → Looks r → {w v : ℕ} → w ≡ word (reply_to (as_answer r [])) → v ≡ set_in (as_answer r []) → (v ≡ 0) ⊎ (w + v < 2 ^ 64)
 unfolding set_in reply_to word
-preview-fits (Picked k q p) h e f = inl f
-preview-fits (Ready b k) h e f = inl f
-preview-fits Forces h e f = inl f
-preview-fits (Refused q p) h e f = inl f
-preview-fits (Previewed t zero p b k) h e f = let g = h t 0 p b k refl in inr (omega (arith, g.taken_low, g.count_low, g.bits_low))
-preview-fits (Previewed t (suc q) p b k) h e f = let g = h t (suc q) p b k refl in inr (omega (arith, g.number_low, g.place_low, g.count_low, g.bits_low))
+preview-fits (Ok (Picked k e)) h x f = inl f
+preview-fits (Ok (Ready b k)) h x f = inl f
+preview-fits (Ok Forces) h x f = inl f
+preview-fits (Err e) h x f = inl f
+preview-fits (Ok (Previewed t e b k)) h x f = go (end_number e) (h t _ _ b k refl) x f
+  where
+    go : (q : ℕ) → Parts t q (end_place e) b k → {w v : ℕ} → w ≡ word (reply_to (previewed t q (end_place e) b k)) → v ≡ set_in (previewed t q (end_place e) b k) → (v ≡ 0) ⊎ (w + v < 2 ^ 64)
+    go zero g x f = inr (omega (arith, g.taken_low, g.count_low, g.bits_low))
+    go (suc q) g x f = inr (omega (arith, g.number_low, g.place_low, g.count_low, g.bits_low))
 
 -- an answer of another kind than picks has its own word in rounds
-pub round-other : (r : Response) → ((k q p : ℕ) → r ≢ Picked k q p) → (zs : List ℤ) → word (reply_to (as_answer r zs)) ≡ round_word (as_answer r zs)
+pub round-other : (r : Result Response Refusal) → ((k q p : ℕ) → as_answer r [] ≢ picked k q p) → (zs : List ℤ) → word (reply_to (as_answer r zs)) ≡ round_word (as_answer r zs)
 unfolding round_word
-round-other (Picked k q p) h zs = absurd (h k q p refl)
-round-other (Ready b k) h zs = refl
-round-other Forces h zs = refl
-round-other (Refused q p) h zs = refl
-round-other (Previewed t q p b k) h zs = refl
+round-other (Ok (Picked k e)) h zs = absurd (h k _ _ refl)
+round-other (Ok (Ready b k)) h zs = refl
+round-other (Ok Forces) h zs = refl
+round-other (Ok (Previewed t e b k)) h zs = refl
+round-other (Err e) h zs = refl
 
 -- the word of rounds that a pick ended
 pub round-ended : (t q p : ℕ) → q ≢ 0 → p % 2 ^ 32 + q * 2 ^ 32 + t * 2 ^ 40 ≡ round_word (picked t q p)
@@ -313,31 +339,46 @@ round-ended t zero p h = absurd (h refl)
 round-ended t (suc q) p h = refl
 
 -- other answers leave both lists
-pub picks-kept : (r : Response) → ((k q p : ℕ) → r ≢ Picked k q p) → (zs : List ℤ) (new old : List ℕ) → old ≡ left_by (as_answer r zs) new old
+pub picks-kept : (r : Result Response Refusal) → ((k q p : ℕ) → as_answer r [] ≢ picked k q p) → (zs : List ℤ) (new old : List ℕ) → old ≡ left_by (as_answer r zs) new old
 unfolding left_by
-picks-kept (Picked k q p) h zs new old = absurd (h k q p refl)
-picks-kept (Ready b k) h zs new old = refl
-picks-kept Forces h zs new old = refl
-picks-kept (Refused q p) h zs new old = refl
-picks-kept (Previewed t q p b k) h zs new old = refl
+picks-kept (Ok (Picked k e)) h zs new old = absurd (h k _ _ refl)
+picks-kept (Ok (Ready b k)) h zs new old = refl
+picks-kept (Ok Forces) h zs new old = refl
+picks-kept (Ok (Previewed t e b k)) h zs new old = refl
+picks-kept (Err e) h zs new old = refl
+
+-- picks, and their preview, are the same whatever forces stand beside them
+pub picked-any : (r : Result Response Refusal) (zs : List ℤ) {k q p : ℕ} → as_answer r [] ≡ picked k q p → as_answer r zs ≡ picked k q p
+picked-any (Ok (Picked k e)) zs is = is
+picked-any (Ok (Ready b k)) zs is = is
+picked-any (Ok Forces) zs is = absurd (let z : ◌≡◌ {A = ℕ} 0 1 = cc in omega arith)
+picked-any (Ok (Previewed t e b k)) zs is = is
+picked-any (Err e) zs is = is
+
+pub previewed-any : (r : Result Response Refusal) (zs : List ℤ) {t q p b k : ℕ} → as_answer r [] ≡ previewed t q p b k → as_answer r zs ≡ previewed t q p b k
+previewed-any (Ok (Picked k e)) zs is = is
+previewed-any (Ok (Ready b k)) zs is = is
+previewed-any (Ok Forces) zs is = absurd (let z : ◌≡◌ {A = ℕ} 0 1 = cc in omega arith)
+previewed-any (Ok (Previewed t e b k)) zs is = is
+previewed-any (Err e) zs is = is
 
 -- sums for which there is room
 pub sums-stored : (zs : List ℤ) (bytes : List ℕ) {new : List ℕ} → length zs ≤ length bytes / 8 → new ≡ stored (signed_bytes 8 (take (length bytes / 8) zs)) bytes → new ≡ stored (signed_bytes 8 zs) bytes
 sums-stored zs bytes l e = e ∙ rw (take_all (length bytes / 8) zs l)
 
-module _ {n : ℕ} {c : Call} {a : Answer} {s : State} {state sums old : List ℕ} {answer : Response} {after : code.State} {new : List ℤ} {left : List ℕ} (h : Ran n c a s state sums old answer after new left) where
-  picked-is : (k q p : ℕ) → answer ≡ Picked k q p → Taken n s k q state sums after new
-  picked-is k q p e = h.taken k q p (sym h.answers ∙ ap (λ (r : Response). as_answer r h.made) e)
+module _ {n : ℕ} {c : Call} {a : Answer} {s : State} {state sums old : List ℕ} {answer : Result Response Refusal} {after : code.State} {new : List ℤ} {left : List ℕ} (h : Ran n c a s state sums old answer after new left) where
+  is-picked : {k q p : ℕ} → as_answer answer [] ≡ picked k q p → a ≡ picked k q p
+  is-picked e = sym h.answers ∙ picked-any answer h.made e
 
-  as-answer : {r : Response} → answer ≡ r → a ≡ as_answer r h.made
-  as-answer e = sym h.answers ∙ ap (λ (r : Response). as_answer r h.made) e
+  picked-is : (k q p : ℕ) → as_answer answer [] ≡ picked k q p → Taken n s k q state sums after new
+  picked-is k q p e = h.taken k q p (is-picked e)
 
   -- what is asked before
   ran_looks : Looks answer
-  ran_looks t q p b k e = h.looked t q p b k (as-answer e)
+  ran_looks t q p b k e = h.looked t q p b k (sym h.answers ∙ previewed-any answer h.made e)
 
   ran_low : Plain c → LowPlace answer
-  ran_low plain = (λ k q p e. h.low plain k q p (as-answer e), ran_looks)
+  ran_low plain = (λ k q p e. h.low plain k q p (is-picked e), ran_looks)
 
   ran_moves : LowMoves answer
   ran_moves = (λ k q p e. let t = picked-is k q p e in (t.moves_low, t.number_low), ran_looks)
@@ -350,12 +391,12 @@ module _ {n : ℕ} {c : Call} {a : Answer} {s : State} {state sums old : List �
   unfolding left_by
   left_is zs f bytes = go answer refl ∙ ap (λ (b : Answer). left_by b (f s) bytes) h.answers
     where
-      go : (r : Response) → answer ≡ r → left_by (as_answer r zs) (f (state_of after (take n new))) bytes ≡ left_by (as_answer r h.made) (f s) bytes
-      go (Picked k q p) e = ap (λ (u : State). stored (f u) bytes) (picked-is k q p e).left
-      go (Ready b k) e = refl
-      go Forces e = refl
-      go (Refused q p) e = refl
-      go (Previewed t q p b k) e = refl
+      go : (r : Result Response Refusal) → answer ≡ r → left_by (as_answer r zs) (f (state_of after (take n new))) bytes ≡ left_by (as_answer r h.made) (f s) bytes
+      go (Ok (Picked k x)) e = ap (λ (u : State). stored (f u) bytes) (picked-is k _ _ (ap (λ (r : Result Response Refusal). as_answer r []) e)).left
+      go (Ok (Ready b k)) e = refl
+      go (Ok Forces) e = refl
+      go (Ok (Previewed t x b k)) e = refl
+      go (Err x) e = refl
 
   -- a call that takes picks, which are stored
   pub ran_took : (zs : List ℤ) {new_state new_sums : List ℕ} → new_state ≡ left_by (as_answer answer zs) (bytes_in (state_of after (take n new))) state → new_sums ≡ left_by (as_answer answer zs) (signed_bytes 8 (take n new)) sums
@@ -375,9 +416,9 @@ module _ {n : ℕ} {c : Call} {a : Answer} {s : State} {state sums old : List �
 
 -- ---- what a call returns, where f gives the word of an answer
 
-pub took_moved : {c : Call} {told a : Answer} {s : State} {state sums : List ℕ} {answer : Response} {new_state new_sums : List ℕ} → Took c told a s state sums answer new_state new_sums
+pub took_moved : {c : Call} {told a : Answer} {s : State} {state sums : List ℕ} {answer : Result Response Refusal} {new_state new_sums : List ℕ} → Took c told a s state sums answer new_state new_sums
     → (f : Answer → ℕ) {w : ℕ} → ((zs : List ℤ) → w ≡ f (as_answer answer zs)) → Moved (f told) a s state sums w new_state new_sums
 took_moved h f e = record { returns = e h.made ∙ ap f h.answers; state-left = h.state-left; sums_left = h.sums_left }
 
-pub gave_word : {c : Call} {told : Answer} {old : List ℕ} {answer : Response} {new : List ℕ} → Gave c told old answer new → (f : Answer → ℕ) {w : ℕ} → ((zs : List ℤ) → w ≡ f (as_answer answer zs)) → w ≡ f told
+pub gave_word : {c : Call} {told : Answer} {old : List ℕ} {answer : Result Response Refusal} {new : List ℕ} → Gave c told old answer new → (f : Answer → ℕ) {w : ℕ} → ((zs : List ℤ) → w ≡ f (as_answer answer zs)) → w ≡ f told
 gave_word h f e = e h.made ∙ ap f h.answers

@@ -6,8 +6,7 @@ ghost use Rattle.answers.specs.Code.Ran.{StateIs};
 
 use machine::state::State;
 use plan::MAX_WORKERS;
-use words::load::{load_i64, load_u32};
-use words::store::{store_i64, store_u32};
+use words::lists::{load, store};
 
 // "a state is 192 bytes": each worker's count, then what it holds.
 const COUNT_BYTES: usize = 4 * MAX_WORKERS;
@@ -22,13 +21,10 @@ pub fn load_state(bytes: &[u8]) -> State
         return State::fresh();
     }
     let mut made = [0u32; MAX_WORKERS];
-    load_u32(&bytes[..COUNT_BYTES], &mut made);
+    load(&bytes[..COUNT_BYTES], &mut made);
     let mut held = [0i64; MAX_WORKERS];
-    load_i64(&bytes[COUNT_BYTES..], &mut held);
-    State {
-        made: made,
-        held: held,
-    }
+    load(&bytes[COUNT_BYTES..], &mut held);
+    State { made, held }
 }
 
 // The sums beside a state: none where the bytes are no state, so that it is refused as one without n sums.
@@ -46,7 +42,7 @@ pub fn store_state(state: State, bytes: &mut [u8])
     ensures { bytes.new ≡ stored (unsigned_bytes 4 state.made ++ signed_bytes 8 state.held) bytes.old }
 {
     let made = state.made;
-    store_u32(&made, &mut bytes[..COUNT_BYTES]);
+    store(&made, &mut bytes[..COUNT_BYTES]);
     let held = state.held;
-    store_i64(&held, &mut bytes[COUNT_BYTES..]);
+    store(&held, &mut bytes[COUNT_BYTES..]);
 }

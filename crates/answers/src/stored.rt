@@ -8,14 +8,15 @@ ghost use Rattle.answers.specs.Runs.{reply_to, force_bytes, bytes_in, left_by};
 ghost use Rattle.answers.specs.Code.Ran.{PicksFit, ForcesFit};
 
 use crate::state::store_state;
+use base::Refusal;
 use calls::Response;
 use machine::state::State;
-use words::store::store_i64;
+use words::lists::store;
 
 // State and sums as the picks that were taken left them. Any other answer leaves both.
 pub fn store_picks(
     n: u32,
-    answer: Response,
+    answer: Result<Response, Refusal>,
     after: State,
     new: &[i64],
     state: &mut [u8],
@@ -25,22 +26,28 @@ pub fn store_picks(
     ensures state { state.new ≡ left_by (as_answer answer new.now) (bytes_in (state_of after (take n new.now))) state.old }
     ensures sums { sums.new ≡ left_by (as_answer answer new.now) (signed_bytes 8 (take n new.now)) sums.old }
 {
-    let Response::Picked(_, _, _) = answer else {
+    let Ok(taken) = answer else {
+        return;
+    };
+    let Response::Picked(_, _) = taken else {
         return;
     };
     store_state(after, state);
     let rows = n as usize;
-    store_i64(&new[..rows], sums);
+    store(&new[..rows], sums);
 }
 
 // The forces of an answer that has them. Any other answer leaves the list.
-pub fn store_forces(n: u32, answer: Response, made: &[i64], forces: &mut [u8])
+pub fn store_forces(n: u32, answer: Result<Response, Refusal>, made: &[i64], forces: &mut [u8])
     requires { ForcesFit n answer made.now forces.old }
     ensures { forces.new ≡ lent (reply_to (as_answer answer (take n made.now))) (force_bytes (as_answer answer (take n made.now))) forces.old }
 {
-    let Response::Forces = answer else {
+    let Ok(listed) = answer else {
+        return;
+    };
+    let Response::Forces = listed else {
         return;
     };
     let rows = n as usize;
-    store_i64(&made[..rows], forces);
+    store(&made[..rows], forces);
 }

@@ -5,36 +5,56 @@ use mathlib.Core.List.{List, [], ◌∷◌}
 use Prim.Native.Nat.{ℕ, ◌+◌, ◌-◌, ◌/◌, ◌≤◌, ◌<◌}
 use native.Mathlib.Omega.{arith}
 use lib.ListN.{get_or, take, drop}
+use Rattle.std.proofs.Common.{Option, Some, None}
 use Rattle.base.specs.Lists.{all, is_in}
 use Rattle.base.proofs.Each.{each-of-get}
-use Rattle.matrix.specs.Matrix.{neighbours}
-use Rattle.matrix.specs.Code.Pattern.{pattern}
+use Rattle.matrix.specs.Matrix.{Matrix, neighbours}
 use Rattle.plan.specs.Groups.{Group, records}
 use Rattle.plan.specs.Sound.{max_groups, children, beyond, stretch_of, like_apart}
-use Rattle.plan.specs.declared.fields.Record.{Record}
-use Rattle.plan.specs.Code.Checks.{record_at, of_record, Reads, below_whole, of_colour}
-use Rattle.shape.specs.Code.Shape.{NextChild, PlanLists}
-use Rattle.apart.specs.Code.Marks.{OfMatrix, around, around_like, Stamped, Fresh, Compared, UpTo}
+use Rattle.plan.specs.Code.Checks.{record_at, below_whole, of_colour}
+use Rattle.shape.specs.Code.Shape.{index_of, NextChild}
+use Rattle.apart.specs.Code.Marks.{around, around_like, Most, Below, Fresh, Compared, UpTo}
+use Rattle.matrix.specs.Held.{held}
+use Rattle.apart.specs.declared.net.Subject.{Subject}
+use Rattle.apart.specs.declared.marks.Marks.{Marks}
 use Rattle.plan.proofs.Nested.{children_at, children-over}
 use Rattle.shape.proofs.ChildTurns.{from_first_lem}
-use Rattle.apart.proofs.RowsOf.{rows_graph}
+use Rattle.matrix.proofs.Matrix.{graph}
 use Rattle.apart.proofs.Overlap.{overlap}
 use Rattle.apart.proofs.LikeApart.{clear, clash_above, clear_none, left_apart, Overlaps, colour-stops, colour-next}
 
-module _ (n : ℕ) (starts columns order groups : List ℕ) (count parent k colour low : ℕ) where
+module _ (subject : Subject) (parent colour low : ℕ) where
+  abbrev m : Matrix
+  m = held subject.net.m
+
+  abbrev n : ℕ
+  n = m.n
+
+  abbrev order : List ℕ
+  order = subject.plan.order.now
+
+  abbrev groups : List ℕ
+  groups = subject.plan.groups.now
+
+  abbrev count : ℕ
+  count = subject.plan.count
+
+  abbrev k : ℕ
+  k = subject.k
+
   abbrev far : List ℕ → List ℕ → Bool
-  far = beyond (neighbours (pattern n starts columns)) k
+  far = beyond (neighbours m) k
 
   -- what is tested of a group, and what it stamps
   abbrev tested : Group → List ℕ
-  tested g = around n starts columns (k / 2) (stretch_of (take n order) g)
+  tested g = around m (k / 2) (stretch_of (take n order) g)
 
   abbrev stamped : Group → List ℕ
-  stamped g = around n starts columns (k - k / 2) (stretch_of (take n order) g)
+  stamped g = around m (k - k / 2) (stretch_of (take n order) g)
 
   -- .. of a record, if it has the colour
   abbrev like : (j : ℕ) → Group → List ℕ
-  like j g = around_like n starts columns (take n order) j colour g
+  like j g = around_like m (take n order) j colour g
 
   -- the children from index i on
   abbrev from : ℕ → List Group
@@ -47,83 +67,79 @@ module _ (n : ℕ) (starts columns order groups : List ℕ) (count parent k colo
   abbrev left : (marks : List ℕ) → List Group → Bool
   left marks ks = left_apart far (take n order) tested low marks (of_colour colour ks)
 
-  -- the children before index i are compared
-  pub record Comparing (marks done : List ℕ) (i : ℕ) : Type 0 where
-    pub past : parent < i
-    pub within : i ≤ count
-    pub child : i < count → (record_at groups i).parent ≡ parent
-    pub fresh : Fresh (low + i) marks
-    pub fresh-done : Fresh (low + i) done
-    pub same : answer ≡ left marks (from i)
+  -- the children before the next one are compared
+  pub record Comparing (s : Marks) (next : Option ℕ) : Type 0 where
+    pub past : parent < index_of count next
+    pub within : index_of count next ≤ count
+    pub child : (c : ℕ) → next ≡ Some c → (c < count) × ((record_at groups c).parent ≡ parent)
+    pub fresh : Fresh (low + index_of count next) s
+    pub same : answer ≡ left s.given (from (index_of count next))
 
-  module _ (of : OfMatrix n starts columns) (o : PlanLists n order groups count) where
-    pub comparing_first : (marks done : List ℕ) (i : ℕ) → UpTo low marks → UpTo low done → NextChild count groups parent (parent + 1) i → Comparing marks done i
-    comparing_first marks done i u d next = record {
-      past = omega (arith, next.from_on);
-      within = next.within;
-      child = next.child;
-      fresh = record { long = u.long; below = λ v. omega (arith, u.most v, next.from_on) };
-      fresh-done = record { long = d.long; below = λ v. omega (arith, d.most v, next.from_on) };
-      same = ap (λ (ks : List Group). like_apart far (take n order) (of_colour colour ks)) (from_first_lem count parent groups i o.nested next)
-          ∙ ap (λ (b : Bool). b && like_apart far (take n order) (of_colour colour (from i))) (sym (all_true (of_colour colour (from i))));
-    }
+  pub comparing_first : (s : Marks) (r : Option ℕ) → UpTo low s → NextChild count groups parent (parent + 1) r → Comparing s r
+  comparing_first s r u next = record {
+    past = omega (arith, next.from_on);
+    within = next.within;
+    child = next.child;
+    fresh = (record { long = u.0.long; below = λ v. omega (arith, u.0.most v, next.from_on) }, record { long = u.1.long; below = λ v. omega (arith, u.1.most v, next.from_on) });
+    same = ap (λ (ks : List Group). like_apart far (take n order) (of_colour colour ks)) (from_first_lem count parent groups r subject.shaped.nested next)
+        ∙ ap (λ (b : Bool). b && like_apart far (take n order) (of_colour colour (from (index_of count r)))) (sym (all_true (of_colour colour (from (index_of count r)))));
+  }
+    where
+      all_true : (hs : List Group) → all (λ g. clear low s.given (tested g)) hs ≡ true
+      all_true [] = refl
+      all_true (h ∷ hs) = rw (clear_none low s.given (tested h) u.0.most) (all_true hs)
+
+  module _ (s s' : Marks) (i mine : ℕ) (g : Group) (c : Comparing s (Some i)) (read : g ≡ record_at groups i) (e : mine ≡ low + i) where
+    -- the child at i, and those after it
+    next-is : from i ≡ g ∷ from (i + 1)
+    next-is = let here = c.child i refl in children_at count parent i groups here.0 here.1 ∙ ap (λ (h : Group). h ∷ from (i + 1)) (sym read)
+
+    -- the call's answer on the child at i
+    abbrev Answers : Bool → Type 0
+    Answers r = Compared low mine (like (k / 2) g) (like (k - k / 2) g) s s' r
+
+    free : (r : Bool) → Answers r → clear low s.given (like (k / 2) g) ≡ r
+    free r t = sym (t.free ∙ clash_above low mine s.given (like (k / 2) g) (λ v. omega (arith, c.fresh.0.below v)))
+
+    pub comparing_stops : Answers false → answer ≡ false
+    unfolding around_like
+    comparing_stops t =
+        c.same ∙ ap (left s.given) next-is
+        ∙ colour-stops far (take n order) stamped tested low mine (omega (arith, c.past)) colour g (from (i + 1)) s.given (free false t)
+
+    pub comparing_next : (r : Option ℕ) → Answers true → NextChild count groups parent (i + 1) r → Comparing s' r
+    unfolding around_like
+    comparing_next r t next =
+        let m' = t.marked refl in
+        let d = t.done refl in
+        let rest = from (index_of count r) in
+        record {
+          past = omega (arith, c.past, next.from_on);
+          within = next.within;
+          child = next.child;
+          fresh = (
+            record {
+              long = m'.long ∙ c.fresh.0.long;
+              below = λ v. subst (λ (x : ℕ). x < low + index_of count r) (sym (m'.is v)) (small (is_in (like (k - k / 2) g) v) (get_or s.given v 0) (c.fresh.0.below v) next.from_on);
+            },
+            record { long = d.long; below = λ v. omega (arith, d.most v, next.from_on) },
+          );
+          same = c.same ∙ ap (left s.given) (next-is ∙ ap (λ (ks : List Group). g ∷ ks) next.same)
+              ∙ colour-next far (take n order) stamped tested low mine (omega (arith, c.past)) colour g rest s.given s'.given
+              (each-of-get (Overlaps far (take n order) stamped tested g) rest g (λ j. overlap m (graph m subject.net.matrix) k (stretch_of (take n order) g) (stretch_of (take n order) (get_or rest j g))))
+              (free true t) m';
+        }
       where
-        all_true : (hs : List Group) → all (λ g. clear low marks (tested g)) hs ≡ true
-        all_true [] = refl
-        all_true (h ∷ hs) = rw (clear_none low marks (tested h) u.most) (all_true hs)
+        small : (b : Bool) (x : ℕ) → x < low + i → i + 1 ≤ index_of count r → cond b mine x < low + index_of count r
+        small true x l a = omega arith
+        small false x l a = omega arith
 
-    module _ (marks done marks' done' : List ℕ) (i mine : ℕ) (h : Record) (c : Comparing marks done i) (here : i < count) (read : Reads h (record_at groups i)) (e : mine ≡ low + i) where
-      -- the child at i, and those after it
-      next-is : from i ≡ record_at groups i ∷ from (i + 1)
-      next-is = children_at count parent i groups here (c.child here)
+  pub comparing_last : (s : Marks) → Comparing s None → answer ≡ true
+  unfolding like_apart
+  comparing_last s c = c.same ∙ ap (left s.given) (children-over count parent count groups (omega arith))
 
-      -- the call's answer on the child at i
-      abbrev Answers : Bool → Type 0
-      Answers r = Compared low mine (like (k / 2) (of_record h)) (like (k - k / 2) (of_record h)) marks done' marks' r
-
-      free : (r : Bool) → Answers r → clear low marks (like (k / 2) (record_at groups i)) ≡ r
-      free r t =
-          sym (t.free
-          ∙ clash_above low mine marks (like (k / 2) (of_record h)) (λ v. omega (arith, c.fresh.below v))
-          ∙ ap (λ (g : Group). clear low marks (like (k / 2) g)) read.is)
-
-      pub comparing_stops : Answers false → answer ≡ false
-      unfolding around_like
-      comparing_stops t =
-          c.same ∙ ap (left marks) next-is
-          ∙ colour-stops far (take n order) stamped tested low mine (omega (arith, c.past)) colour (record_at groups i) (from (i + 1)) marks (free false t)
-
-      pub comparing_next : (r : ℕ) → Answers true → NextChild count groups parent (i + 1) r → Comparing marks' done' r
-      unfolding around_like
-      comparing_next r t next =
-          let g = record_at groups i in
-          let s = subst (λ (x : Group). Stamped mine (like (k - k / 2) x) marks marks') read.is (t.marked refl) in
-          let d = t.done refl in
-          record {
-            past = omega (arith, c.past, next.from_on);
-            within = next.within;
-            child = next.child;
-            fresh = record {
-              long = s.long ∙ c.fresh.long;
-              below = λ v. subst (λ (m : ℕ). m < low + r) (sym (s.is v)) (small (is_in (like (k - k / 2) g) v) (get_or marks v 0) (c.fresh.below v) next.from_on);
-            };
-            fresh-done = record { long = d.long; below = λ v. omega (arith, d.most v, next.from_on) };
-            same = c.same ∙ ap (left marks) (next-is ∙ ap (λ (ks : List Group). g ∷ ks) next.same)
-                ∙ colour-next far (take n order) stamped tested low mine (omega (arith, c.past)) colour g (from r) marks marks'
-                (each-of-get (Overlaps far (take n order) stamped tested g) (from r) g (λ j. overlap n starts columns (rows_graph of) k (stretch_of (take n order) g) (stretch_of (take n order) (get_or (from r) j g))))
-                (free true t) s;
-          }
-        where
-          small : (b : Bool) (m : ℕ) → m < low + i → i + 1 ≤ r → cond b mine m < low + r
-          small true m l a = omega arith
-          small false m l a = omega arith
-
-    pub comparing_last : (marks done : List ℕ) (i : ℕ) → Comparing marks done i → count ≤ i → answer ≡ true
-    unfolding like_apart
-    comparing_last marks done i c l = c.same ∙ ap (left marks) (children-over count parent i groups l)
-
-    pub comparing_marks : (marks done : List ℕ) (i : ℕ) → Comparing marks done i → UpTo (low + max_groups) marks × UpTo (low + max_groups) done
-    comparing_marks marks done i c = (up marks c.fresh, up done c.fresh-done)
-      where
-        up : (xs : List ℕ) → Fresh (low + i) xs → UpTo (low + max_groups) xs
-        up xs f = record { long = f.long; most = λ v. omega (arith, f.below v, c.within, o.few) }
+  pub comparing_marks : (s : Marks) (next : Option ℕ) → Comparing s next → UpTo (low + max_groups) s
+  comparing_marks s next c = (up s.given c.fresh.0, up s.done c.fresh.1)
+    where
+      up : (xs : List ℕ) → Below (low + index_of count next) xs → Most (low + max_groups) xs
+      up xs f = record { long = f.long; most = λ v. omega (arith, f.below v, c.within, subject.shaped.few) }

@@ -1,44 +1,27 @@
--- The rows of a matrix without its values: where they lie, what their columns are, and who is adjacent.
-use mathlib.Core.Path.{◌≡◌, refl, sym, fun_ext}
-use mathlib.Core.List.{List}
+-- The rows of a matrix: where they lie, and what their columns are.
+use mathlib.Core.Path.{◌≡◌, sym}
+use mathlib.Core.Bool.{true}
 use Prim.Native.Nat.{ℕ, ◌+◌, ◌≤◌, ◌<◌}
-use lib.IntN.{ℤ}
 use lib.ListN.{length, get_or}
 use lib.Seq.{slice}
-use Rattle.base.proofs.Graph.{Graph}
 use Rattle.base.proofs.Lists.{in_get}
-use Rattle.matrix.specs.Matrix.{Matrix, part_of, columns_of, neighbours, matrix_of}
-use Rattle.matrix.specs.Code.Pattern.{pattern}
+use Rattle.matrix.specs.Matrix.{Matrix, columns_of, is_matrix}
 use Rattle.matrix.specs.Code.Checks.{RowIn}
-use Rattle.matrix.proofs.Matrix.{matrix_facts, column-low, graph}
+use Rattle.matrix.specs.Limits.{max_rows}
+use Rattle.matrix.proofs.Matrix.{matrix_facts, column-low}
 use Rattle.matrix.proofs.Checks.{matrix_tidy}
 use Rattle.matrix.proofs.Rows.{columns-in, columns-part}
-use Rattle.matrix.specs.Limits.{max_rows}
-use Rattle.apart.specs.Code.Marks.{OfMatrix}
 
--- adjacency does not look at values
-pub neighbours-pattern : (n : ℕ) (starts columns : List ℕ) (values : List ℤ) → neighbours (matrix_of n starts columns values) ≡ neighbours (pattern n starts columns)
-unfolding neighbours columns_of part_of
-neighbours-pattern n starts columns values = fun_ext (λ i. refl)
+module _ (m : Matrix) (of : is_matrix m ≡ true) where
+  pub rows_few : m.n ≤ max_rows
+  rows_few = (matrix_facts m of).few
 
-module _ {n : ℕ} {starts columns : List ℕ} (of : OfMatrix n starts columns) where
-  abbrev m : Matrix
-  m = matrix_of n starts columns of.values
+  module _ (u : ℕ) (l : u < m.n) where
+    pub row_in : RowIn m.starts (length m.columns) u
+    row_in = columns-in m (matrix_tidy m of).shape u l
 
-  pub rows_few : n ≤ max_rows
-  rows_few = (matrix_facts m of.is).few
+    pub row_is : slice (get_or m.starts u 0) (get_or m.starts (u + 1) 0) m.columns ≡ columns_of m u
+    row_is = sym (columns-part m u l)
 
-  pub rows_graph : Graph (neighbours (pattern n starts columns)) n
-  unfolding neighbours columns_of part_of
-  rows_graph = let g = graph m of.is in record { below = g.below; both = g.both }
-
-  module _ (u : ℕ) (l : u < n) where
-    pub row_in : RowIn starts (length columns) u
-    row_in = columns-in m (matrix_tidy m of.is).shape u l
-
-    pub row_is : slice (get_or starts u 0) (get_or starts (u + 1) 0) columns ≡ columns_of (pattern n starts columns) u
-    row_is = sym (columns-part (pattern n starts columns) u l)
-
-    pub row_low : (j : ℕ) → j < length (columns_of (pattern n starts columns) u) → get_or (columns_of (pattern n starts columns) u) j 0 < n
-    unfolding columns_of part_of
-    row_low j h = column-low m of.is u (get_or (columns_of (pattern n starts columns) u) j 0) (in_get (columns_of (pattern n starts columns) u) j h)
+    pub row_low : (j : ℕ) → j < length (columns_of m u) → get_or (columns_of m u) j 0 < m.n
+    row_low j h = column-low m of u (get_or (columns_of m u) j 0) (in_get (columns_of m u) j h)

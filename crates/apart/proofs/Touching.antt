@@ -14,7 +14,9 @@ use Rattle.base.specs.Lists.{any, is_in, concat}
 use Rattle.base.proofs.Booleans.{and_false, clash, is_false}
 use Rattle.base.proofs.Lists.{is_in-append, any_of, any_ext}
 use Rattle.matrix.specs.Limits.{max_rows}
-use Rattle.apart.specs.Code.Marks.{closed, touched_by, around, clashes, Stamped, Touched, UpTo, Opened, Widened, Fresh}
+use Rattle.apart.specs.Code.Marks.{closed, touched_by, around, clashes, Stamped, Touched, Most, Below, Opened, Widened}
+use Rattle.apart.specs.declared.marks.Marks.{Marks}
+use Rattle.matrix.specs.Matrix.{Matrix}
 
 -- ---- lists
 
@@ -29,7 +31,7 @@ any_append p (x ∷ xs) ys = go (p x) (any_append p xs ys)
 -- ---- touched
 
 -- no row is marked at first
-pub unmarked : (k : ℕ) → k ≡ max_rows → UpTo 0 (replicate k 0)
+pub unmarked : (k : ℕ) → k ≡ max_rows → Most 0 (replicate k 0)
 unmarked k e = record { long = length-replicate k 0 ∙ e; most = λ v. zeros v (ltb v k) refl }
   where
     zeros : (v : ℕ) (b : Bool) → ltb v k ≡ b → get_or (replicate k 0) v 0 ≤ 0
@@ -160,46 +162,51 @@ none_above mine marks zs h = ap not (any_ext (clashes mine mine marks) (λ z. fa
     never [] = refl
     never (x ∷ xs) = never xs
 
-module _ {n : ℕ} {starts columns : List ℕ} {mine : ℕ} where
+module _ {m : Matrix} {mine : ℕ} where
   -- none at first
-  pub opened-none : (done marks : List ℕ) → Fresh mine done → Opened n starts columns mine done marks
-  opened-none done marks f = record { long = f.long; most = λ v. omega (arith, f.below v); opened = λ v e. absurd (omega (arith, f.below v)) }
+  pub opened-none : (s : Marks) → Below mine s.done → Opened m mine s
+  opened-none s f = record { long = f.long; most = λ v. omega (arith, f.below v); opened = λ v e. absurd (omega (arith, f.below v)) }
 
   -- more rows are stamped
-  pub opened-kept : (done marks marks' zs : List ℕ) → Opened n starts columns mine done marks → Stamped mine zs marks marks' → Opened n starts columns mine done marks'
-  opened-kept done marks marks' zs o s = record { long = o.long; most = o.most; opened = λ v e z h. s.is z ∙ same (is_in zs z) (o.opened v e z h) }
+  pub opened-kept : {given given' done zs : List ℕ} → Opened m mine (record { given = given; done = done }) → Stamped mine zs given given' → Opened m mine (record { given = given'; done = done })
+  opened-kept {zs = zs} o s = record { long = o.long; most = o.most; opened = λ v e z h. s.is z ∙ same (is_in zs z) (o.opened v e z h) }
     where
-      same : (b : Bool) {m : ℕ} → m ≡ mine → cond b mine m ≡ mine
+      same : (b : Bool) {k : ℕ} → k ≡ mine → cond b mine k ≡ mine
       same true e = refl
       same false e = e
 
+  -- rows touched, whatever is done
+  pub widened-kept : {low : ℕ} {given given' done zs : List ℕ} {r : Bool} → Opened m mine (record { given = given; done = done }) → Touched low mine zs given given' r
+      → Widened m low mine zs (record { given = given; done = done }) (record { given = given'; done = done }) r
+  widened-kept o t = record { touched = t; after = λ e. opened-kept o (t.stamped e) }
+
   -- a row has touched its rows before
-  pub touched-before : (low : ℕ) (done marks : List ℕ) (u : ℕ) → Opened n starts columns mine done marks → get_or done u 0 ≡ mine → Touched low mine (closed n starts columns u) marks marks true
+  pub touched-before : (low : ℕ) (s : Marks) (u : ℕ) → Opened m mine s → get_or s.done u 0 ≡ mine → Touched low mine (closed m u) s.given s.given true
   unfolding clashes
-  touched-before low done marks u o e = record {
-    free = sym (ap not (any_ext (clashes low mine marks) (λ z. false) zs (λ z h. rw (eq-eqb (get_or marks z 0) mine (o.opened u e z h)) (and_false (ltb low (get_or marks z 0)))) ∙ never zs));
+  touched-before low s u o e = record {
+    free = sym (ap not (any_ext (clashes low mine s.given) (λ z. false) zs (λ z h. rw (eq-eqb (get_or s.given z 0) mine (o.opened u e z h)) (and_false (ltb low (get_or s.given z 0)))) ∙ never zs));
     stamped = λ _. record { long = refl; is = λ v. same v (is_in zs v) refl };
   }
     where
       zs : List ℕ
-      zs = closed n starts columns u
+      zs = closed m u
 
       never : (xs : List ℕ) → any (λ (x : ℕ). false) xs ≡ false
       never [] = refl
       never (x ∷ xs) = never xs
 
-      same : (v : ℕ) (b : Bool) → is_in (closed n starts columns u) v ≡ b → get_or marks v 0 ≡ cond b mine (get_or marks v 0)
+      same : (v : ℕ) (b : Bool) → is_in (closed m u) v ≡ b → get_or s.given v 0 ≡ cond b mine (get_or s.given v 0)
       same v true h = o.opened u e v h
       same v false h = refl
 
   -- now it has
-  pub opened_more : (low : ℕ) (done marks marks' : List ℕ) (u : ℕ) (r : Bool) → u < length done → Opened n starts columns mine done marks → Touched low mine (closed n starts columns u) marks marks' r
-      → Widened n starts columns low mine (closed n starts columns u) marks (set done u mine) marks' r
-  opened_more low done marks marks' u r l o t = record {
+  pub opened_more : (low : ℕ) (given given' done : List ℕ) (u : ℕ) (r : Bool) → u < length done → Opened m mine (record { given = given; done = done }) → Touched low mine (closed m u) given given' r
+      → Widened m low mine (closed m u) (record { given = given; done = done }) (record { given = given'; done = set done u mine }) r
+  opened_more low given given' done u r l o t = record {
     touched = t;
     after = λ e.
         let s = t.stamped e in
-        let kept = opened-kept done marks marks' (closed n starts columns u) o s in
+        let kept = opened-kept o s in
         record { long = length-set done u mine ∙ o.long; most = λ v. most v (eqb v u) refl; opened = λ v h z i. now kept s v (eqb v u) refl h z i };
   }
     where
@@ -207,17 +214,17 @@ module _ {n : ℕ} {starts columns : List ℕ} {mine : ℕ} where
       most v true e = let q = eqb-true v u e in omega (arith, subst (λ (y : ℕ). get_or (set done u mine) y 0 ≡ mine) (sym q) (get_or-set_same done u mine 0 l))
       most v false e = omega (arith, get_or-set_other done u v mine 0 (eqb-false v u e), o.most v)
 
-      now : Opened n starts columns mine done marks' → Stamped mine (closed n starts columns u) marks marks' → (v : ℕ) (b : Bool) → eqb v u ≡ b → get_or (set done u mine) v 0 ≡ mine
-          → (z : ℕ) → is_in (closed n starts columns v) z ≡ true → get_or marks' z 0 ≡ mine
+      now : Opened m mine (record { given = given'; done = done }) → Stamped mine (closed m u) given given' → (v : ℕ) (b : Bool) → eqb v u ≡ b → get_or (set done u mine) v 0 ≡ mine
+          → (z : ℕ) → is_in (closed m v) z ≡ true → get_or given' z 0 ≡ mine
       now kept s v true e h z i =
-          let here : is_in (closed n starts columns u) z ≡ true = subst (λ (y : ℕ). is_in (closed n starts columns y) z ≡ true) (eqb-true v u e) i in
+          let here : is_in (closed m u) z ≡ true = subst (λ (y : ℕ). is_in (closed m y) z ≡ true) (eqb-true v u e) i in
           s.is z ∙ rw here
       now kept s v false e h z i = kept.opened v (sym (get_or-set_other done u v mine 0 (eqb-false v u e)) ∙ h) z i
 
 -- rows some of which touched theirs, list after list
-pub around-two : (n : ℕ) (starts columns rows : List ℕ) → concat (map (λ u. touched_by n starts columns (closed n starts columns u)) rows) ≡ around n starts columns 2 rows
+pub around-two : (m : Matrix) (rows : List ℕ) → concat (map (λ u. touched_by m (closed m u)) rows) ≡ around m 2 rows
 unfolding around
-around-two n starts columns [] = refl
-around-two n starts columns (u ∷ rows) =
-    ap (λ (l : List ℕ). touched_by n starts columns (closed n starts columns u) ++ l) (around-two n starts columns rows)
-    ∙ sym (concat-map-append (closed n starts columns) (closed n starts columns u) (touched_by n starts columns rows))
+around-two m [] = refl
+around-two m (u ∷ rows) =
+    ap (λ (l : List ℕ). touched_by m (closed m u) ++ l) (around-two m rows)
+    ∙ sym (concat-map-append (closed m) (closed m u) (touched_by m rows))

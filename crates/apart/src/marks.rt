@@ -1,96 +1,70 @@
 // Marks on the rows that a group touches: its rows and the rows adjacent to them.
-ghost use Rattle.std.specs.Prelude.{◌≡◌, [], ◌∷◌, ℕ, ◌<◌, length, get_or};
-ghost use Rattle.apart.specs.Code.Marks.{OfMatrix, closed, touched_by, Touched};
+ghost use Rattle.std.specs.Prelude.{[], ◌∷◌, ℕ, ◌<◌, length, get_or};
+ghost use Rattle.apart.specs.Code.Marks.{closed, Touched};
 ghost use Rattle.matrix.specs.Limits.{max_rows};
+ghost use Rattle.matrix.specs.Held.{held};
 
-use base::slices::wide_at;
+use crate::net::Net;
 use matrix::limits::MAX_ROWS;
-use matrix::row::columns_of;
 
-// Row z gets the mark mine, unless it has another child's mark. Many rows have it already.
-fn touch(marks: &mut [u32; MAX_ROWS], z: usize, low: u32, mine: u32) -> bool
-    requires { (length marks.old ≡ max_rows) × (z < max_rows) }
-    ensures { Touched low mine (z ∷ []) marks.old marks.new result }
+// The marks of the rows, and of those that have touched the rows adjacent to them.
+#[derive(Drop)]
+pub struct Marks {
+    pub given: [u32; MAX_ROWS],
+    pub done: [u32; MAX_ROWS],
+}
+
+// What a child marks with: its mark, and the one above which marks are of the children that it is compared with.
+#[derive(Clone, Copy)]
+pub struct Pen {
+    pub low: u32,
+    pub mine: u32,
+}
+
+// Row z gets the pen's mark, unless it has another child's. Many rows have it already.
+fn touch(marks: &mut [u32; MAX_ROWS], z: usize, pen: Pen) -> bool
+    requires { z < max_rows }
+    ensures { Touched pen.low pen.mine (z ∷ []) marks.old marks.new result }
 {
     let m = marks[z];
-    if m == mine {
+    if m == pen.mine {
         return true;
     }
-    if low < m {
+    if pen.low < m {
         return false;
     }
-    marks[z] = mine;
+    marks[z] = pen.mine;
     true
 }
 
-// So does the row at j of a list.
-fn touch_at(marks: &mut [u32; MAX_ROWS], rows: &[u32], j: usize, low: u32, mine: u32) -> bool
-    requires { (length marks.old ≡ max_rows) × (j < length rows.now) × (get_or rows.now j 0 < max_rows) }
-    ensures { Touched low mine (get_or rows.now j 0 ∷ []) marks.old marks.new result }
-{
-    touch(marks, wide_at(rows, j), low, mine)
-}
-
 // So do the rows of a list, two a turn: a turn for each is slower where the linker puts it across a line of the cache.
-pub fn touch_all(marks: &mut [u32; MAX_ROWS], rows: &[u32], low: u32, mine: u32) -> bool
-    requires { (length marks.old ≡ max_rows) × ((j : ℕ) → j < length rows.now → get_or rows.now j 0 < max_rows) }
-    ensures { Touched low mine rows.now marks.old marks.new result }
+pub fn touch_all(marks: &mut [u32; MAX_ROWS], rows: &[u32], pen: Pen) -> bool
+    requires { (j : ℕ) → j < length rows.now → get_or rows.now j 0 < max_rows }
+    ensures { Touched pen.low pen.mine rows.now marks.old marks.new result }
 {
     let mut j = 0;
     while j + 1 < rows.len() {
-        if !touch_at(marks, rows, j, low, mine) {
+        if !touch(marks, rows[j] as usize, pen) {
             return false;
         }
-        if !touch_at(marks, rows, j + 1, low, mine) {
+        if !touch(marks, rows[j + 1] as usize, pen) {
             return false;
         }
         j += 2;
     }
     if j < rows.len() {
-        return touch_at(marks, rows, j, low, mine);
+        return touch(marks, rows[j] as usize, pen);
     }
     true
 }
 
 // So do row u and the rows adjacent to it.
-pub fn touch_row(
-    n: usize,
-    starts: &[u32],
-    columns: &[u32],
-    marks: &mut [u32; MAX_ROWS],
-    u: usize,
-    low: u32,
-    mine: u32,
-) -> bool
-    requires { OfMatrix n starts.now columns.now × (length marks.old ≡ max_rows) × (u < n) }
-    ensures { Touched low mine (closed n starts.now columns.now u) marks.old marks.new result }
+pub fn touch_row(net: &Net, marks: &mut [u32; MAX_ROWS], u: usize, pen: Pen) -> bool
+    requires { u < net.now.m.n }
+    ensures { Touched pen.low pen.mine (closed (held net.now.m) u) marks.old marks.new result }
 {
-    if !touch(marks, u, low, mine) {
+    if !touch(marks, u, pen) {
         return false;
     }
-    touch_all(marks, columns_of(starts, columns, u), low, mine)
-}
-
-// So do some rows and the rows adjacent to them.
-pub fn touch_rows(
-    n: usize,
-    starts: &[u32],
-    columns: &[u32],
-    marks: &mut [u32; MAX_ROWS],
-    rows: &[u32],
-    low: u32,
-    mine: u32,
-) -> bool
-    requires { OfMatrix n starts.now columns.now × (length marks.old ≡ max_rows) × ((j : ℕ) → j < length rows.now → get_or rows.now j 0 < n) }
-    ensures { Touched low mine (touched_by n starts.now columns.now rows.now) marks.old marks.new result }
-{
-    let mut j = 0;
-    while j < rows.len() {
-        let u = wide_at(rows, j);
-        if !touch_row(n, starts, columns, marks, u, low, mine) {
-            return false;
-        }
-        j += 1;
-    }
-    true
+    touch_all(marks, net.m.columns_of(u), pen)
 }

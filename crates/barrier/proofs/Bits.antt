@@ -2,8 +2,8 @@
 -- nothing.
 use Rattle.std.proofs.Common.{◌≡◌, ℕ, zero, suc, ◌+◌, ◌-◌, ◌*◌, ◌/◌, ◌%◌, ◌^◌, ◌<◌, ◌≤◌, Bool, true, false, cond, ◌&&◌, ◌||◌, eqb, ltb, ◌⊎◌, sym, refl, ap, ◌∙◌, subst, inl, inr, ⊎_elim, true≢false, div-one, arith, shr-shr, ltb-false, ltb-true}
 use native.Mathlib.Nat.{zero-div}
-use lib.Bits.{bit_and, bit_or, and_shr, or_shr, and_mod, or_mod, and_high, and_mask, or_shifted, or_shifted_r}
-use lib.Pow.{high, low, field, mod-mod-pow, shr_mod}
+use lib.Bits.{bit_and, bit_or, and_shr, or_shr, and_mod, or_mod, and_mask}
+use lib.Pow.{high, low, field, mod-mod-pow}
 use mir.Val.{bool_byte}
 use Rattle.base.specs.Lists.{bit}
 use Rattle.barrier.specs.Bits.{has_bit}
@@ -114,13 +114,7 @@ module _ (b v : ℕ) (l : b < 256) (h : v < 16) where
       let e : b * 256 + 0 ≡ b * 256 = omega arith in
       ⊎_elim (λ p. rw p.0 ((rw (e, p.0) at (two_bytes b 0 v (omega arith) h)) ∙ bit-zero (v % 8))) (λ p. rw p.0 (rw (e, p.0) at (two_bytes b 0 v (omega arith) h))) (place v h)
 
--- ---- by mask and shift
-
-pub mask_low : (m b : ℕ) → m < 65536 → b < 256 → bit_or (bit_and m 65280) b ≡ m / 256 * 256 + b
-mask_low m b g l = rw (and_high m 8 8, shr_mod {n = m} 8 8 g) (or_shifted (m / 256) 8 b l)
-
-pub mask_high : (m b : ℕ) → b < 256 → bit_or (bit_and m 255) (b * 256) ≡ b * 256 + m % 256
-mask_high m b l = rw (and_mask m 8) (or_shifted_r b 8 (m % 256) (omega arith))
+-- ---- by mask
 
 pub mask_one : (n : ℕ) → bit_and n 1 ≡ n % 2
 mask_one n = and_mask n 1

@@ -5,18 +5,17 @@ pub mod sets;
 
 ghost use Rattle.std.specs.Prelude.{◌≡◌};
 ghost use Rattle.base.specs.Replies.{accepted};
-ghost use Rattle.base.specs.Verdicts.{reply_of};
+ghost use Rattle.base.specs.Verdicts.{reply_of, reply_of_check};
 ghost use Rattle.barrier.specs.Registers.{all_zero, enlisted, arriving, acknowledged, enabled, after_write, register, addressed, is_up};
 
-use base::{REGISTER, Verdict};
-use sets::{as_high, bit_0, high, low, with_high, with_low};
-use std::num::wrapping_add_u32;
+use base::{Kind, Refusal};
+use sets::{bit_0, high, low, set_of};
 
 // The registers of a unit end at this address.
 pub const LAST: u32 = 5;
 
 // The member set and the arrived set, bit 0 for worker 0; bit 0 of status and of enable; the count of releases.
-#[derive(Clone, Copy)]
+#[derive(Clone, Copy, Default)]
 pub struct Barrier {
     pub members: u16,
     pub arrived: u16,
@@ -25,25 +24,18 @@ pub struct Barrier {
     pub releases: u32,
 }
 
-// What a write replies, and the unit after it.
-#[derive(Clone, Copy)]
-pub struct Written {
-    pub verdict: Verdict,
-    pub unit: Barrier,
-}
+// There is no such register.
+const NO_REGISTER: Refusal = Refusal {
+    kind: Kind::NoRegister,
+    place: 0,
+};
 
 impl Barrier {
     // An all-zero unit.
     pub fn new() -> Self
         ensures { result ≡ all_zero }
     {
-        Self {
-            members: 0,
-            arrived: 0,
-            status: false,
-            enable: false,
-            releases: 0,
-        }
+        Self::default()
     }
 
     // The member set is set, and nobody has arrived.
@@ -53,9 +45,7 @@ impl Barrier {
         Self {
             members,
             arrived: 0,
-            status: self.status,
-            enable: self.enable,
-            releases: self.releases,
+            ..self
         }
     }
 
@@ -65,24 +55,15 @@ impl Barrier {
     {
         let members = self.members;
         let arrived = self.arrived | (named & members);
-        if members != 0 {
-            if arrived & members == members {
-                return Self {
-                    members,
-                    arrived: 0,
-                    status: true,
-                    enable: self.enable,
-                    releases: wrapping_add_u32(self.releases, 1),
-                };
-            }
+        if members != 0 && arrived & members == members {
+            return Self {
+                arrived: 0,
+                status: true,
+                releases: self.releases.wrapping_add(1),
+                ..self
+            };
         }
-        Self {
-            members,
-            arrived,
-            status: self.status,
-            enable: self.enable,
-            releases: self.releases,
-        }
+        Self { arrived, ..self }
     }
 
     // Bit 0 of status is cleared, if the byte written to it has it.
@@ -90,11 +71,8 @@ impl Barrier {
         ensures { result ≡ acknowledged self clears }
     {
         Self {
-            members: self.members,
-            arrived: self.arrived,
             status: self.status && !clears,
-            enable: self.enable,
-            releases: self.releases,
+            ..self
         }
     }
 
@@ -102,25 +80,20 @@ impl Barrier {
     fn enabling(self, enable: bool) -> Self
         ensures { result ≡ enabled self enable }
     {
-        Self {
-            members: self.members,
-            arrived: self.arrived,
-            status: self.status,
-            enable,
-            releases: self.releases,
-        }
+        Self { enable, ..self }
     }
 
     // The unit after a write.
+    #[tactic(auto, unfolding(crate::specs::Registers::after_write))]
     fn after(self, address: u32, byte: u8) -> Self
         ensures { result ≡ after_write self address byte }
     {
         let members = self.members;
         match address {
-            0 => self.joining(with_low(members, byte)),
-            1 => self.joining(with_high(members, byte)),
-            2 => self.arriving(byte as u16),
-            3 => self.arriving(as_high(byte)),
+            0 => self.joining(set_of(byte, high(members))),
+            1 => self.joining(set_of(low(members), byte)),
+            2 => self.arriving(set_of(byte, 0)),
+            3 => self.arriving(set_of(0, byte)),
             4 => self.acknowledging(bit_0(byte)),
             5 => self.enabling(bit_0(byte)),
             _ => self,
@@ -128,6 +101,7 @@ impl Barrier {
     }
 
     // What a register reads.
+    #[tactic(auto, unfolding(crate::specs::Registers::register))]
     fn register(self, address: u32) -> u8
         ensures { result ≡ register self address }
     {
@@ -138,36 +112,32 @@ impl Barrier {
             1 => high(members),
             2 => low(arrived),
             3 => high(arrived),
-            4 => self.status as u8,
-            _ => self.enable as u8,
+            4 => u8::from(self.status),
+            _ => u8::from(self.enable),
         }
     }
 
-    // A byte is written to a register.
-    pub fn write(self, address: u32, byte: u8) -> Written
-        ensures { (reply_of result.verdict ≡ addressed address (accepted 0)) × (result.unit ≡ after_write self address byte) }
+    // A byte is written to a register. Where there is none, the unit stays as it was.
+    #[tactic(auto, unfolding(base::specs::Replies::in_turn, crate::specs::Registers::addressed, crate::specs::Registers::after_write))]
+    pub fn write(&mut self, address: u32, byte: u8) -> Result<(), Refusal>
+        ensures { (reply_of_check result ≡ addressed address (accepted 0)) × (self.new ≡ after_write self.old address byte) }
     {
-        let unit = self.after(address, byte);
         if LAST < address {
-            return Written {
-                verdict: Verdict::Refused(REGISTER, 0),
-                unit,
-            };
+            return Err(NO_REGISTER);
         }
-        Written {
-            verdict: Verdict::Accepted(0),
-            unit,
-        }
+        *self = self.after(address, byte);
+        Ok(())
     }
 
     // A register is read: accepted with its byte.
-    pub fn read(self, address: u32) -> Verdict
+    #[tactic(auto, unfolding(base::specs::Replies::in_turn, crate::specs::Registers::addressed))]
+    pub fn read(self, address: u32) -> Result<u32, Refusal>
         ensures { reply_of result ≡ addressed address (accepted (register self address)) }
     {
         if LAST < address {
-            return Verdict::Refused(REGISTER, 0);
+            return Err(NO_REGISTER);
         }
-        Verdict::Accepted(self.register(address) as u32)
+        Ok(u32::from(self.register(address)))
     }
 
     // Whether the interrupt line is up.

@@ -6,13 +6,8 @@ use lib.ListN.{length}
 use borrow.Author.Tests.{le-leb, lt-leb}
 use Rattle.base.specs.Refusals as why
 use Rattle.base.specs.Replies.{Reply, refused, room_for, in_turn}
-use Rattle.barrier.specs.Registers.{last_address, address_check, addressed}
+use Rattle.barrier.specs.Registers.{last_address, address_check}
 use Rattle.board.specs.Unit.{unit_size}
-
--- the model's reply at a register that there is
-pub addressed_in : (address : ℕ) (reply : Reply) → address ≤ last_address → addressed address reply ≡ reply
-unfolding addressed in_turn
-addressed_in address reply l = rw (le-leb address last_address l)
 
 -- of a call that names a register
 module _ (unit : List ℕ) (address : ℕ) (reply : Reply) where
@@ -23,23 +18,11 @@ module _ (unit : List ℕ) (address : ℕ) (reply : Reply) where
   unfolding in_turn
   no_register_lem l = rw (lt-leb address last_address l)
 
-  pub cut_short : address ≤ last_address → length unit < unit_size → judged ≡ refused why.too_short unit_size
-  unfolding in_turn
-  cut_short l s = rw (le-leb address last_address l, lt-leb unit_size (length unit) s)
-
   pub in_reach : address ≤ last_address → unit_size ≤ length unit → judged ≡ reply
   unfolding in_turn
   in_reach l s = rw (le-leb address last_address l, le-leb unit_size (length unit) s)
 
 -- of the others
-module _ (unit : List ℕ) (reply : Reply) where
-  abbrev sized : Reply
-  sized = in_turn refused (room_for unit_size (length unit) ∷ []) reply
-
-  pub too_few : length unit < unit_size → sized ≡ refused why.too_short unit_size
-  unfolding in_turn
-  too_few s = rw (lt-leb unit_size (length unit) s)
-
-  pub enough : unit_size ≤ length unit → sized ≡ reply
-  unfolding in_turn
-  enough s = rw (le-leb unit_size (length unit) s)
+pub enough : (unit : List ℕ) (reply : Reply) → unit_size ≤ length unit → in_turn refused (room_for unit_size (length unit) ∷ []) reply ≡ reply
+unfolding in_turn
+enough unit reply s = rw (le-leb unit_size (length unit) s)

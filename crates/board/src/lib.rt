@@ -4,69 +4,71 @@
 mod kept;
 
 ghost use Rattle.std.specs.Prelude.{◌≡◌};
+ghost use Rattle.base.specs.Replies.{lent};
+ghost use Rattle.base.specs.Verdicts.{reply_of};
 ghost use Rattle.lent.specs.Word.{word, Answered};
 ghost use Rattle.barrier.specs.Registers.{after_write};
 ghost use Rattle.board.specs.Unit.{unit_in, unit_bytes, write_unit_reply, read_unit_reply, line_reply, releases_reply};
+ghost use Rattle.board.specs.Code.Reached.{IsReached};
 
-use barrier::LAST;
-use base::{REGISTER, SHORT, Verdict};
-use kept::{SIZE, load, store};
+use barrier::{Barrier, LAST};
+use base::{Kind, Refusal};
+use kept::{load, store};
 use lent::word::word_of;
 
-// The refusals: no such register, and a unit of too few bytes.
-const NO_REGISTER: Verdict = Verdict::Refused(REGISTER, 0);
+const NO_REGISTER: Refusal = Refusal {
+    kind: Kind::NoRegister,
+    place: 0,
+};
 
-const TOO_SHORT: Verdict = Verdict::Refused(SHORT, SIZE as u32);
+// The unit that bytes hold, for a call that names a register.
+#[tactic(auto, unfolding(base::specs::Replies::in_turn))]
+fn reached(unit: &[u8], address: u32) -> Result<Barrier, Refusal>
+    ensures { IsReached unit.now address result }
+{
+    if LAST < address {
+        return Err(NO_REGISTER);
+    }
+    load(unit)
+}
+
+#[tactic(auto, unfolding(base::specs::Replies::in_turn, base::specs::Replies::lent, barrier::specs::Registers::addressed, crate::specs::Unit::write_unit_reply))]
+fn write(unit: &mut [u8], address: u32, byte: u8) -> Result<u32, Refusal>
+    ensures { (reply_of result ≡ write_unit_reply unit.old address) × (unit.new ≡ lent (write_unit_reply unit.old address) (unit_bytes (after_write (unit_in unit.old) address byte)) unit.old) }
+{
+    let mut held = reached(unit, address)?;
+    held.write(address, byte)?;
+    store(held, unit);
+    Ok(0)
+}
 
 // A byte is written to a register.
 pub fn write_in(unit: &mut [u8], address: u32, byte: u8) -> u64
     ensures { Answered (write_unit_reply unit.old address) (unit_bytes (after_write (unit_in unit.old) address byte)) unit.old result unit.new }
 {
-    if LAST < address {
-        return word_of(NO_REGISTER);
-    }
-    if unit.len() < SIZE {
-        return word_of(TOO_SHORT);
-    }
-    let held = load(unit);
-    let after = held.write(address, byte);
-    let next = after.unit;
-    store(next, unit);
-    word_of(Verdict::Accepted(0))
+    word_of(write(unit, address, byte))
 }
 
 // The byte that a register reads.
+#[tactic(auto, unfolding(base::specs::Replies::in_turn, barrier::specs::Registers::addressed, crate::specs::Unit::read_unit_reply))]
 pub fn read_in(unit: &[u8], address: u32) -> u64
     ensures { result ≡ word (read_unit_reply unit.now address) }
 {
-    if LAST < address {
-        return word_of(NO_REGISTER);
-    }
-    if unit.len() < SIZE {
-        return word_of(TOO_SHORT);
-    }
-    let held = load(unit);
-    word_of(held.read(address))
+    word_of(reached(unit, address).and_then(|held| held.read(address)))
 }
 
 // The interrupt line: 1 while it is up.
+#[tactic(auto, unfolding(base::specs::Replies::in_turn, crate::specs::Unit::line_reply))]
 pub fn line_in(unit: &[u8]) -> u64
     ensures { result ≡ word (line_reply unit.now) }
 {
-    if unit.len() < SIZE {
-        return word_of(TOO_SHORT);
-    }
-    let held = load(unit);
-    word_of(Verdict::Accepted(held.line() as u32))
+    word_of(load(unit).map(|held| u32::from(held.line())))
 }
 
 // The count of releases.
+#[tactic(auto, unfolding(base::specs::Replies::in_turn, crate::specs::Unit::releases_reply))]
 pub fn releases_in(unit: &[u8]) -> u64
     ensures { result ≡ word (releases_reply unit.now) }
 {
-    if unit.len() < SIZE {
-        return word_of(TOO_SHORT);
-    }
-    let held = load(unit);
-    word_of(Verdict::Accepted(held.releases))
+    word_of(load(unit).map(|held| held.releases))
 }

@@ -11,21 +11,22 @@ ghost use Rattle.answers.specs.Code.Ran.{Called, RanLent, TookLent, GaveLent};
 
 use answers::state::{load_state, sums_of};
 use answers::stored::{store_forces, store_picks};
-use base::numbers::least;
-use calls::{Call, Done, Response, perform};
+use base::Refusal;
+use calls::{Call, Job, Response, perform};
 use lent::few::{FEW_CELLS, are_few};
-use lent::lists::{load_signed, load_unsigned};
+use lent::lists::decode;
 use machine::state::State;
 use matrix::limits::{MAX_CELLS, MAX_ROWS, MAX_STARTS};
+use matrix::lists::Matrix;
 use plan::fields::MAX_FIELDS;
-use words::load::load_i64;
+use plan::lists::Plan;
+use words::lists::load;
 
 // What a call is told beside the lists.
 #[derive(Clone, Copy)]
 struct Asked {
     n: u32,
     group_count: u32,
-    state: State,
     call: Call,
 }
 
@@ -41,38 +42,36 @@ fn perform_on(
     sums: &mut [i64],
     schedule: &[u8],
     forces: &mut [u8],
+    state: &mut State,
     asked: Asked,
-) -> Done
+) -> Result<Response, Refusal>
     ensures { (cs vs : List ℕ) → columns.now ≡ take max_cells (unsigned 4 cs) → values.now ≡ take max_cells (signed 4 vs)
         → Called (matrix_in asked.n row_starts.now cs vs) (signed 4 movements.now) (unsigned 4 order.now) (unsigned 4 groups.now) asked.group_count
-        (state_of asked.state sums.old) (as_call asked.call schedule.now (length forces.old / 8)) forces.old result.answer (state_of result.state sums.new) forces.new }
+        (state_of state.old sums.old) (as_call asked.call schedule.now (length forces.old / 8)) forces.old result (state_of state.new sums.new) forces.new }
 {
     let mut starts = [0u32; MAX_STARTS];
     let mut displacements = [0i32; MAX_STARTS];
     let mut order_list = [0u32; MAX_ROWS];
     let mut group_list = [0u32; MAX_FIELDS];
     let mut made = [0i64; MAX_ROWS];
-    let room = least(forces.len() / 8, MAX_ROWS);
-    let n = asked.n;
-    let call = asked.call;
-    let done = perform(
-        n,
-        load_unsigned(row_starts, &mut starts),
-        columns,
-        values,
-        load_signed(movements, &mut displacements),
-        load_unsigned(order, &mut order_list),
-        load_unsigned(groups, &mut group_list),
-        asked.group_count,
-        asked.state,
-        sums,
-        schedule,
-        &mut made[..room],
-        call,
-    );
-    let answer = done.answer;
-    store_forces(n, answer, &made, forces);
-    done
+    let room = (forces.len() / 8).min(MAX_ROWS);
+    let job = Job {
+        matrix: Matrix {
+            n: asked.n as usize,
+            starts: decode(row_starts, &mut starts),
+            columns,
+            values,
+        },
+        displacements: decode(movements, &mut displacements),
+        plan: Plan {
+            order: decode(order, &mut order_list),
+            groups: decode(groups, &mut group_list),
+            count: asked.group_count as usize,
+        },
+    };
+    let answer = perform(&job, state, sums, schedule, &mut made[..room], asked.call);
+    store_forces(asked.n, answer, &made, forces);
+    answer
 }
 
 // State, sums, columns and values are decoded, as far as any job can reach; the sums into `new`, where they are left.
@@ -92,24 +91,24 @@ fn perform_in(
     new: &mut [i64],
     schedule: &[u8],
     call: Call,
-) -> Done
+) -> (Result<Response, Refusal>, State)
     requires { length new.old ≡ max_starts }
     ensures { RanLent (matrix_in n row_starts.now columns.now values.now) (signed 4 movements.now) (unsigned 4 order.now) (unsigned 4 groups.now) group_count
-        state.now sums.now forces.old (as_call call schedule.now (length forces.old / 8)) result.answer result.state new.new forces.new }
+        state.now sums.now forces.old (as_call call schedule.now (length forces.old / 8)) result.0 result.1 new.new forces.new }
 {
-    let kept = load_i64(sums_of(state, sums), new);
+    let kept = load(sums_of(state, sums), new);
+    let mut after = load_state(state);
     let asked = Asked {
-        n: n,
-        group_count: group_count,
-        state: load_state(state),
-        call: call,
+        n,
+        group_count,
+        call,
     };
     if are_few(columns, values) {
         let mut column_list = [0u32; FEW_CELLS];
         let mut value_list = [0i32; FEW_CELLS];
-        return perform_on(
-            load_unsigned(columns, &mut column_list),
-            load_signed(values, &mut value_list),
+        let answer = perform_on(
+            decode(columns, &mut column_list),
+            decode(values, &mut value_list),
             row_starts,
             movements,
             order,
@@ -117,14 +116,16 @@ fn perform_in(
             &mut new[..kept],
             schedule,
             forces,
+            &mut after,
             asked,
         );
+        return (answer, after);
     }
     let mut column_list = [0u32; MAX_CELLS];
     let mut value_list = [0i32; MAX_CELLS];
-    perform_on(
-        load_unsigned(columns, &mut column_list),
-        load_signed(values, &mut value_list),
+    let answer = perform_on(
+        decode(columns, &mut column_list),
+        decode(values, &mut value_list),
         row_starts,
         movements,
         order,
@@ -132,8 +133,10 @@ fn perform_in(
         &mut new[..kept],
         schedule,
         forces,
+        &mut after,
         asked,
-    )
+    );
+    (answer, after)
 }
 
 // Picks or rounds: state and sums are stored.
@@ -150,7 +153,7 @@ pub fn take_in(
     sums: &mut [u8],
     schedule: &[u8],
     call: Call,
-) -> Response
+) -> Result<Response, Refusal>
     ensures { TookLent (matrix_in n row_starts.now columns.now values.now) (signed 4 movements.now) (unsigned 4 order.now) (unsigned 4 groups.now) group_count
         state.old sums.old (as_call call schedule.now 0) result state.new sums.new }
 {
@@ -172,8 +175,8 @@ pub fn take_in(
         schedule,
         call,
     );
-    let answer = done.answer;
-    let after = done.state;
+    let answer = done.0;
+    let after = done.1;
     store_picks(n, answer, after, &new, state, sums);
     answer
 }
@@ -193,7 +196,7 @@ pub fn look_in(
     state: &[u8],
     sums: &[u8],
     call: Call,
-) -> Response
+) -> Result<Response, Refusal>
     ensures { GaveLent (matrix_in n row_starts.now columns.now values.now) (signed 4 movements.now) (unsigned 4 order.now) (unsigned 4 groups.now) group_count
         state.now sums.now (as_call call schedule.now (length forces.old / 8)) forces.old result forces.new }
 {
@@ -214,5 +217,5 @@ pub fn look_in(
         schedule,
         call,
     );
-    done.answer
+    done.0
 }

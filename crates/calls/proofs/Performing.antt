@@ -1,6 +1,6 @@
 -- What a call on an accepted job comes to, and one on lent lists: a check refuses it, or it is the call on their job.
 use mathlib.Core.Path.{◌≡◌, refl, sym, ap, ◌∙◌}
-use mathlib.Core.Logic.{◌≢◌}
+use mathlib.Core.Logic.{◌⊎◌, inl, inr, ◌≢◌}
 use mathlib.Core.Bool.{Bool, true, false, cond}
 use mathlib.Core.List.{List}
 use Prim.Native.Nat.{ℕ, zero, suc}
@@ -53,6 +53,20 @@ place-some zero past d = absurd (d refl)
 place-some (suc k) past d = refl
 
 -- ---- what is asked
+
+-- it takes picks, or not
+pub takes_some : (c : code.Call) → (c ≡ asked.Picks) ⊎ (c ≡ asked.Rounds) → true ≡ is_taken c
+unfolding is_taken
+takes_some c (inl e) = rw e
+takes_some c (inr e) = rw e
+
+pub takes_none : (c : code.Call) → c ≢ asked.Picks → c ≢ asked.Rounds → false ≡ is_taken c
+unfolding is_taken
+takes_none asked.Picks p r = absurd (p refl)
+takes_none asked.ReadySet p r = refl
+takes_none asked.ForceList p r = refl
+takes_none asked.Preview p r = refl
+takes_none asked.Rounds p r = absurd (r refl)
 
 -- it takes no picks, and is neither a force list nor a preview
 pub asks_ready : (c : code.Call) → c ≢ asked.ForceList → is_taken c ≡ false → c ≢ asked.Preview → c ≡ asked.ReadySet

@@ -3,3 +3,4 @@ pub mod Listed
 pub mod Made
 pub mod Room
 pub mod Scatter
+pub mod Held

@@ -1,19 +1,16 @@
 // Picks by the tables of their job, laid as far as the schedule reads them.
-ghost use Rattle.std.specs.Prelude.{◌≡◌, true, false, List, ◌/◌, ℤ, length};
-ghost use Rattle.matrix.specs.Matrix.{matrix_of};
-ghost use Rattle.plan.specs.Groups.{width};
-ghost use Rattle.run.specs.Job.{job_of};
+ghost use Rattle.std.specs.Prelude.{◌≡◌, ◌≢◌, List, ℤ, length, MatchOption};
 ghost use Rattle.tables.specs.Code.Laid.{max_updates};
-ghost use Rattle.layout.specs.Code.UpdateTable.{Given};
 ghost use Rattle.machine.specs.Record.{state_of};
 ghost use Rattle.calls.specs.Performed.{as_answer};
+ghost use Rattle.calls.specs.Code.Held.{job_in, GivenIn};
 ghost use Rattle.calls.specs.Code.Made.{Taken};
 ghost use Rattle.calls.specs.Code.Room.{Room};
 
 use crate::picks::{rule_of, told};
-use crate::{Call, Done, Response, answered};
+use crate::{Call, Job, Response, stop_of};
 use ahead::{lay_ahead, lay_sizes};
-use base::STATE;
+use base::{Kind, Refusal};
 use layout::counts::first_updates;
 use layout::lay;
 use machine::ready::ready_workers;
@@ -21,62 +18,32 @@ use machine::state::State;
 use matrix::limits::MAX_ROWS;
 use plan::MAX_GROUPS;
 use plan::fields::WIDTH;
-use tables::MAX_UPDATES;
+use tables::{Entries, MAX_UPDATES, Tables};
 use upper::order::displace;
 
-// What is wanted beside the lists.
-#[derive(Clone, Copy)]
-pub struct Wanted {
-    pub state: State,
-    pub call: Call,
-}
-
-// Whether there is room for the tables, and what the picks come to if there is.
-#[derive(Clone, Copy)]
-pub struct Tried {
-    pub fits: bool,
-    pub done: Done,
-}
-
-// It came to this.
-fn came_to(fits: bool, done: Done) -> Tried
-    ensures { (result.fits ≡ fits) × (result.done ≡ done) }
-{
-    Tried {
-        fits: fits,
-        done: done,
-    }
-}
-
 // Lays the tables and takes the picks. There is a sum for each row, and room for the upper triangle of every matrix, or
-// less: then the parts of the rows that the schedule can reach are laid, if they fit.
+// less: then the parts of the rows that the schedule can reach are laid, if they fit. If they do not, all is as it was.
 pub(crate) fn laid_picks(
-    starts: &[u32],
-    columns: &[u32],
-    values: &[i32],
-    displacements: &[i32],
-    order: &[u32],
-    groups: &[u32],
+    job: &Job,
+    state: &mut State,
     sums: &mut [i64],
     schedule: &[u8],
+    call: Call,
     at: &mut [u16],
     beside: &mut [i32],
-    wanted: Wanted,
-) -> Tried
-    requires { Given (length sums.old) starts.now columns.now values.now displacements.now order.now groups.now (length groups.now / width)
-        × Room (length schedule.now) at.old beside.old }
-    ensures { (result.fits ≡ true → (zs : List ℤ) → Taken (job_of (matrix_of (length sums.old) starts.now columns.now values.now) displacements.now order.now groups.now (length groups.now / width))
-        (state_of wanted.state sums.old) wanted.call schedule.now (as_answer result.done.answer zs) (state_of result.done.state sums.new))
-        × (result.fits ≡ false → sums.new ≡ sums.old) × (length at.old ≡ max_updates → result.fits ≡ true) }
+) -> Option<Result<Response, Refusal>>
+    requires { GivenIn job.now × (length sums.old ≡ job.now.matrix.n) × Room (length schedule.now) at.old beside.old }
+    ensures { MatchOption result ((state.new ≡ state.old) × (sums.new ≡ sums.old) × (length at.old ≢ max_updates))
+        (λ answer. (zs : List ℤ) → Taken (job_in job.now) (state_of state.old sums.old) call schedule.now (as_answer answer zs) (state_of state.new sums.new)) }
 {
+    let order = job.plan.order;
+    let groups = job.plan.groups;
+    let count = groups.len() / WIDTH;
     let mut position = [0u32; MAX_ROWS];
     let mut parts = [0u32; MAX_ROWS];
     let mut sizes = [0u32; MAX_ROWS];
     lay_sizes(
-        sums.len(),
-        starts,
-        columns,
-        values,
+        &job.matrix,
         order,
         &mut position,
         &mut parts,
@@ -84,12 +51,12 @@ pub(crate) fn laid_picks(
         at,
         beside,
     );
-    let count = groups.len() / WIDTH;
     let first = first_updates(groups, count, &sizes);
-    let state = wanted.state;
-    let refused = answered(state, Response::Refused(STATE, 0));
     if !state.is_fine(first) {
-        return came_to(true, refused);
+        return Some(Err(Refusal {
+            kind: Kind::NotState,
+            place: 0,
+        }));
     }
     let mut row = [0u16; MAX_UPDATES];
     let mut begins = [0u32; MAX_ROWS];
@@ -107,9 +74,7 @@ pub(crate) fn laid_picks(
     );
     let counts = state.made;
     if !lay_ahead(
-        starts,
-        columns,
-        values,
+        &job.matrix,
         order,
         &position,
         &sizes,
@@ -121,29 +86,27 @@ pub(crate) fn laid_picks(
         at,
         beside,
     ) {
-        return came_to(false, refused);
+        return None;
     }
     let mut displaced = [0i32; MAX_ROWS];
-    displace(displacements, order, &mut displaced);
-    let call = wanted.call;
-    let walked = state.walk(
-        sums,
-        schedule,
-        rule_of(call),
+    displace(job.displacements, order, &mut displaced);
+    let tables = Tables {
         groups,
-        &ends,
-        &first,
-        &row,
-        &begins,
-        &parts,
-        &leaves,
-        &displaced,
+        ends: &ends,
+        first: &first,
+        row: &row,
+        begins: &begins,
+        leaves: &leaves,
+    };
+    let entries = Entries {
+        parts: &parts,
         at,
         beside,
-    );
-    let after = walked.state;
-    let made = after.made;
-    let ready = ready_workers(&made, groups, &ends, &first, &row, &leaves);
-    let answer = told(call, walked.taken, walked.number, walked.past, ready);
-    came_to(true, answered(after, answer))
+    };
+    let walked = state.walk(sums, schedule, rule_of(call), &tables, &entries, &displaced);
+    *state = walked.state;
+    let made = walked.state.made;
+    let ready = ready_workers(&made, &tables);
+    let stop = stop_of(walked.stop, walked.past);
+    Some(Ok(told(call, walked.taken, stop, ready)))
 }

@@ -3,35 +3,44 @@
 
 mod force_list;
 mod laid;
-pub mod picks;
+mod picks;
 mod ready_set;
 mod short;
 
-ghost use Rattle.std.specs.Prelude.{◌≡◌, ◌≢◌, false, List, ℕ, ◌/◌, ℤ, length, take};
+ghost use Rattle.std.specs.Prelude.{◌≡◌, ◌≢◌, false, List, ℕ, ◌*◌, ◌/◌, length, take};
 ghost use Rattle.base.specs.Replies.{accepted, refused, in_turn};
-ghost use Rattle.base.specs.Verdicts.{reply_of};
-ghost use Rattle.matrix.specs.Matrix.{matrix_of};
-ghost use Rattle.plan.specs.Groups.{width};
-ghost use Rattle.run.specs.Calls.{job_checks};
-ghost use Rattle.run.specs.Job.{job_of};
-ghost use Rattle.layout.specs.Code.UpdateTable.{Given};
+ghost use Rattle.base.specs.Verdicts.{reply_of_check};
+ghost use Rattle.matrix.specs.Held.{held};
+ghost use Rattle.run.specs.Calls.{place_of, job_checks};
 ghost use Rattle.machine.specs.Record.{state_of};
+ghost use Rattle.machine.specs.Code.Stepped.{stop_number};
 ghost use Rattle.calls.specs.declared.Call.TheVariants.{Preview};
-ghost use Rattle.calls.specs.Performed.{as_call, as_answer, Performed};
+ghost use Rattle.calls.specs.Performed.{as_call, as_answer, end_number, end_place, Performed};
+ghost use Rattle.calls.specs.Code.Held.{job_in, GivenIn};
 ghost use Rattle.calls.specs.Code.Made.{is_taken, Made};
 
-use base::{MATRIX, STATE, UNSOUND, Verdict};
+use base::{Kind, Refusal};
 use force_list::force_list;
 use layout::counts::first_updates;
 use machine::state::State;
 use matrix::limits::MAX_ROWS;
+use matrix::lists::Matrix;
 use multiply::check_displacements;
 use picks::{is_taken, picks, preview};
-use plan::fields::{WIDTH, record_at};
+use plan::fields::{WIDTH, get};
+use plan::lists::Plan;
 use ready_set::ready_set;
 use sound::is_plan;
 use symmetric::is_matrix;
 use upper::sizes::sizes_of;
+
+// A job by its lists: a matrix, the displacement of each row, and a plan.
+#[derive(Clone, Copy)]
+pub struct Job<'a> {
+    pub matrix: Matrix<'a>,
+    pub displacements: &'a [i32],
+    pub plan: Plan<'a>,
+}
 
 // What is asked of a run: that it take the picks of a lent schedule, who is ready, its forces for a lent list, what
 // the picks of a lent schedule would do, that it take those of them whose workers can move.
@@ -44,160 +53,121 @@ pub enum Call {
     Rounds,
 }
 
-// The answer: picks taken, and what ended them where; a bit for each worker, and their count; forces, which stand in
-// the lent list; a refusal's number and place; or picks with what ended them, and the bits and count after them.
+// What ended picks, and the index of the pick that was refused so.
 #[derive(Clone, Copy)]
-pub enum Response {
-    Picked(usize, u32, usize),
-    Ready(u16, u32),
-    Forces,
-    Refused(u32, u32),
-    Previewed(usize, u32, usize, u16, u32),
+pub struct Stop {
+    pub kind: Kind,
+    pub place: usize,
 }
 
-// The state after a call, and its answer.
+// The answer: picks taken, and what ended them, if a pick was refused; a bit for each worker, and their count; forces,
+// which stand in the lent list; or picks with what ended them, and the bits and count after them.
 #[derive(Clone, Copy)]
-pub struct Done {
-    pub state: State,
-    pub answer: Response,
+pub enum Response {
+    Picked(usize, Option<Stop>),
+    Ready(u16, u32),
+    Forces,
+    Previewed(usize, Option<Stop>, u16, u32),
+}
+
+// What ended picks after so many that were gone through.
+pub fn stop_of(stop: Option<Kind>, past: usize) -> Option<Stop>
+    ensures { (end_number result ≡ stop_number stop) × (end_place result ≡ place_of (stop_number stop) past) }
+{
+    let kind = stop?;
+    Some(Stop { kind, place: past })
 }
 
 // 5, 6, 8: whether the lists hold a matrix, its displacements and a plan that is sound for it.
-pub fn check_job(
-    n: u32,
-    starts: &[u32],
-    columns: &[u32],
-    values: &[i32],
-    displacements: &[i32],
-    order: &[u32],
-    groups: &[u32],
-    count: u32,
-) -> Verdict
-    ensures { reply_of result ≡ in_turn refused (job_checks (matrix_of n starts.now columns.now values.now) displacements.now order.now groups.now count) (accepted 0) }
+pub fn check_job(job: &Job) -> Result<(), Refusal>
+    ensures { reply_of_check result ≡ in_turn refused (job_checks (held job.now.matrix) job.now.displacements.now
+        job.now.plan.order.now job.now.plan.groups.now job.now.plan.count) (accepted 0) }
 {
-    if !is_matrix(n, starts, columns, values) {
-        return Verdict::Refused(MATRIX, 0);
+    if !is_matrix(&job.matrix) {
+        return Err(Refusal {
+            kind: Kind::NotMatrix,
+            place: 0,
+        });
     }
-    let checked = check_displacements(n, displacements);
-    if let Verdict::Refused(number, place) = checked {
-        return Verdict::Refused(number, place);
+    check_displacements(job.matrix.n as u32, job.displacements)?;
+    if !is_plan(&job.matrix, &job.plan) {
+        return Err(Refusal {
+            kind: Kind::Unsound,
+            place: 0,
+        });
     }
-    if !is_plan(n, starts, columns, order, groups, count) {
-        return Verdict::Refused(UNSOUND, 0);
-    }
-    Verdict::Accepted(0)
+    Ok(())
 }
 
-// What a call comes to.
-fn answered(state: State, answer: Response) -> Done
-    ensures { (result.state ≡ state) × (result.answer ≡ answer) }
-{
-    Done {
-        state: state,
-        answer: answer,
-    }
-}
-
-// What is asked of a run that stays as it is, if the counts are those of a state. There is a sum for each row.
+// What is asked of a run that stays as it is, if the counts are those of a state. There is a sum for each row. In a
+// frame of its own: its arrays are not needed while picks are taken.
+#[inline(never)]
 fn report(
-    starts: &[u32],
-    columns: &[u32],
-    order: &[u32],
-    groups: &[u32],
+    job: &Job,
     state: State,
     sums: &[i64],
     forces: &mut [i64],
     call: Call,
-) -> Response
-    requires { (values : List ℤ) × (x : List ℤ) × Given (length sums.now) starts.now columns.now values x order.now groups.now (length groups.now / width) }
-    ensures { (values x : List ℤ) (schedule : List ℕ) → Given (length sums.now) starts.now columns.now values x order.now groups.now (length groups.now / width)
-        → is_taken call ≡ false → call ≢ Preview → Made (job_of (matrix_of (length sums.now) starts.now columns.now values) x order.now groups.now (length groups.now / width))
+) -> Result<Response, Refusal>
+    requires { GivenIn job.now × (length sums.now ≡ job.now.matrix.n) }
+    ensures { (schedule : List ℕ) → is_taken call ≡ false → call ≢ Preview → Made (job_in job.now)
         (state_of state sums.now) (as_call call schedule (length forces.old)) forces.old
-        (as_answer result (take (length sums.now) forces.new)) (state_of state sums.now) forces.new }
+        (as_answer result (take job.now.matrix.n forces.new)) (state_of state sums.now) forces.new }
 {
-    let n = sums.len();
-    let count = groups.len() / WIDTH;
+    let groups = job.plan.groups;
     let mut sizes = [0u32; MAX_ROWS];
     let mut position = [0u32; MAX_ROWS];
-    sizes_of(n, starts, columns, order, &mut sizes, &mut position);
-    let first = first_updates(groups, count, &sizes);
+    sizes_of(&job.matrix, job.plan.order, &mut sizes, &mut position);
+    let first = first_updates(groups, groups.len() / WIDTH, &sizes);
     if !state.is_fine(first) {
-        return Response::Refused(STATE, 0);
+        return Err(Refusal {
+            kind: Kind::NotState,
+            place: 0,
+        });
     }
     let Call::ForceList = call else {
-        return ready_set(state, groups, &sizes, first);
+        return Ok(ready_set(state, groups, &sizes, first));
     };
-    let whole = record_at(groups, 0);
-    let is_over = state.is_finished(first, whole.workers);
-    force_list(n as u32, is_over, order, sums, forces)
+    let whole = get(groups, 0);
+    let is_over = state.is_finished(first, whole.workers as usize);
+    force_list(job.plan.order, is_over, sums, forces)
 }
 
 // One call. A call that names no picks is lent an empty schedule, and one that asks for no forces an empty list.
 pub fn perform(
-    n: u32,
-    starts: &[u32],
-    columns: &[u32],
-    values: &[i32],
-    displacements: &[i32],
-    order: &[u32],
-    groups: &[u32],
-    count: u32,
-    state: State,
+    job: &Job,
+    state: &mut State,
     sums: &mut [i64],
     schedule: &[u8],
     forces: &mut [i64],
     call: Call,
-) -> Done
-    ensures { Performed (matrix_of n starts.now columns.now values.now) displacements.now order.now groups.now count
-        (state_of state sums.old) (as_call call schedule.now (length forces.old)) forces.old
-        (as_answer result.answer (take n forces.new)) (state_of result.state sums.new) forces.new }
+) -> Result<Response, Refusal>
+    ensures { Performed (held job.now.matrix) job.now.displacements.now job.now.plan.order.now job.now.plan.groups.now job.now.plan.count
+        (state_of state.old sums.old) (as_call call schedule.now (length forces.old)) forces.old
+        (as_answer result (take job.now.matrix.n forces.new)) (state_of state.new sums.new) forces.new }
 {
-    let checked = check_job(
-        n,
-        starts,
-        columns,
-        values,
-        displacements,
-        order,
-        groups,
-        count,
-    );
-    if let Verdict::Refused(number, place) = checked {
-        return answered(state, Response::Refused(number, place));
+    check_job(job)?;
+    if sums.len() != job.matrix.n {
+        return Err(Refusal {
+            kind: Kind::NotState,
+            place: 0,
+        });
     }
-    if sums.len() != n as usize {
-        return answered(state, Response::Refused(STATE, 0));
-    }
-    let size = WIDTH * count as usize;
-    let records = &groups[..size];
+    let records = &job.plan.groups[..WIDTH * job.plan.count];
+    let cut = Job {
+        matrix: job.matrix,
+        displacements: job.displacements,
+        plan: Plan {
+            order: job.plan.order,
+            groups: records,
+            count: job.plan.count,
+        },
+    };
     if is_taken(call) {
-        return picks(
-            starts,
-            columns,
-            values,
-            displacements,
-            order,
-            records,
-            state,
-            sums,
-            schedule,
-            call,
-        );
+        return picks(&cut, state, sums, schedule, call);
     }
     if let Call::Preview = call {
-        let answer = preview(
-            starts,
-            columns,
-            values,
-            displacements,
-            order,
-            records,
-            state,
-            sums,
-            schedule,
-        );
-        return answered(state, answer);
+        return preview(&cut, *state, sums, schedule);
     }
-    let answer = report(starts, columns, order, records, state, sums, forces, call);
-    answered(state, answer)
+    report(&cut, *state, sums, forces, call)
 }

@@ -2,3 +2,4 @@
 pub mod Arrays
 pub mod Cells
 pub mod Rows
+pub mod Entries

@@ -1,10 +1,13 @@
 -- The sum of weighed forces, one force after the other.
-use Rattle.std.proofs.Common.{◌≡◌, ℕ, zero, suc, ◌+◌, ◌*◌, ◌/◌, ◌%◌, ◌<◌, ◌≤◌, List, length, get_or, ℤ, pos, sym, refl, ◌∙◌, add-one, arith}
+use Rattle.std.proofs.Common.{◌≡◌, ℕ, zero, suc, ◌+◌, ◌*◌, ◌/◌, ◌%◌, ◌<◌, ◌≤◌, List, length, get_or, ℤ, pos, sym, refl, ap, ◌∙◌, add-one, arith, take, drop}
+use lib.ListN.{length-take, length-drop}
+use lib.Seq.{length-take-le, take-add}
+use Rattle.base.proofs.Each.{Each, each_take, each-drop}
 use Rattle.base.specs.Lists.{sum_below}
 use Rattle.base.specs.Integers.{sumℤ}
 use Rattle.words.specs.LittleEndian.{number, to_signed, signed_number, signed}
-use Rattle.words.specs.Code.Places.{four_at}
-use Rattle.words.proofs.Digits.{eight-at}
+use Rattle.words.proofs.Bytes.{IsByte, number_small}
+use Rattle.words.proofs.Digits.{number_append}
 use Rattle.words.proofs.Blocks.{decoded_at}
 use Rattle.control.specs.ControlNumber.{modulus, remainder, weighed, control_number}
 use Rattle.control.proofs.Remainders.{remainder-add, remainder-mul, mul-remainder, remainder-low}
@@ -31,14 +34,20 @@ weighed_remainders xs (suc k) = rw (weighed-next xs k, weighed_remainders xs k) 
 -- ---- a loop over the forces
 
 -- a force's remainder is in its first four bytes
-pub force_left : (bytes : List ℕ) (k : ℕ) → k < length bytes / 8 → ((i : ℕ) → get_or bytes i 0 < 256) → four_at bytes (k * 8) ≡ remainder (get_or (signed 8 bytes) k (pos 0))
+pub force_left : (bytes : List ℕ) (k : ℕ) → k < length bytes / 8 → Each IsByte bytes → number (take 4 (drop (k * 8) bytes)) ≡ remainder (get_or (signed 8 bytes) k (pos 0))
 unfolding to_signed number
 force_left bytes k h small =
-    rw (decoded_at (signed_number 8) 8 bytes k h, sym (eight-at bytes (k * 8) (omega arith)))
-    (sym (remainder-low (four_at bytes (k * 8)) (four_at bytes (k * 8 + 4)) (four_small (k * 8)) (four_small (k * 8 + 4))))
+    let from : List ℕ = drop (k * 8) bytes in
+    let long : 8 ≤ length from = rw (length-drop (k * 8) bytes) (omega arith) in
+    let each : Each IsByte from = each-drop IsByte (k * 8) bytes small in
+    let four : length (take 4 from) ≡ 4 = length-take-le 4 from (omega arith) in
+    let halves : number (take 8 from) ≡ number (take 4 from) + number (take 4 (drop 4 from)) * modulus =
+    ap number (take-add 4 4 from) ∙ number_append (take 4 from) (take 4 (drop 4 from)) ∙ rw four (omega arith) in
+    rw (decoded_at (signed_number 8) 8 bytes k h, halves)
+    (sym (remainder-low (number (take 4 from)) (number (take 4 (drop 4 from))) (four_small from each) (four_small (drop 4 from) (each-drop IsByte 4 from each))))
   where
-    four_small : (at : ℕ) → four_at bytes at < modulus
-    four_small at = omega (arith, small at, small (at + 1), small (at + 2), small (at + 3))
+    four_small : (bs : List ℕ) → Each IsByte bs → number (take 4 bs) < modulus
+    four_small bs e = number_small 4 (take 4 bs) (rw (length-take 4 bs) (omega arith)) (each_take IsByte 4 bs e)
 
 -- after k forces
 pub record Weighing (xs : List ℤ) (sum weight k : ℕ) : Type 0 where

@@ -10,13 +10,14 @@ use Rattle.base.specs.Lists.{concat, sum}
 use Rattle.base.proofs.Counts.{same_length}
 use Rattle.levels.specs.Levels.{own_levels}
 use Rattle.levels.specs.Code.Group.{Proper}
-use Rattle.levels.specs.Code.Rows.{adj_of}
+use Rattle.levels.specs.Code.Graph.{adj as adj_in}
 use Rattle.sort.specs.Code.Sort.{max_levels}
 use Rattle.sort.specs.Code.Sorted.{Sorted}
 use Rattle.levels.proofs.Proper.{proper-same}
 use Rattle.levels.proofs.Own.{own_same}
 use Rattle.levels.proofs.Rows.{rows_graph}
 use Rattle.plan.specs.Groups.{width, fields_of, group_of}
+use Rattle.extents.specs.Code.Scans.{policy_of}
 use Rattle.extents.specs.Extents.{Policy}
 use Rattle.race.specs.Loads.{load_of}
 use Rattle.race.specs.Planner.{plan_group}
@@ -24,15 +25,22 @@ use Rattle.loads.specs.Code.Stretches.{levels_in, Levelled, Loaded}
 use Rattle.cycle.specs.Code.Records.{Holds}
 use Rattle.cycle.specs.Code.Cycle.{GroupTask, PairsTask, pairs_plan}
 use Rattle.plan.specs.declared.fields.Group.{Group}
+use Rattle.cycle.specs.declared.setting.Setting.{Setting}
 use Rattle.cycle.specs.declared.Parent.{Parent}
 use Rattle.cycle.specs.declared.Left.{Left}
 use Rattle.loads.proofs.Weights.{load-concat, load-some, load-few}
 use Rattle.loads.proofs.Stretches.{ends_are, levels-in}
 use Rattle.cycle.proofs.GroupPlans.{own-few, own-some, groups-some, pairs_below, count-split, holds-split}
 
-module _ {n : ℕ} {policy : Policy} {stages index : ℕ} {starts columns T records : List ℕ} {g : Group} (task : GroupTask n policy stages index starts columns T records g) where
+module _ {set : Setting} {stages index : ℕ} {T records : List ℕ} {g : Group} (task : GroupTask set stages index T records g) where
+  abbrev n : ℕ
+  n = set.ranked.graph.m.n
+
+  abbrev policy : Policy
+  policy = policy_of set.policy
+
   abbrev adj : ℕ → List ℕ
-  adj = adj_of n starts columns
+  adj = adj_in set.ranked.graph
 
   -- its own levels
   abbrev ls : List (List ℕ)
@@ -49,7 +57,7 @@ module _ {n : ℕ} {policy : Policy} {stages index : ℕ} {starts columns T reco
 
   module _ {m : ℕ} {stretch ends : List ℕ} (s : Sorted adj policy.reach n (2 * policy.reach) T m stretch ends) where
     pub levels-few : m ≤ max_levels
-    levels-few = omega (arith, s.levels_are, own-few adj policy.reach n T, task.rows.small)
+    levels-few = omega (arith, s.levels_are, own-few adj policy.reach n T, set.ranked.graph.rows.small)
 
     pub unsorted : m < 2 * policy.reach → stretch ≡ T
     unsorted l = s.order_is ∙ rw (lt-leb (2 * policy.reach) m l)
@@ -77,7 +85,7 @@ module _ {n : ℕ} {policy : Policy} {stages index : ℕ} {starts columns T reco
       levelled_in = rw levels_are levelled
 
       pub stretch_proper : Proper n stretch
-      stretch_proper = rw stretch_is (proper-same n (concat ls) T (own_same adj policy.reach n (rows_graph task.rows) T task.proper) task.proper)
+      stretch_proper = rw stretch_is (proper-same n (concat ls) T (own_same adj policy.reach n (rows_graph set.ranked.graph.rows) T task.proper) task.proper)
 
       pub ends-few : length (take m ends) ≤ max_levels
       ends-few = omega (arith, ends-length, levels-few)
@@ -105,23 +113,20 @@ module _ {n : ℕ} {policy : Policy} {stages index : ℕ} {starts columns T reco
             rw (levels_are, start, all_is)
 
         module _ (stages_left : stages ≡ 0 → ⊥) (workers : 2 ≤ g.workers) {records' : List ℕ} (long : length records' ≡ length records) where
-          pub pairs_task : PairsTask n policy (stages - 1) starts columns stretch (take m ends) (take m loads) records' parent_of whole_left (levels_in 0 (take m ends) stretch)
+          pub pairs_task : PairsTask set (stages - 1) stretch (take m ends) (take m loads) records' parent_of whole_left (levels_in 0 (take m ends) stretch)
           pairs_task = record {
-            rows = task.rows;
             proper = stretch_proper;
             levelled = levelled_in;
             loads_are = rw levels_are loads_are;
-            share = task.share;
-            far = task.far;
             scale = record {
               some = rw all_is (load-some adj (concat ls) (own-some adj policy.reach n T (omega (arith, s.levels_are))));
-              few = rw loaded.all_is (load-few n starts columns stretch task.rows stretch_proper);
+              few = rw loaded.all_is (load-few n set.ranked.graph.m.starts.now set.ranked.graph.m.columns.now stretch set.ranked.graph.rows stretch_proper);
               workers = omega (arith, task.workers);
             };
             within = omega (arith, ap sum loads_are, load-concat adj ls, all_is);
             levels = rw levels_are (omega (arith, s.levels_are));
             free = omega arith;
-            inside = omega (arith, task.inside, ap length stretch_is, same_length (concat ls) T (own_same adj policy.reach n (rows_graph task.rows) T task.proper));
+            inside = omega (arith, task.inside, ap length stretch_is, same_length (concat ls) T (own_same adj policy.reach n (rows_graph set.ranked.graph.rows) T task.proper));
             workers = task.workers;
             shallow = omega (arith, task.shallow, stages_left);
             few = omega (arith, task.few);

@@ -7,13 +7,15 @@ use native.Mathlib.Omega.{arith}
 use lib.ListN.{length, take, drop, get_or, length-append, length-map}
 use lib.Seq.{take-take}
 use Rattle.base.specs.Lists.{concat}
-use Rattle.levels.specs.Code.Rows.{adj_of}
+use Rattle.levels.specs.Code.Graph.{adj as adj_in}
 use Rattle.plan.specs.Groups.{Plan, red, blue, group_of}
 use Rattle.race.specs.Loads.{load_of}
+use Rattle.extents.specs.Code.Scans.{policy_of}
 use Rattle.extents.specs.Extents.{Policy, Extent, extent, cut}
 use Rattle.race.specs.Planner as planner
 use Rattle.race.specs.Planner.{Planner, child_of, pairs, plan_pairs, ◌then◌, plan_group}
 use Rattle.cycle.specs.Code.Cycle.{red_group, blue_group, left_after, PairsTask, pairs_plan}
+use Rattle.cycle.specs.declared.setting.Setting.{Setting}
 use Rattle.cycle.specs.declared.Parent.{Parent}
 use Rattle.cycle.specs.declared.Left.{Left}
 use Rattle.cycle.specs.declared.Pair.{Pair}
@@ -39,10 +41,16 @@ pairs-cons : (child : Planner) (up depth start first index : ℕ) (rs bs : List 
 unfolding plan_pairs
 pairs-cons child up depth start first index rs bs v cs a b ea eb = rw (← ea, ← eb)
 
-module _ {n : ℕ} {policy : Policy} {stages : ℕ} {starts columns stretch ends loads records : List ℕ} {up : Parent} {left : Left} {ls : List (List ℕ)}
-    (task : PairsTask n policy stages starts columns stretch ends loads records up left ls) {pair : Pair} (found : Found policy up left ends loads pair) where
+module _ {set : Setting} {stages : ℕ} {stretch ends loads records : List ℕ} {up : Parent} {left : Left} {ls : List (List ℕ)}
+    (task : PairsTask set stages stretch ends loads records up left ls) {pair : Pair} (found : Found (policy_of set.policy) up left ends loads pair) where
+  abbrev n : ℕ
+  n = set.ranked.graph.m.n
+
+  abbrev policy : Policy
+  policy = policy_of set.policy
+
   abbrev adj : ℕ → List ℕ
-  adj = adj_of n starts columns
+  adj = adj_in set.ranked.graph
 
   found' : Found policy up left ends (map (load_of adj) ls) pair
   found' = rw task.loads_are at found
@@ -52,7 +60,7 @@ module _ {n : ℕ} {policy : Policy} {stages : ℕ} {starts columns stretch ends
 
   -- how many of its levels are red
   abbrev c : ℕ
-  c = cut_of adj up.workers up.load policy task.far.0 k ls
+  c = cut_of adj up.workers up.load policy set.policy.some k ls
 
   map-take : (j : ℕ) (ms : List (List ℕ)) → take j (map (load_of adj) ms) ≡ map (load_of adj) (take j ms)
   map-take zero ms = refl
@@ -64,7 +72,7 @@ module _ {n : ℕ} {policy : Policy} {stages : ℕ} {starts columns stretch ends
 
   pub bounds : Bounds policy.reach (length ls) k c
   bounds = rw (length-map ls (load_of adj)) at
-      (pair_bounds up.workers up.load policy left.free (map (load_of adj) ls) k c task.far.0 task.free (rw (length-map ls (load_of adj)) task.levels) found'.0 cut-is)
+      (pair_bounds up.workers up.load policy left.free (map (load_of adj) ls) k c set.policy.some task.free (rw (length-map ls (load_of adj)) task.levels) found'.0 cut-is)
 
   -- its rows
   abbrev pub reds : List ℕ
@@ -125,7 +133,7 @@ module _ {n : ℕ} {policy : Policy} {stages : ℕ} {starts columns stretch ends
       let child = plan_group adj n policy stages in
       let one : concat (take c (take k ls)) ≡ reds = ap concat (take-take c k ls (omega (arith, bounds.blues))) in
       let start : up.start + left.done + pair.reds + (pair.rows - pair.reds) ≡ up.start + (left.done + pair.rows) = omega (arith, rows-length) in
-      let next = pairs_next adj up.workers up.load policy task.far.0 left.free ls task.free task.levels in
+      let next = pairs_next adj up.workers up.load policy set.policy.some left.free ls task.free task.levels in
       ap (plan_pairs child up.index (up.depth + 1) (up.start + left.done) left.first left.index) (rw (← found'.0, ← found'.1, one) at next)
       ∙ pairs-cons child up.index (up.depth + 1) (up.start + left.done) left.first left.index reds blues pair.workers
       (pairs adj (length (drop k ls)) up.workers up.load policy (left.free - pair.workers) (drop k ls)) pair.reds (pair.rows - pair.reds) reds-length blues-length
@@ -137,8 +145,8 @@ module _ {n : ℕ} {policy : Policy} {stages : ℕ} {starts columns stretch ends
   count_next = rw plan-next (simp length-append)
 
   -- what it takes
-  taken : PairTakes policy.reach (length ls) left.free (extent_of adj up.workers up.load policy task.far.0 left.free ls)
-  taken = extent-of adj up.workers up.load policy task.far.0 left.free ls task.free task.levels
+  taken : PairTakes policy.reach (length ls) left.free (extent_of adj up.workers up.load policy set.policy.some left.free ls)
+  taken = extent-of adj up.workers up.load policy set.policy.some left.free ls task.free task.levels
 
   -- no more workers than are free
   pub workers-most : pair.workers ≤ left.free
@@ -149,7 +157,7 @@ module _ {n : ℕ} {policy : Policy} {stages : ℕ} {starts columns stretch ends
   left_over some = go taken.rest
     where
       e : Extent
-      e = extent_of adj up.workers up.load policy task.far.0 left.free ls
+      e = extent_of adj up.workers up.load policy set.policy.some left.free ls
 
       go : ((e.levels ≡ length ls) × (e.workers ≡ left.free)) ⊎ ((e.levels + 2 * policy.reach ≤ length ls) × (e.workers < left.free)) → (pair.levels + 2 * policy.reach ≤ length ls) × (pair.workers < left.free)
       go (inl h) = absurd (some (found'.0 ∙ h.0))

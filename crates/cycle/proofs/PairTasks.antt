@@ -8,16 +8,17 @@ use lib.ListN.{length, take, drop, get_or, length-drop, length-map, drop_of_leng
 use lib.Seq.{take_all}
 use Rattle.base.specs.Lists.{sum}
 use Rattle.levels.specs.Code.Group.{Proper}
-use Rattle.levels.specs.Code.Rows.{adj_of}
+use Rattle.levels.specs.Code.Graph.{adj as adj_in}
 use Rattle.levels.proofs.Proper.{proper-left, proper-right}
 use Rattle.plan.specs.Groups.{Plan, group_of}
 use Rattle.race.specs.Loads.{load_of}
 use Rattle.race.specs.Planner.{pairs, plan_pairs, ◌then◌, plan_group}
 use Rattle.extents.specs.Extents.{Policy}
-use Rattle.extents.specs.Code.Scans.{Scale}
+use Rattle.extents.specs.Code.Scans.{policy_of, Scale}
 use Rattle.loads.specs.Code.Stretches.{levels_in, ends_of, Levelled}
 use Rattle.cycle.specs.Code.Records.{Holds}
 use Rattle.cycle.specs.Code.Cycle.{red_group, blue_group, left_after, Fits, GroupTask, PairsTask, pairs_plan}
+use Rattle.cycle.specs.declared.setting.Setting.{Setting}
 use Rattle.cycle.specs.declared.Parent.{Parent}
 use Rattle.cycle.specs.declared.Left.{Left}
 use Rattle.cycle.specs.declared.Pair.{Pair}
@@ -36,32 +37,36 @@ map-drop f zero ls = refl
 map-drop f (suc k) [] = refl
 map-drop f (suc k) (l ∷ ls) = map-drop f k ls
 
-module _ {n : ℕ} {policy : Policy} {stages : ℕ} {starts columns stretch ends loads records : List ℕ} {up : Parent} {left : Left} {ls : List (List ℕ)}
-    (task : PairsTask n policy stages starts columns stretch ends loads records up left ls) where
+module _ {set : Setting} {stages : ℕ} {stretch ends loads records : List ℕ} {up : Parent} {left : Left} {ls : List (List ℕ)}
+    (task : PairsTask set stages stretch ends loads records up left ls) where
   pub ends-count : length ends ≡ length ls
   ends-count = ap length task.levelled.ends_are ∙ length-ends left.done ls
 
   pub loads-count : length loads ≡ length ls
-  loads-count = ap length task.loads_are ∙ length-map ls (load_of (adj_of n starts columns))
+  loads-count = ap length task.loads_are ∙ length-map ls (load_of (adj_in set.ranked.graph))
 
   -- what the search for the next pair asks
-  pub next_asked : Scale up.workers up.load × (sum loads ≤ up.load) × (1 ≤ policy.reach) × (2 * policy.reach ≤ length loads) × (policy.p ≤ 100) × (1 ≤ left.free) × (length ends ≡ length loads)
+  pub next_asked : Scale up.workers up.load × (sum loads ≤ up.load) × (2 * set.policy.reach ≤ length loads) × (1 ≤ left.free) × (length ends ≡ length loads)
       × ((j : ℕ) → j < length ends → left.done ≤ get_or ends j 0)
   next_asked = (
     task.scale,
     task.within,
-    task.far.0,
     omega (arith, loads-count, task.levels),
-    task.share,
     task.free,
     ends-count ∙ sym loads-count,
     λ j l. rw (task.levelled.ends_are, ends_at left.done ls j (omega (arith, ends-count))) (omega arith),
   )
 
-module _ {n : ℕ} {policy : Policy} {stages : ℕ} {starts columns stretch ends loads records : List ℕ} {up : Parent} {left : Left} {ls : List (List ℕ)}
-    (task : PairsTask n policy stages starts columns stretch ends loads records up left ls) {pair : Pair} (found : Found policy up left ends loads pair) where
+module _ {set : Setting} {stages : ℕ} {stretch ends loads records : List ℕ} {up : Parent} {left : Left} {ls : List (List ℕ)}
+    (task : PairsTask set stages stretch ends loads records up left ls) {pair : Pair} (found : Found (policy_of set.policy) up left ends loads pair) where
+  abbrev n : ℕ
+  n = set.ranked.graph.m.n
+
+  abbrev policy : Policy
+  policy = policy_of set.policy
+
   abbrev adj : ℕ → List ℕ
-  adj = adj_of n starts columns
+  adj = adj_in set.ranked.graph
 
   abbrev a : ℕ
   a = pair.reds
@@ -99,12 +104,9 @@ module _ {n : ℕ} {policy : Policy} {stages : ℕ} {starts columns stretch ends
   pub pair_fits : Fits up left pair
   pair_fits = record { parts = parts_in.0; inside = omega (arith, parts_in, task.inside); some = workers-most task found; workers = task.workers; shallow = omega (arith, task.shallow) }
 
-  pub red_task : GroupTask n policy stages left.index starts columns (take a stretch) records (red_group up left pair)
+  pub red_task : GroupTask set stages left.index (take a stretch) records (red_group up left pair)
   red_task = rw red-part (record {
-    rows = task.rows;
     proper = proper-left n (reds task found) (blues task found ++ later task found) parts-proper;
-    share = task.share;
-    far = task.far;
     size = sym (reds-length task found);
     inside = omega (arith, task.inside, stretch_length, reds-length task found, rows-length task found);
     workers = omega (arith, task.workers, workers-most task found);
@@ -138,12 +140,9 @@ module _ {n : ℕ} {policy : Policy} {stages : ℕ} {starts columns stretch ends
     i_is : i ≡ blue_index task found
     i_is = red_held'.count_is
 
-    pub blue_task : GroupTask n policy stages i starts columns (part one a b) records₁ (blue_group up left pair)
+    pub blue_task : GroupTask set stages i (part one a b) records₁ (blue_group up left pair)
     blue_task = rw (blue-part, i_is) (record {
-      rows = task.rows;
       proper = proper-left n (blues task found) (later task found) rest-proper;
-      share = task.share;
-      far = task.far;
       size = sym (blues-length task found);
       inside = omega (arith, task.inside, stretch_length, rows-length task found);
       workers = omega (arith, task.workers, workers-most task found);
@@ -217,15 +216,12 @@ module _ {n : ℕ} {policy : Policy} {stages : ℕ} {starts columns stretch ends
         over : (pair.levels + 2 * policy.reach ≤ length ls) × (pair.workers < left.free)
         over = left_over task found (λ e. some (e ∙ sym (ends-count task)))
 
-        pub rest_task : PairsTask n policy stages starts columns (part two b (length two)) (part ends pair.levels (length ends)) (part loads pair.levels (length loads)) records₂ up (left_after left pair j)
+        pub rest_task : PairsTask set stages (part two b (length two)) (part ends pair.levels (length ends)) (part loads pair.levels (length loads)) records₂ up (left_after left pair j)
             (levels_in (left.done + b) (part ends pair.levels (length ends)) (part two b (length two)))
         rest_task = rw rest-levels (record {
-          rows = task.rows;
           proper = rw rest_part (proper-right n (blues task found) (later task found) rest-proper);
           levelled = rest-levelled;
           loads_are = part_to_end loads pair.levels ∙ ap (drop pair.levels) task.loads_are ∙ map-drop (load_of adj) pair.levels ls;
-          share = task.share;
-          far = task.far;
           scale = task.scale;
           within = omega (arith, task.within, ap sum (part_to_end loads pair.levels), sum-split pair.levels loads);
           levels = omega (arith, length-drop pair.levels ls, over);

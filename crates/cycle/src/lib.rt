@@ -1,24 +1,24 @@
-// The group planner and the pair planner, which call each other. The rows' degrees stand in keys, as the sort takes
-// them; list, tried and queue are what it works in, the same for every group.
+// The group planner and the pair planner, which call each other. own, roots and visits are what the sort works in, the
+// same for every group.
 #![tactic(auto)]
+
+pub mod setting;
 
 ghost use Rattle.std.specs.Prelude.{◌≡◌, ℕ, ◌+◌, ◌-◌, ◌*◌, ◌<◌, ◌≤◌, length, take, get_or};
 ghost use Rattle.base.specs.Lists.{sum};
-ghost use Rattle.matrix.specs.Limits.{max_rows};
-ghost use Rattle.levels.specs.Code.Rows.{adj_of};
+ghost use Rattle.levels.specs.Code.Graph.{adj};
 ghost use Rattle.extents.specs.Extents.{extent, cut};
-ghost use Rattle.race.specs.Planner.{plan_group};
 ghost use Rattle.extents.specs.Code.Scans.{policy_of, Scale};
 ghost use Rattle.loads.specs.Code.Stretches.{levels_in};
-ghost use Rattle.sort.specs.Code.Sort.{Keyed, Room};
-ghost use Rattle.plan.specs.Groups.{group_of};
 ghost use Rattle.cycle.specs.Code.Records.{Holds};
-ghost use Rattle.cycle.specs.Code.Cycle.{red_group, blue_group, left_after, Fits, GroupTask, PairsTask, pairs_plan};
+ghost use Rattle.cycle.specs.Code.Cycle.{red_group, blue_group, left_after, Fits, GroupTask, PairsTask, group_plan, pairs_plan};
 
 use extents::{Policy, cut, next_extent};
 use loads::level_loads;
 use matrix::limits::MAX_ROWS;
-use plan::fields::{BLUE, Group, RED, put};
+use plan::fields::{Colour, Group, put};
+use search::visiting::Visits;
+use setting::Setting;
 use sort::{MAX_LEVELS, level_sort};
 
 // A group that is split: its record's index, its depth, where it starts, its workers and its load.
@@ -59,7 +59,7 @@ pub struct Pair {
 
 // The next pair.
 fn next_pair(ends: &[u32], loads: &[u32], policy: Policy, up: Parent, left: Left) -> Pair
-    requires { Scale up.workers up.load × (sum loads.now ≤ up.load) × (1 ≤ policy.reach) × (2 * policy.reach ≤ length loads.now) × (policy.p ≤ 100) × (1 ≤ left.free) × (length ends.now ≡ length loads.now)
+    requires { Scale up.workers up.load × (sum loads.now ≤ up.load) × (2 * policy.reach ≤ length loads.now) × (1 ≤ left.free) × (length ends.now ≡ length loads.now)
         × ((j : ℕ) → j < length ends.now → left.done ≤ get_or ends.now j 0) }
     ensures { (result.levels ≡ (extent up.workers up.load (policy_of policy) left.free loads.now).levels)
         × (result.workers ≡ (extent up.workers up.load (policy_of policy) left.free loads.now).workers)
@@ -89,7 +89,7 @@ fn red_of(up: Parent, left: Left, pair: Pair) -> Group
         length: pair.reds,
         first: left.first,
         workers: pair.workers,
-        colour: RED,
+        colour: Colour::Red as u32,
         parent: up.index,
         depth: up.depth + 1,
     }
@@ -105,7 +105,7 @@ fn blue_of(up: Parent, left: Left, pair: Pair) -> Group
         length: pair.rows - pair.reds,
         first: left.first,
         workers: pair.workers,
-        colour: BLUE,
+        colour: Colour::Blue as u32,
         parent: up.index,
         depth: up.depth + 1,
     }
@@ -127,23 +127,18 @@ fn after(up: Parent, left: Left, pair: Pair, index: u32) -> Left
 // A group's record, then its pairs, if it is split; the answer is the index past its records.
 #[cycle(plan_group_plan_pairs)]
 pub fn plan_group(
-    starts: &[u32],
-    columns: &[u32],
-    keys: &[u32; MAX_ROWS],
+    setting: &Setting,
     order: &mut [u32],
     records: &mut [u32],
-    list: &mut [u32],
-    tried: &mut [u32],
-    queue: &mut [u32; MAX_ROWS],
-    n: usize,
-    policy: Policy,
+    own: &mut [u32; MAX_ROWS],
+    roots: &mut [u32; MAX_ROWS],
+    visits: &mut Visits,
     stages: u32,
     index: u32,
     g: Group,
 ) -> u32
-    requires { GroupTask n (policy_of policy) stages index starts.now columns.now order.old records.old g × Keyed (adj_of n starts.now columns.now) n keys.now × Room n list.old tried.old queue.old }
-    ensures { Holds (plan_group (adj_of n starts.now columns.now) n (policy_of policy) stages index (group_of g) order.old)
-        index records.old order.new records.new result × (length queue.new ≡ max_rows) }
+    requires { GroupTask setting.now stages index order.old records.old g }
+    ensures { Holds (group_plan setting.now stages index g order.old) index records.old order.new records.new result }
 {
     put(records, index as usize, g);
     if stages == 0 {
@@ -153,17 +148,14 @@ pub fn plan_group(
         return index + 1;
     }
     let mut ends = [0u32; MAX_LEVELS];
-    let reach = policy.reach;
+    let reach = setting.policy.reach;
     let m = level_sort(
-        starts,
-        columns,
-        keys,
+        &setting.ranked,
         order,
         &mut ends,
-        list,
-        tried,
-        queue,
-        n,
+        own,
+        roots,
+        visits,
         reach,
         2 * reach,
     );
@@ -171,7 +163,7 @@ pub fn plan_group(
         return index + 1;
     }
     let mut loads = [0u32; MAX_LEVELS];
-    let load = level_loads(keys, order, &ends[..m], &mut loads);
+    let load = level_loads(setting.ranked.keys, order, &ends[..m], &mut loads);
     let up = Parent {
         index,
         depth: g.depth,
@@ -186,79 +178,62 @@ pub fn plan_group(
         index: index + 1,
     };
     plan_pairs(
-        starts,
-        columns,
-        keys,
+        setting,
         order,
         &ends[..m],
         &loads[..m],
         records,
-        list,
-        tried,
-        queue,
-        n,
-        policy,
+        own,
+        roots,
+        visits,
         stages - 1,
-        Rest { up: up, left: left },
+        Rest { up, left },
     )
 }
 
 // The pairs of a group in the levels that are left: the next pair's red group, its blue group, and the pairs after it.
 #[cycle(plan_group_plan_pairs)]
 fn plan_pairs(
-    starts: &[u32],
-    columns: &[u32],
-    keys: &[u32; MAX_ROWS],
+    setting: &Setting,
     order: &mut [u32],
     ends: &[u32],
     loads: &[u32],
     records: &mut [u32],
-    list: &mut [u32],
-    tried: &mut [u32],
-    queue: &mut [u32; MAX_ROWS],
-    n: usize,
-    policy: Policy,
+    own: &mut [u32; MAX_ROWS],
+    roots: &mut [u32; MAX_ROWS],
+    visits: &mut Visits,
     stages: u32,
     rest: Rest,
 ) -> u32
-    requires { PairsTask n (policy_of policy) stages starts.now columns.now order.old ends.now loads.now records.old rest.up rest.left (levels_in rest.left.done ends.now order.old) × Keyed (adj_of n starts.now columns.now) n keys.now × Room n list.old tried.old queue.old }
-    ensures { Holds (pairs_plan (adj_of n starts.now columns.now) n (policy_of policy) stages rest.up rest.left (levels_in rest.left.done ends.now order.old))
-        rest.left.index records.old order.new records.new result × (length queue.new ≡ max_rows) }
+    requires { PairsTask setting.now stages order.old ends.now loads.now records.old rest.up rest.left (levels_in rest.left.done ends.now order.old) }
+    ensures { Holds (pairs_plan (adj setting.now.ranked.graph) setting.now.ranked.graph.m.n (policy_of setting.now.policy) stages rest.up rest.left (levels_in rest.left.done ends.now order.old))
+        rest.left.index records.old order.new records.new result }
 {
-    let up = rest.up;
-    let left = rest.left;
-    let pair = next_pair(ends, loads, policy, up, left);
+    let Rest { up, left } = rest;
+    let pair = next_pair(ends, loads, setting.policy, up, left);
     let red = red_of(up, left, pair);
     let blue = blue_of(up, left, pair);
     let levels = pair.levels;
     let a = pair.reds as usize;
     let b = pair.rows as usize;
     let i = plan_group(
-        starts,
-        columns,
-        keys,
+        setting,
         &mut order[..a],
         records,
-        list,
-        tried,
-        queue,
-        n,
-        policy,
+        own,
+        roots,
+        visits,
         stages,
         left.index,
         red,
     );
     let j = plan_group(
-        starts,
-        columns,
-        keys,
+        setting,
         &mut order[a..b],
         records,
-        list,
-        tried,
-        queue,
-        n,
-        policy,
+        own,
+        roots,
+        visits,
         stages,
         i,
         blue,
@@ -268,19 +243,15 @@ fn plan_pairs(
     }
     let next = after(up, left, pair, j);
     plan_pairs(
-        starts,
-        columns,
-        keys,
+        setting,
         &mut order[b..],
         &ends[levels..],
         &loads[levels..],
         records,
-        list,
-        tried,
-        queue,
-        n,
-        policy,
+        own,
+        roots,
+        visits,
         stages,
-        Rest { up: up, left: next },
+        Rest { up, left: next },
     )
 }

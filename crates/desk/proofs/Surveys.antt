@@ -7,7 +7,7 @@ use native.Mathlib.Nat.{min_comm}
 use native.Mathlib.Omega.{arith}
 use lib.Dec.{eqb, ltb, leb}
 use lib.IntN.{ℤ, pos, nat_abs}
-use lib.ListN.{length, take}
+use lib.ListN.{length, take, drop}
 use lib.Seq.{length-take-le}
 use borrow.Author.Tests.{leb-true}
 use Rattle.base.specs.Lists.{range, sum_below, bit}
@@ -29,7 +29,7 @@ use Rattle.survey.proofs.Shifts.{farthest-long}
 use Rattle.desk.specs.Lent.{survey_in, SurveyAnswered}
 
 -- how many numbers the shift has, by the call's count
-abbrev size_of : (count n : ℕ) → ℕ
+abbrev pub size_of : (count n : ℕ) → ℕ
 size_of count n = cond (eqb count 0) 0 n
 
 module _ (m : Matrix) (x : List ℤ) (t i : ℕ) where
@@ -172,6 +172,15 @@ module _ {m : Matrix} {x : List ℤ} {t i : ℕ} {sums moves : List ℕ} {r : Re
         amounts-room = made.long;
         shift-room = rw (← long) made.shift-long;
       }
+
+-- .. of a call to which the first j and k numbers of two arrays are lent on
+pub survey-holds : (us vs : List ℤ) {m : Matrix} {x : List ℤ} {t i : ℕ} {sums moves : List ℕ} {j k count : ℕ} {new_us new_vs : List ℤ}
+    → (max_rows ≤ length us) × (max_rows ≤ length vs) → j ≡ min (length sums / 8) (length us) → k ≡ min (length moves / 4) (length vs)
+    → accepted count ≡ survey_reply m x t i (length (take j us)) (length (take k vs))
+    → new_us ≡ lent (survey_reply m x t i (length (take j us)) (length (take k vs))) (amounts_of m t) (take j us)
+    → new_vs ≡ lent (survey_reply m x t i (length (take j us)) (length (take k vs))) (written_shift m x t i) (take k vs)
+    → Held m x t i sums moves count (new_us ++ drop j us) (new_vs ++ drop k vs)
+survey-holds us vs {m} {x} {t} {i} {sums} {moves} enough ej ek e eu ev = survey-held (same-reply m x t i us vs sums moves enough ej ek) e _ _ eu ev _ _
 
 -- .. and stores them
 pub survey-stored : {m : Matrix} {x : List ℤ} {t i : ℕ} {sums moves : List ℕ} {count : ℕ} {us vs : List ℤ} → Held m x t i sums moves count us vs

@@ -1,32 +1,21 @@
 // Where a pair ends, and where it is cut, from the loads of the levels that are left.
 #![tactic(auto)]
 
+mod policy;
+
 ghost use Rattle.std.specs.Prelude.{◌≡◌, ◌+◌, ◌-◌, ◌*◌, ◌<◌, ◌≤◌, length};
-ghost use Rattle.base.specs.Lists.{sum, distance, from_first};
+ghost use Rattle.base.specs.Lists.{sum, from_first};
 ghost use Rattle.plan.specs.Sound.{max_workers};
 ghost use Rattle.extents.specs.Extents.{nearest, serves, extent, cut};
 ghost use Rattle.extents.specs.Code.Scans.{max_load, policy_of, ends_on, nearest_end, Scale};
 
-// What the rules take: a colour has at least reach levels, a pair twice as many, and closeness is to be above p per
-// cent.
-#[derive(Clone, Copy)]
-pub struct Policy {
-    pub reach: usize,
-    pub p: u32,
-}
+pub use policy::Policy;
 
 // How many levels and workers a pair takes.
-#[derive(Drop)]
+#[derive(Clone, Copy)]
 pub struct Extent {
     pub levels: usize,
     pub workers: u32,
-}
-
-// How far a and b are from each other.
-fn off(a: u32, b: u32) -> u32
-    ensures { result ≡ distance a b }
-{
-    if a < b { b - a } else { a - b }
 }
 
 // The load of all these levels.
@@ -34,13 +23,11 @@ fn total(loads: &[u32]) -> u32
     requires { sum loads.now ≤ max_load }
     ensures { result ≡ sum loads.now }
 {
-    let mut s = 0;
-    let mut k = 0;
-    while k < loads.len() {
-        s += loads[k];
-        k += 1;
+    let mut sum = 0;
+    for q in loads {
+        sum += *q;
     }
-    s
+    sum
 }
 
 // The whole number nearest to q × w / load, half going up, but at least 1.
@@ -48,8 +35,7 @@ fn nearest(q: u32, w: u32, load: u32) -> u32
     requires { Scale w load × (q ≤ load) }
     ensures { result ≡ nearest q w load }
 {
-    let b = (2 * (q * w) + load) / (2 * load);
-    if b < 1 { 1 } else { b }
+    ((2 * (q * w) + load) / (2 * load)).max(1)
 }
 
 // Levels of load q are close enough to a whole number of workers.
@@ -58,7 +44,7 @@ fn serves(q: u32, w: u32, load: u32, p: u32) -> bool
     ensures { result ≡ serves q w load p }
 {
     let b = nearest(q, w, load);
-    100 * off(q * w, b * load) < (100 - p) * load
+    100 * (q * w).abs_diff(b * load) < (100 - p) * load
 }
 
 // How many levels the first end has that serves, of those with at least so many; one more than there are, if none does.
@@ -66,16 +52,14 @@ fn first_end(loads: &[u32], least: usize, w: u32, load: u32, p: u32) -> usize
     requires { Scale w load × (sum loads.now ≤ load) × (1 ≤ least) × (least ≤ length loads.now) × (p ≤ 100) }
     ensures { (from_first (λ e. serves e.load w load p) (ends_on least loads.now) ≡ ends_on result loads.now) × (least ≤ result) }
 {
-    let mut k = least - 1;
-    let mut q = total(&loads[..k]);
-    while k < loads.len() {
+    let mut q = total(&loads[..least - 1]);
+    for k in least - 1..loads.len() {
         q += loads[k];
-        k += 1;
         if serves(q, w, load, p) {
-            return k;
+            return k + 1;
         }
     }
-    k + 1
+    loads.len() + 1
 }
 
 // How many levels that end has, of k or more, whose load times x is nearest to y; the shorter wins a tie.
@@ -85,17 +69,15 @@ fn nearest_end(loads: &[u32], k: usize, x: u32, y: u32) -> usize
 {
     let mut q = total(&loads[..k]);
     let mut best = k;
-    let mut least = off(q * x, y);
-    let mut i = k;
-    while i < loads.len() {
+    let mut least = (q * x).abs_diff(y);
+    for i in k..loads.len() {
         if y <= q * x {
             return best;
         }
         q += loads[i];
-        i += 1;
-        let d = off(q * x, y);
+        let d = (q * x).abs_diff(y);
         if d < least {
-            best = i;
+            best = i + 1;
             least = d;
         }
     }
@@ -104,32 +86,27 @@ fn nearest_end(loads: &[u32], k: usize, x: u32, y: u32) -> usize
 
 // The next pair's levels and workers.
 pub fn next_extent(loads: &[u32], w: u32, load: u32, policy: Policy, free: u32) -> Extent
-    requires { Scale w load × (sum loads.now ≤ load) × (1 ≤ policy.reach) × (2 * policy.reach ≤ length loads.now) × (policy.p ≤ 100) }
+    requires { Scale w load × (sum loads.now ≤ load) × (2 * policy.reach ≤ length loads.now) }
     ensures { (result.levels ≡ (extent w load (policy_of policy) free loads.now).levels)
         × (result.workers ≡ (extent w load (policy_of policy) free loads.now).workers) }
 {
     let all = loads.len();
+    let rest = Extent {
+        levels: all,
+        workers: free,
+    };
     let least = 2 * policy.reach;
     let k = first_end(loads, least, w, load, policy.p);
     if all < k {
-        return Extent {
-            levels: all,
-            workers: free,
-        };
+        return rest;
     }
     let b = nearest(total(&loads[..k]), w, load);
     let e = nearest_end(loads, k, w, b * load);
     if all - e < least {
-        return Extent {
-            levels: all,
-            workers: free,
-        };
+        return rest;
     }
     if free <= b {
-        return Extent {
-            levels: all,
-            workers: free,
-        };
+        return rest;
     }
     Extent {
         levels: e,

@@ -5,9 +5,7 @@ use Prim.Native.Nat.{ℕ, ◌+◌, ◌*◌, ◌≤◌, min}
 use native.Mathlib.Omega.{arith}
 use lib.ListN.{length, take, drop, length-map}
 use lib.Seq.{length-take-le}
-use Rattle.base.specs.Verdicts.{reply_of}
 use Rattle.base.specs.Replies.{Reply, accepted, refused, lent}
-use Rattle.base.specs.declared.Verdict.{Verdict}
 use Rattle.matrix.specs.Limits.{max_rows}
 use Rattle.matrix.specs.Matrix.{Matrix}
 use Rattle.plan.specs.Groups.{width, flat}
@@ -18,8 +16,13 @@ use Rattle.race.specs.Planner.{plan, plan_reply}
 use Rattle.plan.specs.declared.fields.Group.{Group}
 use Rattle.race.proofs.Rooms.{rooms_cut, planned}
 use Rattle.groups.specs.Structs.{of_group}
-use Rattle.groups.specs.Code.Flattened.{gathered, count_of, Planned}
+use Rattle.groups.specs.Code.Flattened.{gathered}
 use Rattle.groups.proofs.Gathering.{gathered_none}
+
+-- how many groups a reply accepts
+abbrev pub count_of : Reply → ℕ
+count_of (accepted count) = count
+count_of (refused number place) = 0
 
 module _ (m : Matrix) (w p k : ℕ) (a room : ℕ) where
   -- the reply to a call with so much room for the groups
@@ -56,20 +59,16 @@ module _ (m : Matrix) (w p k : ℕ) (a room : ℕ) where
       go (refused q s) e = gathered_none (old ++ rest) gs
 
 -- the planner's call with the first numbers of an array
-pub made-planned : (m : Matrix) (w p k : ℕ) (order left zeros part : List ℕ) (room size count : ℕ) (answer : Verdict) → length zeros ≡ max_fields → size ≡ min (width * room) max_fields
-    → reply_of answer ≡ plan_reply m w p k (length order) (length (take size zeros))
-    → left ≡ lent (plan_reply m w p k (length order) (length (take size zeros))) (plan m w p k).order order
-    → part ≡ lent (plan_reply m w p k (length order) (length (take size zeros))) (flat (plan m w p k).groups) (take size zeros)
-    → count ≡ count_of (reply_of answer)
-    → Planned m w p k order room (record { numbers = part ++ drop size zeros; count = count; answer = answer }) left
-made-planned m w p k order left zeros part room size count answer z s told o g c =
-    let long : length (take size zeros) ≡ min (width * room) max_fields = length-take-le size zeros (omega arith) ∙ s in
-    let same : plan_reply m w p k (length order) (length (take size zeros)) ≡ plan_reply m w p k (length order) (width * room) = rw long (same-reply m w p k (length order) room) in
-    let reply-is : reply_of answer ≡ plan_reply m w p k (length order) (width * room) = told ∙ same in
-    let count_is : count ≡ count_of (plan_reply m w p k (length order) (width * room)) = c ∙ ap count_of reply-is in
-    record {
-      reply = reply-is;
-      order-left = rw same at o;
-      fits = rw count_is (reply-fits m w p k (length order) room);
-      groups-left = λ gs. rw (count_is, g, same) (reply-groups m w p k (length order) room (take size zeros) (drop size zeros) gs);
-    }
+module _ (m : Matrix) (w p k a room size : ℕ) (s : size ≡ width * min room max_groups) (zeros : List ℕ) (long : length zeros ≡ max_fields) where
+  pub told : plan_reply m w p k a (length (take size zeros)) ≡ plan_reply m w p k a (width * room)
+  told =
+      let e : length (take size zeros) ≡ min (width * room) max_fields = omega (arith, length-take-le size zeros (omega arith)) in
+      rw e (same-reply m w p k a room)
+
+  module _ (part : List ℕ) (count : ℕ) (is : accepted count ≡ plan_reply m w p k a (length (take size zeros))) where
+    pub fits : (count ≤ max_groups) × (count ≤ room)
+    fits = rw (← ap count_of (is ∙ told)) at (reply-fits m w p k a room)
+
+    pub left : (gs : List Group) → part ≡ lent (plan_reply m w p k a (length (take size zeros))) (flat (plan m w p k).groups) (take size zeros)
+        → gathered count (part ++ drop size zeros) gs ≡ lent (plan_reply m w p k a (width * room)) (map of_group (plan m w p k).groups) gs
+    left gs e = rw (e, told, ap count_of (is ∙ told)) (reply-groups m w p k a room (take size zeros) (drop size zeros) gs)

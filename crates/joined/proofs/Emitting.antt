@@ -1,4 +1,5 @@
 -- Entries put into arrays, one after the other.
+use Rattle.std.proofs.Common.{Option, Some, None}
 use mathlib.Core.Path.{◌≡◌, refl, sym, ap, ◌∙◌}
 use mathlib.Core.Logic.{◌⊎◌, inl, inr}
 use mathlib.Core.Bool.{Bool, true, false, ◌&&◌}
@@ -15,7 +16,7 @@ use Rattle.base.proofs.Lists.{all_append}
 use Rattle.matrix.specs.Limits.{max_entries, max_value}
 use Rattle.market.specs.Parse.{Triplet, triplet}
 use Rattle.compress.specs.Code.Arrays.{Arrays, triplets_of}
-use Rattle.joined.specs.Code.Rows.{are_small, Emitted}
+use Rattle.joined.specs.Code.Rows.{are_small, Emitted, Told}
 
 -- ---- arrays
 
@@ -104,3 +105,13 @@ module _ {m : ℕ} {rs cs : List ℕ} {vs : List ℤ} where
 -- the same entries by another name
 pub emitted_same : {xs ys : List Triplet} → xs ≡ ys → {m : ℕ} {rs cs : List ℕ} {vs : List ℤ} {r : ℕ} {rs' cs' : List ℕ} {vs' : List ℤ} → Emitted xs m rs cs vs r rs' cs' vs' → Emitted ys m rs cs vs r rs' cs' vs'
 emitted_same e h = rw e at h
+
+-- .. as the code tells them
+pub told_same : {xs ys : List Triplet} → xs ≡ ys → (m : ℕ) (rs cs : List ℕ) (vs : List ℤ) (r : Option ℕ) (rs' cs' : List ℕ) (vs' : List ℤ) → Told xs m rs cs vs r rs' cs' vs' → Told ys m rs cs vs r rs' cs' vs'
+told_same e m rs cs vs (Some k) rs' cs' vs' h = (h.0, emitted_same e h.1)
+told_same e m rs cs vs None rs' cs' vs' h = emitted_same e h
+
+pub told_then : {xs : List Triplet} {m : ℕ} {rs cs : List ℕ} {vs : List ℤ} {k : ℕ} {rs₁ cs₁ : List ℕ} {vs₁ : List ℤ} → Emitted xs m rs cs vs k rs₁ cs₁ vs₁ → k ≤ max_entries
+    → (ys : List Triplet) (r : Option ℕ) (rs₂ cs₂ : List ℕ) (vs₂ : List ℤ) → Told ys k rs₁ cs₁ vs₁ r rs₂ cs₂ vs₂ → Told (xs ++ ys) m rs cs vs r rs₂ cs₂ vs₂
+told_then e l ys (Some q) rs₂ cs₂ vs₂ h = (h.0, emitted_then e l h.1)
+told_then e l ys None rs₂ cs₂ vs₂ h = emitted_then e l h

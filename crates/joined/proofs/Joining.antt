@@ -1,5 +1,6 @@
 -- The call: its refusals in turn, and the lists that it leaves.
 use mathlib.Core.Path.{◌≡◌, refl, sym, ap, ap₂, ◌∙◌}
+use Rattle.std.proofs.Common.{Result}
 use mathlib.Core.Bool.{Bool, true, false, ◌||◌, ◌&&◌, cond, and-true}
 use mathlib.Core.List.{List, [], ◌∷◌, map}
 use Prim.Native.Nat.{ℕ, zero, suc, ◌+◌, ◌≤◌, ◌<◌}
@@ -13,7 +14,7 @@ use Rattle.base.specs.Lists.{filter, all, concat, is_in, range, bit, distinct}
 use Rattle.base.specs.Integers.{within}
 use Rattle.base.specs.Refusals as why
 use Rattle.base.specs.Replies.{Reply, refused, in_turn, lent}
-use Rattle.base.specs.declared.Verdict.{Verdict}
+use Rattle.base.specs.declared.Refusal.{Refusal}
 use Rattle.base.proofs.Each.{Each, each_append}
 use Rattle.base.proofs.Lists.{all_append, all_map, of-all, filter_in, filter_passes, range_in}
 use Rattle.base.proofs.Replies.{lent-refused}
@@ -116,7 +117,7 @@ module _ (a b : Matrix) (places : List ℕ) (n : ℕ) (w : Sewing a b places n) 
     long_values = omega (arith, t.values);
   }
 
-  module _ (h : m ≤ max_entries) {starts₀ columns₀ : List ℕ} {values₀ : List ℤ} {r : Verdict} {starts' columns' : List ℕ} {values' : List ℤ} (p : Placed (matrix_text n (triplets_of m rs cs vs)) starts₀ columns₀ values₀ r starts' columns' values') where
+  module _ (h : m ≤ max_entries) {starts₀ columns₀ : List ℕ} {values₀ : List ℤ} {r : Result ℕ Refusal} {starts' columns' : List ℕ} {values' : List ℤ} (p : Placed (matrix_text n (triplets_of m rs cs vs)) starts₀ columns₀ values₀ r starts' columns' values') where
     pub placed_joins : Answers a b places starts₀ columns₀ values₀ (reply_of r) starts' columns' values'
     placed_joins =
         let g = rw w.rows at (collected c) in

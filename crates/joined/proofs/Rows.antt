@@ -1,4 +1,5 @@
 -- The joined net's entries on and below the diagonal, row by row.
+use Rattle.std.proofs.Common.{Some}
 use mathlib.Core.Path.{◌≡◌, refl, sym, ap, ◌∙◌}
 use mathlib.Core.Logic.{◌⊎◌, inl, inr, ⊎_elim, ◌≢◌}
 use mathlib.Core.Bool.{Bool, true, false, not, ◌||◌, ◌&&◌, cond}
@@ -17,7 +18,6 @@ use Rattle.base.proofs.Each.{Each, each_append}
 use Rattle.base.proofs.Lists.{all_append, in_get, filter-append, get_d_zeros}
 use Rattle.matrix.specs.Limits.{max_rows, max_entries, max_value}
 use Rattle.matrix.specs.Matrix.{Matrix, part_of, columns_of, values_of, lookup, entry, ascending, is_matrix, lower_entries}
-use Rattle.matrix.specs.Code.Pattern.{pattern}
 use Rattle.matrix.proofs.Ascending.{ascending_less, lookup-get}
 use Rattle.matrix.proofs.Checks.{matrix_tidy}
 use Rattle.matrix.proofs.Matrix.{lookup_position, lookup-none, matrix_facts, column-low}
@@ -202,15 +202,6 @@ module _ (a b : Matrix) (places : List ℕ) (n : ℕ) (w : Sewing a b places n) 
 
 -- ---- the rows as they are handed over
 
--- those of a matrix without its values, or its columns
-pub pattern-columns : (m : Matrix) (i : ℕ) → columns_of (pattern m.n m.starts m.columns) i ≡ columns_of m i
-unfolding columns_of part_of
-pattern-columns m i = refl
-
-pub pattern-values : (m : Matrix) (i : ℕ) → part_of (pattern m.n m.starts []) m.values i ≡ values_of m i
-unfolding values_of part_of
-pattern-values m i = refl
-
 pub entries-same : (i : ℕ) (places : List ℕ) {cs cs' ds ds' : List ℕ} {vs vs' ws ws' : List ℤ} → cs ≡ cs' → vs ≡ vs' → ds ≡ ds' → ws ≡ ws' → row_entries i places cs vs ds ws ≡ row_entries i places cs' vs' ds' ws'
 entries-same i places e f g h = rw (e, f, g, h)
 
@@ -321,18 +312,16 @@ module _ (a b : Matrix) (places : List ℕ) (n : ℕ) where
           broken (inr k) = many-entries a b places w.first w.second w.placed (many k)
 
   -- all rows
-  pub going_end : {i m : ℕ} {rs cs : List ℕ} {vs : List ℤ} → Going i m rs cs vs → i ≡ n → Gathers a b places n m rs cs vs
-  going_end {i} {m} {rs} {cs} {vs} g e = record {
-    all = λ h. (
-      record {
-        inside = λ k l. (each_at Low m rs cs vs g.part.low k l, (each_at (Inner n) m rs cs vs g.part.inner k l).0);
-        small = small;
-        cells = λ r c k. g.part.cells r c ∙ ap (λ (t : Bool). cond t (triplet r c (stiffness a b places r c) ∷ []) []) (done r c k);
-      },
-      g.arrays,
-    );
-    past = λ h. absurd (omega (arith, g.few));
-  }
+  pub going_end : {i m : ℕ} {rs cs : List ℕ} {vs : List ℤ} → Going i m rs cs vs → i ≡ n → Gathers a b places n (Some m) rs cs vs
+  going_end {i} {m} {rs} {cs} {vs} g e = (
+    g.few,
+    record {
+      inside = λ k l. (each_at Low m rs cs vs g.part.low k l, (each_at (Inner n) m rs cs vs g.part.inner k l).0);
+      small = small;
+      cells = λ r c k. g.part.cells r c ∙ ap (λ (t : Bool). cond t (triplet r c (stiffness a b places r c) ∷ []) []) (done r c k);
+    },
+    g.arrays,
+  )
     where
       done : (r c : ℕ) → r < n → before i r c ≡ stored_in a b places r c && leb c r
       done r c k = rw (lt-ltb r i (omega (arith, e)))
@@ -341,6 +330,3 @@ module _ (a b : Matrix) (places : List ℕ) (n : ℕ) where
       small r c l k s = unfold are_small in
           let one : filter (is_at r c) (triplets_of m rs cs vs) ≡ triplet r c (stiffness a b places r c) ∷ [] = g.part.cells r c ∙ rw (done r c k, s, le-leb c r l) in
           and_left (within max_value (stiffness a b places r c)) true (rw one at (small-filter (is_at r c) (triplets_of m rs cs vs) g.small))
-
-  pub gathers_past : {m : ℕ} {rs cs : List ℕ} {vs : List ℤ} → max_entries < m → in_limits (joined a b places) ≡ false → Gathers a b places n m rs cs vs
-  gathers_past h e = record { all = λ k. absurd (omega (arith, h, k)); past = λ k. e }

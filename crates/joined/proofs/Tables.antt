@@ -1,25 +1,24 @@
 -- Tables with one number for each row of the joined net, filled for one turn.
 use mathlib.Core.Path.{◌≡◌, refl, sym, ap, ◌∙◌}
 use mathlib.Core.Logic.{⊎_elim, ◌≢◌}
-use mathlib.Core.Bool.{Bool, false, ◌||◌, cond}
-use mathlib.Core.List.{List, [], ◌∷◌}
+use mathlib.Core.Bool.{Bool, cond}
+use mathlib.Core.List.{List}
 use Prim.Native.Nat.{ℕ, ◌+◌, ◌<◌}
 use native.Mathlib.Numerals.{add-one}
 use native.Mathlib.Omega.{arith}
 use lib.Dec.{eqb}
 use lib.IntN.{ℤ, pos}
 use lib.ListN.{length, get_or, take, set, length-set}
-use lib.Seq.{take-suc, take-length, get_or-set_same, get_or-set_other}
+use lib.Seq.{take-length, get_or-set_same, get_or-set_other}
 use borrow.Author.Tests.{eq-eqb, ne_eqb}
 use Rattle.base.specs.Lists.{is_in, position_of}
-use Rattle.base.proofs.Booleans.{or_true, or_false, same_or}
+use Rattle.base.proofs.Booleans.{same_or}
 use Rattle.base.proofs.Positions.{position_at, position_in}
 use Rattle.base.proofs.Distinct.{position_get}
-use Rattle.base.proofs.Lists.{is_in-append}
 use Rattle.matrix.specs.Limits.{max_rows}
 use Rattle.matrix.specs.Matrix.{lookup}
 use Rattle.matrix.proofs.Ascending.{lookup-next}
-use Rattle.joined.specs.Code.Rows.{marked, held_at, Before, Held, Seen, SecondRow}
+use Rattle.joined.specs.Code.Rows.{held_at, Before, Held, Seen, SecondRow}
 
 -- ---- the second net's row
 
@@ -79,28 +78,6 @@ held-before h = record { long = h.long; early = λ c. omega (arith, h.late c) }
 module _ (turn : ℕ) (cs : List ℕ) {seen : List ℕ} where
   pub seen_none : Before turn seen → Seen turn (is_in (take 0 cs)) seen
   seen_none b = record { long = b.long; late = λ c. omega (arith, b.early c); is = λ c. ne_eqb (get_or seen c 0) turn (λ e. omega (arith, b.early c)) }
-
-  pub seen_next : (k : ℕ) → k < length cs → get_or cs k 0 < max_rows → Seen turn (is_in (take k cs)) seen → Seen turn (is_in (take (k + 1) cs)) (set seen (get_or cs k 0) turn)
-  seen_next k l low h = record {
-    long = length-set seen (get_or cs k 0) turn ∙ h.long;
-    late = λ c. ⊎_elim (λ e. rw e (rw (get_or-set_same seen (get_or cs k 0) turn 0 fits) (omega arith))) (λ d. rw (get_or-set_other seen (get_or cs k 0) c turn 0 d) (h.late c)) (same_or c (get_or cs k 0));
-    is = λ c. ⊎_elim (here c) (there c) (same_or c (get_or cs k 0));
-  }
-    where
-      fits : get_or cs k 0 < length seen
-      fits = omega (arith, low, h.long)
-
-      more : (c : ℕ) → is_in (take (k + 1) cs) c ≡ is_in (take k cs) c || (eqb c (get_or cs k 0) || false)
-      more c = rw (add-one k, take-suc cs k 0 l) (is_in-append (take k cs) (get_or cs k 0 ∷ []) c)
-
-      here : (c : ℕ) → c ≡ get_or cs k 0 → marked turn (set seen (get_or cs k 0) turn) c ≡ is_in (take (k + 1) cs) c
-      here c e = rw e (rw (get_or-set_same seen (get_or cs k 0) turn 0 fits, eq-eqb turn turn refl) (sym (more (get_or cs k 0) ∙ rw (eq-eqb (get_or cs k 0) (get_or cs k 0) refl) (or_true (is_in (take k cs) (get_or cs k 0))))))
-
-      there : (c : ℕ) → c ≢ get_or cs k 0 → marked turn (set seen (get_or cs k 0) turn) c ≡ is_in (take (k + 1) cs) c
-      there c d = rw (get_or-set_other seen (get_or cs k 0) c turn 0 d) (h.is c ∙ sym (more c ∙ rw (ne_eqb c (get_or cs k 0) d) (or_false (is_in (take k cs) c))))
-
-  pub seen_all : {k : ℕ} → Seen turn (is_in (take k cs)) seen → k ≡ length cs → Seen turn (is_in cs) seen
-  seen_all {k} h e = let c : take k cs ≡ cs = rw e (take-length cs) in record { long = h.long; late = h.late; is = λ j. h.is j ∙ rw c }
 
 pub seen_before : {turn : ℕ} {first : ℕ → Bool} {seen : List ℕ} → Seen turn first seen → Before (turn + 1) seen
 seen_before h = record { long = h.long; early = λ c. omega (arith, h.late c) }

@@ -1,26 +1,14 @@
 // One entry into the arrays.
 ghost use Rattle.std.specs.Prelude.{◌≡◌, not, ◌&&◌, cond, [], ◌∷◌, ◌+◌, ◌≤◌, ◌<◌, leb, length};
-ghost use Rattle.base.specs.Integers.{within};
-ghost use Rattle.matrix.specs.Limits.{max_rows, max_entries, max_value};
+ghost use Rattle.matrix.specs.Limits.{max_rows, max_entries};
 ghost use Rattle.market.specs.Parse.{triplet};
 ghost use Rattle.compress.specs.Code.Arrays.{Arrays};
-ghost use Rattle.joined.specs.Code.Rows.{marked, Emitted};
+ghost use Rattle.joined.specs.Code.Rows.{marked, Told};
 
-use matrix::limits::{MAX_ENTRIES, MAX_ROWS, MAX_VALUE};
+use market::in_limits;
+use matrix::limits::{MAX_ENTRIES, MAX_ROWS};
 
-// One more than there may be.
-const TOO_MANY: usize = MAX_ENTRIES + 1;
-
-// Whether a value is within its limit.
-fn is_small(v: i64) -> bool
-    ensures { result ≡ within max_value v }
-{
-    let most = MAX_VALUE as i64;
-    let least = 0 - most;
-    (least <= v) & (v <= most)
-}
-
-// Entry (i, j) after m others: how many there are then. One too many if its value is too large or there is no room.
+// Entry (i, j) after m others: how many there are then; none if its value is too large or there is no room.
 fn put(
     i: u32,
     j: u32,
@@ -29,20 +17,20 @@ fn put(
     rs: &mut [u32; MAX_ENTRIES],
     cs: &mut [u32; MAX_ENTRIES],
     vs: &mut [i32; MAX_ENTRIES],
-) -> usize
+) -> Option<usize>
     requires { Arrays rs.old cs.old vs.old }
-    ensures { Emitted (triplet i j v ∷ []) m rs.old cs.old vs.old result rs.new cs.new vs.new }
+    ensures { Told (triplet i j v ∷ []) m rs.old cs.old vs.old result rs.new cs.new vs.new }
 {
-    if !is_small(v) {
-        return TOO_MANY;
+    if !in_limits(v) {
+        return None;
     }
     if MAX_ENTRIES <= m {
-        return TOO_MANY;
+        return None;
     }
     rs[m] = i;
     cs[m] = j;
     vs[m] = v as i32;
-    m + 1
+    Some(m + 1)
 }
 
 // The same if it is on or below the diagonal.
@@ -54,12 +42,12 @@ pub(crate) fn put_low(
     rs: &mut [u32; MAX_ENTRIES],
     cs: &mut [u32; MAX_ENTRIES],
     vs: &mut [i32; MAX_ENTRIES],
-) -> usize
+) -> Option<usize>
     requires { (m ≤ max_entries) × Arrays rs.old cs.old vs.old }
-    ensures { Emitted (cond (leb j i) (triplet i j v ∷ []) []) m rs.old cs.old vs.old result rs.new cs.new vs.new }
+    ensures { Told (cond (leb j i) (triplet i j v ∷ []) []) m rs.old cs.old vs.old result rs.new cs.new vs.new }
 {
     if i < j {
-        return m;
+        return Some(m);
     }
     put(i, j, v, m, rs, cs, vs)
 }
@@ -74,13 +62,13 @@ pub(crate) fn put_new(
     rs: &mut [u32; MAX_ENTRIES],
     cs: &mut [u32; MAX_ENTRIES],
     vs: &mut [i32; MAX_ENTRIES],
-) -> usize
+) -> Option<usize>
     requires { (i < max_rows) × (j < max_rows) × (length seen.now ≡ max_rows) × (m ≤ max_entries) × Arrays rs.old cs.old vs.old }
-    ensures { Emitted (cond (leb j i && not (marked (i + 1) seen.now j)) (triplet i j v ∷ []) []) m rs.old cs.old vs.old result rs.new cs.new vs.new }
+    ensures { Told (cond (leb j i && not (marked (i + 1) seen.now j)) (triplet i j v ∷ []) []) m rs.old cs.old vs.old result rs.new cs.new vs.new }
 {
     let c = j as usize;
     if seen[c] == i + 1 {
-        return m;
+        return Some(m);
     }
     put_low(i, j, v as i64, m, rs, cs, vs)
 }

@@ -7,16 +7,14 @@ ghost use Rattle.joined.specs.Code.Rows.{tenant_of};
 use matrix::limits::MAX_ROWS;
 
 // How many numbers of a list are n or more.
-pub(crate) fn count_from(list: &[u32], n: u32) -> usize
+pub(crate) fn count_from(list: &[u32], n: usize) -> usize
     ensures { result ≡ length (filter (leb n) list.now) }
 {
     let mut count: usize = 0;
-    let mut k = 0;
-    while k < list.len() {
-        if n <= list[k] {
+    for p in list {
+        if n <= *p as usize {
             count += 1;
         }
-        k += 1;
     }
     count
 }
@@ -27,8 +25,7 @@ pub(crate) fn put_tenants(list: &[u32], n: usize, tenants: &mut [u32; 2 * MAX_RO
     ensures test { result ≡ distinct list.now && all (λ p. ltb p n) list.now }
     ensures tenants { result ≡ true → (c : ℕ) → get_or tenants.new c 0 ≡ tenant_of list.now c }
 {
-    let mut k: usize = 0;
-    while k < list.len() {
+    for k in 0..list.len() {
         let p = list[k] as usize;
         if n <= p {
             return false;
@@ -36,8 +33,7 @@ pub(crate) fn put_tenants(list: &[u32], n: usize, tenants: &mut [u32; 2 * MAX_RO
         if tenants[p] != 0 {
             return false;
         }
-        k += 1;
-        tenants[p] = k as u32;
+        tenants[p] = (k + 1) as u32;
     }
     true
 }

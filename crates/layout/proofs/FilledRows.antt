@@ -16,7 +16,7 @@ use Rattle.matrix.specs.Limits.{max_rows}
 use Rattle.matrix.proofs.Matrix.{matrix_facts}
 use Rattle.plan.specs.Sound.{max_workers, max_groups}
 use Rattle.plan.specs.Code.Checks.{record_at, below_whole}
-use Rattle.plan.specs.declared.fields.Record.{Record}
+use Rattle.plan.specs.declared.fields.Group as code
 use Rattle.run.specs.Job.{Job}
 use Rattle.run.specs.Updates.{row_updates, up_to}
 use Rattle.tables.specs.Code.Laid.{has_child, Leaf, LeafOf, end_of, max_updates, next_of, begin_of, Counted, Laid, Bounded}
@@ -161,7 +161,7 @@ module _ {j : Job} {groups : List ℕ} {count : ℕ} {sizes : List ℕ} (g : Pla
           go k x y (inr d) = get_or-set_other ends i k (2 * (end - get_or first w 0)) 0 d ∙ t.ended k x (omega (arith, d))
 
       -- .. by the record that the code reads
-      pub walked-read : {r : Record} → Read g i l childless r → {end : ℕ} {row' begins' leaves' : List ℕ}
+      pub walked-read : {r : code.Group} → Read g i l childless r → {end : ℕ} {row' begins' leaves' : List ℕ}
           → (end ≡ next_of j r.first (r.start + r.length)) × Filled j (r.start + r.length) row' begins' leaves'
           → Walked j (reached count groups (i + 1)) (i + 1) (set next r.first end) row' begins' leaves' (set ends i (2 * (end - get_or first r.first 0)))
       walked-read q f = rw q.firsts (walked-leaf (rw (q.firsts, q.ends) at f))

@@ -6,10 +6,10 @@ use Prim.Native.Nat.{ℕ, zero, suc, ◌+◌, ◌-◌, ◌≤◌, ◌<◌}
 use native.Mathlib.Omega.{arith}
 use lib.ListN.{length, get_or, drop}
 use Rattle.matrix.specs.Matrix.{neighbours}
-use Rattle.plan.specs.Groups.{Group, records, of_fields}
+use Rattle.plan.specs.Groups.{Group, records, of_fields, group_of}
 use Rattle.plan.specs.Sound.{apart, max_workers, max_groups, depth_first, sound, is_sound}
-use Rattle.plan.specs.Code.Checks.{record_at, below_whole, stands_depth_first, Reads}
-use Rattle.plan.specs.declared.fields.Record.{Record}
+use Rattle.plan.specs.Code.Checks.{record_at, below_whole, stands_depth_first}
+use Rattle.plan.specs.declared.fields.Group as code
 use Rattle.plan.proofs.FlatRecords.{length-records}
 use Rattle.plan.proofs.Sound.{sound_facts}
 use Rattle.run.specs.Job.{Job}
@@ -117,15 +117,15 @@ module _ {j : Job} {groups : List ℕ} {count : ℕ} {sizes : List ℕ} (g : Pla
     }
 
     -- .. by the record that the code reads
-    pub record Read (r : Record) : Type 0 where
+    pub record Read (r : code.Group) : Type 0 where
       pub stretch : Stretch j i r.first r.start (r.start + r.length)
       pub starts : r.start ≡ reached count groups i
       pub ends : r.start + r.length ≡ reached count groups (suc i)
       pub firsts : r.first ≡ (record_at groups i).first
 
-    pub read : (r : Record) → Reads r (record_at groups i) → Read r
-    read r h =
-        let s : r.start ≡ reached count groups i = ap (λ (g : Group). g.start) h.is ∙ start_is i l in
-        let f : r.first ≡ (record_at groups i).first = ap (λ (g : Group). g.first) h.is in
-        let e : r.start + r.length ≡ reached count groups (suc i) = omega (arith, s, ap (λ (g : Group). g.length) h.is, reached-leaf i l childless) in
+    pub read : {r : code.Group} → group_of r ≡ record_at groups i → Read r
+    read {r} h =
+        let s : r.start ≡ reached count groups i = ap (λ (g : Group). g.start) h ∙ start_is i l in
+        let f : r.first ≡ (record_at groups i).first = ap (λ (g : Group). g.first) h in
+        let e : r.start + r.length ≡ reached count groups (suc i) = omega (arith, s, ap (λ (g : Group). g.length) h, reached-leaf i l childless) in
         record { stretch = rw (f, e, s) stretch-of; starts = s; ends = e; firsts = f }

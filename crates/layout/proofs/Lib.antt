@@ -1,6 +1,5 @@
 pub mod Reached
 pub mod NextRecord
-pub mod PutRows
 pub mod UpdateRoom
 pub mod LeafRows
 pub mod CountRows

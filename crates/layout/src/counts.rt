@@ -11,7 +11,7 @@ ghost use Rattle.layout.specs.Code.UpdateTable.{Sized, Planned, Stretch, Numbers
 use crate::leaf::is_leaf;
 use matrix::limits::MAX_ROWS;
 use plan::MAX_WORKERS;
-use plan::fields::record_at;
+use plan::fields::get;
 use tables::FIRSTS;
 
 // How many updates the rows of a leaf make: one each for the diagonal, two for each other entry in the upper triangle.
@@ -20,10 +20,8 @@ fn leaf_updates(sizes: &[u32; MAX_ROWS], start: usize, end: usize) -> usize
     ensures { (j : Job) (i w : ℕ) → Sized j sizes.now → Stretch j i w start end → length (up_to j w start) + result ≡ length (up_to j w end) }
 {
     let mut updates = 0;
-    let mut p = start;
-    while p < end {
+    for p in start..end {
         updates += 2 * sizes[p] as usize - 1;
-        p += 1;
     }
     updates
 }
@@ -34,16 +32,14 @@ fn count_updates(groups: &[u32], count: usize, sizes: &[u32; MAX_ROWS]) -> [u32;
     ensures { (j : Job) → Planned j groups.now count sizes.now → Numbers j j.matrix.n result }
 {
     let mut first = [0u32; FIRSTS];
-    let mut i = 0;
-    while i < count {
+    for i in 0..count {
         if !is_leaf(groups, count, i) {
-            i += 1;
             continue;
         }
-        let g = record_at(groups, i);
-        let w = g.first;
-        first[w + 1] += leaf_updates(sizes, g.start, g.start + g.length) as u32;
-        i += 1;
+        let g = get(groups, i);
+        let start = g.start as usize;
+        let end = start + g.length as usize;
+        first[g.first as usize + 1] += leaf_updates(sizes, start, end) as u32;
     }
     first
 }
@@ -53,10 +49,8 @@ fn cumulate(mut first: [u32; FIRSTS]) -> [u32; FIRSTS]
     requires { (length first ≡ suc max_workers) × (get_or first 0 0 ≡ 0) × (sum_below (λ w. get_or first (w + 1) 0) max_workers ≤ max_updates) }
     ensures { (length result ≡ suc max_workers) × ((w : ℕ) → w ≤ max_workers → get_or result w 0 ≡ sum_below (λ v. get_or first (v + 1) 0) w) }
 {
-    let mut w = 0;
-    while w < MAX_WORKERS {
+    for w in 0..MAX_WORKERS {
         first[w + 1] += first[w];
-        w += 1;
     }
     first
 }

@@ -4,7 +4,7 @@ ghost use Rattle.plan.specs.Groups.{width};
 ghost use Rattle.plan.specs.Code.Checks.{below_whole, stands_depth_first};
 ghost use Rattle.tables.specs.Code.Laid.{has_child};
 
-use plan::fields::record_at;
+use plan::fields::get;
 
 // The record at i has no child: the next record would be one.
 pub(crate) fn is_leaf(groups: &[u32], count: usize, i: usize) -> bool
@@ -15,6 +15,6 @@ pub(crate) fn is_leaf(groups: &[u32], count: usize, i: usize) -> bool
     if count <= next {
         return true;
     }
-    let h = record_at(groups, next);
-    h.parent != i
+    let h = get(groups, next);
+    h.parent as usize != i
 }

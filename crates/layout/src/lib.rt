@@ -14,7 +14,7 @@ ghost use Rattle.layout.specs.Code.UpdateTable.{Sized, Planned, Stretch, Put, Fi
 use leaf::is_leaf;
 use matrix::limits::MAX_ROWS;
 use plan::MAX_GROUPS;
-use plan::fields::record_at;
+use plan::fields::get;
 use tables::{FIRSTS, MAX_UPDATES};
 
 // Position p at the places of its row's updates, from a place on: one for the diagonal, two for each other entry of the
@@ -24,11 +24,7 @@ fn put_row(p: usize, size: usize, place: usize, row: &mut [u16; MAX_UPDATES]) ->
     ensures { (result + 1 ≡ place + 2 * size) × Put p place result row.old row.new }
 {
     let end = place + 2 * size - 1;
-    let mut k = place;
-    while k < end {
-        row[k] = p as u16;
-        k += 1;
-    }
+    row[place..end].fill(p as u16);
     end
 }
 
@@ -50,12 +46,10 @@ fn put_leaf(
         → (result ≡ next_of j w end) × Filled j end row.new begins.new leaves.new }
 {
     let mut next = place;
-    let mut p = start;
-    while p < end {
+    for p in start..end {
         begins[p] = next as u32;
         leaves[p] = i as u16;
         next = put_row(p, sizes[p] as usize, next, row);
-        p += 1;
     }
     next
 }
@@ -79,27 +73,17 @@ pub fn lay(
         × Bounded j.matrix.n first row.new leaves.new }
 {
     let mut next = first;
-    let mut i = 0;
-    while i < count {
+    for i in 0..count {
         if !is_leaf(groups, count, i) {
-            i += 1;
             continue;
         }
-        let g = record_at(groups, i);
-        let w = g.first;
+        let g = get(groups, i);
+        let w = g.first as usize;
+        let start = g.start as usize;
+        let end = start + g.length as usize;
         let place = next[w] as usize;
-        let end = put_leaf(
-            sizes,
-            i,
-            g.start,
-            g.start + g.length,
-            place,
-            row,
-            begins,
-            leaves,
-        );
-        next[w] = end as u32;
-        ends[i] = 2 * (end as u32 - first[w]);
-        i += 1;
+        let after = put_leaf(sizes, i, start, end, place, row, begins, leaves);
+        next[w] = after as u32;
+        ends[i] = 2 * (after as u32 - first[w]);
     }
 }

@@ -9,8 +9,5 @@ pub const FEW_CELLS: usize = 16384;
 pub fn are_few(columns: &[u8], values: &[u8]) -> bool
     ensures { result ≡ true → IsFew columns.now × IsFew values.now }
 {
-    if FEW_CELLS < columns.len() / 4 {
-        return false;
-    }
-    values.len() / 4 <= FEW_CELLS
+    columns.len() / 4 <= FEW_CELLS && values.len() / 4 <= FEW_CELLS
 }

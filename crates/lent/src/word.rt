@@ -3,13 +3,14 @@ ghost use Rattle.std.specs.Prelude.{◌≡◌};
 ghost use Rattle.base.specs.Verdicts.{reply_of};
 ghost use Rattle.lent.specs.Word.{word};
 
-use base::Verdict;
+use base::Refusal;
 
-pub fn word_of(answer: Verdict) -> u64
+#[tactic(auto, unfolding(crate::specs::Word::word))]
+pub fn word_of(answer: Result<u32, Refusal>) -> u64
     ensures { result ≡ word (reply_of answer) }
 {
     match answer {
-        Verdict::Accepted(count) => count as u64,
-        Verdict::Refused(number, place) => number as u64 * 4294967296 + place as u64,
+        Ok(count) => u64::from(count),
+        Err(refusal) => u64::from(refusal.kind.number()) * 4294967296 + u64::from(refusal.place),
     }
 }

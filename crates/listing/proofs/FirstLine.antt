@@ -9,13 +9,12 @@ use lib.Dec.{leb, eqb}
 use lib.ListN.{length, get_or, take, drop, length-drop, drop_of_length-le}
 use lib.Seq.{get_or-drop}
 use borrow.Author.Tests.{eq-eqb, ne_eqb}
-use Rattle.scan.specs.declared.numbers.Number.TheVariants as num
 use Rattle.market.specs.Bytes.{class_of, is_end, is_space, blank, line_feed, minus, digit0, digit9}
 use Rattle.market.specs.Fields.{got, numeral}
 use Rattle.scan.specs.Code.Positions.{number_at}
 use Rattle.scan.proofs.Left.{left-cons}
 use Rattle.scan.proofs.numbers.Answers.{scan_at, scan_no}
-use Rattle.listing.specs.declared.first_line.Parameters.TheVariants.{Given, Missing}
+use Rattle.std.proofs.Common.{Some, None}
 use Rattle.listing.specs.Listing.{first_line, last, second, parameters_of}
 use Rattle.listing.specs.Code.FirstLine.{in_word, given}
 
@@ -69,38 +68,38 @@ first_taken (b ∷ bs) = go (is_end b) (first_taken bs)
 
 -- two numbers with one space between
 module _ (xs : List ℕ) where
-  pub no-first : num.No ≡ number_at 0 (numeral (drop 0 xs)) → Missing ≡ given (parameters_of xs)
+  pub no-first : None ≡ number_at 0 (numeral (drop 0 xs)) → None ≡ given (parameters_of xs)
   unfolding parameters_of second
   no-first e = rw (scan_no 0 (numeral xs) e)
 
-  module _ {w k : ℕ} (one : num.At w k ≡ number_at 0 (numeral (drop 0 xs))) where
+  module _ {w k : ℕ} (one : Some (w, k) ≡ number_at 0 (numeral (drop 0 xs))) where
     first_is : numeral xs ≡ got w k
     first_is = (scan_at 0 w k (numeral xs) one).0 ∙ ap (got w) (omega arith)
 
-    pub no_gap : length xs ≤ k → Missing ≡ given (parameters_of xs)
+    pub no_gap : length xs ≤ k → None ≡ given (parameters_of xs)
     unfolding parameters_of second class_of
     no_gap l = rw (first_is, drop_of_length-le xs {i = k} l)
 
     gap_at : get_or (drop k xs) 0 0 ≡ get_or xs k 0
     gap_at = get_or-drop k xs 0 0 ∙ ap (λ (j : ℕ). get_or xs j 0) (omega arith)
 
-    pub other-gap : (get_or xs k 0 ≡ blank → ⊥) → Missing ≡ given (parameters_of xs)
+    pub other-gap : (get_or xs k 0 ≡ blank → ⊥) → None ≡ given (parameters_of xs)
     unfolding parameters_of second
     other-gap h = rw (first_is, gap_at, other_space (get_or xs k 0) h)
 
     module _ (l : k < length xs) (gap : get_or xs k 0 ≡ blank) where
-      pub no_second : num.No ≡ number_at (k + 1) (numeral (drop (k + 1) xs)) → Missing ≡ given (parameters_of xs)
+      pub no_second : None ≡ number_at (k + 1) (numeral (drop (k + 1) xs)) → None ≡ given (parameters_of xs)
       unfolding parameters_of second last
       no_second e = rw (first_is, gap_at, is-space (get_or xs k 0) gap, rw add-one at (scan_no (k + 1) (numeral (drop (k + 1) xs)) e))
 
-      module _ {p e : ℕ} (two : num.At p e ≡ number_at (k + 1) (numeral (drop (k + 1) xs))) where
+      module _ {p e : ℕ} (two : Some (p, e) ≡ number_at (k + 1) (numeral (drop (k + 1) xs))) where
         second_is : numeral (drop (suc k) xs) ≡ got p (e - suc k)
         second_is = rw add-one at (scan_at (k + 1) p e (numeral (drop (k + 1) xs)) two).0
 
-        pub more_after : (e ≡ length xs → ⊥) → Missing ≡ given (parameters_of xs)
+        pub more_after : (e ≡ length xs → ⊥) → None ≡ given (parameters_of xs)
         unfolding parameters_of second last
         more_after h = rw (first_is, gap_at, is-space (get_or xs k 0) gap, second_is, ne_eqb (e - suc k) (length (drop (suc k) xs)) (λ q. h (omega (arith, length-drop (suc k) xs, (scan_at (k + 1) p e (numeral (drop (k + 1) xs)) two).1))))
 
-        pub both-given : e ≡ length xs → {w' p' : ℕ} → w' ≡ in_word w → p' ≡ in_word p → Given w' p' ≡ given (parameters_of xs)
+        pub both-given : e ≡ length xs → {w' p' : ℕ} → w' ≡ in_word w → p' ≡ in_word p → Some (w', p') ≡ given (parameters_of xs)
         unfolding parameters_of second last
         both-given h a b = rw (first_is, gap_at, is-space (get_or xs k 0) gap, second_is, eq-eqb (e - suc k) (length (drop (suc k) xs)) (omega (arith, length-drop (suc k) xs)), a, b)

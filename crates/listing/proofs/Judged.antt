@@ -23,7 +23,7 @@ use Rattle.market.proofs.Accepted.{parse-accepted}
 use Rattle.market.proofs.AcceptedText.{accepted-text}
 use Rattle.race.specs.Planner.{plan, are_parameters}
 use Rattle.race.proofs.PlannedSound.{limits}
-use Rattle.listing.specs.declared.first_line.Parameters.TheVariants.{Given, Missing}
+use Rattle.std.proofs.Common.{Some, None}
 use Rattle.listing.specs.Listing.{net_distance, max_input, first_line, rest_of, Parameters, parameters, missing, parameters_of, refused_line, planned, judged, listing}
 use Rattle.listing.specs.Code.FirstLine.{in_word, given}
 use Rattle.listing.proofs.FirstLine.{first_taken}
@@ -51,15 +51,18 @@ large : (w p : ℕ) → (are_parameters w p net_distance ≡ true → ⊥) → (
 unfolding planned
 large w p h m = rw (is_false h)
 
-pub planned-given : (m : Matrix) (ps : Parameters) (a b : ℕ) → Given a b ≡ given ps → planned m ps ≡ planned m (parameters a b)
-planned-given m missing a b e = let z : ◌≡◌ {A = ℕ} 0 1 = cc in absurd (omega arith)
+pub planned-given : (m : Matrix) (ps : Parameters) (a b : ℕ) → Some (a, b) ≡ given ps → planned m ps ≡ planned m (parameters a b)
+planned-given m missing a b e = absurd (cc)
 planned-given m (parameters w p) a b e = go (ltb w 4294967296) refl (ltb p 4294967296) refl
   where
+    both : ◌≡◌ {A = ℕ × ℕ} (a, b) (in_word w, in_word p)
+    both = cc
+
     w_is : a ≡ in_word w
-    w_is = cc
+    w_is = ap (λ (q : ℕ × ℕ). q.0) both
 
     p-is : b ≡ in_word p
-    p-is = cc
+    p-is = ap (λ (q : ℕ × ℕ). q.1) both
 
     go : (s : Bool) → ltb w 4294967296 ≡ s → (t : Bool) → ltb p 4294967296 ≡ t → planned m (parameters w p) ≡ planned m (parameters a b)
     go true hs true ht = rw (w_is, p-is, hs, ht)
@@ -70,10 +73,10 @@ planned-given m (parameters w p) a b e = go (ltb w 4294967296) refl (ltb p 42949
         let a-is : a ≡ 4294967295 = w_is ∙ rw hs in
         large w p (λ h. omega (arith, (limits w p net_distance h).workers, ltb-false w 4294967296 hs)) m ∙ sym (large a b (λ h. omega (arith, (limits a b net_distance h).workers)) m)
 
-pub planned-missing : (m : Matrix) (ps : Parameters) → Missing ≡ given ps → planned m ps ≡ refused_line 7 0
+pub planned-missing : (m : Matrix) (ps : Parameters) → None ≡ given ps → planned m ps ≡ refused_line 7 0
 unfolding planned
 planned-missing m missing e = refl
-planned-missing m (parameters w p) e = let z : ◌≡◌ {A = ℕ} 0 1 = cc in absurd (omega arith)
+planned-missing m (parameters w p) e = absurd (cc)
 
 -- m is the matrix of the text, as far as it is planned
 pub record Held (text : List ℕ) (m : Matrix) : Type 0 where

@@ -5,16 +5,18 @@ mod first_line;
 mod lines;
 
 ghost use Rattle.std.specs.Prelude.{◌≡◌, true, ◌++◌, ◌≤◌, length, drop};
-ghost use Rattle.matrix.specs.Matrix.{is_matrix, matrix_of};
+ghost use Rattle.matrix.specs.Matrix.{is_matrix};
+ghost use Rattle.matrix.specs.Held.{held};
 ghost use Rattle.market.specs.Parse.{parse};
 ghost use Rattle.writer.specs.Code.Puts.{Put};
 ghost use Rattle.listing.specs.Listing.{parameters, parameters_of, planned, judged, listing};
 ghost use Rattle.listing.specs.Code.Room.{max_output};
 
-use crate::first_line::{Parameters, line_length, read_parameters};
+use crate::first_line::{line_length, read_parameters};
 use crate::lines::{put_plan, put_refusal};
-use base::{FORM, PARAMETER, Verdict};
+use base::{Kind, Refusal};
 use matrix::limits::{MAX_CELLS, MAX_ROWS, MAX_STARTS};
+use matrix::lists::Matrix;
 use plan::MAX_GROUPS;
 use plan::fields::{MAX_FIELDS, WIDTH};
 use planner::plan;
@@ -37,34 +39,15 @@ pub const MAX_OUTPUT: usize = TITLES + NUMBER * MAX_ROWS + LINE * MAX_GROUPS;
 const DISTANCE: u32 = 2;
 
 // What is written for a matrix and two parameters, and the place after it.
-fn put_planned(
-    output: &mut [u8],
-    n: u32,
-    starts: &[u32],
-    columns: &[u32],
-    values: &[i32],
-    workers: u32,
-    p: u32,
-) -> usize
-    requires { (is_matrix (matrix_of n starts.now columns.now values.now) ≡ true) × (max_output ≤ length output.old) }
-    ensures { Put (planned (matrix_of n starts.now columns.now values.now) (parameters workers p)) 0 result output.old output.new }
+fn put_planned(output: &mut [u8], m: &Matrix, workers: u32, p: u32) -> usize
+    requires { (is_matrix (held m.now) ≡ true) × (max_output ≤ length output.old) }
+    ensures { Put (planned (held m.now) (parameters workers p)) 0 result output.old output.new }
 {
     let mut order = [0u32; MAX_ROWS];
     let mut groups = [0u32; MAX_FIELDS];
-    let made = plan(
-        n,
-        starts,
-        columns,
-        values,
-        workers,
-        p,
-        DISTANCE,
-        &mut order,
-        &mut groups,
-    );
-    match made {
-        Verdict::Refused(number, place) => put_refusal(output, number, place),
-        Verdict::Accepted(count) => put_plan(output, n as usize, &order, &groups, count),
+    match plan(m, workers, p, DISTANCE, &mut order, &mut groups) {
+        Err(refusal) => put_refusal(output, refusal),
+        Ok(count) => put_plan(output, m.n, &order, &groups, count),
     }
 }
 
@@ -76,18 +59,26 @@ fn put_judged(output: &mut [u8], line: &[u8], text: &[u8]) -> usize
     let mut starts = [0u32; MAX_STARTS];
     let mut columns = [0u32; MAX_CELLS];
     let mut values = [0i32; MAX_CELLS];
-    let found = read(text, &mut starts, &mut columns, &mut values);
-    let n = match found {
-        Verdict::Refused(number, place) => return put_refusal(output, number, place),
-        Verdict::Accepted(n) => n,
+    let n = match read(text, &mut starts, &mut columns, &mut values) {
+        Err(refusal) => return put_refusal(output, refusal),
+        Ok(n) => n as usize,
     };
-    let given = read_parameters(line);
-    match given {
-        Parameters::Missing => put_refusal(output, PARAMETER, 0),
-        Parameters::Given(workers, p) => put_planned(
-            output, n, &starts, &columns, &values, workers, p,
-        ),
-    }
+    let Some((workers, p)) = read_parameters(line) else {
+        return put_refusal(
+            output,
+            Refusal {
+                kind: Kind::BadParameter,
+                place: 0,
+            },
+        );
+    };
+    let m = Matrix {
+        n,
+        starts: &starts,
+        columns: &columns,
+        values: &values,
+    };
+    put_planned(output, &m, workers, p)
 }
 
 // What netplan writes for what it reads, and how many bytes that is; the rest of the output is as it was.
@@ -96,12 +87,17 @@ pub fn listing(input: &[u8], output: &mut [u8; MAX_OUTPUT]) -> usize
     ensures output_after { output.new ≡ listing input.now ++ drop (length (listing input.now)) output.old }
 {
     if MAX_INPUT < input.len() {
-        return put_refusal(output, FORM, 0);
+        return put_refusal(
+            output,
+            Refusal {
+                kind: Kind::BadForm,
+                place: 0,
+            },
+        );
     }
     let end = line_length(input);
     if end < input.len() {
-        let next = end + 1;
-        return put_judged(output, &input[..end], &input[next..]);
+        return put_judged(output, &input[..end], &input[end + 1..]);
     }
     put_judged(output, input, &[])
 }

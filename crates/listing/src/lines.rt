@@ -1,12 +1,14 @@
 // The lines that netplan writes, put into a lent output.
 
 ghost use Rattle.std.specs.Prelude.{[], ◌∷◌, ◌++◌, ◌+◌, ◌*◌, ◌≤◌, length};
+ghost use Rattle.base.specs.Verdicts.{number_of};
 ghost use Rattle.market.specs.Bytes.{line_feed};
 ghost use Rattle.writer.specs.Code.Puts.{Put};
 ghost use Rattle.plan.specs.Groups.{width, records, plan_of};
 ghost use Rattle.listing.specs.Listing.{spaced, refused_line, order_line, title_line, group_lines, plan_listing};
 ghost use Rattle.listing.specs.Code.Room.{max_number, max_refusal, max_line, titles};
 
+use base::Refusal;
 use plan::fields::WIDTH;
 use writer::puts::{put_byte, put_number};
 
@@ -15,13 +17,9 @@ fn put_bytes(output: &mut [u8], at: usize, bytes: &[u8]) -> usize
     requires { at + length bytes.now ≤ length output.old }
     ensures { Put bytes.now at result output.old output.new }
 {
-    let mut p = at;
-    let mut i: usize = 0;
-    while i < bytes.len() {
-        p = put_byte(output, p, bytes[i]);
-        i += 1;
-    }
-    p
+    let next = at + bytes.len();
+    output[at..next].copy_from_slice(bytes);
+    next
 }
 
 // Numbers, each after a space, and the line feed; and the place after them.
@@ -30,22 +28,20 @@ fn put_fields(output: &mut [u8], at: usize, numbers: &[u32]) -> usize
     ensures { Put (spaced numbers.now ++ line_feed ∷ []) at result output.old output.new }
 {
     let mut p = at;
-    let mut i: usize = 0;
-    while i < numbers.len() {
+    for v in numbers {
         let gap = put_byte(output, p, b' ');
-        p = put_number(output, gap, numbers[i]);
-        i += 1;
+        p = put_number(output, gap, *v);
     }
     put_byte(output, p, b'\n')
 }
 
 // The line of a refusal, and the place after it.
-pub(crate) fn put_refusal(output: &mut [u8], number: u32, place: u32) -> usize
+pub(crate) fn put_refusal(output: &mut [u8], refusal: Refusal) -> usize
     requires { max_refusal ≤ length output.old }
-    ensures { Put (refused_line number place) 0 result output.old output.new }
+    ensures { Put (refused_line (number_of refusal.kind) refusal.place) 0 result output.old output.new }
 {
     let word = put_bytes(output, 0, b"refused");
-    put_fields(output, word, &[number, place])
+    put_fields(output, word, &[refusal.kind.number(), refusal.place])
 }
 
 // The order's line and the title line, and the place after them.
@@ -68,14 +64,10 @@ fn put_groups(output: &mut [u8], at: usize, groups: &[u32], count: u32) -> usize
     ensures { Put (group_lines 0 (records count groups.now)) at result output.old output.new }
 {
     let mut p = at;
-    let mut from: usize = 0;
-    let mut i: u32 = 0;
-    while i < count {
+    for i in 0..count {
         let index = put_number(output, p, i);
-        let to = from + WIDTH;
-        p = put_fields(output, index, &groups[from..to]);
-        from = to;
-        i += 1;
+        let from = WIDTH * i as usize;
+        p = put_fields(output, index, &groups[from..from + WIDTH]);
     }
     p
 }

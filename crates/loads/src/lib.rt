@@ -6,7 +6,6 @@ ghost use Rattle.matrix.specs.Limits.{max_rows};
 ghost use Rattle.sort.specs.Code.Sort.{max_levels};
 ghost use Rattle.loads.specs.Code.Stretches.{levels_in, key_weight, key_load, Weighed, Levelled, Loaded};
 
-use base::numbers::wide;
 use matrix::limits::MAX_ROWS;
 use sort::MAX_LEVELS;
 
@@ -15,7 +14,7 @@ fn weight(keys: &[u32; MAX_ROWS], v: u32) -> u32
     requires { (v < max_rows) × (3 ≤ get_or keys.now v 0) }
     ensures { result ≡ key_weight keys.now v }
 {
-    keys[wide(v)] - 2
+    keys[v as usize] - 2
 }
 
 // The load of some rows.
@@ -24,10 +23,8 @@ fn load(keys: &[u32; MAX_ROWS], rows: &[u32]) -> u32
     ensures { result ≡ key_load keys.now rows.now }
 {
     let mut sum = 0;
-    let mut i = 0;
-    while i < rows.len() {
-        sum += weight(keys, rows[i]);
-        i += 1;
+    for v in rows {
+        sum += weight(keys, *v);
     }
     sum
 }
@@ -40,19 +37,17 @@ pub fn level_loads(
     loads: &mut [u32; MAX_LEVELS],
 ) -> u32
     requires { Weighed keys.now stretch.now × Levelled 0 ends.now stretch.now (levels_in 0 ends.now stretch.now)
-        × (length ends.now ≤ max_levels) × (length loads.old ≡ max_levels) }
+        × (length ends.now ≤ max_levels) }
     ensures { Loaded (key_load keys.now) stretch.now (levels_in 0 ends.now stretch.now) result loads.new }
 {
     let mut sum = 0;
     let mut from = 0;
-    let mut k = 0;
-    while k < ends.len() {
-        let to = ends[k] as usize;
+    for (k, end) in ends.iter().enumerate() {
+        let to = *end as usize;
         let q = load(keys, &stretch[from..to]);
         loads[k] = q;
         sum += q;
         from = to;
-        k += 1;
     }
     sum
 }

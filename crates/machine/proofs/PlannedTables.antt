@@ -6,10 +6,10 @@ use native.Mathlib.Omega.{arith}
 use lib.ListN.{length, replicate}
 use Rattle.matrix.specs.Limits.{max_rows}
 use Rattle.matrix.proofs.Matrix.{matrix_facts}
-use Rattle.plan.specs.Groups.{Group, width}
+use Rattle.plan.specs.Groups.{Group, group_of, width}
 use Rattle.plan.specs.Sound.{max_workers, max_groups}
-use Rattle.plan.specs.Code.Checks.{record_at, Reads}
-use Rattle.plan.specs.declared.fields.Record.{Record}
+use Rattle.plan.specs.Code.Checks.{record_at}
+use Rattle.plan.specs.declared.fields.Group as code
 use Rattle.run.specs.Job.{Job, workers}
 use Rattle.run.proofs.Accepted.{facts}
 use Rattle.tables.specs.Code.Laid.{max_updates}
@@ -40,9 +40,9 @@ module _ {j : Job} {groups : List ℕ} {count : ℕ} {sizes : List ℕ} (g : Pla
   whole-few = omega (arith, whole-workers, (facts j g.sized.accepted).few)
 
   -- .. as the code reads it
-  module _ (r : Record) (h : Reads r (record_at groups 0)) where
+  module _ (r : code.Group) (e : group_of r ≡ record_at groups 0) where
     pub read-crew : r.workers ≡ workers j
-    read-crew = ap (λ (w : Group). w.workers) h.is ∙ whole-workers
+    read-crew = ap (λ (w : Group). w.workers) e ∙ whole-workers
 
     pub read-few : r.workers ≤ max_workers
-    read-few = omega (arith, ap (λ (w : Group). w.workers) h.is, whole-few)
+    read-few = omega (arith, ap (λ (w : Group). w.workers) e, whole-few)

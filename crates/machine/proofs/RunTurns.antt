@@ -4,7 +4,7 @@ use mathlib.Core.Path.{◌≡◌, refl, sym, ap, ◌∙◌, subst}
 use mathlib.Core.Logic.{◌⊎◌, inl, inr, ◌≢◌}
 use mathlib.Core.Bool.{true, false}
 use mathlib.Core.List.{List}
-use Prim.Native.Nat.{ℕ, zero, suc, ◌+◌, ◌*◌, ◌≤◌, ◌<◌}
+use Prim.Native.Nat.{ℕ, zero, suc, ◌+◌, ◌*◌, ◌/◌, ◌≤◌, ◌<◌}
 use native.Mathlib.Numerals.{add-one}
 use native.Mathlib.Omega.{arith}
 use lib.IntN.{ℤ}
@@ -13,15 +13,17 @@ use lib.Seq.{get_or-set_same, get_or-set_other}
 use Rattle.base.proofs.Booleans.{same_or}
 use Rattle.matrix.specs.Limits.{max_rows}
 use Rattle.plan.specs.Sound.{max_workers}
-use Rattle.plan.specs.Groups.{records}
+use Rattle.plan.specs.Groups.{width, records}
 use Rattle.plan.specs.Code.Checks.{record_at}
 use Rattle.run.specs.Job.{Job, Accepted, workers}
 use Rattle.run.specs.Updates.{Update, count, accesses, next}
 use Rattle.run.specs.Machine.{refusal, halted, onward, step_if, step}
 use Rattle.run.specs.State.{State}
-use Rattle.tables.specs.Code.Laid.{max_updates, updates_in, Laid, Waits}
+use Rattle.tables.specs.Code.Laid.{max_updates, updates_in, Laid, Waits, LaidIn}
+use Rattle.tables.specs.declared.Tables.{Tables}
+use Rattle.tables.specs.declared.Entries.{Entries}
 use Rattle.waits.specs.Code.Waits.{Recorded, Current}
-use Rattle.steps.specs.Code.Steps.{update_next, reason_at, outcome_of, StepTables, UpdatesAhead, PickMade}
+use Rattle.steps.specs.Code.Steps.{reason_at, outcome_of, PickMade, reason_by, update_by, StepsBy, AheadBy}
 use Rattle.steps.specs.Code.AtHand.{AtHand, Entered, AccessMade}
 use Rattle.machine.specs.Code.Stepped.{passes_over, walk}
 use Rattle.machine.specs.declared.state.Rule.{Rule}
@@ -58,29 +60,21 @@ outcome_halted (suc k) t d = refl
 
 -- ---- the loop
 
--- the tables that the steps are taken by
-pub record Tables : Type 0 where
+-- what the steps are taken by
+pub record Given : Type 0 where
   pub crew : ℕ
-  pub count : ℕ
-  pub groups : List ℕ
-  pub ends : List ℕ
-  pub first : List ℕ
-  pub row : List ℕ
-  pub begins : List ℕ
-  pub parts : List ℕ
-  pub leaves : List ℕ
+  pub tables : Tables
+  pub entries : Entries
   pub displaced : List ℤ
-  pub at : List ℕ
-  pub beside : List ℤ
 
-module _ (T : Tables) where
+module _ (T : Given) where
   -- the update of worker w's next access
   abbrev update_of : (made : List ℕ) → ℕ → Update
-  update_of = update_next T.first T.row T.begins T.parts T.displaced T.at T.beside
+  update_of = update_by T.tables T.entries T.displaced
 
   -- why its next step is refused
   abbrev cause_of : (blocks made : List ℕ) → ℕ → ℕ
-  cause_of blocks = reason_at T.crew T.first T.row T.leaves blocks
+  cause_of blocks = reason_by T.crew T.tables blocks
 
   -- a pick of worker w in this state: its answer, and what it leaves
   pub record Picked (blocks : List ℕ) (s : State) (w number : ℕ) (new : State) (targets : List ℕ) (adds : List ℤ) : Type 0 where
@@ -90,21 +84,21 @@ module _ (T : Tables) where
   -- of every job that they stand for, as far as the picks of a schedule reach
   abbrev EachJob : (s₀ : State) (schedule : List ℕ) → (Job → Type 0) → Type 0
   EachJob s₀ schedule P =
-      (j : Job) → Accepted j → j.plan.groups ≡ records T.count T.groups → Laid j T.first T.row T.begins T.leaves T.ends
-      → UpdatesAhead j s₀.made (length schedule) T.first T.row T.begins T.parts T.displaced T.at T.beside → P j
+      (j : Job) → Accepted j → j.plan.groups ≡ records (length T.tables.groups.now / width) T.tables.groups.now → LaidIn j T.tables
+      → AheadBy j s₀.made (length schedule) T.tables T.entries T.displaced → P j
 
   -- k picks of the schedule, n of them taken, led from s₀ to s; these groups are blocked now, and until a count reaches
   -- its stop; these updates are at hand
   pub record Running (rule : Rule) (s₀ : State) (schedule : List ℕ) (n k : ℕ) (s : State) (blocks stops targets : List ℕ) (adds : List ℤ) : Type 0 where
-    pub crew : T.crew ≡ (record_at T.groups 0).workers
-    pub current : Current T.count T.groups T.ends s.made blocks stops
+    pub crew : T.crew ≡ (record_at T.tables.groups.now 0).workers
+    pub current : Current (length T.tables.groups.now / width) T.tables.groups.now T.tables.ends.now s.made blocks stops
     pub hand : AtHand (cause_of blocks) update_of s.made targets adds
     pub grown : (w : ℕ) → (count s₀.made w ≤ count s.made w) × (count s.made w ≤ count s₀.made w + k)
     pub left : EachJob s₀ schedule (λ j. Left (passes_over rule) (step j) s₀ schedule k n s)
 
-module _ {T : Tables} {rule : Rule} {s₀ : State} {schedule : List ℕ} where
+module _ {T : Given} {rule : Rule} {s₀ : State} {schedule : List ℕ} where
   -- at first
-  pub running_start : {blocks stops : List ℕ} → T.crew ≡ (record_at T.groups 0).workers → Current T.count T.groups T.ends s₀.made blocks stops
+  pub running_start : {blocks stops : List ℕ} → T.crew ≡ (record_at T.tables.groups.now 0).workers → Current (length T.tables.groups.now / width) T.tables.groups.now T.tables.ends.now s₀.made blocks stops
       → {adds : List ℤ} → length adds ≡ max_workers → Running T rule s₀ schedule 0 0 s₀ blocks stops (replicate max_workers max_rows) adds
   running_start c h f = record {
     crew = c;
@@ -131,28 +125,28 @@ module _ {T : Tables} {rule : Rule} {s₀ : State} {schedule : List ℕ} where
         free = sym e.told ∙ z
 
         pub entered-worker : w < max_workers
-        entered-worker = omega (arith, few, (reason-none w T.crew (count s.made w) (2 * updates_in T.first w) _ free).0)
+        entered-worker = omega (arith, few, (reason-none w T.crew (count s.made w) (2 * updates_in T.tables.first.now w) _ free).0)
 
         -- what its access needs
-        pub entered-ready : {m : ℕ} → StepTables m T.first T.row T.begins T.parts T.leaves T.at T.beside → (count s.made w < 2 * max_updates) × (get_or targets' w 0 < m)
+        pub entered-ready : {m : ℕ} → StepsBy m T.tables T.entries → (count s.made w < 2 * max_updates) × (get_or targets' w 0 < m)
         entered-ready t =
-            access-ready T.crew T.first T.row T.begins T.parts T.leaves blocks T.displaced T.at T.beside t s.made w entered-worker free
+            access-ready T.crew T.tables.first.now T.tables.row.now T.tables.begins.now T.entries.parts.now T.tables.leaves.now blocks T.displaced T.entries.at.now T.entries.beside.now t s.made w entered-worker free
             (e.hand.is w entered-worker (e.known z)).target_is
 
         pub entered-made : {number' : ℕ} {new : State} {targets'' : List ℕ} → AccessMade s w targets' adds' number' new targets'' → Picked T blocks s w number' new targets'' adds'
         entered-made a =
-            let steady = steps_steady T.crew T.first T.row T.begins T.parts T.leaves blocks T.displaced T.at T.beside in
+            let steady = steps_steady T.crew T.tables.first.now T.tables.row.now T.tables.begins.now T.entries.parts.now T.tables.leaves.now blocks T.displaced T.entries.at.now T.entries.beside.now in
             record { made = access-picks steady entered-worker (e.known z) e.hand a; hand = access-keeps steady entered-worker (e.known z) e.hand a }
 
     -- the next pick
-    module _ (few : T.crew ≤ max_workers) (R : Recorded T.count T.groups) (l : k < length schedule) {number : ℕ} {new : State} {targets' : List ℕ} {adds' : List ℤ}
+    module _ (few : T.crew ≤ max_workers) (R : Recorded (length T.tables.groups.now / width) T.tables.groups.now) (l : k < length schedule) {number : ℕ} {new : State} {targets' : List ℕ} {adds' : List ℤ}
         (p : Picked T blocks s (get_or schedule k 0) number new targets' adds') where
       abbrev w : ℕ
       w = get_or schedule k 0
 
       is-step : EachJob T s₀ schedule (λ j. step j s w ≡ outcome_of number new)
       is-step j ok is laid t =
-          step-answer j laid (r.crew ∙ whole-crew j T.count T.groups R.some is) few (waits-of j ok T.count T.groups is laid s.made blocks r.current.blocked R)
+          step-answer j laid (r.crew ∙ whole-crew j (length T.tables.groups.now / width) T.tables.groups.now R.some is) few (waits-of j ok (length T.tables.groups.now / width) T.tables.groups.now is laid s.made blocks r.current.blocked R)
           (λ low left. t.is s.made w low (r.grown w).0 (omega (arith, l, (r.grown w).1)) left) p.made
 
       module _ (q : number ≢ 0) where
@@ -177,8 +171,8 @@ module _ {T : Tables} {rule : Rule} {s₀ : State} {schedule : List ℕ} where
 
       -- it is taken
       module _ (q : number ≡ 0) {blocks' stops' : List ℕ}
-          (renew : (before : List ℕ) → new.made ≡ onward before w → Current T.count T.groups T.ends before blocks stops → Current T.count T.groups T.ends new.made blocks' stops') where
-        next-current : Current T.count T.groups T.ends new.made blocks' stops'
+          (renew : (before : List ℕ) → new.made ≡ onward before w → Current (length T.tables.groups.now / width) T.tables.groups.now T.tables.ends.now before blocks stops → Current (length T.tables.groups.now / width) T.tables.groups.now T.tables.ends.now new.made blocks' stops') where
+        next-current : Current (length T.tables.groups.now / width) T.tables.groups.now T.tables.ends.now new.made blocks' stops'
         next-current = renew s.made (p.made.counted q) r.current
 
         -- one count has risen by one
@@ -188,7 +182,7 @@ module _ {T : Tables} {rule : Rule} {s₀ : State} {schedule : List ℕ} where
           where
             go : (v ≡ w) ⊎ (v ≢ w) → (count s₀.made v ≤ count new.made v) × (count new.made v ≤ count s₀.made v + (k + 1))
             go (inl e) =
-                let x : count new.made w ≡ suc (count s.made w) = ap (λ (xs : List ℕ). get_or xs w 0) (p.made.counted q) ∙ get_or-set_same s.made w (suc (get_or s.made w 0)) 0 (omega (arith, r.hand.made_long, pick_worker T.first T.row T.leaves blocks few p.made q)) in
+                let x : count new.made w ≡ suc (count s.made w) = ap (λ (xs : List ℕ). get_or xs w 0) (p.made.counted q) ∙ get_or-set_same s.made w (suc (get_or s.made w 0)) 0 (omega (arith, r.hand.made_long, pick_worker T.tables.first.now T.tables.row.now T.tables.leaves.now blocks few p.made q)) in
                 rw e (omega (arith, x, (r.grown w).0), omega (arith, x, (r.grown w).1))
             go (inr d) =
                 let x : count new.made v ≡ count s.made v = ap (λ (xs : List ℕ). get_or xs v 0) (p.made.counted q) ∙ get_or-set_other s.made w v (suc (get_or s.made w 0)) 0 d in

@@ -8,17 +8,17 @@ ghost use Rattle.run.specs.Updates.{count};
 ghost use Rattle.run.specs.State as run;
 ghost use Rattle.machine.specs.Record.{state_of};
 ghost use Rattle.machine.specs.Code.Tests.{all_below, fine, done};
-ghost use Rattle.tables.specs.Code.Laid.{Rising, Laid};
+ghost use Rattle.tables.specs.Code.Laid.{Rising, LaidIn};
 ghost use Rattle.waits.specs.Code.Waits.{Recorded};
-ghost use Rattle.steps.specs.Code.Steps.{StepTables, UpdatesAhead};
-ghost use Rattle.machine.specs.Code.Stepped.{passes_over, walk, ended_with, walked_of};
+ghost use Rattle.steps.specs.Code.Steps.{StepsBy, AheadBy};
+ghost use Rattle.machine.specs.Code.Stepped.{walk, walked_of};
 
-use base::{DONE, WAITING};
+use base::Kind;
 use matrix::limits::MAX_ROWS;
-use plan::fields::record_at;
+use plan::fields::get;
 use plan::{MAX_GROUPS, MAX_WORKERS};
 use steps::{NONE, access, accesses, enter};
-use tables::{FIRSTS, MAX_UPDATES};
+use tables::{Entries, FIRSTS, Tables};
 use waits::{find, renew};
 
 // Accesses made, and the number held, of each of 16 workers.
@@ -36,45 +36,29 @@ pub enum Rule {
     Skip,
 }
 
-// Whether a pick that is refused with this number is passed over.
-pub fn passes(rule: Rule, number: u32) -> bool
-    ensures { result ≡ passes_over rule number }
-{
-    match rule {
-        Rule::Stop => false,
-        Rule::Skip => number == DONE || number == WAITING,
+impl Rule {
+    ghost use Rattle.base.specs.Verdicts.{number_of};
+    ghost use Rattle.machine.specs.Code.Stepped.{passes_over};
+
+    // Whether a pick that is refused so is passed over.
+    pub fn passes(self, kind: Kind) -> bool
+        ensures { result ≡ passes_over self (number_of kind) }
+    {
+        match self {
+            Rule::Stop => false,
+            Rule::Skip => kind == Kind::AllDone || kind == Kind::MustWait,
+        }
     }
 }
 
-// What a schedule comes to: the state, how many picks were taken, how many came before the one that ended it, and that
-// one's number; 0 if none did.
+// What a schedule comes to: the state, how many picks were taken, how many came before the one that ended it, and why
+// that one was refused, if one did.
 #[derive(Clone, Copy)]
 pub struct Walked {
     pub state: State,
     pub taken: usize,
     pub past: usize,
-    pub number: u32,
-}
-
-// A schedule that led to these counts and held numbers.
-pub fn ended(
-    made: [u32; MAX_WORKERS],
-    held: [i64; MAX_WORKERS],
-    taken: usize,
-    past: usize,
-    number: u32,
-) -> Walked
-    ensures { result ≡ ended_with (record { made = made; held = held }) taken past number }
-{
-    Walked {
-        state: State {
-            made: made,
-            held: held,
-        },
-        taken: taken,
-        past: past,
-        number: number,
-    }
+    pub stop: Option<Kind>,
 }
 
 impl State {
@@ -95,64 +79,73 @@ impl State {
         sums: &mut [i64],
         schedule: &[u8],
         rule: Rule,
-        groups: &[u32],
-        ends: &[u32; MAX_GROUPS],
-        first: &[u32; FIRSTS],
-        row: &[u16; MAX_UPDATES],
-        begins: &[u32; MAX_ROWS],
-        parts: &[u32; MAX_ROWS],
-        leaves: &[u16; MAX_ROWS],
+        tables: &Tables,
+        entries: &Entries,
         displaced: &[i32; MAX_ROWS],
-        at: &[u16],
-        beside: &[i32],
     ) -> Walked
-        requires { ((record_at groups.now 0).workers ≤ max_workers) × Recorded (length groups.now / width) groups.now
-            × StepTables (length sums.old) first.now row.now begins.now parts.now leaves.now at.now beside.now }
-        ensures { (j : Job) → Accepted j → j.plan.groups ≡ records (length groups.now / width) groups.now
-            → Laid j first.now row.now begins.now leaves.now ends.now
-            → UpdatesAhead j self.made (length schedule.now) first.now row.now begins.now parts.now displaced.now at.now beside.now
+        requires { ((record_at tables.now.groups.now 0).workers ≤ max_workers) × Recorded (length tables.now.groups.now / width) tables.now.groups.now
+            × StepsBy (length sums.old) tables.now entries.now }
+        ensures { (j : Job) → Accepted j → j.plan.groups ≡ records (length tables.now.groups.now / width) tables.now.groups.now
+            → LaidIn j tables.now → AheadBy j self.made (length schedule.now) tables.now entries.now displaced.now
             → walked_of result sums.new ≡ walk rule j (state_of self sums.old) schedule.now }
     {
         let mut made = self.made;
         let mut held = self.held;
-        let whole = record_at(groups, 0);
+        let workers = get(tables.groups, 0).workers as usize;
         let mut blocks = [0u8; MAX_GROUPS];
         let mut stops = [0u32; MAX_WORKERS];
-        find(groups, ends, &made, &mut blocks, &mut stops);
+        find(tables.groups, tables.ends, &made, &mut blocks, &mut stops);
         let mut targets = [NONE; MAX_WORKERS];
         let mut adds = [0i64; MAX_WORKERS];
         let mut taken = 0;
-        for k in 0..schedule.len() {
-            let w = schedule[k] as usize;
-            let mut number = enter(
+        for (k, pick) in schedule.iter().enumerate() {
+            let w = *pick as usize;
+            let step = match enter(
+                tables,
+                entries,
+                displaced,
                 &made,
                 w,
-                whole.workers,
-                first,
-                row,
-                begins,
-                parts,
-                leaves,
+                workers,
                 &blocks,
-                displaced,
-                at,
-                beside,
                 &mut targets,
                 &mut adds,
-            );
-            if number == 0 {
-                number = access(&mut made, &mut held, sums, w, &mut targets, &adds);
-            }
-            if number == 0 {
-                taken += 1;
-                if renew(groups, ends, &made, w, &mut blocks, &mut stops) {
-                    targets = [NONE; MAX_WORKERS];
+            ) {
+                Ok(()) => access(&mut made, &mut held, sums, w, &mut targets, &adds),
+                Err(kind) => Err(kind),
+            };
+            match step {
+                Ok(()) => {
+                    taken += 1;
+                    if renew(
+                        tables.groups,
+                        tables.ends,
+                        &made,
+                        w,
+                        &mut blocks,
+                        &mut stops,
+                    ) {
+                        targets = [NONE; MAX_WORKERS];
+                    }
                 }
-            } else if !passes(rule, number) {
-                return ended(made, held, taken, k, number);
+                Err(kind) => {
+                    if !rule.passes(kind) {
+                        return Walked {
+                            state: State { made, held },
+                            taken,
+                            past: k,
+                            stop: Some(kind),
+                        };
+                    }
+                }
             }
         }
-        ended(made, held, taken, schedule.len(), 0)
+        Walked {
+            state: State { made, held },
+            taken,
+            past: schedule.len(),
+            stop: None,
+        }
     }
 
     // How many accesses worker w has made.
@@ -168,10 +161,8 @@ impl State {
         requires { Rising first }
         ensures { result ≡ all_below (fine first self.made) max_workers }
     {
-        let mut w = MAX_WORKERS;
-        while 0 < w {
-            w -= 1;
-            if accesses(&first, w) < self.moves(w) {
+        for w in 0..MAX_WORKERS {
+            if accesses(&first, w) < self.made[w] {
                 return false;
             }
         }
@@ -183,10 +174,8 @@ impl State {
         requires { (workers ≤ max_workers) × Rising first }
         ensures { result ≡ all_below (done first self.made) workers }
     {
-        let mut w = workers;
-        while 0 < w {
-            w -= 1;
-            if self.moves(w) < accesses(&first, w) {
+        for w in 0..workers {
+            if self.made[w] < accesses(&first, w) {
                 return false;
             }
         }

@@ -8,7 +8,7 @@ use lib.ListN.{length, get_or}
 use borrow.Author.Tests.{leb-true, le-leb, eqb-true, eq-eqb}
 use Rattle.base.specs.Lists.{all, range}
 use Rattle.base.specs.Integers.{within}
-use Rattle.base.proofs.Booleans.{and_left, and_right, conj, conj_first, conj_at, conj_fails}
+use Rattle.base.proofs.Booleans.{and_left, and_right, conj, conj_first, conj_at}
 use Rattle.base.proofs.Left.{all-and, all_same}
 use Rattle.matrix.specs.Limits.{max_rows, max_entries, max_value}
 use Rattle.matrix.specs.Matrix.{Matrix, columns_of, values_of, ascending, is_row, lower_entries, is_matrix}
@@ -71,11 +71,6 @@ matrix_tidy m h =
     record { shape = and_left (shaped m) (ordered m && lower) both; order = and_left (ordered m) lower (and_right (shaped m) (ordered m && lower) both) }
 
 -- ---- the first pass
-
--- the test at place k fails
-pub shape_fails : (m : Matrix) (k : ℕ) → get_or (size_tests m) k true ≡ false → shaped m ≡ false
-unfolding shaped
-shape_fails m k h = rw (conj_fails (leb 1 m.n) (size_tests m) k h)
 
 -- all tests but the last pass
 pub shape-rises : (m : Matrix) → 1 ≤ m.n → m.n ≤ max_rows → m.n < length m.starts → get_or m.starts 0 0 ≡ 0

@@ -16,7 +16,8 @@ use Rattle.base.specs.Integers.{sumℤ}
 use Rattle.base.proofs.Booleans.{both_ways}
 use Rattle.base.proofs.Lists.{all-range, range_all}
 use Rattle.matrix.specs.Limits.{max_rows}
-use Rattle.matrix.specs.Code.Room.{max_starts, max_cells}
+use Rattle.matrix.specs.Code.Room.{max_starts, max_cells, Reaches}
+use Rattle.std.proofs.lemmas.List.{take_min}
 use Rattle.matrix.specs.Matrix.{Matrix, part_of, columns_of, values_of, lookup, entry, neighbours, is_matrix, displacement, are_displacements, displacement_check, matrix_of}
 use Rattle.matrix.specs.Code.Checks.{rises, shaped}
 use Rattle.matrix.specs.Product.{force_at, product}
@@ -29,6 +30,15 @@ use Rattle.matrix.proofs.Alike.{alike}
 -- the first of them
 abbrev pub cut : Matrix → Matrix
 cut m = matrix_of m.n (take max_starts m.starts) (take max_cells m.columns) (take max_cells m.values)
+
+-- .. of arrays that reach as far
+pub cut-reached : (m : Matrix) {starts columns : List ℕ} {values : List ℤ} (places : ℕ) → Reaches places (length m.columns) → Reaches places (length m.values)
+    → starts ≡ take max_starts m.starts → columns ≡ take places m.columns → values ≡ take places m.values → matrix_of m.n starts columns values ≡ cut m
+cut-reached m {starts} {columns} {values} places rc rv es ec ev =
+    rw (es, ec ∙ reached m.columns rc, ev ∙ reached m.values rv)
+  where
+    reached : {A : Type 0} (l : List A) → Reaches places (length l) → take places l ≡ take max_cells l
+    reached l r = sym (take_min places l) ∙ ap (λ (k : ℕ). take k l) r ∙ take_min max_cells l
 
 -- ---- row starts
 

@@ -2,31 +2,18 @@
 use mathlib.Core.Path.{◌≡◌, refl, sym, ap, ◌∙◌}
 use mathlib.Core.Bool.{Bool, true, false, ◌&&◌, cond, and-true}
 use mathlib.Core.List.{List, [], ◌∷◌}
-use Prim.Native.Nat.{ℕ, zero, suc, ◌+◌, ◌≤◌, ◌<◌}
+use Prim.Native.Nat.{ℕ, zero, suc, ◌≤◌, ◌<◌}
 use native.Mathlib.Omega.{arith}
 use lib.Dec.{leb, leb-zero, leb-suc-zero, leb-suc-suc}
 use lib.IntN.{ℤ, pos, negsuc, neg_ℤ, ◌-ℤ◌, +ℤ_idl}
-use lib.Signed.{le_z, lt_z}
+use lib.Signed.{le_z}
 use lib.ListN.{length, get_or, drop}
 use lib.Seq.{drop-cons, drop-length}
-use borrow.Author.Tests.{ltb-true}
 use Rattle.base.specs.Integers.{within}
-use Rattle.base.proofs.Integers.{never}
 use Rattle.matrix.specs.Matrix.{first_past}
 
 -- ---- one number
 
-pub within-negative : (z : ℤ) (limit : ℕ) → lt_z z (pos 0) ≡ true → le_z (pos 0 -ℤ z) (pos limit) ≡ within limit z
-unfolding within
-within-negative (pos n) limit h = absurd (omega (arith, ltb-true n 0 h))
-within-negative (negsuc n) limit h = let e : 0 + suc n ≡ suc n = omega arith in ap (λ (k : ℕ). leb k limit) e
-
-pub within-positive : (z : ℤ) (limit : ℕ) → lt_z z (pos 0) ≡ false → le_z z (pos limit) ≡ within limit z
-unfolding within
-within-positive (pos n) limit h = refl
-within-positive (negsuc n) limit h = never (sym h)
-
--- both sides at once
 pub within_both : (z : ℤ) (limit : ℕ) → le_z (pos 0 -ℤ pos limit) z && le_z z (pos limit) ≡ within limit z
 unfolding within
 within_both z limit = ap (λ (least : ℤ). le_z least z && le_z z (pos limit)) (+ℤ_idl (neg_ℤ (pos limit))) ∙ go z limit

@@ -1,5 +1,6 @@
 pub mod Limits
 pub mod Matrix
+pub mod Held
 pub mod Product
 pub mod SmallForces
 pub mod Tabulated

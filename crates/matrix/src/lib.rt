@@ -3,4 +3,4 @@
 #![tactic(auto)]
 
 pub mod limits;
-pub mod row;
+pub mod lists;

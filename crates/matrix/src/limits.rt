@@ -32,11 +32,8 @@ pub fn all_within(numbers: &[i32], limit: u32) -> bool
     let most = limit as i32;
     let least = 0 - most;
     let mut inside = true;
-    let mut k = 0;
-    while k < numbers.len() {
-        let z = numbers[k];
-        inside = inside & (least <= z) & (z <= most);
-        k += 1;
+    for z in numbers {
+        inside = inside & (least <= *z) & (*z <= most);
     }
     inside
 }

@@ -7,8 +7,9 @@ ghost use Rattle.control.specs.ControlNumber.{control_number};
 
 use control::control;
 
+#[tactic(auto, unfolding(lent::specs::Word::word))]
 pub fn mzk_control(forces: &[u8]) -> u64
     ensures { result ≡ word (accepted (control_number (signed 8 forces.now))) }
 {
-    control(forces) as u64
+    u64::from(control(forces))
 }

@@ -12,13 +12,11 @@ use numbers::write::write;
 pub fn mzk_numbers_read(text: &[u8], list: &mut [u8]) -> u64
     ensures { Answered (read_numbers_reply (listed text.now) (length list.old / 8)) (signed_bytes 8 (numbers_in (listed text.now))) list.old result list.new }
 {
-    let answer = read(text, list);
-    word_of(answer)
+    word_of(read(text, list))
 }
 
 pub fn mzk_numbers_write(list: &[u8], text: &mut [u8]) -> u64
     ensures { Answered (write_numbers_reply (signed 8 list.now) (length text.old)) (numbers_text (signed 8 list.now)) text.old result text.new }
 {
-    let answer = write(list, text);
-    word_of(answer)
+    word_of(write(list, text))
 }

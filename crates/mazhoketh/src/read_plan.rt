@@ -12,6 +12,5 @@ pub fn mzk_read_plan(file: &[u8], order: &mut [u8], groups: &mut [u8]) -> u64
     ensures order { Answered (read_plan_reply file.now order.old groups.old) (unsigned_bytes number_size (plan_from file.now).order) order.old result order.new }
     ensures groups { Answered (read_plan_reply file.now order.old groups.old) (unsigned_bytes number_size (flat (plan_from file.now).groups)) groups.old result groups.new }
 {
-    let answer = read(file, order, groups);
-    word_of(answer)
+    word_of(read(file, order, groups))
 }

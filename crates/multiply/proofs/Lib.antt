@@ -1,4 +1,2 @@
 mod RowForce
-mod Moved
 mod Forces
-mod Replied

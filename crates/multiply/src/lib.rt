@@ -6,76 +6,69 @@ mod row;
 
 ghost use Rattle.std.specs.Prelude.{◌≡◌, [], ◌∷◌, ◌++◌, length, drop};
 ghost use Rattle.base.specs.Replies.{accepted, refused, in_turn, lent};
-ghost use Rattle.base.specs.Verdicts.{reply_of};
-ghost use Rattle.matrix.specs.Matrix.{entry, displacement_check, matrix_of};
+ghost use Rattle.base.specs.Verdicts.{reply_of, reply_of_check};
+ghost use Rattle.matrix.specs.Matrix.{displacement_check};
 ghost use Rattle.matrix.specs.Product.{product, product_reply};
+ghost use Rattle.matrix.specs.Held.{held};
 ghost use Rattle.multiply.specs.Code.Loaded.{Loaded};
 
-use base::{DISPLACEMENT, MATRIX, SHORT, Verdict};
+use base::{Kind, Refusal};
 use limits::first_past;
 use matrix::limits::{MAX_DISPLACEMENT, all_within};
-use matrix::row::{columns_of, values_of};
+use matrix::lists::Matrix;
 use symmetric::is_matrix;
 
-// Whether there are n displacements, each within its limit.
-pub fn check_displacements(n: u32, displacements: &[i32]) -> Verdict
-    ensures { reply_of result ≡ in_turn refused (displacement_check n displacements.now ∷ []) (accepted 0) }
+// Whether there are n displacements, each within its limit. (n has 32 bits, since a refusal's place has.)
+#[tactic(auto, unfolding(base::specs::Replies::in_turn, matrix::specs::Matrix::displacement_check, matrix::specs::Matrix::are_displacements))]
+pub fn check_displacements(n: u32, displacements: &[i32]) -> Result<(), Refusal>
+    ensures { reply_of_check result ≡ in_turn refused (displacement_check n displacements.now ∷ []) (accepted 0) }
 {
     if displacements.len() != n as usize {
-        return Verdict::Refused(DISPLACEMENT, 0);
+        return Err(Refusal {
+            kind: Kind::BadDisplacement,
+            place: 0,
+        });
     }
     if !all_within(displacements, MAX_DISPLACEMENT) {
-        let place = first_past(displacements, MAX_DISPLACEMENT);
-        return Verdict::Refused(DISPLACEMENT, place as u32);
+        let place = first_past(displacements, MAX_DISPLACEMENT) as u32;
+        return Err(Refusal {
+            kind: Kind::BadDisplacement,
+            place,
+        });
     }
-    Verdict::Accepted(0)
+    Ok(())
 }
 
 // The force of each row, in the first n places.
-fn fill(
-    n: usize,
-    starts: &[u32],
-    columns: &[u32],
-    values: &[i32],
-    displacements: &[i32],
-    forces: &mut [i64],
-)
-    requires { Loaded (matrix_of n starts.now columns.now values.now) displacements.now (length forces.old) }
-    ensures { forces.new ≡ product (matrix_of n starts.now columns.now values.now) displacements.now ++ drop n forces.old }
+fn fill(m: &Matrix, displacements: &[i32], forces: &mut [i64])
+    requires { Loaded (held m.now) displacements.now (length forces.old) }
+    ensures { forces.new ≡ product (held m.now) displacements.now ++ drop m.now.n forces.old }
 {
-    let mut i = 0;
-    while i < n {
-        let row_columns = columns_of(starts, columns, i);
-        let row_values = values_of(starts, values, i);
-        let force = row::force(row_columns, row_values, displacements);
-        forces[i] = force;
-        i += 1;
+    for i in 0..m.n {
+        forces[i] = row::force(m.columns_of(i), m.values_of(i), displacements);
     }
 }
 
 // The product of the matrix and the displacements, into forces.
-pub fn product(
-    n: u32,
-    starts: &[u32],
-    columns: &[u32],
-    values: &[i32],
-    displacements: &[i32],
-    forces: &mut [i64],
-) -> Verdict
-    ensures reply { reply_of result ≡ product_reply (matrix_of n starts.now columns.now values.now) displacements.now (length forces.old) }
-    ensures lent_forces { forces.new ≡ lent (product_reply (matrix_of n starts.now columns.now values.now) displacements.now (length forces.old)) (product (matrix_of n starts.now columns.now values.now) displacements.now) forces.old }
+#[tactic(auto, unfolding(base::specs::Replies::in_turn, base::specs::Replies::lent, matrix::specs::Product::product_reply, matrix::specs::Matrix::matrix_check))]
+pub fn product(m: &Matrix, displacements: &[i32], forces: &mut [i64]) -> Result<u32, Refusal>
+    ensures reply { reply_of result ≡ product_reply (held m.now) displacements.now (length forces.old) }
+    ensures lent_forces { forces.new ≡ lent (product_reply (held m.now) displacements.now (length forces.old)) (product (held m.now) displacements.now) forces.old }
 {
-    if !is_matrix(n, starts, columns, values) {
-        return Verdict::Refused(MATRIX, 0);
+    if !is_matrix(m) {
+        return Err(Refusal {
+            kind: Kind::NotMatrix,
+            place: 0,
+        });
     }
-    let checked = check_displacements(n, displacements);
-    if let Verdict::Refused(number, place) = checked {
-        return Verdict::Refused(number, place);
+    let n = m.n as u32;
+    check_displacements(n, displacements)?;
+    if forces.len() < m.n {
+        return Err(Refusal {
+            kind: Kind::TooShort,
+            place: n,
+        });
     }
-    let rows = n as usize;
-    if forces.len() < rows {
-        return Verdict::Refused(SHORT, n);
-    }
-    fill(rows, starts, columns, values, displacements, forces);
-    Verdict::Accepted(0)
+    fill(m, displacements, forces);
+    Ok(0)
 }

@@ -10,11 +10,8 @@ pub(crate) fn force(columns: &[u32], values: &[i32], displacements: &[i32]) -> i
     ensures { result ≡ sumℤ (λ j. lookup j columns.now values.now *ℤ displacement displacements.now j) (length displacements.now) }
 {
     let mut sum: i64 = 0;
-    let mut k = 0;
-    while k < columns.len() {
-        let j = columns[k] as usize;
-        sum += values[k] as i64 * displacements[j] as i64;
-        k += 1;
+    for (k, column) in columns.iter().enumerate() {
+        sum += values[k] as i64 * displacements[*column as usize] as i64;
     }
     sum
 }

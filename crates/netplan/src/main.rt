@@ -10,7 +10,8 @@ use std::io;
 use std::io::{Read, Write};
 
 // Reads until the bytes are full or the input has ended, and returns how many were read. An input that cannot be read
-// further has ended.
+// further has ended. A read takes as many bytes as it finds, so no `for` counts them; `read_exact` would not tell how
+// many there were.
 fn read_full<R: Read>(input: &mut R, bytes: &mut [u8]) -> usize
     ensures bound { result ≤ length bytes.new }
     ensures consumed { Consumes (R.remaining input.old) (R.remaining input.new) (take result bytes.new) }

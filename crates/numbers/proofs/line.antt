@@ -1,3 +1,2 @@
 pub mod Wholes
-pub mod Bits
 pub mod Numbers

@@ -4,7 +4,6 @@ ghost use Rattle.std.specs.Prelude.{◌≡◌, ◌+◌, ◌*◌, ◌<◌, min, l
 ghost use Rattle.market.specs.Fields.{digits, value_of};
 ghost use Rattle.numbers.specs.Code.Lines.{many};
 
-use base::bytes::wide64;
 use scan::classes::{DIGIT, class_of};
 
 // More than any number of 64 bits: what is told of a larger value.
@@ -35,14 +34,15 @@ pub(crate) fn read_digits(text: &[u8], at: usize) -> Digits
     ensures { (result.value ≡ min (value_of 0 (digits (drop at text.now))) many) × (result.next ≡ at + length (digits (drop at text.now))) }
 {
     let mut value: u64 = 0;
-    let mut i = at;
-    while i < text.len() {
+    for i in at..text.len() {
         let b = text[i];
         if class_of(b) != DIGIT {
             return Digits { value, next: i };
         }
-        value = more(value, wide64(b) - 48);
-        i += 1;
+        value = more(value, b as u64 - 48);
     }
-    Digits { value, next: i }
+    Digits {
+        value,
+        next: at.max(text.len()),
+    }
 }

@@ -6,22 +6,14 @@ ghost use Rattle.numbers.specs.Lines.{is_spelled, number_on};
 ghost use Rattle.numbers.specs.Code.Lines.{plain_of, negative_of, line_at};
 
 use crate::digits::read_digits;
+use base::Kind;
 use scan::classes::{LINE_END, SIGN, class_at};
 
 // The least number of 64 bits, without its sign.
 pub(crate) const LEAST: u64 = 9223372036854775808;
 
 // The largest number of 64 bits that has no sign.
-pub(crate) const LARGEST: u64 = 18446744073709551615;
-
-// A line's number, in two's complement, and where the next line begins; or a number that passes 64 bits; or a line that
-// breaks the form.
-#[derive(Clone, Copy)]
-pub(crate) enum Line {
-    Number(u64, usize),
-    Past,
-    Broken,
-}
+const LARGEST: u64 = 18446744073709551615;
 
 // Whether the digits from a position up to the next are a number: one at least, and no needless zero.
 fn is_whole(text: &[u8], at: usize, next: usize) -> bool
@@ -38,29 +30,31 @@ fn is_whole(text: &[u8], at: usize, next: usize) -> bool
 }
 
 // A number that carries no sign, on a line that ends before `next`.
-fn plain(value: u64, next: usize) -> Line
+fn plain(value: u64, next: usize) -> Result<(u64, usize), Kind>
     ensures { result ≡ plain_of value next }
 {
     if value < LEAST {
-        return Line::Number(value, next);
+        return Ok((value, next));
     }
-    Line::Past
+    Err(Kind::BadEntry)
 }
 
 // One that carries `-`.
-fn negated(value: u64, next: usize) -> Line
+fn negated(value: u64, next: usize) -> Result<(u64, usize), Kind>
     ensures { result ≡ negative_of value next }
 {
     if value == 0 {
-        return Line::Broken;
+        return Err(Kind::BadForm);
     }
     if value <= LEAST {
-        return Line::Number(LARGEST - (value - 1), next);
+        return Ok((LARGEST - (value - 1), next));
     }
-    Line::Past
+    Err(Kind::BadEntry)
 }
 
-pub(crate) fn read_line(text: &[u8], at: usize) -> Line
+// A line's number, in two's complement, and where the next line begins; or why it is refused: the number passes 64
+// bits, or the line breaks the form.
+pub(crate) fn read_line(text: &[u8], at: usize) -> Result<(u64, usize), Kind>
     ensures { result ≡ line_at at (number_on (drop at text.now)) }
 {
     let signed = class_at(text, at) == SIGN;
@@ -69,10 +63,10 @@ pub(crate) fn read_line(text: &[u8], at: usize) -> Line
     let value = found.value;
     let next = found.next;
     if !is_whole(text, first, next) {
-        return Line::Broken;
+        return Err(Kind::BadForm);
     }
     if class_at(text, next) != LINE_END {
-        return Line::Broken;
+        return Err(Kind::BadForm);
     }
     if signed {
         return negated(value, next + 1);

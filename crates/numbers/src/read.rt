@@ -6,44 +6,38 @@ ghost use Rattle.base.specs.Replies.{lent};
 ghost use Rattle.words.specs.LittleEndian.{signed_bytes, stored};
 ghost use Rattle.numbers.specs.Lines.{numbers, listed};
 ghost use Rattle.numbers.specs.Calls.{numbers_in, read_numbers_reply};
-ghost use Rattle.numbers.specs.Code.Lines.{judged_of};
+ghost use Rattle.numbers.specs.Code.Lines.{Judges};
 
-use crate::line::{Line, read_line};
+use crate::line::read_line;
 use crate::low::low;
-use base::{ENTRY, FORM, SHORT, Verdict};
-use words::number::write_u64;
+use base::{Kind, Refusal};
+use words::word::Word;
 
 // The bytes of a number.
 pub(crate) const NUMBER: usize = 8;
 
 // How many numbers a text has; or why it is refused, and at which line.
-#[derive(Clone, Copy)]
-enum Judged {
-    Numbers(usize),
-    Faulty(u32, usize),
-}
-
-fn judge(text: &[u8]) -> Judged
-    ensures { result ≡ judged_of (listed text.now) }
+fn judge(text: &[u8]) -> Result<usize, Refusal>
+    ensures { Judges (listed text.now) result }
 {
     let mut count: usize = 0;
     let mut at = 0;
+    // A turn goes on where a line ends, which is no next number.
     while at < text.len() {
-        let line = read_line(text, at);
-        match line {
-            Line::Number(_, next) => {
+        match read_line(text, at) {
+            Ok((_, next)) => {
                 at = next;
                 count += 1;
             }
-            Line::Past => {
-                return Judged::Faulty(ENTRY, count + 1);
-            }
-            Line::Broken => {
-                return Judged::Faulty(FORM, count + 1);
+            Err(kind) => {
+                return Err(Refusal {
+                    kind,
+                    place: low(count + 1),
+                });
             }
         }
     }
-    Judged::Numbers(count)
+    Ok(count)
 }
 
 // The numbers of a text that has no others than they, stored one after the other.
@@ -53,30 +47,26 @@ fn fill(text: &[u8], list: &mut [u8])
 {
     let mut k: usize = 0;
     let mut at = 0;
+    // As above; each line has its number.
     while at < text.len() {
-        let line = read_line(text, at);
-        let Line::Number(bits, next) = line else {
-            return;
-        };
-        write_u64(list, k * NUMBER, bits);
+        let (bits, next) = read_line(text, at).unwrap();
+        bits.write(list, k * NUMBER);
         at = next;
         k += 1;
     }
 }
 
-pub fn read(text: &[u8], list: &mut [u8]) -> Verdict
+pub fn read(text: &[u8], list: &mut [u8]) -> Result<u32, Refusal>
     ensures replies { reply_of result ≡ read_numbers_reply (listed text.now) (length list.old / 8) }
     ensures list { list.new ≡ lent (reply_of result) (signed_bytes 8 (numbers_in (listed text.now))) list.old }
 {
-    let judged = judge(text);
-    match judged {
-        Judged::Faulty(number, line) => Verdict::Refused(number, low(line)),
-        Judged::Numbers(count) => {
-            if list.len() / NUMBER < count {
-                return Verdict::Refused(SHORT, low(count));
-            }
-            fill(text, list);
-            Verdict::Accepted(low(count))
-        }
+    let count = judge(text)?;
+    if list.len() / NUMBER < count {
+        return Err(Refusal {
+            kind: Kind::TooShort,
+            place: low(count),
+        });
     }
+    fill(text, list);
+    Ok(low(count))
 }

@@ -5,18 +5,19 @@ ghost use Rattle.market.specs.Text.{decimal};
 ghost use Rattle.words.specs.LittleEndian.{to_signed};
 ghost use Rattle.numbers.specs.Lines.{number_line};
 
-use crate::line::{LARGEST, LEAST};
+use crate::line::LEAST;
 
-// How many digits a number has, four at a time.
+// How many digits a number has, four at a time. (The matrix writer's are few, and are tested at once, with no branch.)
 fn width(v: u64) -> usize
     requires { v < 10 ^ 19 }
     ensures { result ≡ length (decimal 19 v) }
 {
     let mut digits: usize = 1;
     let mut x = v;
+    // A turn takes four digits away: a number, and no range, is gone through.
     while 10000 <= x {
-        digits = digits + 4;
-        x = x / 10000;
+        digits += 4;
+        x /= 10000;
     }
     digits + (10 <= x) as usize + (100 <= x) as usize + (1000 <= x) as usize
 }
@@ -25,10 +26,7 @@ fn width(v: u64) -> usize
 pub(crate) fn magnitude(bits: u64) -> u64
     ensures { result ≡ unsigned_abs (to_signed 8 bits) }
 {
-    if bits < LEAST {
-        return bits;
-    }
-    LARGEST - bits + 1
+    bits.cast_signed().unsigned_abs()
 }
 
 pub(crate) fn line_width(bits: u64) -> usize

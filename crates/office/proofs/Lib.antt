@@ -1,3 +1,4 @@
+pub mod Cells
 pub mod Products
 pub mod Plans
 pub mod PlanChecks

@@ -2,6 +2,7 @@
 // call is made, its answer is stored.
 #![tactic(auto)]
 
+mod bytes;
 pub mod check;
 pub mod planning;
 pub mod product;

@@ -1,41 +1,54 @@
 // product: the forces of a matrix and movements.
 ghost use Rattle.std.specs.Prelude.{◌/◌, ◌≤◌, length};
-ghost use Rattle.matrix.specs.Matrix.{matrix_of};
+ghost use Rattle.base.specs.Verdicts.{reply_of};
+ghost use Rattle.matrix.specs.Held.{held};
 ghost use Rattle.matrix.specs.Limits.{max_rows};
 ghost use Rattle.matrix.specs.Product.{product, product_reply};
 ghost use Rattle.words.specs.LittleEndian.{signed, signed_bytes};
 ghost use Rattle.lent.specs.Bytes.{matrix_in};
-ghost use Rattle.lent.specs.Word.{Answered};
+ghost use Rattle.lent.specs.Word.{word, Answered};
+ghost use Rattle.office.specs.Code.Cells.{given};
 
-use base::Verdict;
-use base::numbers::least;
+use crate::bytes::MatrixBytes;
+use base::Refusal;
 use lent::few::{FEW_CELLS, are_few};
-use lent::lists::{load_signed, load_unsigned};
+use lent::lists::decode;
 use lent::word::word_of;
 use matrix::limits::{MAX_CELLS, MAX_ROWS, MAX_STARTS};
-use words::store::store_i64;
+use matrix::lists::Matrix;
+use words::lists::store;
 
-// The matrix and the displacements are decoded; the product is made in sums.
+// The product is made in sums; then it is stored.
 fn product_of(
-    n: u32,
-    starts: &[u32],
-    columns: &[u32],
-    values: &[i32],
+    m: &Matrix,
     displacements: &[i32],
-    sums: &mut [i64],
+    sums: &mut [i64; MAX_ROWS],
     forces: &mut [u8],
-) -> u64
-    requires { max_rows ≤ length sums.old }
-    ensures { Answered (product_reply (matrix_of n starts.now columns.now values.now) displacements.now (length forces.old / 8)) (signed_bytes 8 (product (matrix_of n starts.now columns.now values.now) displacements.now)) forces.old result forces.new }
+) -> Result<u32, Refusal>
+    ensures { Answered (product_reply (held m.now) displacements.now (length forces.old / 8)) (signed_bytes 8 (product (held m.now) displacements.now)) forces.old (word (reply_of result)) forces.new }
 {
-    let room = least(forces.len() / 8, sums.len());
-    let answer = multiply::product(n, starts, columns, values, displacements, &mut sums[..room]);
-    let Verdict::Accepted(_) = answer else {
-        return word_of(answer);
-    };
-    let rows = n as usize;
-    store_i64(&sums[..rows], forces);
-    word_of(answer)
+    let room = (forces.len() / 8).min(sums.len());
+    let count = multiply::product(m, displacements, &mut sums[..room])?;
+    store(&sums[..m.n], forces);
+    Ok(count)
+}
+
+// With arrays of so many columns and values, in a frame of their own: it is short for a net with few.
+#[inline(never)]
+fn product_with<const CELLS: usize>(
+    bytes: &MatrixBytes<CELLS>,
+    movements: &[u8],
+    forces: &mut [u8],
+) -> Result<u32, Refusal>
+    ensures { Answered (product_reply (given bytes.now) (signed 4 movements.now) (length forces.old / 8)) (signed_bytes 8 (product (given bytes.now) (signed 4 movements.now))) forces.old (word (reply_of result)) forces.new }
+{
+    let mut starts = [0u32; MAX_STARTS];
+    let mut columns = [0u32; CELLS];
+    let mut values = [0i32; CELLS];
+    let m = bytes.decode(&mut starts, &mut columns, &mut values);
+    let mut displacements = [0i32; MAX_STARTS];
+    let mut sums = [0i64; MAX_ROWS];
+    product_of(&m, decode(movements, &mut displacements), &mut sums, forces)
 }
 
 pub fn product_in(
@@ -48,21 +61,26 @@ pub fn product_in(
 ) -> u64
     ensures { Answered (product_reply (matrix_in n row_starts.now columns.now values.now) (signed 4 movements.now) (length forces.old / 8)) (signed_bytes 8 (product (matrix_in n row_starts.now columns.now values.now) (signed 4 movements.now))) forces.old result forces.new }
 {
-    let mut starts = [0u32; MAX_STARTS];
-    let mut displacements = [0i32; MAX_STARTS];
-    let mut sums = [0i64; MAX_ROWS];
-    let rows = load_unsigned(row_starts, &mut starts);
-    let moves = load_signed(movements, &mut displacements);
     if are_few(columns, values) {
-        let mut column_list = [0u32; FEW_CELLS];
-        let mut value_list = [0i32; FEW_CELLS];
-        let cells = load_unsigned(columns, &mut column_list);
-        let numbers = load_signed(values, &mut value_list);
-        return product_of(n, rows, cells, numbers, moves, &mut sums, forces);
+        return word_of(product_with::<FEW_CELLS>(
+            &MatrixBytes {
+                n,
+                row_starts,
+                columns,
+                values,
+            },
+            movements,
+            forces,
+        ));
     }
-    let mut column_list = [0u32; MAX_CELLS];
-    let mut value_list = [0i32; MAX_CELLS];
-    let cells = load_unsigned(columns, &mut column_list);
-    let numbers = load_signed(values, &mut value_list);
-    product_of(n, rows, cells, numbers, moves, &mut sums, forces)
+    word_of(product_with::<MAX_CELLS>(
+        &MatrixBytes {
+            n,
+            row_starts,
+            columns,
+            values,
+        },
+        movements,
+        forces,
+    ))
 }

@@ -1,7 +1,7 @@
 -- What the head of a list says, read at its places.
 use mathlib.Core.Path.{◌≡◌, refl, sym, ◌∙◌}
 use mathlib.Core.Logic.{◌≢◌}
-use mathlib.Core.Bool.{true, false, ◌&&◌}
+use mathlib.Core.Bool.{Bool, true, false, ◌&&◌}
 use mathlib.Core.List.{List}
 use Prim.Native.Nat.{ℕ, zero, suc, ◌+◌, ◌*◌, ◌^◌, ◌≤◌, ◌<◌}
 use native.Mathlib.Omega.{arith}
@@ -56,12 +56,19 @@ module _ (b : List ℕ) where
 -- ---- the counts of all workers
 
 module _ (T : Tables) (made : List ℕ) where
-  pub fine-below : (k : ℕ) → all_below (λ w. leb (count made w) (T.most w)) k ≡ counts_fine_by T made k
+  -- worker w has made no more than its accesses, or all of them
+  abbrev pub is_fine : ℕ → Bool
+  is_fine w = leb (count made w) (T.most w)
+
+  abbrev pub made_all : ℕ → Bool
+  made_all w = leb (T.most w) (count made w)
+
+  pub fine-below : (k : ℕ) → all_below is_fine k ≡ counts_fine_by T made k
   unfolding all_below counts_fine_by
   fine-below zero = refl
   fine-below (suc k) = rw (fine-below k)
 
-  pub made-below : (k : ℕ) → all_below (λ w. leb (T.most w) (count made w)) k ≡ all_made_by T made k
+  pub made-below : (k : ℕ) → all_below made_all k ≡ all_made_by T made k
   unfolding all_below all_made_by
   made-below zero = refl
   made-below (suc k) = rw (made-below k)

@@ -86,8 +86,8 @@ module _ {list : List ℕ} {rows count : ℕ} {rule : Rule} {s₀ : State} {old 
     s = state_with made held (signed 8 sums)
 
     -- all picks are gone through
-    pub going_none : k ≡ length schedule → Ends list rows count rule s₀ old schedule (record { state = s; taken = n; met = k; number = 0 })
-    going_none l = left-none (passes_over rule) (step_by T) s₀ schedule k n s g.left l
+    pub going_none : k ≡ length schedule → Ends list rows count rule s₀ old schedule (record { state = s; taken = n; met = length schedule; number = 0 })
+    going_none l = ap (λ (y : ℕ). record { state = s; taken = n; met = y; number = 0 }) (sym l) ∙ left-none (passes_over rule) (step_by T) s₀ schedule k n s g.left l
 
     -- the next pick
     module _ (l : k < length schedule) {number : ℕ} {t : State} (h : PickMade (refusal_by T made (get_or schedule k 0)) s (get_or schedule k 0) (next_by T made (get_or schedule k 0)) number t) where

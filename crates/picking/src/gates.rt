@@ -3,9 +3,9 @@ ghost use Rattle.std.specs.Prelude.{◌≡◌, ◌+◌, ◌*◌, ◌≤◌, leng
 ghost use Rattle.prepared.specs.Gates.{behind};
 ghost use Rattle.picking.specs.Code.Reads.{gate_at, shut_at};
 
+use crate::places::word_at;
 use plan::MAX_WORKERS;
 use prepared::GATE;
-use words::number::read_u32;
 
 // Some worker has made fewer accesses than its number, which stand from a place on.
 fn is_behind(list: &[u8], at: usize, made: &[u32; MAX_WORKERS]) -> bool
@@ -13,10 +13,8 @@ fn is_behind(list: &[u8], at: usize, made: &[u32; MAX_WORKERS]) -> bool
     ensures { result ≡ behind made.now (gate_at list.now at) 16 }
 {
     let mut late = false;
-    let mut v = 0;
-    while v < MAX_WORKERS {
-        late = late | (made[v] < read_u32(list, at + v * 4));
-        v += 1;
+    for v in 0..MAX_WORKERS {
+        late |= made[v] < word_at(list, at + v * 4);
     }
     late
 }

@@ -6,10 +6,9 @@ ghost use Rattle.prepared.specs.Tables.{counts_fine_by, all_made_by};
 ghost use Rattle.picking.specs.Code.Picks.{tables_in};
 ghost use Rattle.picking.specs.Code.Reads.{Head};
 
-use crate::places::number_at;
+use crate::places::{number_at, word_at};
 use plan::MAX_WORKERS;
 use prepared::{HEAD, MARK, MOST, ROW, UPDATE};
-use words::number::read_u32;
 
 // What a head says: the rows, the workers of the plan, the updates.
 #[derive(Clone, Copy)]
@@ -23,13 +22,7 @@ pub struct Sizes {
 pub fn is_prepared(list: &[u8]) -> bool
     ensures { result ≡ is_prepared list.now }
 {
-    if list.len() < HEAD {
-        return false;
-    }
-    if read_u32(list, 0) != MARK {
-        return false;
-    }
-    if MAX_WORKERS < number_at(list, 8) {
+    if list.len() < HEAD || word_at(list, 0) != MARK || MAX_WORKERS < number_at(list, 8) {
         return false;
     }
     let count = number_at(list, 12);
@@ -45,11 +38,7 @@ pub fn sizes_of(list: &[u8]) -> Sizes
     let rows = number_at(list, 4);
     let crew = number_at(list, 8);
     let count = number_at(list, 12);
-    Sizes {
-        rows: rows,
-        crew: crew,
-        count: count,
-    }
+    Sizes { rows, crew, count }
 }
 
 // No worker has made more than its accesses.
@@ -57,10 +46,8 @@ pub fn is_fine(list: &[u8], made: &[u32; MAX_WORKERS]) -> bool
     requires { is_prepared list.now ≡ true }
     ensures { result ≡ counts_fine_by (tables_in list.now) made.now max_workers }
 {
-    let mut w = MAX_WORKERS;
-    while 0 < w {
-        w -= 1;
-        if read_u32(list, MOST + w * 4) < made[w] {
+    for (w, done) in made.iter().enumerate() {
+        if word_at(list, MOST + w * 4) < *done {
             return false;
         }
     }
@@ -72,10 +59,8 @@ pub fn is_over(list: &[u8], crew: usize, made: &[u32; MAX_WORKERS]) -> bool
     requires { (is_prepared list.now ≡ true) × (crew ≤ max_workers) }
     ensures { result ≡ all_made_by (tables_in list.now) made.now crew }
 {
-    let mut w = crew;
-    while 0 < w {
-        w -= 1;
-        if made[w] < read_u32(list, MOST + w * 4) {
+    for w in 0..crew {
+        if made[w] < word_at(list, MOST + w * 4) {
             return false;
         }
     }

@@ -4,8 +4,7 @@ ghost use Rattle.words.specs.Code.Places.{four_at};
 ghost use Rattle.picking.specs.Code.Reads.{loaded_at, stored_at, update_of, update_at};
 
 use prepared::{HEAD, UPDATE};
-use words::number::{read_u32, read_u64, write_u64};
-use words::signs::{of_i64, to_i64};
+use words::word::Word;
 
 // An update: what it adds, the position of its sum, and of its row.
 #[derive(Clone, Copy)]
@@ -16,11 +15,19 @@ pub struct Entry {
 }
 
 // The number of the four bytes from a place on.
+pub fn word_at(list: &[u8], at: usize) -> u32
+    requires { at + 4 ≤ length list.now }
+    ensures { result ≡ four_at list.now at }
+{
+    u32::read(list, at)
+}
+
+// .. as an index.
 pub fn number_at(list: &[u8], at: usize) -> usize
     requires { at + 4 ≤ length list.now }
     ensures { (result ≡ four_at list.now at) × (result < 2 ^ 32) }
 {
-    read_u32(list, at) as usize
+    word_at(list, at) as usize
 }
 
 // Sum t, loaded: 0 if there is none.
@@ -31,7 +38,7 @@ pub fn load_at(sums: &[u8], rows: usize, t: usize) -> i64
     if rows <= t {
         return 0;
     }
-    to_i64(read_u64(sums, t * 8))
+    i64::read(sums, t * 8)
 }
 
 // Sum t, stored: nowhere if there is none.
@@ -40,7 +47,7 @@ pub fn store_at(sums: &mut [u8], rows: usize, t: usize, z: i64)
     ensures { sums.new ≡ stored_at sums.old rows t z }
 {
     if t < rows {
-        write_u64(sums, t * 8, of_i64(z));
+        z.write(sums, t * 8);
     }
 }
 
@@ -57,12 +64,12 @@ pub fn update_at(list: &[u8], count: usize, k: usize) -> Entry
         };
     }
     let at = HEAD + k * UPDATE;
-    let amount = to_i64(read_u64(list, at));
+    let amount = i64::read(list, at);
     let target = number_at(list, at + 8);
     let row = number_at(list, at + 12);
     Entry {
-        amount: amount,
-        target: target,
-        row: row,
+        amount,
+        target,
+        row,
     }
 }

@@ -1,22 +1,31 @@
 // A plan's groups are records in a flat list: what a record is, and how it is read and written.
 ghost use Rattle.std.specs.Prelude.{◌≡◌, ◌++◌, ◌+◌, ◌*◌, ◌≤◌, length, take};
 ghost use Rattle.plan.specs.Groups.{width, fields_of, group_of};
-ghost use Rattle.plan.specs.Code.Checks.{record_at, Reads};
+ghost use Rattle.plan.specs.Code.Checks.{colour_of, record_at};
 
 use crate::MAX_GROUPS;
-use base::numbers::wide;
 
 // How many numbers a record has, and a list of all that a plan may have.
 pub const WIDTH: usize = 7;
 
 pub const MAX_FIELDS: usize = MAX_GROUPS * WIDTH;
 
-// The colours.
-pub const WHOLE: u32 = 0;
+// What a record's colour says; a lent record may have any other number.
+#[derive(Clone, Copy, PartialEq, Eq)]
+pub enum Colour {
+    Whole = 0,
+    Red = 1,
+    Blue = 2,
+}
 
-pub const RED: u32 = 1;
-
-pub const BLUE: u32 = 2;
+impl Colour {
+    // Its number in a record.
+    pub fn number(self) -> u32
+        ensures { result ≡ colour_of self }
+    {
+        self as u32
+    }
+}
 
 // A group's record.
 #[derive(Clone, Copy)]
@@ -28,18 +37,6 @@ pub struct Group {
     pub colour: u32,
     pub parent: u32,
     pub depth: u32,
-}
-
-// .. with numbers so wide that the sum of two does not wrap.
-#[derive(Clone, Copy)]
-pub struct Record {
-    pub start: usize,
-    pub length: usize,
-    pub first: usize,
-    pub workers: usize,
-    pub colour: u32,
-    pub parent: usize,
-    pub depth: usize,
 }
 
 // Reads the record at an index.
@@ -64,29 +61,9 @@ pub fn put(numbers: &mut [u32], i: usize, g: Group)
     requires { width * (i + 1) ≤ length numbers.old }
     ensures { take (width * (i + 1)) numbers.new ≡ take (width * i) numbers.old ++ fields_of (group_of g) }
 {
+    let fields = [
+        g.start, g.length, g.first, g.workers, g.colour, g.parent, g.depth,
+    ];
     let at = WIDTH * i;
-    numbers[at] = g.start;
-    numbers[at + 1] = g.length;
-    numbers[at + 2] = g.first;
-    numbers[at + 3] = g.workers;
-    numbers[at + 4] = g.colour;
-    numbers[at + 5] = g.parent;
-    numbers[at + 6] = g.depth;
-}
-
-// Reads the record at an index, and widens it.
-pub fn record_at(groups: &[u32], i: usize) -> Record
-    requires { width * (i + 1) ≤ length groups.now }
-    ensures { Reads result (record_at groups.now i) }
-{
-    let g = get(groups, i);
-    Record {
-        start: wide(g.start),
-        length: wide(g.length),
-        first: wide(g.first),
-        workers: wide(g.workers),
-        colour: g.colour,
-        parent: wide(g.parent),
-        depth: wide(g.depth),
-    }
+    numbers[at..at + WIDTH].copy_from_slice(&fields);
 }

@@ -2,6 +2,7 @@
 #![tactic(auto)]
 
 pub mod fields;
+pub mod lists;
 
 ghost use Rattle.std.specs.Prelude.{◌≡◌};
 ghost use Rattle.plan.specs.Sound.{is_distance};
@@ -19,11 +20,9 @@ pub const MAX_GROUPS: usize = 512;
 const MAX_DISTANCE: u32 = 4;
 
 // Whether k is a distance that plans are made and checked for.
+#[tactic(auto, using(std::proofs::lemmas::Bool::Decides::nat_tests), unfolding(crate::specs::Sound::is_distance))]
 pub fn is_distance(k: u32) -> bool
     ensures { result ≡ is_distance k }
 {
-    if k < 1 {
-        return false;
-    }
-    k <= MAX_DISTANCE
+    1 <= k && k <= MAX_DISTANCE
 }

@@ -2,7 +2,7 @@
 ghost use Rattle.std.specs.Prelude.{◌≡◌, ◌≤◌, ◌<◌, ◌^◌};
 ghost use Rattle.matrix.specs.Limits.{max_rows};
 ghost use Rattle.plan.specs.Sound.{max_groups};
-ghost use Rattle.planfile.specs.File.{contents, file_size, is_sized};
+ghost use Rattle.planfile.specs.File.{contents, file_size};
 
 use matrix::limits::MAX_ROWS;
 use plan::MAX_GROUPS;
@@ -18,42 +18,49 @@ const ORDER: u32 = 1;
 
 const GROUPS: u32 = 3;
 
-// Whether a file can carry so many freedoms and groups.
-pub(crate) fn is_sized(n: usize, count: usize) -> bool
-    ensures { result ≡ is_sized n count }
-{
-    if n < 1 {
-        return false;
-    }
-    if MAX_ROWS < n {
-        return false;
-    }
-    if count < 1 {
-        return false;
-    }
-    count <= MAX_GROUPS
+// How many freedoms and groups a file has: it can carry as many.
+#[derive(Clone, Copy)]
+pub(crate) struct Counts {
+    pub rows: usize,
+    pub groups: usize,
+    pub ghost bounds: { (1 ≤ rows) × (rows ≤ max_rows) × (1 ≤ groups) × (groups ≤ max_groups) },
 }
 
-// The bytes of a file.
-pub(crate) fn file_size(n: usize, count: usize) -> usize
-    requires { (n ≤ max_rows) × (count ≤ max_groups) }
-    ensures { (result ≡ file_size n count) × (result < 2 ^ 32) }
-{
-    NUMBER * (TABLE + n + WIDTH * count)
-}
+impl Counts {
+    ghost use Rattle.planfile.specs.Code.Counted.{IsCounted};
 
-// The numbers of the table.
-pub(crate) fn contents_of(n: usize, count: usize) -> [u32; TABLE]
-    requires { (n ≤ max_rows) × (count ≤ max_groups) }
-    ensures { result ≡ contents n count }
-{
-    [
-        2,
-        ORDER,
-        (NUMBER * TABLE) as u32,
-        (NUMBER * n) as u32,
-        GROUPS,
-        (NUMBER * (TABLE + n)) as u32,
-        (NUMBER * (WIDTH * count)) as u32,
-    ]
+    // None where a file can't carry as many.
+    #[tactic(auto, using(std::proofs::lemmas::Bool::Decides::nat_tests), unfolding(crate::specs::File::is_sized))]
+    pub(crate) fn of(rows: usize, groups: usize) -> Option<Counts>
+        ensures { IsCounted rows groups result }
+    {
+        if 1 <= rows && rows <= MAX_ROWS && 1 <= groups && groups <= MAX_GROUPS {
+            return Some(Counts { rows, groups });
+        }
+        None
+    }
+
+    // The bytes of a file.
+    #[tactic(auto, unfolding(crate::specs::File::file_size))]
+    pub(crate) fn file_size(self) -> usize
+        ensures { (result ≡ file_size self.rows self.groups) × (result < 2 ^ 32) }
+    {
+        NUMBER * (TABLE + self.rows + WIDTH * self.groups)
+    }
+
+    // The numbers of the table.
+    #[tactic(auto, unfolding(crate::specs::File::contents))]
+    pub(crate) fn table(self) -> [u32; TABLE]
+        ensures { result ≡ contents self.rows self.groups }
+    {
+        [
+            2,
+            ORDER,
+            (NUMBER * TABLE) as u32,
+            (NUMBER * self.rows) as u32,
+            GROUPS,
+            (NUMBER * (TABLE + self.rows)) as u32,
+            (NUMBER * (WIDTH * self.groups)) as u32,
+        ]
+    }
 }

@@ -6,44 +6,56 @@ ghost use Rattle.plan.specs.Groups.{flat};
 ghost use Rattle.words.specs.LittleEndian.{unsigned_bytes};
 ghost use Rattle.planfile.specs.Calls.{read_plan_reply};
 ghost use Rattle.planfile.specs.File.{number_size, plan_from};
+ghost use Rattle.planfile.specs.Code.Counted.{IsReadable};
 
-use crate::contents::{NUMBER, TABLE};
-use crate::judge::{freedoms_in, groups_in, is_file};
-use base::{LAYOUT, SHORT, Verdict};
+use crate::contents::{Counts, NUMBER, TABLE};
+use crate::judge::counts_of;
+use base::{Kind, Refusal};
 use plan::fields::WIDTH;
 use words::copy::copy;
 
-// What the call replies.
-fn reply(file: &[u8], order: &[u8], groups: &[u8]) -> Verdict
-    ensures { reply_of result ≡ read_plan_reply file.now order.now groups.now }
+// The counts of a file that there is room for.
+#[tactic(auto, using(std::proofs::lemmas::Bool::Decides::nat_tests), unfolding(base::specs::Replies::in_turn, crate::specs::Calls::read_plan_reply))]
+fn counts_in(file: &[u8], order: &[u8], groups: &[u8]) -> Result<Counts, Refusal>
+    ensures { IsReadable file.now order.now groups.now result }
 {
-    if !is_file(file) {
-        return Verdict::Refused(LAYOUT, 0);
+    let Some(counts) = counts_of(file) else {
+        return Err(Refusal {
+            kind: Kind::BadLayout,
+            place: 0,
+        });
+    };
+    if order.len() / NUMBER < counts.rows {
+        return Err(Refusal {
+            kind: Kind::TooShort,
+            place: counts.rows as u32,
+        });
     }
-    let n = freedoms_in(file);
-    let count = groups_in(file);
-    if order.len() / NUMBER < n {
-        return Verdict::Refused(SHORT, n as u32);
+    if groups.len() / NUMBER / WIDTH < counts.groups {
+        return Err(Refusal {
+            kind: Kind::TooShort,
+            place: counts.groups as u32,
+        });
     }
-    if groups.len() / NUMBER / WIDTH < count {
-        return Verdict::Refused(SHORT, count as u32);
-    }
-    Verdict::Accepted((n + 65536 * count) as u32)
+    Ok(counts)
 }
 
 // Both bodies are copied as they are.
-pub fn read(file: &[u8], order: &mut [u8], groups: &mut [u8]) -> Verdict
+#[tactic(auto, unfolding(base::specs::Replies::lent))]
+pub fn read(file: &[u8], order: &mut [u8], groups: &mut [u8]) -> Result<u32, Refusal>
     ensures replies { reply_of result ≡ read_plan_reply file.now order.old groups.old }
     ensures order { order.new ≡ lent (reply_of result) (unsigned_bytes number_size (plan_from file.now).order) order.old }
     ensures groups { groups.new ≡ lent (reply_of result) (unsigned_bytes number_size (flat (plan_from file.now).groups)) groups.old }
 {
-    let answer = reply(file, order, groups);
-    let Verdict::Accepted(_) = answer else {
-        return answer;
-    };
-    let n = freedoms_in(file);
-    let fields = WIDTH * groups_in(file);
-    copy(file, NUMBER * TABLE, NUMBER * n, order, 0);
-    copy(file, NUMBER * (TABLE + n), NUMBER * fields, groups, 0);
-    answer
+    let counts = counts_in(file, order, groups)?;
+    let fields = WIDTH * counts.groups;
+    copy(file, NUMBER * TABLE, NUMBER * counts.rows, order, 0);
+    copy(
+        file,
+        NUMBER * (TABLE + counts.rows),
+        NUMBER * fields,
+        groups,
+        0,
+    );
+    Ok((counts.rows + 65536 * counts.groups) as u32)
 }

@@ -5,61 +5,76 @@ ghost use Rattle.base.specs.Replies.{lent};
 ghost use Rattle.words.specs.LittleEndian.{stored};
 ghost use Rattle.planfile.specs.Calls.{lent_plan, write_plan_reply};
 ghost use Rattle.planfile.specs.File.{file_of};
+ghost use Rattle.planfile.specs.Code.Counted.{IsWritable};
 ghost use Rattle.planfile.specs.Code.Room.{Writable};
 
-use crate::contents::{NUMBER, TABLE, contents_of, file_size, is_sized};
-use base::{LAYOUT, SHORT, UNSOUND, Verdict};
+use crate::contents::{Counts, NUMBER, TABLE};
+use base::{Kind, Refusal};
 use plan::fields::WIDTH;
 use words::copy::copy;
-use words::store::store_u32;
+use words::lists::store;
 
-// What the call replies, by the counts and the room.
-fn reply(n: u32, order: &[u8], groups: &[u8], group_count: u32, room: usize) -> Verdict
-    ensures { reply_of result ≡ write_plan_reply n order.now groups.now group_count room }
+// The counts of a plan that there is room for.
+#[tactic(auto, using(std::proofs::lemmas::Bool::Decides::nat_tests), unfolding(base::specs::Replies::in_turn, crate::specs::Calls::write_plan_reply))]
+fn counts_in(
+    n: u32,
+    order: &[u8],
+    groups: &[u8],
+    group_count: u32,
+    room: usize,
+) -> Result<Counts, Refusal>
+    ensures { IsWritable n order.now groups.now group_count room result }
 {
-    let rows = n as usize;
-    let count = group_count as usize;
-    if !is_sized(rows, count) {
-        return Verdict::Refused(LAYOUT, 0);
+    let Some(counts) = Counts::of(n as usize, group_count as usize) else {
+        return Err(Refusal {
+            kind: Kind::BadLayout,
+            place: 0,
+        });
+    };
+    if order.len() / NUMBER < counts.rows || groups.len() / NUMBER < WIDTH * counts.groups {
+        return Err(Refusal {
+            kind: Kind::Unsound,
+            place: 0,
+        });
     }
-    if order.len() / NUMBER < rows {
-        return Verdict::Refused(UNSOUND, 0);
-    }
-    if groups.len() / NUMBER < WIDTH * count {
-        return Verdict::Refused(UNSOUND, 0);
-    }
-    let size = file_size(rows, count);
+    let size = counts.file_size();
     if room < size {
-        return Verdict::Refused(SHORT, size as u32);
+        return Err(Refusal {
+            kind: Kind::TooShort,
+            place: size as u32,
+        });
     }
-    Verdict::Accepted(size as u32)
+    Ok(counts)
 }
 
 // The table, then both bodies, copied as they are.
-fn fill(n: usize, order: &[u8], groups: &[u8], count: usize, file: &mut [u8])
-    requires { Writable n order.now groups.now count (length file.old) }
-    ensures { file.new ≡ stored (file_of (lent_plan n order.now groups.now count)) file.old }
+fn fill(order: &[u8], groups: &[u8], counts: Counts, file: &mut [u8])
+    requires { Writable counts.rows order.now groups.now counts.groups (length file.old) }
+    ensures { file.new ≡ stored (file_of (lent_plan counts.rows order.now groups.now counts.groups)) file.old }
 {
-    let table = contents_of(n, count);
-    store_u32(&table, file);
-    copy(order, 0, NUMBER * n, file, NUMBER * TABLE);
+    store(&counts.table(), file);
+    copy(order, 0, NUMBER * counts.rows, file, NUMBER * TABLE);
     copy(
         groups,
         0,
-        NUMBER * (WIDTH * count),
+        NUMBER * (WIDTH * counts.groups),
         file,
-        NUMBER * (TABLE + n),
+        NUMBER * (TABLE + counts.rows),
     );
 }
 
-pub fn write(n: u32, order: &[u8], groups: &[u8], group_count: u32, file: &mut [u8]) -> Verdict
+#[tactic(auto, unfolding(base::specs::Replies::lent))]
+pub fn write(
+    n: u32,
+    order: &[u8],
+    groups: &[u8],
+    group_count: u32,
+    file: &mut [u8],
+) -> Result<u32, Refusal>
     ensures replies { reply_of result ≡ write_plan_reply n order.now groups.now group_count (length file.old) }
     ensures file { file.new ≡ lent (reply_of result) (file_of (lent_plan n order.now groups.now group_count)) file.old }
 {
-    let answer = reply(n, order, groups, group_count, file.len());
-    let Verdict::Accepted(_) = answer else {
-        return answer;
-    };
-    fill(n as usize, order, groups, group_count as usize, file);
-    answer
+    let counts = counts_in(n, order, groups, group_count, file.len())?;
+    fill(order, groups, counts, file);
+    Ok(counts.file_size() as u32)
 }

@@ -1,10 +1,11 @@
 -- The reply of a call of the planner, case by case, and what the lent lists then hold.
-use mathlib.Core.Path.{◌≡◌, sym, ◌∙◌}
-use mathlib.Core.Bool.{true, false}
+use mathlib.Core.Path.{◌≡◌, refl, sym, ◌∙◌}
+use mathlib.Core.Bool.{true}
 use mathlib.Core.List.{List, ◌++◌}
 use Prim.Native.Nat.{ℕ, ◌*◌, ◌/◌, ◌≤◌, ◌<◌}
 use native.Mathlib.Omega.{arith}
 use lib.ListN.{length, take, drop}
+use lib.Seq.{length-take-le}
 use borrow.Author.Tests.{le-leb, lt-leb}
 use Rattle.base.specs.Replies.{Reply, accepted, refused, in_turn, lent}
 use Rattle.base.proofs.Replies.{lent-refused, lent-accepted}
@@ -31,24 +32,12 @@ module _ (m : Matrix) (w p k : ℕ) (order groups : List ℕ) where
   refuses : (number place : ℕ) → reply ≡ refused number place → Replied (refused number place) order groups
   refuses number place e = (sym e, (sym (lent-refused made.order order reply number place e), sym (lent-refused (flat made.groups) groups reply number place e)))
 
-  pub refuses_matrix : is_matrix m ≡ false → Replied (refused 5 0) order groups
-  unfolding plan_reply matrix_check in_turn
-  refuses_matrix e = refuses 5 0 (rw e)
-
   module _ (is : is_matrix m ≡ true) where
-    pub refuses_parameters : are_parameters w p k ≡ false → Replied (refused 7 0) order groups
-    unfolding plan_reply matrix_check in_turn
-    refuses_parameters e = refuses 7 0 (rw (is, e))
+    -- what the planner needs
+    pub rows : Rows m.n m.starts m.columns
+    rows = rows-of m is
 
     module _ (are : are_parameters w p k ≡ true) where
-      pub refuses_order : length order < m.n → Replied (refused 9 m.n) order groups
-      unfolding plan_reply matrix_check in_turn
-      refuses_order l = refuses 9 m.n (rw (is, are, lt-leb m.n (length order) l))
-
-      -- what the planner needs
-      pub rows : Rows m.n m.starts m.columns
-      rows = rows-of m is
-
       -- once all is planned
       module _ (long : m.n ≤ length order) {before list records : List ℕ} {count : ℕ}
           (held : Holds (plan_rows (adj_of m.n m.starts m.columns) m.n (record { reach = k; p = p }) w) 0 before list records count) where
@@ -67,11 +56,14 @@ module _ (m : Matrix) (w p k : ℕ) (order groups : List ℕ) where
         refuses_groups l =
             refuses 9 count (rw (is, are, le-leb m.n (length order) long, ← count_is, lt-leb count (length groups / width) l))
 
-        pub accepts : count ≤ length groups / width → (order' groups' xs ys : List ℕ) → xs ≡ list → ys ≡ take (width * count) records
-            → order' ≡ xs ++ drop (length xs) order → groups' ≡ ys ++ drop (length ys) groups → Replied (accepted count) order' groups'
+        pub accepts : count ≤ length groups / width → length list ≡ m.n → width * count ≤ length records
+            → Replied (accepted count) (list ++ drop m.n order) (take (width * count) records ++ drop (width * count) groups)
         unfolding plan_reply matrix_check in_turn
-        accepts l order' groups' xs ys xs-is ys-is o g =
+        accepts l list-long room =
             let e : reply ≡ accepted count = rw (is, are, le-leb m.n (length order) long, ← count_is, le-leb count (length groups / width) l) in
-            let order_is : xs ≡ made.order = xs-is ∙ held'.order_is in
-            let groups_are : ys ≡ flat made.groups = ys-is ∙ held'.records_are in
-            (sym e, (rw (order_is) at o ∙ sym (lent-accepted made.order order reply count e), rw groups_are at g ∙ sym (lent-accepted (flat made.groups) groups reply count e)))
+            let taken : length (take (width * count) records) ≡ width * count = length-take-le (width * count) records room in
+            let order_is : list ≡ made.order = held'.order_is in
+            let groups_are : take (width * count) records ≡ flat made.groups = held'.records_are in
+            let o : list ++ drop m.n order ≡ made.order ++ drop (length made.order) order = rw (← order_is, list-long) refl in
+            let g : take (width * count) records ++ drop (width * count) groups ≡ flat made.groups ++ drop (length (flat made.groups)) groups = rw (← groups_are, taken) refl in
+            (sym e, (o ∙ sym (lent-accepted made.order order reply count e), g ∙ sym (lent-accepted (flat made.groups) groups reply count e)))

@@ -11,13 +11,16 @@ use Rattle.base.specs.Lists.{concat, range}
 use Rattle.base.proofs.Lists.{length-range}
 use Rattle.base.proofs.Fill.{filled}
 use Rattle.levels.specs.Levels.{own_levels}
-use Rattle.levels.specs.Code.Rows.{Rows, adj_of}
+use Rattle.levels.specs.Code.Graph.{adj as adj_in}
+use Rattle.levels.specs.declared.graph.Graph.{Graph}
 use Rattle.sort.specs.Code.Sorted.{Sorted}
 use Rattle.levels.proofs.Proper.{proper-range}
 use Rattle.levels.proofs.Own.{sorted_levels}
 use Rattle.levels.proofs.Rows.{rows_graph}
 use Rattle.plan.specs.Groups.{Plan, width, whole, flat, group_of}
 use Rattle.plan.specs.Sound.{max_workers, max_depth, max_groups, max_distance}
+use Rattle.extents.specs.Code.Scans.{policy_of}
+use Rattle.cycle.specs.declared.setting.Setting.{Setting}
 use Rattle.extents.specs.Extents.{Policy}
 use Rattle.race.specs.Planner.{leaf, plan_group, plan_rows}
 use Rattle.cycle.specs.Code.Records.{Holds}
@@ -34,54 +37,46 @@ map_same (x ∷ xs) = ap (λ (ys : List ℕ). x ∷ ys) (map_same xs)
 pub numbered : (old : List ℕ) → filled (λ j. j) old (length old) ≡ range 0 (length old)
 numbered old = rw (drop-length old, append-nil) (map_same (range 0 (length old)))
 
-module _ (n : ℕ) (starts columns : List ℕ) (rows : Rows n starts columns) where
+pub sorted_is : {adj : ℕ → List ℕ} {reach n m : ℕ} {T order ends : List ℕ} → Sorted adj reach n 0 T m order ends → order ≡ concat (own_levels adj reach n T)
+sorted_is {m = m} s = s.order_is ∙ rw (le-leb 0 m (omega arith))
+
+-- the whole's record
+abbrev pub whole_group : (n workers : ℕ) → Group
+whole_group n workers = record { start = 0; length = n; first = 0; workers = workers; colour = whole; parent = 0; depth = 0 }
+
+module _ (g : Graph) where
+  abbrev n : ℕ
+  n = g.m.n
+
   abbrev adj : ℕ → List ℕ
-  adj = adj_of n starts columns
+  adj = adj_in g
 
   -- all rows by their levels
   abbrev sorted : (reach : ℕ) → List ℕ
   sorted reach = concat (own_levels adj reach n (range 0 n))
 
-  pub sorted_is : {reach m : ℕ} {order ends : List ℕ} → Sorted adj reach n 0 (range 0 n) m order ends → order ≡ sorted reach
-  sorted_is {m = m} s = s.order_is ∙ rw (le-leb 0 m (omega arith))
-
-  -- the whole's record
-  abbrev pub whole_group : (workers : ℕ) → Group
-  whole_group workers = record { start = 0; length = n; first = 0; workers = workers; colour = whole; parent = 0; depth = 0 }
-
   module _ (policy : Policy) (far : (1 ≤ policy.reach) × (policy.reach ≤ max_distance)) (workers : ℕ) where
     -- its plan by the group planner, its rows by their numbers
     abbrev pub numbered_plan : Plan
-    numbered_plan = plan_group adj n policy max_depth 0 (group_of (whole_group workers)) (range 0 n)
+    numbered_plan = plan_group adj n policy max_depth 0 (group_of (whole_group n workers)) (range 0 n)
 
     -- a leaf, or the plan of all rows
     abbrev Cases : Type 0
     Cases =
-        ((numbered_plan ≡ leaf (group_of (whole_group workers)) (range 0 n)) × (plan_rows adj n policy workers ≡ leaf (group_of (whole_group workers)) (sorted policy.reach)))
+        ((numbered_plan ≡ leaf (group_of (whole_group n workers)) (range 0 n)) × (plan_rows adj n policy workers ≡ leaf (group_of (whole_group n workers)) (sorted policy.reach)))
         ⊎ ((numbered_plan ≡ plan_rows adj n policy workers) × (2 ≤ length numbered_plan.groups))
 
     cases : Cases
     unfolding plan_rows
-    cases = two_orders adj n policy far.0 3 0 (group_of (whole_group workers)) (range 0 n) (sorted policy.reach) (sym (sorted_levels adj policy.reach n (rows_graph rows) (range 0 n) (proper-range n)))
+    cases = two_orders adj n policy far.0 3 0 (group_of (whole_group n workers)) (range 0 n) (sorted policy.reach) (sym (sorted_levels adj policy.reach n (rows_graph g.rows) (range 0 n) (proper-range n)))
 
-    pub whole_task : (records : List ℕ) → policy.p ≤ 100 → workers ≤ max_workers → length records ≡ width * max_groups → GroupTask n policy max_depth 0 starts columns (range 0 n) records (whole_group workers)
+    pub whole_room : (records : List ℕ) → workers ≤ max_workers → length records ≡ width * max_groups → width * (0 + length numbered_plan.groups) ≤ length records
     unfolding leaf
-    whole_task records a b c = record {
-      rows = rows;
-      proper = proper-range n;
-      share = a;
-      far = far;
-      size = sym (length-range 0 n);
-      inside = omega (arith, length-range 0 n, rows.small);
-      workers = omega arith;
-      shallow = omega arith;
-      few = omega arith;
-      room = go cases;
-    }
+    whole_room records b c = go cases
       where
         go : Cases → width * (0 + length numbered_plan.groups) ≤ length records
         go (inl (e, _)) = rw e (omega arith)
-        go (inr (e, _)) = rw e (omega (arith, rows_few adj n policy (rows_graph rows) far.0 workers b))
+        go (inr (e, _)) = rw e (omega (arith, rows_few adj n policy (rows_graph g.rows) far.0 workers b))
 
     module _ {count : ℕ} {order before records : List ℕ} (h : Holds numbered_plan 0 before order records count) where
       -- one group: the rows are left to be sorted
@@ -105,3 +100,16 @@ module _ (n : ℕ) (starts columns : List ℕ) (rows : Rows n starts columns) wh
           go : Cases → Holds (plan_rows adj n policy workers) 0 before order records count
           go (inl (e, f)) = absurd (more (h.count_is ∙ ap (λ (o : Plan). 0 + length o.groups) e))
           go (inr (e, l)) = rw e at h
+
+-- what the group planner takes
+pub whole_task : (set : Setting) (workers : ℕ) (records : List ℕ) → workers ≤ max_workers → length records ≡ width * max_groups
+    → GroupTask set max_depth 0 (range 0 set.ranked.graph.m.n) records (whole_group set.ranked.graph.m.n workers)
+whole_task set workers records b c = record {
+  proper = proper-range set.ranked.graph.m.n;
+  size = sym (length-range 0 set.ranked.graph.m.n);
+  inside = omega (arith, length-range 0 set.ranked.graph.m.n, set.ranked.graph.rows.small);
+  workers = omega arith;
+  shallow = omega arith;
+  few = omega arith;
+  room = whole_room set.ranked.graph (policy_of set.policy) (set.policy.some, set.near) workers records b c;
+}

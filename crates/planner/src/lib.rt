@@ -2,10 +2,11 @@
 #![tactic(auto)]
 
 use crate::whole::plan_rows;
-use base::slices::copy;
-use base::{MATRIX, PARAMETER, SHORT, Verdict};
+use base::{Kind, Refusal};
 use extents::Policy;
+use levels::graph::Graph;
 use matrix::limits::MAX_ROWS;
+use matrix::lists::Matrix;
 use plan::fields::{MAX_FIELDS, WIDTH};
 use plan::{MAX_WORKERS, is_distance};
 use symmetric::is_matrix;
@@ -15,7 +16,7 @@ mod whole;
 ghost use Rattle.std.specs.Prelude.{◌≡◌, length};
 ghost use Rattle.base.specs.Replies.{lent};
 ghost use Rattle.base.specs.Verdicts.{reply_of};
-ghost use Rattle.matrix.specs.Matrix.{matrix_of};
+ghost use Rattle.matrix.specs.Held.{held};
 ghost use Rattle.plan.specs.Groups.{flat};
 ghost use Rattle.race.specs.Planner.{plan, are_parameters, plan_reply};
 
@@ -23,73 +24,65 @@ ghost use Rattle.race.specs.Planner.{plan, are_parameters, plan_reply};
 const MOST_WORKERS: u32 = MAX_WORKERS as u32;
 
 // Whether there may be so many workers, this share and this distance.
+#[tactic(auto, using(std::proofs::lemmas::Bool::Decides::nat_tests), unfolding(race::specs::Planner::are_parameters))]
 fn are_parameters(workers: u32, p: u32, k: u32) -> bool
     ensures { result ≡ are_parameters workers p k }
 {
-    if workers < 1 {
-        return false;
-    }
-    if MOST_WORKERS < workers {
-        return false;
-    }
-    if p < 50 {
-        return false;
-    }
-    if 99 < p {
-        return false;
-    }
-    is_distance(k)
+    1 <= workers && workers <= MOST_WORKERS && 50 <= p && p <= 99 && is_distance(k)
 }
 
 // The plan of a matrix at the distance k: its order, and its groups in a flat list.
+#[tactic(auto, unfolding(base::specs::Replies::in_turn, base::specs::Replies::lent, race::specs::Planner::plan_reply, matrix::specs::Matrix::matrix_check))]
 pub fn plan(
-    n: u32,
-    starts: &[u32],
-    columns: &[u32],
-    values: &[i32],
+    m: &Matrix,
     workers: u32,
     p: u32,
     k: u32,
     order: &mut [u32],
     groups: &mut [u32],
-) -> Verdict
-    ensures reply { reply_of result ≡ plan_reply (matrix_of n starts.now columns.now values.now) workers p k (length order.old) (length groups.old) }
-    ensures lent_order { order.new ≡ lent (plan_reply (matrix_of n starts.now columns.now values.now) workers p k (length order.old) (length groups.old))
-        (plan (matrix_of n starts.now columns.now values.now) workers p k).order order.old }
-    ensures lent_groups { groups.new ≡ lent (plan_reply (matrix_of n starts.now columns.now values.now) workers p k (length order.old) (length groups.old))
-        (flat (plan (matrix_of n starts.now columns.now values.now) workers p k).groups) groups.old }
+) -> Result<u32, Refusal>
+    ensures reply { reply_of result ≡ plan_reply (held m.now) workers p k (length order.old) (length groups.old) }
+    ensures lent_order { order.new ≡ lent (plan_reply (held m.now) workers p k (length order.old) (length groups.old))
+        (plan (held m.now) workers p k).order order.old }
+    ensures lent_groups { groups.new ≡ lent (plan_reply (held m.now) workers p k (length order.old) (length groups.old))
+        (flat (plan (held m.now) workers p k).groups) groups.old }
 {
-    if !is_matrix(n, starts, columns, values) {
-        return Verdict::Refused(MATRIX, 0);
+    if !is_matrix(m) {
+        return Err(Refusal {
+            kind: Kind::NotMatrix,
+            place: 0,
+        });
     }
     if !are_parameters(workers, p, k) {
-        return Verdict::Refused(PARAMETER, 0);
+        return Err(Refusal {
+            kind: Kind::BadParameter,
+            place: 0,
+        });
     }
-    let rows = n as usize;
-    if order.len() < rows {
-        return Verdict::Refused(SHORT, n);
+    let n = m.n;
+    if order.len() < n {
+        return Err(Refusal {
+            kind: Kind::TooShort,
+            place: n as u32,
+        });
     }
+    let graph = Graph { m: *m };
+    let policy = Policy {
+        reach: k as usize,
+        p,
+    };
     let mut list = [0u32; MAX_ROWS];
     let mut records = [0u32; MAX_FIELDS];
-    let count = plan_rows(
-        starts,
-        columns,
-        &mut list[..rows],
-        &mut records,
-        rows,
-        Policy {
-            reach: k as usize,
-            p,
-        },
-        workers,
-    );
-    let room = groups.len() / WIDTH;
+    let count = plan_rows(&graph, policy, workers, &mut list[..n], &mut records);
     let made = count as usize;
-    if room < made {
-        return Verdict::Refused(SHORT, count);
+    if groups.len() / WIDTH < made {
+        return Err(Refusal {
+            kind: Kind::TooShort,
+            place: count,
+        });
     }
     let size = WIDTH * made;
-    copy(&list[..rows], order);
-    copy(&records[..size], groups);
-    Verdict::Accepted(count)
+    order[..n].copy_from_slice(&list[..n]);
+    groups[..size].copy_from_slice(&records[..size]);
+    Ok(count)
 }

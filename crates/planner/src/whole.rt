@@ -1,22 +1,23 @@
 // The whole: all rows, sorted by level, and their plan.
-ghost use Rattle.std.specs.Prelude.{◌≡◌, ◌≤◌, ◌*◌, length};
+ghost use Rattle.std.specs.Prelude.{◌≡◌, ◌≤◌, length};
 ghost use Rattle.base.specs.Lists.{concat, range};
 ghost use Rattle.levels.specs.Levels.{own_levels};
-ghost use Rattle.levels.specs.Code.Rows.{Rows, adj_of};
-ghost use Rattle.plan.specs.Groups.{width};
-ghost use Rattle.plan.specs.Sound.{max_workers, max_groups, max_distance};
+ghost use Rattle.levels.specs.Code.Graph.{adj};
+ghost use Rattle.plan.specs.Sound.{max_workers, max_distance};
 ghost use Rattle.extents.specs.Code.Scans.{policy_of};
 ghost use Rattle.race.specs.Planner.{plan_rows};
 ghost use Rattle.cycle.specs.Code.Records.{Holds};
-ghost use Rattle.sort.specs.Code.Sort.{Keyed, Room};
 ghost use Rattle.matrix.specs.Limits.{max_rows};
 
 use cycle::plan_group;
+use cycle::setting::Setting;
 use extents::Policy;
+use levels::graph::Graph;
 use matrix::limits::MAX_ROWS;
 use plan::MAX_DEPTH;
-use plan::fields::{Group, WHOLE};
-use sort::degrees::put_degrees;
+use plan::fields::{Colour, Group, MAX_FIELDS};
+use search::visiting::Visits;
+use sort::degrees::{Ranked, put_degrees};
 use sort::{MAX_LEVELS, level_sort};
 
 // A group at depth 0 may be split so often.
@@ -27,79 +28,74 @@ fn number(order: &mut [u32])
     requires { length order.old ≤ max_rows }
     ensures { order.new ≡ range 0 (length order.old) }
 {
-    let mut i = 0;
-    while i < order.len() {
-        order[i] = i as u32;
-        i += 1;
+    for (i, v) in order.iter_mut().enumerate() {
+        *v = i as u32;
     }
 }
 
-// The rows by their levels.
+// The rows by their levels. In a frame of its own: its array of ends lies beside none of the groups'.
+#[inline(never)]
 fn sort_rows(
-    starts: &[u32],
-    columns: &[u32],
-    keys: &[u32; MAX_ROWS],
+    ranked: &Ranked,
     order: &mut [u32],
-    list: &mut [u32],
-    tried: &mut [u32],
-    queue: &mut [u32; MAX_ROWS],
-    n: usize,
+    own: &mut [u32; MAX_ROWS],
+    roots: &mut [u32; MAX_ROWS],
+    visits: &mut Visits,
     reach: usize,
 )
-    requires { Rows n starts.now columns.now × Keyed (adj_of n starts.now columns.now) n keys.now × (order.old ≡ range 0 n) × Room n list.old tried.old queue.old × (1 ≤ reach) }
-    ensures { order.new ≡ concat (own_levels (adj_of n starts.now columns.now) reach n (range 0 n)) }
+    requires { (order.old ≡ range 0 ranked.now.graph.m.n) × (1 ≤ reach) }
+    ensures { order.new ≡ concat (own_levels (adj ranked.now.graph) reach ranked.now.graph.m.n (range 0 ranked.now.graph.m.n)) }
 {
     let mut ends = [0u32; MAX_LEVELS];
-    level_sort(
-        starts, columns, keys, order, &mut ends, list, tried, queue, n, reach, 0,
-    );
+    level_sort(ranked, order, &mut ends, own, roots, visits, reach, 0);
+}
+
+// No row is marked. In a frame of its own: the arrays are made there before they are moved.
+#[inline(never)]
+fn blank() -> Visits {
+    Visits {
+        marks: [0; MAX_ROWS],
+        queue: [0; MAX_ROWS],
+    }
 }
 
 // The plan of all rows; the answer is how many groups it has. If it is one, the whole is a leaf, and its rows are still
 // by their numbers.
 pub fn plan_rows(
-    starts: &[u32],
-    columns: &[u32],
-    order: &mut [u32],
-    records: &mut [u32],
-    n: usize,
+    graph: &Graph,
     policy: Policy,
     workers: u32,
+    order: &mut [u32],
+    records: &mut [u32; MAX_FIELDS],
 ) -> u32
-    requires { Rows n starts.now columns.now × (length order.old ≡ n) × (length records.old ≡ width * max_groups) × (policy.p ≤ 100) × (1 ≤ policy.reach) × (policy.reach ≤ max_distance) × (workers ≤ max_workers) }
-    ensures { Holds (plan_rows (adj_of n starts.now columns.now) n (policy_of policy) workers) 0 records.old order.new records.new result }
+    requires { (length order.old ≡ graph.now.m.n) × (policy.reach ≤ max_distance) × (workers ≤ max_workers) }
+    ensures { Holds (plan_rows (adj graph.now) graph.now.m.n (policy_of policy) workers) 0 records.old order.new records.new result }
 {
     number(order);
     let mut keys = [0u32; MAX_ROWS];
-    put_degrees(starts, columns, &mut keys, n);
+    put_degrees(graph, &mut keys);
+    let ranked = Ranked {
+        graph: *graph,
+        keys: &keys,
+    };
+    let setting = Setting { ranked, policy };
     let whole = Group {
         start: 0,
-        length: n as u32,
+        length: graph.m.n as u32,
         first: 0,
         workers,
-        colour: WHOLE,
+        colour: Colour::Whole as u32,
         parent: 0,
         depth: 0,
     };
-    let mut list = [0u32; MAX_ROWS];
-    let mut tried = [0u32; MAX_ROWS];
-    let mut queue = [0u32; MAX_ROWS];
+    let mut own = [0u32; MAX_ROWS];
+    let mut roots = [0u32; MAX_ROWS];
+    let visits = &mut blank();
     let count = plan_group(
-        starts, columns, &keys, order, records, &mut list, &mut tried, &mut queue, n, policy,
-        STAGES, 0, whole,
+        &setting, order, records, &mut own, &mut roots, visits, STAGES, 0, whole,
     );
     if count == 1 {
-        sort_rows(
-            starts,
-            columns,
-            &keys,
-            order,
-            &mut list,
-            &mut tried,
-            &mut queue,
-            n,
-            policy.reach,
-        );
+        sort_rows(&ranked, order, &mut own, &mut roots, visits, policy.reach);
     }
     count
 }

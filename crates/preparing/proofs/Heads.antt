@@ -1,5 +1,5 @@
 -- The positions of rows and the numbers of a head, one more.
-use mathlib.Core.Path.{◌≡◌, refl, sym, ap, ◌∙◌}
+use mathlib.Core.Path.{◌≡◌, sym, ap, ◌∙◌}
 use mathlib.Core.Logic.{◌⊎◌, inl, inr, ◌≢◌}
 use mathlib.Core.List.{List, map}
 use Prim.Native.Nat.{ℕ, ◌+◌, ◌*◌, ◌≤◌, ◌<◌}
@@ -10,41 +10,26 @@ use Rattle.base.specs.Lists.{range, position_of}
 use Rattle.base.proofs.Booleans.{same_or}
 use Rattle.base.proofs.Lists.{length-range, map-range-zero}
 use Rattle.base.proofs.Positions.{position_at}
+use Rattle.matrix.specs.Limits.{max_rows}
 use Rattle.plan.specs.Sound.{max_workers}
-use Rattle.plan.proofs.Once.{Once, low_at, injective}
+use Rattle.plan.proofs.Once.{Once}
 use Rattle.tables.specs.Code.Laid.{updates_in}
 use Rattle.prepared.specs.Format.{mark}
-use Rattle.preparing.specs.Code.Rows.{Positions, HeadTo}
+use Rattle.upper.specs.Code.Upper.{Positions}
+use Rattle.preparing.specs.Code.Rows.{HeadTo}
 
 -- ---- positions
 
-module _ (n : ℕ) (order : List ℕ) (once : Once n order) (old : List ℕ) (room : n ≤ length old) where
-  pub positions-none : Positions 0 order old old
-  positions-none = record { long = refl; is = λ p l. absurd (omega arith) }
-
-  module _ (k : ℕ) (l : k < n) (new : List ℕ) (s : Positions k order old new) where
-    -- the row at a position has its place
-    pub row_below : get_or order k 0 < length new
-    row_below = omega (arith, low_at n order k once.low (omega (arith, once.long)), s.long)
-
-    -- one position more
-    pub positions-next : Positions (k + 1) order old (set new (get_or order k 0) k)
-    positions-next = record { long = length-set new (get_or order k 0) k ∙ s.long; is = λ p h. go p h (same_or p k) }
-      where
-        go : (p : ℕ) → p < k + 1 → (p ≡ k) ⊎ (p ≢ k) → get_or (set new (get_or order k 0) k) (get_or order p 0) 0 ≡ p
-        go p h (inl e) = rw e (get_or-set_same new (get_or order k 0) k 0 row_below)
-        go p h (inr d) = get_or-set_other new (get_or order k 0) (get_or order p 0) k 0 (injective n order once p k (omega arith) l d) ∙ s.is p (omega arith)
-
-  -- all positions
-  pub positions-all : (new : List ℕ) → Positions n order old new → take n new ≡ map (position_of order) (range 0 n)
-  positions-all new s =
-      let long : length (take n new) ≡ n = length-take-le n new (omega (arith, s.long)) in
-      ext_get_or 0 (take n new) (map (position_of order) (range 0 n)) (long ∙ sym (length-map (range 0 n) (position_of order) ∙ length-range 0 n)) (λ i l. at i (omega (arith, long)))
-    where
-      at : (i : ℕ) → i < n → get_or (take n new) i 0 ≡ get_or (map (position_of order) (range 0 n)) i 0
-      at i l =
-          let p = position_at order i (once.member i l) in
-          get_or-take n new i 0 l ∙ ap (λ (y : ℕ). get_or new y 0) (sym p.1) ∙ s.is (position_of order i) (omega (arith, p.0, once.long)) ∙ sym (map-range-zero (position_of order) n i 0 l)
+-- where each row stands, by an order that has each row once
+pub positions-all : (n : ℕ) (order : List ℕ) → Once n order → n ≤ max_rows → (new : List ℕ) → Positions n order new → take n new ≡ map (position_of order) (range 0 n)
+positions-all n order once few new s =
+    let long : length (take n new) ≡ n = length-take-le n new (omega (arith, s.long)) in
+    ext_get_or 0 (take n new) (map (position_of order) (range 0 n)) (long ∙ sym (length-map (range 0 n) (position_of order) ∙ length-range 0 n)) (λ i l. at i (omega (arith, long)))
+  where
+    at : (i : ℕ) → i < n → get_or (take n new) i 0 ≡ get_or (map (position_of order) (range 0 n)) i 0
+    at i l =
+        let p = position_at order i (once.member i l) in
+        get_or-take n new i 0 l ∙ ap (λ (y : ℕ). get_or new y 0) (sym p.1) ∙ s.is (position_of order i) (omega (arith, p.0, once.long)) ∙ sym (map-range-zero (position_of order) n i 0 l)
 
 -- ---- the head
 

@@ -10,23 +10,21 @@ ghost use Rattle.prepared.specs.Format.{bytes_of_update};
 ghost use Rattle.preparing.specs.Code.Filled.{gate_numbers, update_numbers, Legible};
 
 use crate::table::GATES;
-use base::shorts::wide;
 use matrix::limits::MAX_ROWS;
 use plan::MAX_WORKERS;
 use prepared::UPDATE;
 use steps::updates::{amount_of, target_of};
-use tables::MAX_UPDATES;
-use words::number::{write_u32, write_u64};
-use words::signs::of_i64;
+use tables::{Entries, Tables};
+use words::word::Word;
 
 // One update: what it adds, the position of its sum, and of its row.
 pub fn store_update(out: &mut [u8], at: usize, amount: i64, target: usize, row: usize)
     requires { (at + 16 ≤ length out.old) × (target < 2 ^ 32) × (row < 2 ^ 32) }
     ensures { out.new ≡ sets out.old at (bytes_of_update (record { row = row; target = target; amount = amount })) }
 {
-    write_u64(out, at, of_i64(amount));
-    write_u32(out, at + 8, target as u32);
-    write_u32(out, at + 12, row as u32);
+    amount.write(out, at);
+    (target as u32).write(out, at + 8);
+    (row as u32).write(out, at + 12);
 }
 
 // Numbers of four bytes.
@@ -34,10 +32,8 @@ pub fn store_numbers(out: &mut [u8], from: usize, numbers: &[u32])
     requires { from + length numbers.now * 4 ≤ length out.old }
     ensures { out.new ≡ sets out.old from (unsigned_bytes 4 numbers.now) }
 {
-    let mut k = 0;
-    while k < numbers.len() {
-        write_u32(out, from + k * 4, numbers[k]);
-        k += 1;
+    for (k, number) in numbers.iter().enumerate() {
+        number.write(out, from + k * 4);
     }
 }
 
@@ -52,11 +48,10 @@ pub fn store_gates(
     requires { (from + n * 64 ≤ length out.old) × (n ≤ max_rows) × ((q : ℕ) → get_or leaves.now q 0 < max_groups) }
     ensures { out.new ≡ sets out.old from (unsigned_bytes 4 (gate_numbers n leaves.now table.now)) }
 {
-    let mut k = 0;
-    while k < n * MAX_WORKERS {
-        let i = wide(leaves[k / MAX_WORKERS]);
-        write_u32(out, from + k * 4, table[i * MAX_WORKERS + k % MAX_WORKERS]);
-        k += 1;
+    for k in 0..n * MAX_WORKERS {
+        let i = usize::from(leaves[k / MAX_WORKERS]);
+        let gate = table[i * MAX_WORKERS + k % MAX_WORKERS];
+        gate.write(out, from + k * 4);
     }
 }
 
@@ -65,24 +60,21 @@ pub fn store_updates(
     out: &mut [u8],
     from: usize,
     count: usize,
-    row: &[u16; MAX_UPDATES],
-    begins: &[u32; MAX_ROWS],
-    parts: &[u32; MAX_ROWS],
+    tables: &Tables,
+    entries: &Entries,
     displaced: &[i32; MAX_ROWS],
-    at: &[u16],
-    beside: &[i32],
 )
-    requires { (from + count * 16 ≤ length out.old) × (count ≤ max_updates) × ((n : ℕ) × Legible n count row.now begins.now parts.now at.now beside.now) }
+    requires { (from + count * 16 ≤ length out.old) × (count ≤ max_updates)
+        × ((n : ℕ) × Legible n count tables.now.row.now tables.now.begins.now entries.now.parts.now entries.now.at.now entries.now.beside.now) }
     ensures { out.new ≡ sets out.old from (concat (map bytes_of_update
-        (update_numbers count row.now begins.now parts.now displaced.now at.now beside.now))) }
+        (update_numbers count tables.now.row.now tables.now.begins.now
+        entries.now.parts.now displaced.now entries.now.at.now entries.now.beside.now))) }
 {
-    let mut k = 0;
-    while k < count {
-        let p = wide(row[k]);
-        let c = k - base::numbers::wide(begins[p]);
-        let target = target_of(parts, at, p, c);
-        let amount = amount_of(parts, displaced, at, beside, p, c);
+    for k in 0..count {
+        let p = usize::from(tables.row[k]);
+        let c = k - tables.begins[p] as usize;
+        let target = target_of(entries, p, c);
+        let amount = amount_of(entries, displaced, p, c);
         store_update(out, from + k * UPDATE, amount, target, p);
-        k += 1;
     }
 }

@@ -1,16 +1,10 @@
 // What each group waits for of one worker, by two passes over the records: how many accesses it must have made.
-ghost use Rattle.std.specs.Prelude.{◌≡◌, max};
+ghost use Rattle.std.specs.Prelude.{◌≡◌};
 ghost use Rattle.waits.specs.Code.Waits.{Recorded};
 ghost use Rattle.preparing.specs.Code.Gates.{own_end, last_if, red_last, gate_if, RedEnds, Gated, Gates};
 
 use plan::MAX_GROUPS;
-use plan::fields::{BLUE, RED, record_at};
-
-fn larger(a: u32, b: u32) -> u32
-    ensures { result ≡ max a b }
-{
-    if a < b { b } else { a }
-}
+use plan::fields::{Colour, get};
 
 // The end of a leaf, if it is worker v's.
 fn own_end(first: usize, v: usize, end: u32) -> u32
@@ -30,17 +24,22 @@ fn last_if(parent: u8, below: u32, own: u32) -> u32
 fn red_last(colour: u32, last: u32) -> u32
     ensures { result ≡ red_last colour last }
 {
-    if colour == RED { last } else { 0 }
+    if colour == Colour::Red as u32 {
+        last
+    } else {
+        0
+    }
 }
 
 // A group's gate: its parent's, or that of its red siblings if it is blue.
 fn gate_if(above: u32, colour: u32, reds: u32) -> u32
     ensures { result ≡ gate_if above colour reds }
 {
-    if colour == BLUE {
-        return larger(above, reds);
+    if colour == Colour::Blue as u32 {
+        above.max(reds)
+    } else {
+        above
     }
-    above
 }
 
 // For each group the last end of a leaf of worker v in its red children, from the last record to the first.
@@ -51,15 +50,13 @@ fn red_ends(groups: &[u32], count: usize, ends: &[u32; MAX_GROUPS], v: usize) ->
     let mut parents = [0u8; MAX_GROUPS];
     let mut lasts = [0u32; MAX_GROUPS];
     let mut reds = [0u32; MAX_GROUPS];
-    let mut i = count;
-    while 1 < i {
-        i -= 1;
-        let g = record_at(groups, i);
-        let parent = g.parent;
-        let last = last_if(parents[i], lasts[i], own_end(g.first, v, ends[i]));
+    for i in (1..count).rev() {
+        let g = get(groups, i);
+        let parent = g.parent as usize;
+        let last = last_if(parents[i], lasts[i], own_end(g.first as usize, v, ends[i]));
         parents[parent] = 1;
-        lasts[parent] = larger(last, lasts[parent]);
-        reds[parent] = larger(red_last(g.colour, last), reds[parent]);
+        lasts[parent] = last.max(lasts[parent]);
+        reds[parent] = red_last(g.colour, last).max(reds[parent]);
     }
     reds
 }
@@ -70,12 +67,10 @@ fn gates_down(groups: &[u32], count: usize, reds: &[u32; MAX_GROUPS]) -> [u32; M
     ensures { Gated count groups.now reds.now result }
 {
     let mut gates = [0u32; MAX_GROUPS];
-    let mut i = 1;
-    while i < count {
-        let g = record_at(groups, i);
-        let parent = g.parent;
+    for i in 1..count {
+        let g = get(groups, i);
+        let parent = g.parent as usize;
         gates[i] = gate_if(gates[parent], g.colour, reds[parent]);
-        i += 1;
     }
     gates
 }

@@ -11,37 +11,39 @@ ghost use Rattle.std.proofs.lemmas.List.Edits.{sets};
 ghost use Rattle.base.specs.Lists.{concat, range, position_of};
 ghost use Rattle.base.specs.Verdicts.{reply_of};
 ghost use Rattle.matrix.specs.Limits.{max_rows};
-ghost use Rattle.matrix.specs.Matrix.{matrix_of};
+ghost use Rattle.matrix.specs.Held.{held};
 ghost use Rattle.plan.specs.Groups.{width};
 ghost use Rattle.plan.specs.Sound.{max_workers, each_once};
-ghost use Rattle.run.specs.Job.{Job, workers, job_of};
+ghost use Rattle.run.specs.Job as run;
+ghost use Rattle.calls.specs.Code.Held.{job_in, GivenIn};
 ghost use Rattle.tables.specs.Code.Laid.{max_updates, first_of, Counted, Rising};
-ghost use Rattle.layout.specs.Code.UpdateTable.{Given, Planned};
+ghost use Rattle.layout.specs.Code.UpdateTable.{Planned};
 ghost use Rattle.steps.specs.Code.Updates.{Triangle};
 ghost use Rattle.words.specs.LittleEndian.{unsigned_bytes};
 ghost use Rattle.prepared.specs.Format.{head_bytes, gates_from, gate_bytes, row_bytes, bytes_of_update, head_of, lists_of};
 ghost use Rattle.prepared.specs.Prepare.{PreparedFrom};
 ghost use Rattle.preparing.specs.Code.Prepared.{PreparedIn};
 
-use base::{SHORT, Verdict};
-use calls::check_job;
+use base::{Kind, Refusal};
+use calls::{Job, check_job};
 use fill::{store_gates, store_numbers, store_updates};
 use layout::counts::first_updates;
 use layout::lay;
 use matrix::limits::MAX_ROWS;
-use plan::fields::{WIDTH, record_at};
+use plan::fields::{WIDTH, get};
+use plan::lists::Plan;
 use plan::{MAX_GROUPS, MAX_WORKERS};
 use prepared::{HEAD, ROW, UPDATE};
-use rows::{head_numbers, put_positions};
+use rows::head_numbers;
 use table::all_gates;
-use tables::{FIRSTS, MAX_UPDATES};
-use upper::order::displace;
+use tables::{Entries, FIRSTS, MAX_UPDATES, Tables};
+use upper::order::{displace, positions};
 use upper::upper;
 
 // Writes the head, by where each worker's updates begin.
 fn store_head(out: &mut [u8], n: u32, crew: u32, first: [u32; FIRSTS])
     requires { Rising first × (head_bytes ≤ length out.old) }
-    ensures { (j : Job) → Counted j first → n ≡ j.matrix.n → crew ≡ workers j → out.new ≡ sets out.old 0 (unsigned_bytes 4 (head_of (lists_of j))) }
+    ensures { (j : run.Job) → Counted j first → n ≡ j.matrix.n → crew ≡ run.workers j → out.new ≡ sets out.old 0 (unsigned_bytes 4 (head_of (lists_of j))) }
 {
     let head = head_numbers(n, crew, &first);
     store_numbers(out, 0, &head);
@@ -53,7 +55,7 @@ fn store_places(out: &mut [u8], from: usize, n: usize, order: &[u32])
     ensures { out.new ≡ sets out.old from (unsigned_bytes 4 (map (position_of (take n order.now)) (range 0 n))) }
 {
     let mut places = [0u32; MAX_ROWS];
-    put_positions(n, order, &mut places);
+    positions(order, n, &mut places);
     store_numbers(out, from, &places[..n]);
 }
 
@@ -64,15 +66,14 @@ fn store_tables(
     groups: &[u32],
     sizes: &[u32; MAX_ROWS],
     first: [u32; FIRSTS],
-    parts: &[u32; MAX_ROWS],
+    entries: &Entries,
     displaced: &[i32; MAX_ROWS],
-    at: &[u16],
-    beside: &[i32],
 )
-    requires { (j : Job) × Planned j groups.now (length groups.now / width) sizes.now × Counted j first × Triangle j parts.now displaced.now at.now beside.now
+    requires { (j : run.Job) × Planned j groups.now (length groups.now / width) sizes.now × Counted j first
+        × Triangle j entries.now.parts.now displaced.now entries.now.at.now entries.now.beside.now
         × (n ≡ j.matrix.n) × (gates_from (first_of j max_workers) + n * gate_bytes ≤ length out.old) }
-    ensures { (j : Job) → Planned j groups.now (length groups.now / width) sizes.now → Counted j first
-        → Triangle j parts.now displaced.now at.now beside.now → n ≡ j.matrix.n
+    ensures { (j : run.Job) → Planned j groups.now (length groups.now / width) sizes.now → Counted j first
+        → Triangle j entries.now.parts.now displaced.now entries.now.at.now entries.now.beside.now → n ≡ j.matrix.n
         → out.new ≡ sets out.old head_bytes (concat (map bytes_of_update (lists_of j).updates) ++ unsigned_bytes 4 (lists_of j).gates) }
 {
     let mut row = [0u16; MAX_UPDATES];
@@ -90,11 +91,17 @@ fn store_tables(
         &mut leaves,
         &mut ends,
     );
+    let tables = Tables {
+        groups,
+        ends: &ends,
+        first: &first,
+        row: &row,
+        begins: &begins,
+        leaves: &leaves,
+    };
     let table = all_gates(groups, records, &ends);
-    let count = base::numbers::wide(first[MAX_WORKERS]);
-    store_updates(
-        out, HEAD, count, &row, &begins, parts, displaced, at, beside,
-    );
+    let count = first[MAX_WORKERS] as usize;
+    store_updates(out, HEAD, count, &tables, entries, displaced);
     store_gates(out, HEAD + count * UPDATE, n, &leaves, &table);
 }
 
@@ -106,32 +113,22 @@ fn size_of(n: usize, count: u32) -> usize
     HEAD + count as usize * UPDATE + n * ROW
 }
 
-// Writes the prepared list of an accepted job, if there is room for it. Its arrays are not there while a job is checked.
+// Writes the prepared list of an accepted job, if there is room for it. Its arrays are not there while a job is
+// checked.
 #[inline(never)]
-fn store_job(
-    n: u32,
-    starts: &[u32],
-    columns: &[u32],
-    values: &[i32],
-    displacements: &[i32],
-    order: &[u32],
-    groups: &[u32],
-    out: &mut [u8],
-) -> Verdict
-    requires { Given n starts.now columns.now values.now displacements.now order.now groups.now (length groups.now / width) }
-    ensures { PreparedIn (job_of (matrix_of n starts.now columns.now values.now) displacements.now order.now groups.now (length groups.now / width))
-        out.old (reply_of result) out.new }
+fn store_job(job: &Job, out: &mut [u8]) -> Result<u32, Refusal>
+    requires { GivenIn job.now }
+    ensures { PreparedIn (job_in job.now) out.old (reply_of result) out.new }
 {
-    let rows = n as usize;
+    let rows = job.matrix.n;
+    let order = job.plan.order;
+    let groups = job.plan.groups;
     let mut parts = [0u32; MAX_ROWS];
     let mut at = [0u16; MAX_UPDATES];
     let mut beside = [0i32; MAX_UPDATES];
     let mut sizes = [0u32; MAX_ROWS];
     upper(
-        rows,
-        starts,
-        columns,
-        values,
+        &job.matrix,
         order,
         &mut parts,
         &mut sizes,
@@ -141,57 +138,40 @@ fn store_job(
     let first = first_updates(groups, groups.len() / WIDTH, &sizes);
     let size = size_of(rows, first[MAX_WORKERS]);
     if out.len() < size {
-        return Verdict::Refused(SHORT, size as u32);
+        return Err(Refusal {
+            kind: Kind::TooShort,
+            place: size as u32,
+        });
     }
     let mut displaced = [0i32; MAX_ROWS];
-    displace(displacements, order, &mut displaced);
-    let whole = record_at(groups, 0);
-    store_head(out, n, whole.workers as u32, first);
-    store_tables(
-        out, rows, groups, &sizes, first, &parts, &displaced, &at, &beside,
-    );
+    displace(job.displacements, order, &mut displaced);
+    let whole = get(groups, 0);
+    store_head(out, rows as u32, whole.workers, first);
+    let entries = Entries {
+        parts: &parts,
+        at: &at,
+        beside: &beside,
+    };
+    store_tables(out, rows, groups, &sizes, first, &entries, &displaced);
     store_places(out, size - 4 * rows, rows, order);
-    Verdict::Accepted(size as u32)
+    Ok(size as u32)
 }
 
 // The prepared list of the job in the lent lists, if they hold one and there is room.
-pub fn prepare(
-    n: u32,
-    starts: &[u32],
-    columns: &[u32],
-    values: &[i32],
-    displacements: &[i32],
-    order: &[u32],
-    groups: &[u32],
-    count: u32,
-    out: &mut [u8],
-) -> Verdict
-    ensures { PreparedFrom (matrix_of n starts.now columns.now values.now) displacements.now order.now groups.now count
+pub fn prepare(job: &Job, out: &mut [u8]) -> Result<u32, Refusal>
+    ensures { PreparedFrom (held job.now.matrix) job.now.displacements.now job.now.plan.order.now job.now.plan.groups.now job.now.plan.count
         out.old (reply_of result) out.new }
 {
-    let checked = check_job(
-        n,
-        starts,
-        columns,
-        values,
-        displacements,
-        order,
-        groups,
-        count,
-    );
-    if let Verdict::Refused(number, place) = checked {
-        return Verdict::Refused(number, place);
-    }
-    let size = WIDTH * count as usize;
-    let records = &groups[..size];
-    store_job(
-        n,
-        starts,
-        columns,
-        values,
-        displacements,
-        order,
-        records,
-        out,
-    )
+    check_job(job)?;
+    let records = &job.plan.groups[..WIDTH * job.plan.count];
+    let cut = Job {
+        matrix: job.matrix,
+        displacements: job.displacements,
+        plan: Plan {
+            order: job.plan.order,
+            groups: records,
+            count: job.plan.count,
+        },
+    };
+    store_job(&cut, out)
 }

@@ -14,10 +14,8 @@ fn put_column(gates: &[u32; MAX_GROUPS], v: usize, table: &mut [u32; GATES])
     requires { (v < max_workers) × (length table.old ≡ max_groups * max_workers) }
     ensures { Column v max_groups gates.now table.old table.new }
 {
-    let mut i = 0;
-    while i < MAX_GROUPS {
-        table[i * MAX_WORKERS + v] = gates[i];
-        i += 1;
+    for (i, gate) in gates.iter().enumerate() {
+        table[i * MAX_WORKERS + v] = *gate;
     }
 }
 
@@ -27,11 +25,9 @@ pub fn all_gates(groups: &[u32], count: usize, ends: &[u32; MAX_GROUPS]) -> [u32
     ensures { AllGates max_workers count groups.now ends.now result }
 {
     let mut table = [0u32; GATES];
-    let mut v = 0;
-    while v < MAX_WORKERS {
+    for v in 0..MAX_WORKERS {
         let gates = worker_gates(groups, count, ends, v);
         put_column(&gates, v, &mut table);
-        v += 1;
     }
     table
 }

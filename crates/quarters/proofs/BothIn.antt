@@ -31,9 +31,11 @@ use Rattle.words.proofs.Blocks.{length_decoded}
 use Rattle.answers.specs.Runs.{state_bytes, count_bytes, Bytes, state_in, bytes_in, left_by}
 use Rattle.answers.specs.Code.Ran.{StateIs}
 use Rattle.answers.proofs.RunPicks.{place_low}
-use Rattle.calls.specs.Performed.{as_answer}
+use Rattle.calls.specs.Performed.{as_answer, end_number, end_place}
 use Rattle.calls.specs.declared.Response.{Response}
-use Rattle.calls.specs.declared.Response.TheVariants.{Picked, Ready, Forces, Refused, Previewed}
+use Rattle.calls.specs.declared.Response.TheVariants.{Picked, Ready, Forces, Previewed}
+use Rattle.std.proofs.Common.{Result, Ok, Err}
+use Rattle.base.specs.declared.Refusal.{Refusal}
 use Rattle.lent.specs.Word.{word}
 use Rattle.plan.specs.Sound.{max_workers}
 use Rattle.layout.specs.Code.UpdateTable.{Given}
@@ -46,7 +48,7 @@ use Rattle.shared.specs.Performed.{PicksMade}
 use Rattle.shared.proofs.RoofChecked.{roof_given}
 use Rattle.shared.proofs.Sharing.{are_states, states_fine, states_short0, states_short1, picks-refused, roof_reply, lent-refused, lent-answered, sets-refused}
 use Rattle.quarters.specs.Both.{states_in, are_whole, if_whole, answer_both_in, reply_to_both, bytes_left, PicksBothAnswered}
-use Rattle.quarters.specs.Code.Loaded.{state0, state1, CrewsAre, BothFit}
+use Rattle.quarters.specs.Code.Loaded.{CrewsAre, BothFit}
 use Rattle.quarters.proofs.TurnsFew.{Sixteen, turns-few}
 
 -- ---- picks for both are no preview
@@ -148,10 +150,10 @@ module _ (m : Matrix) (x : Two (List ℤ)) (order groups : List ℕ) (count : �
   checks = roof_checks m x order groups count
 
   read0 : is_matrix m ≡ true → Read m.n states.of0 b.of0
-  read0 ok = read m.n (matrix_facts m ok).some (matrix_facts m ok).few b.of0 (state0 r) are.is0 lent0
+  read0 ok = read m.n (matrix_facts m ok).some (matrix_facts m ok).few b.of0 r.of0 are.is0 lent0
 
   read1 : is_matrix m ≡ true → Read m.n states.of1 b.of1
-  read1 ok = read m.n (matrix_facts m ok).some (matrix_facts m ok).few b.of1 (state1 r) are.is1 lent1
+  read1 ok = read m.n (matrix_facts m ok).some (matrix_facts m ok).few b.of1 r.of1 are.is1 lent1
 
   module _ (c : BothCall) (refused : (T : Two State) → are_states roof T ≡ false → denied_both why.not_state 0 ≡ answer_both roof T c) where
     decoded : in_turn denied_both checks (answer_both roof states c) ≡ cond (are_whole b) (in_turn denied_both checks (answer_both roof (states_in b) c)) (in_turn denied_both checks (denied_both why.not_state 0))
@@ -221,8 +223,8 @@ module _ (m : Matrix) (x : Two (List ℤ)) (order groups : List ℕ) (count : �
       enough =
           let fine0 = is_state (job_for roof crew0) states.of0 in
           let fine1 = is_state (job_for roof crew1) states.of1 in (
-            eqb-true (length zs0) m.n (and_left (eqb (length zs0) m.n) (counts_fine (job_for roof crew0) r.made0 max_workers) (and_left fine0 fine1 are-states)),
-            eqb-true (length zs1) m.n (and_left (eqb (length zs1) m.n) (counts_fine (job_for roof crew1) r.made1 max_workers) (and_right fine0 fine1 are-states)),
+            eqb-true (length zs0) m.n (and_left (eqb (length zs0) m.n) (counts_fine (job_for roof crew0) r.of0.made max_workers) (and_left fine0 fine1 are-states)),
+            eqb-true (length zs1) m.n (and_left (eqb (length zs1) m.n) (counts_fine (job_for roof crew1) r.of1.made max_workers) (and_right fine0 fine1 are-states)),
           )
 
       -- each has bytes of a state's length
@@ -242,8 +244,8 @@ module _ (m : Matrix) (x : Two (List ℤ)) (order groups : List ℕ) (count : �
       room1 = sym enough.1 ∙ ap (λ (s : Two State). length s.of1.sums) stand.1 ∙ length_decoded (signed_number 8) 8 b.of1.sums
 
       sixteen : Sixteen states
-      sixteen crew0 = counts_sixteen (state0 r) b.of0.state lengths.0 (are.is0 lengths.0)
-      sixteen crew1 = counts_sixteen (state1 r) b.of1.state lengths.1 (are.is1 lengths.1)
+      sixteen crew0 = counts_sixteen r.of0 b.of0.state lengths.0 (are.is0 lengths.0)
+      sixteen crew1 = counts_sixteen r.of1 b.of1.state lengths.1 (are.is1 lengths.1)
 
       low : p < 2 ^ 32
       unfolding answer_both picked_of
@@ -255,36 +257,36 @@ module _ (m : Matrix) (x : Two (List ℤ)) (order groups : List ℕ) (count : �
 
     -- ---- a call of picks, before and after its answer is stored
 
-    module _ {answer : Response} {after : Crews} {part0 part1 : List ℤ} (rest0 rest1 : List ℤ) (long0 : length part0 ≡ length zs0) (long1 : length part1 ≡ length zs1)
+    module _ {answer : Result Response Refusal} {after : Crews} {part0 part1 : List ℤ} (rest0 rest1 : List ℤ) (long0 : length part0 ≡ length zs0) (long1 : length part1 ≡ length zs1)
         (h : PicksMade m x order groups count states bs answer (states_of after part0 part1)) where
-      told : {k q p : ℕ} → answer ≡ Picked k q p → one (picked k q p) ≡ answer_both_lent m x order groups count states (picks_both bs)
-      told f = ap (λ (a : Response). one (as_answer a [])) (sym f) ∙ h.answers
+      told : {k q p : ℕ} → as_answer answer [] ≡ picked k q p → one (picked k q p) ≡ answer_both_lent m x order groups count states (picks_both bs)
+      told f = ap one (sym f) ∙ h.answers
 
       pub both_fit : BothFit m.n answer (part0 ++ rest0) (part1 ++ rest1) b
       both_fit = record {
         fit0 = λ k q p f. ((lengths (told f)).0, omega (arith, long0, (enough (told f)).0, length-append part0 rest0), omega (arith, room0 (told f)));
         fit1 = λ k q p f. ((lengths (told f)).1, omega (arith, long1, (enough (told f)).1, length-append part1 rest1), omega (arith, room1 (told f)));
-        low = (λ k q p f. low (told f), λ t q p v k f. absurd (true≢false (ap (λ (a : Response). is_look (one (as_answer a []))) (sym f) ∙ ap is_look h.answers ∙ no_look m x order groups count states bs)));
+        low = (λ k q p f. low (told f), λ t q p v k f. absurd (true≢false (ap (λ (a : Answer). is_look (one a)) (sym f) ∙ ap is_look h.answers ∙ no_look m x order groups count states bs)));
       }
 
       -- the states that picks leave
-      left_states : {k q p : ℕ} → answer ≡ Picked k q p → states_of after (take m.n (part0 ++ rest0)) (take m.n (part1 ++ rest1)) ≡ after_both_lent m x order groups count (states_in b) (picks_both bs)
+      left_states : {k q p : ℕ} → as_answer answer [] ≡ picked k q p → states_of after (take m.n (part0 ++ rest0)) (take m.n (part1 ++ rest1)) ≡ after_both_lent m x order groups count (states_in b) (picks_both bs)
       left_states f =
           let e = told f in
           rw (take_at part0 rest0 m.n (long0 ∙ (enough e).0), take_at part1 rest1 m.n (long1 ∙ (enough e).1))
           (h.leaves ∙ ap (λ (s : Two State). after_both_lent m x order groups count s (picks_both bs)) (stand e).1)
 
       -- .. are those that are stored
-      kept : (s : State) (t : State) (old : Bytes) → ((k q p : ℕ) → answer ≡ Picked k q p → s ≡ t) → bytes_left (one (as_answer answer [])) s old ≡ bytes_left (one (as_answer answer [])) t old
+      kept : (s : State) (t : State) (old : Bytes) → ((k q p : ℕ) → as_answer answer [] ≡ picked k q p → s ≡ t) → bytes_left (one (as_answer answer [])) s old ≡ bytes_left (one (as_answer answer [])) t old
       unfolding bytes_left left_by
       kept s t old alike = go answer refl
         where
-          go : (y : Response) → answer ≡ y → bytes_left (one (as_answer y [])) s old ≡ bytes_left (one (as_answer y [])) t old
-          go (Picked k q p) f = ap (λ (u : State). bytes_left (one (picked k q p)) u old) (alike k q p f)
-          go (Ready c k) f = refl
-          go Forces f = refl
-          go (Refused q p) f = refl
-          go (Previewed t q p v k) f = refl
+          go : (y : Result Response Refusal) → answer ≡ y → bytes_left (one (as_answer y [])) s old ≡ bytes_left (one (as_answer y [])) t old
+          go (Ok (Picked k x)) f = ap (λ (u : State). bytes_left (one (picked k (end_number x) (end_place x))) u old) (alike k _ _ (ap (λ (a : Result Response Refusal). as_answer a []) f))
+          go (Ok (Ready c k)) f = refl
+          go (Ok Forces) f = refl
+          go (Ok (Previewed t x v k)) f = refl
+          go (Err x) f = refl
 
       pub both-answered : {w : ℕ} {new : Two Bytes} → PicksBothAnswered (one (as_answer answer [])) (states_of after (take m.n (part0 ++ rest0)) (take m.n (part1 ++ rest1))) b w new
           → PicksBothAnswered (answer_both_in m x order groups count b (picks_both bs)) (after_both_lent m x order groups count (states_in b) (picks_both bs)) b w new
@@ -299,17 +301,17 @@ module _ (m : Matrix) (x : Two (List ℤ)) (order groups : List ℕ) (count : �
 
 -- ---- what is stored of one crew: picks have no forces
 
-pub stored-left : (r : Response) (zs : List ℤ) (s : State) (old : Bytes) {state sums : List ℕ} → state ≡ left_by (as_answer r zs) (bytes_in s) old.state → sums ≡ left_by (as_answer r zs) (signed_bytes 8 s.sums) old.sums
+pub stored-left : (r : Result Response Refusal) (zs : List ℤ) (s : State) (old : Bytes) {state sums : List ℕ} → state ≡ left_by (as_answer r zs) (bytes_in s) old.state → sums ≡ left_by (as_answer r zs) (signed_bytes 8 s.sums) old.sums
     → ◌≡◌ {A = Bytes} (record { state = state; sums = sums }) (bytes_left (one (as_answer r [])) s old)
 unfolding bytes_left left_by
 stored-left r zs s old e f = rw (e, f) (go r)
   where
-    go : (y : Response) → ◌≡◌ {A = Bytes} (record { state = left_by (as_answer y zs) (bytes_in s) old.state; sums = left_by (as_answer y zs) (signed_bytes 8 s.sums) old.sums }) (bytes_left (one (as_answer y [])) s old)
-    go (Picked k q p) = refl
-    go (Ready c k) = refl
-    go Forces = refl
-    go (Refused q p) = refl
-    go (Previewed t q p v k) = refl
+    go : (y : Result Response Refusal) → ◌≡◌ {A = Bytes} (record { state = left_by (as_answer y zs) (bytes_in s) old.state; sums = left_by (as_answer y zs) (signed_bytes 8 s.sums) old.sums }) (bytes_left (one (as_answer y [])) s old)
+    go (Ok (Picked k x)) = refl
+    go (Ok (Ready c k)) = refl
+    go (Ok Forces) = refl
+    go (Ok (Previewed t x v k)) = refl
+    go (Err x) = refl
 
 -- the array that they are decoded into
 abbrev pub zeros : List ℤ

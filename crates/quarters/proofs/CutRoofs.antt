@@ -25,6 +25,8 @@ use Rattle.answers.proofs.CutJobs.{updates-same, refusal-same, ready-same, state
 use Rattle.answers.proofs.RunCalls.{records_fit, displaced, cut-plan}
 use Rattle.crews.specs.Crews.{Crew, crew0, crew1, other, Two, own_of, Roof, in_row, is_away, crew_refusal, crew_step, turn_for, turn, crew_ready}
 use Rattle.crews.specs.Calls.{picks_both, ready_sets, ready_for, ready_both, state_checks, denied_both, answer_both, after_both, roof_of, roof_checks, answer_both_lent, after_both_lent}
+use Rattle.std.proofs.Common.{Result}
+use Rattle.base.specs.declared.Refusal.{Refusal}
 use Rattle.calls.specs.declared.Response.{Response}
 use Rattle.shared.specs.Performed.{PicksMade}
 
@@ -104,7 +106,7 @@ module _ {A : Type 0} (refuse : (number place : ℕ) → A) (f : Roof → A)
 -- a call on the lists that are decoded is the call on the whole ones
 module _ (m : Matrix) (x : Two (List ℤ)) (order groups : List ℕ) (count : ℕ) {d : Matrix} {y : Two (List ℤ)} {o g : List ℕ}
     (ed : d ≡ cut m) (ey : y ≡ cut_two x) (eo : o ≡ take max_rows order) (eg : g ≡ take max_fields groups) (s : Two State) where
-  pub picks-whole : (bs : List ℕ) {answer : Response} {after : Two State} → PicksMade d y o g count s bs answer after → PicksMade m x order groups count s bs answer after
+  pub picks-whole : (bs : List ℕ) {answer : Result Response Refusal} {after : Two State} → PicksMade d y o g count s bs answer after → PicksMade m x order groups count s bs answer after
   unfolding answer_both_lent after_both_lent
   picks-whole bs h =
       let k = rw (ed, ey, eo, eg) at h in

@@ -20,6 +20,8 @@ use Rattle.crews.specs.Crews.{Crew, crew0, crew1, Two, own_of, Roof, job_for, is
 use Rattle.crews.specs.Calls.{ready_sets, ReadySet, BothAnswer, one, sets, denied_both, ready_for, ready_both, answer_both, roof_of, answer_both_lent}
 use Rattle.crews.specs.TwoCrews.{AcceptedRoof}
 use Rattle.shared.specs.Performed.{as_sets}
+use Rattle.std.proofs.Common.{Result}
+use Rattle.base.specs.declared.Refusal.{Refusal}
 use Rattle.shared.specs.declared.Sets.{Sets}
 use Rattle.shared.proofs.RoofChecked.{roof_given}
 use Rattle.shared.proofs.Sharing.{are_states, states_fine, roof_reply, sets-refused, lent-sets-refused, lent-sets}
@@ -78,7 +80,7 @@ module _ (m : Matrix) (x : Two (List ℤ)) (order groups : List ℕ) (count : �
       let second : t.of1.count ≡ length (crew_ready roof s crew1) = ap (count_in crew1) is in
       (omega (arith, first, crew-few roof s crew0, (facts (job_for roof crew0) (ok crew0)).few), omega (arith, second, crew-few roof s crew1, (facts (job_for roof crew1) (ok crew1)).few))
 
-pub few-ready : (m : Matrix) (x : Two (List ℤ)) (order groups : List ℕ) (count : ℕ) (s : Two State) {r : Sets} → as_sets r ≡ answer_both_lent m x order groups count s ready_sets → FewReady r
-few-ready m x order groups count s h b0 c0 b1 c1 e =
+pub few-ready : (m : Matrix) (x : Two (List ℤ)) (order groups : List ℕ) (count : ℕ) (s : Two State) {r : Result Sets Refusal} → as_sets r ≡ answer_both_lent m x order groups count s ready_sets → FewReady r
+few-ready m x order groups count s h t e =
     let few = counts-few m x order groups count s (ap as_sets (sym e) ∙ h) in
     (omega (arith, few.0), omega (arith, few.1))

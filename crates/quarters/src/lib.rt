@@ -17,13 +17,15 @@ ghost use Rattle.quarters.specs.Code.Loaded.{CrewsLent};
 
 use answers::state::sums_of;
 use bytes::{load_crews, store_both};
-use lent::lists::{load_signed, load_unsigned};
+use lent::lists::decode;
 use matrix::limits::{MAX_CELLS, MAX_ROWS, MAX_STARTS};
+use matrix::lists::Matrix;
 use plan::fields::MAX_FIELDS;
-use shared::{picks_both, ready_both};
+use plan::lists::Plan;
+use shared::{Roof, picks_both, ready_both};
 use turns::Crews;
 use word::word_of_sets;
-use words::load::load_i64;
+use words::lists::load;
 
 // A list of picks for both. The lists are decoded as far as any roof can reach.
 pub fn picks_both_in(
@@ -59,25 +61,32 @@ pub fn picks_both_in(
     let mut displacements1 = [0i32; MAX_STARTS];
     let mut order_list = [0u32; MAX_ROWS];
     let mut group_list = [0u32; MAX_FIELDS];
-    let kept0 = load_i64(sums_of(state0, sums0), &mut new0);
-    let kept1 = load_i64(sums_of(state1, sums1), &mut new1);
-    let crews = load_crews(state0, state1);
-    let done = picks_both(
-        n,
-        load_unsigned(row_starts, &mut starts),
-        load_unsigned(columns, &mut column_list),
-        load_signed(values, &mut value_list),
-        load_signed(movements0, &mut displacements0),
-        load_signed(movements1, &mut displacements1),
-        load_unsigned(order, &mut order_list),
-        load_unsigned(groups, &mut group_list),
-        group_count,
-        crews,
+    let kept0 = load(sums_of(state0, sums0), &mut new0);
+    let kept1 = load(sums_of(state1, sums1), &mut new1);
+    let mut crews = load_crews(state0, state1);
+    let roof = Roof {
+        matrix: Matrix {
+            n: n as usize,
+            starts: decode(row_starts, &mut starts),
+            columns: decode(columns, &mut column_list),
+            values: decode(values, &mut value_list),
+        },
+        displacements0: decode(movements0, &mut displacements0),
+        displacements1: decode(movements1, &mut displacements1),
+        plan: Plan {
+            order: decode(order, &mut order_list),
+            groups: decode(groups, &mut group_list),
+            count: group_count as usize,
+        },
+    };
+    let answer = picks_both(
+        &roof,
+        &mut crews,
         &mut new0[..kept0],
         &mut new1[..kept1],
         picks,
     );
-    store_both(n, done, &new0, &new1, state0, sums0, state1, sums1)
+    store_both(n, answer, crews, &new0, &new1, state0, sums0, state1, sums1)
 }
 
 // The ready sets of both, whose states are decoded already.
@@ -107,21 +116,23 @@ pub fn ready_both_in(
     let mut group_list = [0u32; MAX_FIELDS];
     let mut new0 = [0i64; MAX_STARTS];
     let mut new1 = [0i64; MAX_STARTS];
-    let kept0 = load_i64(sums0, &mut new0);
-    let kept1 = load_i64(sums1, &mut new1);
-    let sets = ready_both(
-        n,
-        load_unsigned(row_starts, &mut starts),
-        load_unsigned(columns, &mut column_list),
-        load_signed(values, &mut value_list),
-        load_signed(movements0, &mut displacements0),
-        load_signed(movements1, &mut displacements1),
-        load_unsigned(order, &mut order_list),
-        load_unsigned(groups, &mut group_list),
-        group_count,
-        crews,
-        &new0[..kept0],
-        &new1[..kept1],
-    );
+    let kept0 = load(sums0, &mut new0);
+    let kept1 = load(sums1, &mut new1);
+    let roof = Roof {
+        matrix: Matrix {
+            n: n as usize,
+            starts: decode(row_starts, &mut starts),
+            columns: decode(columns, &mut column_list),
+            values: decode(values, &mut value_list),
+        },
+        displacements0: decode(movements0, &mut displacements0),
+        displacements1: decode(movements1, &mut displacements1),
+        plan: Plan {
+            order: decode(order, &mut order_list),
+            groups: decode(groups, &mut group_list),
+            count: group_count as usize,
+        },
+    };
+    let sets = ready_both(&roof, crews, &new0[..kept0], &new1[..kept1]);
     word_of_sets(sets)
 }

@@ -5,7 +5,7 @@ ghost use Rattle.shared.specs.Performed.{as_sets};
 ghost use Rattle.quarters.specs.Both.{reply_to_both};
 ghost use Rattle.quarters.specs.Code.Loaded.{FewReady};
 
-use base::Verdict;
+use base::Refusal;
 use shared::Sets;
 
 // The value of the lowest bit of crew 1's bits, of crew 0's count and of crew 1's.
@@ -16,14 +16,17 @@ const COUNT0: u64 = 1099511627776;
 const COUNT1: u64 = 281474976710656;
 
 // Each crew's bits, then each crew's count of those set; or a refusal's number and place.
-pub(crate) fn word_of_sets(sets: Sets) -> u64
+pub(crate) fn word_of_sets(sets: Result<Sets, Refusal>) -> u64
     requires { FewReady sets }
     ensures { result ≡ word (reply_to_both (as_sets sets)) }
 {
     match sets {
-        Sets::Ready(bits0, count0, bits1, count1) => {
-            bits0 as u64 + bits1 as u64 * BITS1 + count0 as u64 * COUNT0 + count1 as u64 * COUNT1
+        Ok(both) => {
+            both.bits0 as u64
+                + both.bits1 as u64 * BITS1
+                + both.count0 as u64 * COUNT0
+                + both.count1 as u64 * COUNT1
         }
-        Sets::Refused(number, place) => lent::word::word_of(Verdict::Refused(number, place)),
+        Err(refusal) => lent::word::word_of(Err(refusal)),
     }
 }

@@ -1,6 +1,5 @@
 -- The ready set and the force list by a prepared list.
 use mathlib.Core.Path.{◌≡◌, refl, sym, ap, ◌∙◌}
-use mathlib.Core.Logic.{◌≢◌}
 use mathlib.Core.Bool.{Bool, true, false}
 use mathlib.Core.List.{List, []}
 use Prim.Native.Nat.{ℕ, ◌/◌, ◌≤◌, ◌<◌}
@@ -15,7 +14,13 @@ use Rattle.run.specs.Calls.{forces_of}
 use Rattle.run.specs.Machine.{bits}
 use Rattle.words.specs.LittleEndian.{signed, signed_bytes, stored}
 use Rattle.machine.specs.declared.state.State as code
-use Rattle.calls.specs.declared.Response.TheVariants.{Ready, Forces, Refused}
+use Rattle.std.proofs.Common.{Ok, Err}
+use Rattle.base.specs.Verdicts.{number_of}
+use Rattle.base.specs.declared.Kind.{Kind}
+use Rattle.base.specs.declared.Kind.TheVariants as kind
+use Rattle.base.specs.declared.Refusal.{Refusal}
+use Rattle.steps.proofs.TableSteps.{not_told}
+use Rattle.calls.specs.declared.Response.TheVariants.{Ready, Forces}
 use Rattle.answers.specs.Runs.{state_in, reply_to, force_bytes}
 use Rattle.answers.specs.Code.Ran.{StateIs, LowPlace}
 use Rattle.prepared.specs.Format.{tables_of}
@@ -29,31 +34,31 @@ use Rattle.rack.proofs.Refused.{Fine, refused_all}
 
 -- ---- answers that name no pick
 
-forces-low : LowPlace Forces
+forces-low : LowPlace (Ok Forces)
 forces-low = (λ k q p e. absurd (let z : ◌≡◌ {A = ℕ} 0 1 = cc in omega arith), λ t q p b k e. absurd (let z : ◌≡◌ {A = ℕ} 0 1 = cc in omega arith))
 
-pub ready-low : (bits count : ℕ) → LowPlace (Ready bits count)
+pub ready-low : (bits count : ℕ) → LowPlace (Ok (Ready bits count))
 ready-low bits count = (λ k q p e. absurd (let z : ◌≡◌ {A = ℕ} 0 1 = cc in omega arith), λ t q p b k e. absurd (let z : ◌≡◌ {A = ℕ} 0 1 = cc in omega arith))
 
-pub refused-low : (number place : ℕ) → LowPlace (Refused number place)
-refused-low number place = (λ k q p e. absurd (let z : ◌≡◌ {A = ℕ} 0 1 = cc in omega arith), λ t q p b k e. absurd (let z : ◌≡◌ {A = ℕ} 0 1 = cc in omega arith))
+pub refused-low : (r : Refusal) → LowPlace (Err r)
+refused-low r = (λ k q p e. absurd (let z : ◌≡◌ {A = ℕ} 0 1 = cc in omega arith), λ t q p b k e. absurd (let z : ◌≡◌ {A = ℕ} 0 1 = cc in omega arith))
 
 module _ (list state sums old : List ℕ) where
   abbrev c : Call
   c = force_list (length old / 8)
 
   -- a refusal leaves the list
-  gave_refused : (number place : ℕ) → denied number place ≡ answer_kept list state sums c → GaveKept list state sums old (Refused number place) old
+  gave_refused : (r : Refusal) → denied (number_of r.kind) r.place ≡ answer_kept list state sums c → GaveKept list state sums old (Err r) old
   unfolding lent reply_to
-  gave_refused number place told = record {
+  gave_refused r told = record {
     made = [];
     answers = told;
     lists = ap (λ (a : Answer). lent (reply_to a) (force_bytes a) old) told;
-    place_low = λ plain. refused-low number place;
+    place_low = λ plain. refused-low r;
   }
 
-  pub gave_none : {why : ℕ} → why ≡ refusal_in list state sums → why ≢ 0 → GaveKept list state sums old (Refused why 0) old
-  gave_none {why} e d = gave_refused why 0 (ap (λ (k : ℕ). denied k 0) e ∙ refused_all list state sums (λ q. d (e ∙ q)) c)
+  pub gave_none : {why : Kind} → number_of why ≡ refusal_in list state sums → GaveKept list state sums old (Err (record { kind = why; place = 0 })) old
+  gave_none {why} e = gave_refused (record { kind = why; place = 0 }) (ap (λ (k : ℕ). denied k 0) e ∙ refused_all list state sums (λ q. not_told why (e ∙ q)) c)
 
 module _ {list state sums : List ℕ} (f : Fine list state sums) {rows crew n : ℕ} (h : Head list rows crew n) {before : code.State} (is : StateIs before state) where
   abbrev T : Tables
@@ -80,18 +85,18 @@ module _ {list state sums : List ℕ} (f : Fine list state sums) {rows crew n : 
 
   module _ (old : List ℕ) where
     -- not yet
-    pub gave_early : false ≡ all_made_by T before.made crew → GaveKept list state sums old (Refused 15 0) old
+    pub gave_early : false ≡ all_made_by T before.made crew → GaveKept list state sums old (Err (record { kind = kind.TooEarly; place = 0 })) old
     unfolding forces_of
-    gave_early o = gave_refused list state sums old 15 0 (told-by old false o (leb rows (length old / 8)) refl)
+    gave_early o = gave_refused list state sums old (record { kind = kind.TooEarly; place = 0 }) (told-by old false o (leb rows (length old / 8)) refl)
 
     module _ (o : true ≡ all_made_by T before.made crew) where
       -- no room
-      pub gave_short : length old / 8 < rows → GaveKept list state sums old (Refused 9 rows) old
+      pub gave_short : length old / 8 < rows → GaveKept list state sums old (Err (record { kind = kind.TooShort; place = rows })) old
       unfolding forces_of
-      gave_short l = gave_refused list state sums old 9 rows (told-by old true o false (lt-leb rows (length old / 8) l))
+      gave_short l = gave_refused list state sums old (record { kind = kind.TooShort; place = rows }) (told-by old true o false (lt-leb rows (length old / 8) l))
 
       -- they are stored
-      pub gave_forces : rows ≤ length old / 8 → {new : List ℕ} → new ≡ stored (signed_bytes 8 (original_by T (signed 8 sums))) old → GaveKept list state sums old Forces new
+      pub gave_forces : rows ≤ length old / 8 → {new : List ℕ} → new ≡ stored (signed_bytes 8 (original_by T (signed 8 sums))) old → GaveKept list state sums old (Ok Forces) new
       unfolding forces_of lent reply_to force_bytes
       gave_forces l {new} e =
           let told : forces (original_by T (signed 8 sums)) ≡ answer_kept list state sums (force_list (length old / 8)) = told-by old true o true (le-leb rows (length old / 8) l) in

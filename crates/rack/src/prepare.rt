@@ -3,10 +3,13 @@ ghost use Rattle.words.specs.LittleEndian.{unsigned, signed};
 ghost use Rattle.lent.specs.Bytes.{matrix_in};
 ghost use Rattle.rack.specs.Kept.{PrepareAnswered};
 
-use lent::lists::{load_signed, load_unsigned};
+use calls::Job;
+use lent::lists::decode;
 use lent::word::word_of;
 use matrix::limits::{MAX_CELLS, MAX_ROWS, MAX_STARTS};
+use matrix::lists::Matrix;
 use plan::fields::MAX_FIELDS;
+use plan::lists::Plan;
 
 pub fn prepare_in(
     n: u32,
@@ -28,16 +31,19 @@ pub fn prepare_in(
     let mut displacements = [0i32; MAX_STARTS];
     let mut order_list = [0u32; MAX_ROWS];
     let mut group_list = [0u32; MAX_FIELDS];
-    let answer = preparing::prepare(
-        n,
-        load_unsigned(row_starts, &mut starts),
-        load_unsigned(columns, &mut column_list),
-        load_signed(values, &mut value_list),
-        load_signed(movements, &mut displacements),
-        load_unsigned(order, &mut order_list),
-        load_unsigned(groups, &mut group_list),
-        group_count,
-        out,
-    );
-    word_of(answer)
+    let job = Job {
+        matrix: Matrix {
+            n: n as usize,
+            starts: decode(row_starts, &mut starts),
+            columns: decode(columns, &mut column_list),
+            values: decode(values, &mut value_list),
+        },
+        displacements: decode(movements, &mut displacements),
+        plan: Plan {
+            order: decode(order, &mut order_list),
+            groups: decode(groups, &mut group_list),
+            count: group_count as usize,
+        },
+    };
+    word_of(preparing::prepare(&job, out))
 }

@@ -6,18 +6,19 @@ ghost use Rattle.compress.specs.Code.Arrays.{Arrays};
 ghost use Rattle.reader.specs.Code.Scanned.{parsed, Within};
 ghost use Rattle.reader.specs.Code.Entries.{Held, remaining, Ended};
 
-use crate::entry::{Entry, read_entry};
+use crate::entry::read_entry;
 use crate::marks::{bit_of, mark, mark_all};
+use base::{Kind, Refusal};
 use matrix::limits::{MAX_ENTRIES, MAX_ROWS};
 
 // Places are told apart by column, then row.
 const STRIDE: u32 = MAX_ROWS as u32;
 
-// A text's rows and count of entries, or its refusal with number and line.
+// How many rows a text's matrix has, and how many entry lines.
 #[derive(Clone, Copy)]
-pub(crate) enum Scanned {
-    Matrix(usize, usize),
-    Rejected(u32, u32),
+pub(crate) struct Size {
+    pub rows: usize,
+    pub entries: usize,
 }
 
 // How many entries are in the arrays, and where the next line stands.
@@ -43,41 +44,38 @@ fn read_sorted(
 {
     let mut low: u32 = 0;
     let mut p = at;
-    let mut i: usize = 0;
-    while i < m {
-        let found = read_entry(s, p, n);
-        let Entry::At {
-            row,
-            column,
-            value,
-            next,
-        } = found
-        else {
+    for i in 0..m {
+        let Ok(e) = read_entry(s, p, n) else {
             return Reached { count: i, pos: p };
         };
-        let key = column * STRIDE + row;
+        let key = e.column * STRIDE + e.row;
         if key < low {
             return Reached { count: i, pos: p };
         }
-        rows[i] = row;
-        columns[i] = column;
-        values[i] = value;
+        rows[i] = e.row;
+        columns[i] = e.column;
+        values[i] = e.value;
         low = key + 1;
-        p = next;
-        i += 1;
+        p = e.next;
     }
-    Reached { count: i, pos: p }
+    Reached { count: m, pos: p }
 }
 
 // What all m lines make, if nothing follows them.
-fn ended(s: &[u8], pos: usize, n: usize, m: usize, line: u32) -> Scanned
+fn ended(s: &[u8], pos: usize, n: usize, m: usize, line: u32) -> Result<Size, Refusal>
     requires { Within n m line }
     ensures { Ended s.now pos n m line result }
 {
     if pos < s.len() {
-        return Scanned::Rejected(base::FORM, line + (m as u32));
+        return Err(Refusal {
+            kind: Kind::BadForm,
+            place: line + (m as u32),
+        });
     }
-    Scanned::Matrix(n, m)
+    Ok(Size {
+        rows: n,
+        entries: m,
+    })
 }
 
 // The lines from the one that was reached on, in any order: each place is marked.
@@ -90,35 +88,29 @@ fn read_marked(
     rows: &mut [u32; MAX_ENTRIES],
     columns: &mut [u32; MAX_ENTRIES],
     values: &mut [i32; MAX_ENTRIES],
-) -> Scanned
+) -> Result<Size, Refusal>
     requires { Within n m line × Held n m rows.old columns.old values.old from.count }
     ensures { (remaining s.now n m line rows.old columns.old values.old from.pos from.count ≡ parsed result rows.new columns.new values.new) × Arrays rows.new columns.new values.new }
 {
     let mut marks = [0u64; 131104];
     let mut p = from.pos;
-    let mut i = from.count;
-    mark_all(rows, columns, i, &mut marks);
-    while i < m {
-        let here = line + (i as u32);
-        let found = read_entry(s, p, n);
-        match found {
-            Entry::Refused(q) => return Scanned::Rejected(q, here),
-            Entry::At {
-                row,
-                column,
-                value,
-                next,
-            } => {
-                if mark(&mut marks, bit_of(row, column)) {
-                    return Scanned::Rejected(base::ENTRY, here);
-                }
-                rows[i] = row;
-                columns[i] = column;
-                values[i] = value;
-                p = next;
-            }
+    mark_all(rows, columns, from.count, &mut marks);
+    for i in from.count..m {
+        let place = line + (i as u32);
+        let e = match read_entry(s, p, n) {
+            Ok(e) => e,
+            Err(kind) => return Err(Refusal { kind, place }),
+        };
+        if mark(&mut marks, bit_of(e.row, e.column)) {
+            return Err(Refusal {
+                kind: Kind::BadEntry,
+                place,
+            });
         }
-        i += 1;
+        rows[i] = e.row;
+        columns[i] = e.column;
+        values[i] = e.value;
+        p = e.next;
     }
     ended(s, p, n, m, line)
 }
@@ -133,7 +125,7 @@ pub(crate) fn read_entries(
     rows: &mut [u32; MAX_ENTRIES],
     columns: &mut [u32; MAX_ENTRIES],
     values: &mut [i32; MAX_ENTRIES],
-) -> Scanned
+) -> Result<Size, Refusal>
     requires { Within n m line × Arrays rows.old columns.old values.old }
     ensures { (entries n m line [] (drop at s.now) ≡ parsed result rows.new columns.new values.new) × Arrays rows.new columns.new values.new }
 {

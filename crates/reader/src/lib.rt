@@ -13,14 +13,19 @@ ghost use Rattle.base.specs.Replies.{lent};
 ghost use Rattle.market.specs.Parse.{parse};
 ghost use Rattle.market.specs.FullRows.{read_matrix, read_reply};
 
-use base::Verdict;
-use compress::rows;
-use entries::Scanned;
+use base::Refusal;
+use compress::entries::Entries;
+use compress::rows::place_rows;
 use matrix::limits::MAX_ENTRIES;
 
 // The matrix of a text in full rows, into three lists: 1, 2, 3 or 4 line by line, then 9. Nothing is written on a
 // refusal.
-pub fn read(text: &[u8], starts: &mut [u32], columns: &mut [u32], values: &mut [i32]) -> Verdict
+pub fn read(
+    text: &[u8],
+    starts: &mut [u32],
+    columns: &mut [u32],
+    values: &mut [i32],
+) -> Result<u32, Refusal>
     ensures result_value { reply_of result ≡ read_reply (parse text.now) (length starts.old) (length columns.old) (length values.old) }
     ensures starts_after { starts.new ≡ lent (read_reply (parse text.now) (length starts.old) (length columns.old) (length values.old)) (read_matrix (parse text.now)).starts starts.old }
     ensures columns_after { columns.new ≡ lent (read_reply (parse text.now) (length starts.old) (length columns.old) (length values.old)) (read_matrix (parse text.now)).columns columns.old }
@@ -29,9 +34,13 @@ pub fn read(text: &[u8], starts: &mut [u32], columns: &mut [u32], values: &mut [
     let mut rs = [0u32; MAX_ENTRIES];
     let mut cs = [0u32; MAX_ENTRIES];
     let mut vs = [0i32; MAX_ENTRIES];
-    let found = parse::parse_text(text, &mut rs, &mut cs, &mut vs);
-    match found {
-        Scanned::Rejected(q, p) => Verdict::Refused(q, p),
-        Scanned::Matrix(n, m) => rows::place_rows(&rs, &cs, &vs, m, n, starts, columns, values),
-    }
+    let size = parse::parse_text(text, &mut rs, &mut cs, &mut vs)?;
+    let m = size.entries;
+    let read = Entries {
+        n: size.rows,
+        rows: &rs[..m],
+        columns: &cs[..m],
+        values: &vs[..m],
+    };
+    place_rows(&read, starts, columns, values)
 }

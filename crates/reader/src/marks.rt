@@ -38,9 +38,7 @@ pub(crate) fn mark_all(
     requires { (count ≤ max_entries) × (length rows.now ≡ max_entries) × (length columns.now ≡ max_entries) × Lower rows.now columns.now count × Marks marks.old [] }
     ensures { (vs : List ℤ) → Marks marks.new (triplets_of count rows.now columns.now vs) }
 {
-    let mut k: usize = 0;
-    while k < count {
+    for k in 0..count {
         mark(marks, bit_of(rows[k], columns[k]));
-        k += 1;
     }
 }

@@ -13,39 +13,19 @@ use scan::classes::{LINE_END, class_of};
 pub(crate) fn has_header(s: &[u8]) -> bool
     ensures { result ≡ begins s.now header }
 {
-    let mut i: usize = 0;
-    while i < 51 {
-        if s.len() <= i {
-            return false;
-        }
-        if s[i] != HEADER[i] {
-            return false;
-        }
-        i += 1;
-    }
-    true
+    s.starts_with(&HEADER)
 }
 
-// The position after a line's line feed, if it has one.
-#[derive(Clone, Copy)]
-pub(crate) enum LineEnd {
-    At(usize),
-    No,
-}
-
-// Where the line at a position ends.
-fn line_end(s: &[u8], at: usize) -> LineEnd
+// The position after the line feed of the line at a position, if it has one.
+fn line_end(s: &[u8], at: usize) -> Option<usize>
     ensures { LineEnds s.now at result }
 {
-    let mut i = at;
-    while i < s.len() {
-        let b = s[i];
-        if class_of(b) == LINE_END {
-            return LineEnd::At(i + 1);
+    for i in at..s.len() {
+        if class_of(s[i]) == LINE_END {
+            return Some(i + 1);
         }
-        i += 1;
     }
-    LineEnd::No
+    None
 }
 
 // A line's number and position.
@@ -62,20 +42,17 @@ pub(crate) fn skip_comments(s: &[u8], at: usize, first: u32) -> LineStart
 {
     let mut i = at;
     let mut line = first;
+    // A turn goes on where the line ends, which is no next number.
     while i < s.len() {
         let b = s[i];
         if b != b'%' {
-            return LineStart { line: line, pos: i };
+            return LineStart { line, pos: i };
         }
-        let found = line_end(s, i);
-        let LineEnd::At(e) = found else {
-            return LineStart {
-                line: line,
-                pos: s.len(),
-            };
+        let Some(e) = line_end(s, i) else {
+            return LineStart { line, pos: s.len() };
         };
         i = e;
-        line = line + 1;
+        line += 1;
     }
-    LineStart { line: line, pos: i }
+    LineStart { line, pos: i }
 }

@@ -6,10 +6,11 @@ ghost use Rattle.market.specs.Parse.{size_line, parse};
 ghost use Rattle.compress.specs.Code.Arrays.{Arrays};
 ghost use Rattle.reader.specs.Code.Scanned.{parsed};
 
-use crate::entries::{Scanned, read_entries};
+use crate::entries::{Size, read_entries};
 use crate::opening::{has_header, skip_comments};
+use base::{Kind, Refusal};
 use matrix::limits::{MAX_ENTRIES, MAX_ROWS, MAX_TEXT};
-use scan::lines::{Fields, read_line};
+use scan::lines::read_line;
 
 // The limits of a size, as wide as the text's numbers.
 const MOST_ROWS: u64 = MAX_ROWS as u64;
@@ -20,16 +21,7 @@ const MOST_ENTRIES: u64 = MAX_ENTRIES as u64;
 fn is_size(rows: u64, columns: u64, count: u64) -> bool
     ensures { result ≡ eqb rows columns && leb 1 rows && leb rows max_rows && leb count max_entries }
 {
-    if rows != columns {
-        return false;
-    }
-    if rows < 1 {
-        return false;
-    }
-    if MOST_ROWS < rows {
-        return false;
-    }
-    count <= MOST_ENTRIES
+    rows == columns && 1 <= rows && rows <= MOST_ROWS && count <= MOST_ENTRIES
 }
 
 // The size line, at a position and with its number, and all after it.
@@ -40,31 +32,31 @@ fn parse_size(
     rows: &mut [u32; MAX_ENTRIES],
     columns: &mut [u32; MAX_ENTRIES],
     values: &mut [i32; MAX_ENTRIES],
-) -> Scanned
+) -> Result<Size, Refusal>
     requires { (line ≤ 1048577) × Arrays rows.old columns.old values.old }
     ensures { (size_line line (drop pos s.now) ≡ parsed result rows.new columns.new values.new) × Arrays rows.new columns.new values.new }
 {
-    let found = read_line(s, pos);
-    let Fields::Line {
-        row,
-        column,
-        value,
-        next,
-    } = found
-    else {
-        return Scanned::Rejected(base::FORM, line);
+    let form = Refusal {
+        kind: Kind::BadForm,
+        place: line,
     };
-    if value < 0 {
-        return Scanned::Rejected(base::FORM, line);
+    let Some(size) = read_line(s, pos) else {
+        return Err(form);
+    };
+    if size.value < 0 {
+        return Err(form);
     }
-    let m = value as u64;
-    if !is_size(row, column, m) {
-        return Scanned::Rejected(base::SIZE, line);
+    let m = size.value as u64;
+    if !is_size(size.row, size.column, m) {
+        return Err(Refusal {
+            kind: Kind::BadSize,
+            place: line,
+        });
     }
     read_entries(
         s,
-        next,
-        row as usize,
+        size.next,
+        size.row as usize,
         m as usize,
         line + 1,
         rows,
@@ -79,18 +71,22 @@ pub(crate) fn parse_text(
     rows: &mut [u32; MAX_ENTRIES],
     columns: &mut [u32; MAX_ENTRIES],
     values: &mut [i32; MAX_ENTRIES],
-) -> Scanned
+) -> Result<Size, Refusal>
     requires { Arrays rows.old columns.old values.old }
     ensures { (parse s.now ≡ parsed result rows.new columns.new values.new) × Arrays rows.new columns.new values.new }
 {
     if MAX_TEXT < s.len() {
-        return Scanned::Rejected(base::FORM, 0);
+        return Err(Refusal {
+            kind: Kind::BadForm,
+            place: 0,
+        });
     }
     if !has_header(s) {
-        return Scanned::Rejected(base::HEADER, 1);
+        return Err(Refusal {
+            kind: Kind::BadHeader,
+            place: 1,
+        });
     }
     let start = skip_comments(s, 51, 2);
-    let line = start.line;
-    let pos = start.pos;
-    parse_size(s, pos, line, rows, columns, values)
+    parse_size(s, start.pos, start.line, rows, columns, values)
 }

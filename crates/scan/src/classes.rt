@@ -3,6 +3,7 @@
 ghost use Rattle.std.specs.Prelude.{◌≡◌, get_or};
 ghost use Rattle.market.specs.Bytes.{class_of};
 
+// Numbers, as `class_of` of market's specs has them: with an enum each test would need a translation to them.
 const OTHER: u8 = 0;
 
 pub const DIGIT: u8 = 1;

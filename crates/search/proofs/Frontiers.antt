@@ -16,7 +16,7 @@ use Rattle.base.proofs.Graph.{Graph}
 use Rattle.search.specs.Code.Marks.{unreached}
 use Rattle.search.specs.Code.Search.{wave, visited_all, After, Front, Frontier, SoFar, Kept, Spread}
 use Rattle.search.proofs.Waves.{Grown}
-use Rattle.search.proofs.Visits.{after_grown, after_tail, after-found, in_slice}
+use Rattle.search.proofs.Visited.{after_grown, after_tail, after-found, in_slice}
 use Rattle.search.proofs.Turns.{so_far-step, next_level}
 
 -- ---- marks are kept

@@ -1,7 +1,7 @@
 pub mod Marks
 pub mod Degrees
 pub mod Waves
-pub mod Visits
+pub mod Visited
 pub mod Turns
 pub mod Frontiers
 pub mod AllComponents

@@ -20,7 +20,7 @@ use Rattle.levels.specs.Levels.{region}
 use Rattle.search.specs.Code.Marks.{at_mark, how_many, unreached, Marked}
 use Rattle.search.specs.Code.Search.{wave, visited_all, Ready, After, Front}
 use Rattle.search.proofs.Turns.{adjacent_to}
-use Rattle.search.proofs.Visits.{after_grown, after_tail, after-found}
+use Rattle.search.proofs.Visited.{after_grown, after_tail, after-found}
 use Rattle.search.proofs.Waves.{Grown, some_left}
 
 bit-one : (b : Bool) → eqb (bit b) 1 ≡ b

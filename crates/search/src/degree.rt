@@ -3,10 +3,9 @@ ghost use Rattle.std.specs.Prelude.{◌≡◌, not, ◌<◌, eqb, length};
 ghost use Rattle.base.specs.Lists.{filter};
 ghost use Rattle.matrix.specs.Limits.{max_rows};
 ghost use Rattle.levels.specs.Levels.{degree};
-ghost use Rattle.levels.specs.Code.Rows.{Rows, adj_of};
+ghost use Rattle.levels.specs.Code.Graph.{adj};
 
-use base::numbers::wide;
-use matrix::row::columns_of;
+use levels::graph::Graph;
 
 // How many of a row's columns are not v.
 fn others(row: &[u32], v: u32) -> u32
@@ -14,8 +13,8 @@ fn others(row: &[u32], v: u32) -> u32
     ensures { result ≡ length (filter (λ j. not (eqb j v)) row.now) }
 {
     let mut k = 0;
-    for i in 0..row.len() {
-        if row[i] != v {
+    for j in row {
+        if *j != v {
             k += 1;
         }
     }
@@ -23,9 +22,9 @@ fn others(row: &[u32], v: u32) -> u32
 }
 
 // How many rows are adjacent to row v.
-pub fn degree(starts: &[u32], columns: &[u32], n: usize, v: u32) -> u32
-    requires { Rows n starts.now columns.now × (v < n) }
-    ensures { result ≡ degree (adj_of n starts.now columns.now) v }
+pub fn degree(graph: &Graph, v: u32) -> u32
+    requires { v < graph.now.m.n }
+    ensures { result ≡ degree (adj graph.now) v }
 {
-    others(columns_of(starts, columns, wide(v)), v)
+    others(graph.columns_of(v as usize), v)
 }

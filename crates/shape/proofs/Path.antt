@@ -11,7 +11,7 @@ use lib.ListN.{length, get_or, drop, set}
 use lib.Seq.{get_or-set_same, get_or-set_other}
 use borrow.Author.Tests.{eq-eqb, ne_eqb}
 use Rattle.base.specs.Lists.{from_first}
-use Rattle.plan.specs.Groups.{records}
+use Rattle.plan.specs.Groups.{Group, records}
 use Rattle.plan.specs.Sound.{max_depth, depth_first}
 use Rattle.plan.specs.Code.Checks.{record_at}
 use Rattle.shape.specs.Code.Shape.{path_of}
@@ -49,7 +49,7 @@ path_push path t v l = rw (add-one t, get_or-set_same path t v 0 l, path_set pat
 -- ---- a turn
 
 -- the tests of record i, and what is left after it
-pub depth-turn : (count i t up p d : ℕ) (ns path : List ℕ) → i < count → (record_at ns i).parent ≡ p → (record_at ns i).depth ≡ d → path_of path up ≡ from_first (eqb p) (path_of path t)
-    → depth_first (path_of path t) i (drop i (records count ns)) ≡ leb 1 up && leb up max_depth && eqb d up && depth_first (i ∷ path_of path up) (i + 1) (drop (i + 1) (records count ns))
+pub depth-turn : (count i t up : ℕ) (g : Group) (ns path : List ℕ) → i < count → g ≡ record_at ns i → path_of path up ≡ from_first (eqb g.parent) (path_of path t)
+    → depth_first (path_of path t) i (drop i (records count ns)) ≡ leb 1 up && leb up max_depth && eqb g.depth up && depth_first (i ∷ path_of path up) (i + 1) (drop (i + 1) (records count ns))
 unfolding depth_first
-depth-turn count i t up p d ns path l e f u = rw (records_at count i ns l, e, f, ← u, length_path path up, add-one i)
+depth-turn count i t up g ns path l e u = rw (records_at count i ns l, ← e, ← u, length_path path up, add-one i)

@@ -1,40 +1,28 @@
 // The order of a plan has each row once.
-ghost use Rattle.std.specs.Prelude.{◌≡◌, [], ◌≤◌, eqb, length, get_or, take};
-ghost use Rattle.base.specs.Lists.{all, range};
+ghost use Rattle.std.specs.Prelude.{◌≡◌, true, false, [], ℕ, ◌≤◌, ◌<◌, ◌↔◌, IsTrue, length, get_or, take};
 ghost use Rattle.plan.specs.Sound.{each_once};
 ghost use Rattle.shape.specs.Code.Shape.{Seen};
 ghost use Rattle.matrix.specs.Limits.{max_rows};
 
 use matrix::limits::MAX_ROWS;
 
-// The rows among the first n of the order get the mark 1; what is no row gets none.
-fn mark_rows(order: &[u32], n: usize, marks: &mut [u32; MAX_ROWS])
-    requires { (n ≤ length order.now) × (n ≤ max_rows) × Seen n [] marks.old }
-    ensures { Seen n (take n order.now) marks.new }
+// The rows of a list get a mark; what is no row gets none.
+fn mark_rows(rows: &[u32], n: usize, marks: &mut [bool; MAX_ROWS])
+    requires { (n ≤ max_rows) × Seen n [] marks.old }
+    ensures { Seen n rows.now marks.new }
 {
-    let mut i = 0;
-    while i < n {
-        let v = order[i] as usize;
-        if v < n {
-            marks[v] = 1;
+    for v in rows {
+        if (*v as usize) < n {
+            marks[*v as usize] = true;
         }
-        i += 1;
     }
 }
 
-// Every row has the mark 1.
-fn all_marked(marks: &[u32; MAX_ROWS], n: usize) -> bool
-    requires { n ≤ max_rows }
-    ensures { result ≡ all (λ v. eqb (get_or marks.now v 0) 1) (range 0 n) }
+// Every row has a mark.
+fn all_marked(marks: &[bool]) -> bool
+    ensures { IsTrue result ↔ ((k : ℕ) → k < length marks.now → get_or marks.now k false ≡ true) }
 {
-    let mut v = 0;
-    while v < n {
-        if marks[v] != 1 {
-            return false;
-        }
-        v += 1;
-    }
-    true
+    marks.iter().all(|mark| *mark)
 }
 
 // The first n of the order are each row once.
@@ -42,7 +30,7 @@ pub fn each_once(order: &[u32], n: usize) -> bool
     requires { (n ≤ length order.now) × (n ≤ max_rows) }
     ensures { result ≡ each_once n (take n order.now) }
 {
-    let mut marks = [0u32; MAX_ROWS];
-    mark_rows(order, n, &mut marks);
-    all_marked(&marks, n)
+    let mut marks = [false; MAX_ROWS];
+    mark_rows(&order[..n], n, &mut marks);
+    all_marked(&marks[..n])
 }

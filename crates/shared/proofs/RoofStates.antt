@@ -33,6 +33,6 @@ module _ {rows : ℕ} {starts columns : List ℕ} {values : List ℤ} (x : Two (
 
   pub roof-states : {first : List ℕ} → ((d : Crew) → Counted (job_for roof d) first) → (crews : Crews) (sums0 sums1 : List ℤ)
       → length sums0 ≡ rows → length sums1 ≡ rows
-      → are_states roof (states_of crews sums0 sums1) ≡ all_below (fine first crews.made0) max_workers && all_below (fine first crews.made1) max_workers
+      → are_states roof (states_of crews sums0 sums1) ≡ all_below (fine first crews.of0.made) max_workers && all_below (fine first crews.of1.made) max_workers
   unfolding roof_of job_of
   roof-states counted crews sums0 sums1 l0 l1 = ap₂ ◌&&◌ (counted-state (g crew0) (counted crew0) _ l0) (counted-state (g crew1) (counted crew1) _ l1)

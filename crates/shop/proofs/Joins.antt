@@ -2,7 +2,7 @@
 use mathlib.Core.Path.{◌≡◌, refl, sym, ap, ◌∙◌}
 use mathlib.Core.Bool.{Bool, true, false, ◌||◌}
 use mathlib.Core.List.{List, [], ◌∷◌, ◌++◌, append_assoc}
-use Prim.Native.Nat.{ℕ, suc, ◌+◌, ◌/◌, ◌≤◌, min}
+use Prim.Native.Nat.{ℕ, suc, ◌+◌, ◌/◌, ◌≤◌, ◌<◌, min}
 use native.Mathlib.Nat.{min_comm}
 use native.Mathlib.Omega.{arith}
 use lib.Dec.{leb}
@@ -21,7 +21,10 @@ use Rattle.matrix.specs.Tabulated.{tabulated}
 use Rattle.matrix.proofs.Matrix.{matrix_facts}
 use Rattle.matrix.specs.Code.Room.{max_starts, max_cells}
 use Rattle.matrix.proofs.Cut.{cut, cut-matrix, cut-columns, cut-entry}
-use Rattle.words.specs.LittleEndian.{unsigned, signed, bytes_of, signed_bytes_of, unsigned_bytes, signed_bytes, stored}
+use Rattle.words.proofs.Blocks.{length_decoded}
+use native.Mathlib.Nat.{eq-or-lt_of_le}
+use mathlib.Core.Logic.{⊎_elim}
+use Rattle.words.specs.LittleEndian.{decoded, unsigned, signed, bytes_of, signed_bytes_of, unsigned_bytes, signed_bytes, stored}
 use Rattle.lent.specs.Word.{word}
 use Rattle.lent.proofs.Answers.{answered-same, Begins, begins, begins_at, begins-stored}
 use Rattle.joined.specs.Joined.{past_first, joined_rows, are_places, stored_in, stiffness, joined, in_limits, join_reply}
@@ -29,7 +32,7 @@ use Rattle.joined.proofs.Entries.{joined-matrix}
 use Rattle.joined.proofs.Sizes.{net_rows, net_starts, net_last, net_values, net_few, net_sum}
 use Rattle.joined.proofs.Places.{long}
 use Rattle.shop.specs.Lent.{join_in, JoinAnswered}
-use Rattle.lent.specs.Code.Few.{few_cells}
+use Rattle.shop.specs.declared.sew.Net as code
 use Rattle.shop.specs.Code.Reach.{reached, Ample}
 
 -- ---- rooms
@@ -163,12 +166,19 @@ nets_decoded a b P e f g = join-same (nets_reply a b P _ _ _) (λ k q. let m = j
 pub cells_decoded : {a b c d : Matrix} {places ss cs vs : List ℕ} {w : ℕ} {ss' cs' vs' : List ℕ} → a ≡ c → b ≡ d → JoinAnswered a b places ss cs vs w ss' cs' vs' → JoinAnswered c d places ss cs vs w ss' cs' vs'
 cells_decoded e f g = rw (e, f) at g
 
-pub reached-is : (n : ℕ) (starts columns values : List ℕ) {cs : List ℕ} {vs : List ℤ} → cs ≡ take max_cells (unsigned 4 columns) → vs ≡ take max_cells (signed 4 values) → matrix_of n starts cs vs ≡ reached n starts columns values
-reached-is n starts columns values e f = rw (e, f)
+pub reached-is : (m : code.Net) {cs : List ℕ} {vs : List ℤ} → cs ≡ take max_cells (unsigned 4 m.columns.now) → vs ≡ take max_cells (signed 4 m.values.now) → matrix_of m.n m.starts.now cs vs ≡ reached m
+reached-is m e f = rw (e, f)
 
--- numbers decoded into an array for few: no more than it holds, and all if they are few
-pub few-taken : {A : Type 0} (xs : List A) {list : List A} → list ≡ take few_cells xs → length list ≤ few_cells
-few-taken xs e = rw (e, length-take few_cells xs) (omega arith)
+-- numbers decoded into an array of so many, which is as long as a matrix or the list can need: no more than it holds, and
+-- as many as into the largest
+pub within-taken : {A : Type 0} (f : List ℕ → A) (bytes : List ℕ) {cells : ℕ} {list : List A} → list ≡ take cells (decoded f 4 bytes) → length list ≤ cells
+within-taken f bytes {cells} e = rw (e, length-take cells (decoded f 4 bytes)) (omega arith)
+
+pub within-whole : {A : Type 0} (f : List ℕ → A) (bytes : List ℕ) {cells : ℕ} {list : List A} → cells ≤ max_cells → min (length bytes / 4) max_cells ≤ cells → list ≡ take cells (decoded f 4 bytes) → list ≡ take max_cells (decoded f 4 bytes)
+within-whole f bytes {cells} h l e = e ∙ ⊎_elim
+    (λ (q : cells ≡ max_cells). ap (λ (k : ℕ). take k (decoded f 4 bytes)) q)
+    (λ (q : cells < max_cells). let size = length_decoded f 4 bytes in take_all cells (decoded f 4 bytes) (omega (arith, size)) ∙ sym (take_all max_cells (decoded f 4 bytes) (omega (arith, size))))
+    (eq-or-lt_of_le h)
 
 -- ---- lists made beside the lent ones
 

@@ -268,6 +268,9 @@ module _ (m : Matrix) (c : Change) (movements forces : List ℕ) {x fs : List �
       forces_left = forces-stored af gf;
     }
 
+    pub rows-few : m.n ≤ max_rows
+    rows-few = (matrix_facts m its.current.matrix).few
+
     -- the values of the rows
     pub rows_in_lem : m.n < length m.starts
     rows_in_lem = omega (arith, (shape m (matrix_tidy m its.current.matrix).shape).starts-long)

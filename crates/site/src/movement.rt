@@ -1,26 +1,23 @@
 // set_movement: a new displacement.
-ghost use Rattle.matrix.specs.Matrix.{matrix_of};
+ghost use Rattle.std.specs.Prelude.{◌/◌, ◌≤◌, length};
+ghost use Rattle.matrix.specs.Held.{held};
+ghost use Rattle.matrix.specs.Code.Room.{max_cells, Reaches};
 ghost use Rattle.lent.specs.Bytes.{matrix_in};
-ghost use Rattle.lent.specs.Code.Few.{IsFew};
 ghost use Rattle.upkeep.specs.Upkeep.{new_displacement};
 ghost use Rattle.site.specs.Lent.{MovementAnswered};
 ghost use Rattle.site.specs.Code.Decoded.{Decoded};
 
-use base::Verdict;
 use lent::few::{FEW_CELLS, are_few};
-use lent::lists::{load_signed, load_unsigned};
+use lent::lists::decode;
 use lent::word::word_of;
 use matrix::limits::{MAX_CELLS, MAX_STARTS};
+use matrix::lists::Matrix;
 use upkeep::set_displacement;
-use words::load::{load_i32, load_i64};
-use words::store::{store_i32, store_i64};
+use words::lists::{load, store};
 
 // All lists are decoded. Displacements and forces are changed in their arrays; then they are stored.
 fn set_movement_of(
-    n: u32,
-    starts: &[u32],
-    columns: &[u32],
-    values: &[i32],
+    m: &Matrix,
     displacements: &mut [i32],
     sums: &mut [i64],
     row: u32,
@@ -29,20 +26,20 @@ fn set_movement_of(
     forces: &mut [u8],
 ) -> u64
     requires { Decoded movements.old forces.old displacements.old sums.old }
-    ensures { MovementAnswered (matrix_of n starts.now columns.now values.now) (new_displacement row value) movements.old forces.old result movements.new forces.new }
+    ensures { MovementAnswered (held m.now) (new_displacement row value) movements.old forces.old result movements.new forces.new }
 {
-    let answer = set_displacement(n, starts, columns, values, displacements, sums, row, value);
-    let Verdict::Accepted(_) = answer else {
+    let answer = set_displacement(m, displacements, sums, row, value);
+    let Ok(_) = answer else {
         return word_of(answer);
     };
-    store_i32(displacements, movements);
-    store_i64(sums, forces);
+    store(displacements, movements);
+    store(sums, forces);
     word_of(answer)
 }
 
-// For a net with few entries: short arrays, in a frame of their own.
+// With arrays for so many columns and values, in a frame of their own.
 #[inline(never)]
-fn set_movement_few(
+fn set_movement_sized<const CELLS: usize>(
     n: u32,
     row_starts: &[u8],
     columns: &[u8],
@@ -52,58 +49,24 @@ fn set_movement_few(
     row: u32,
     value: i32,
 ) -> u64
-    requires { IsFew columns.now × IsFew values.now }
+    requires { (CELLS ≤ max_cells) × Reaches CELLS (length columns.now / 4) × Reaches CELLS (length values.now / 4) }
     ensures { MovementAnswered (matrix_in n row_starts.now columns.now values.now) (new_displacement row value) movements.old forces.old result movements.new forces.new }
 {
     let mut starts = [0u32; MAX_STARTS];
     let mut displacements = [0i32; MAX_STARTS];
     let mut sums = [0i64; MAX_STARTS];
-    let rows = load_unsigned(row_starts, &mut starts);
-    let moved = load_i32(movements, &mut displacements);
-    let kept = load_i64(forces, &mut sums);
-    let mut column_list = [0u32; FEW_CELLS];
-    let mut value_list = [0i32; FEW_CELLS];
+    let mut column_list = [0u32; CELLS];
+    let mut value_list = [0i32; CELLS];
+    let m = Matrix {
+        n: n as usize,
+        starts: decode(row_starts, &mut starts),
+        columns: decode(columns, &mut column_list),
+        values: decode(values, &mut value_list),
+    };
+    let moved = load(movements, &mut displacements);
+    let kept = load(forces, &mut sums);
     set_movement_of(
-        n,
-        rows,
-        load_unsigned(columns, &mut column_list),
-        load_signed(values, &mut value_list),
-        &mut displacements[..moved],
-        &mut sums[..kept],
-        row,
-        value,
-        movements,
-        forces,
-    )
-}
-
-// For any net.
-#[inline(never)]
-fn set_movement_many(
-    n: u32,
-    row_starts: &[u8],
-    columns: &[u8],
-    values: &[u8],
-    movements: &mut [u8],
-    forces: &mut [u8],
-    row: u32,
-    value: i32,
-) -> u64
-    ensures { MovementAnswered (matrix_in n row_starts.now columns.now values.now) (new_displacement row value) movements.old forces.old result movements.new forces.new }
-{
-    let mut starts = [0u32; MAX_STARTS];
-    let mut displacements = [0i32; MAX_STARTS];
-    let mut sums = [0i64; MAX_STARTS];
-    let rows = load_unsigned(row_starts, &mut starts);
-    let moved = load_i32(movements, &mut displacements);
-    let kept = load_i64(forces, &mut sums);
-    let mut column_list = [0u32; MAX_CELLS];
-    let mut value_list = [0i32; MAX_CELLS];
-    set_movement_of(
-        n,
-        rows,
-        load_unsigned(columns, &mut column_list),
-        load_signed(values, &mut value_list),
+        &m,
         &mut displacements[..moved],
         &mut sums[..kept],
         row,
@@ -126,11 +89,12 @@ pub fn set_movement_in(
     ensures { MovementAnswered (matrix_in n row_starts.now columns.now values.now) (new_displacement row value) movements.old forces.old result movements.new forces.new }
 {
     if are_few(columns, values) {
-        return set_movement_few(
+        set_movement_sized::<FEW_CELLS>(
             n, row_starts, columns, values, movements, forces, row, value,
-        );
+        )
+    } else {
+        set_movement_sized::<MAX_CELLS>(
+            n, row_starts, columns, values, movements, forces, row, value,
+        )
     }
-    set_movement_many(
-        n, row_starts, columns, values, movements, forces, row, value,
-    )
 }

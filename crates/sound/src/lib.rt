@@ -3,126 +3,102 @@
 
 mod below;
 
-ghost use Rattle.std.specs.Prelude.{◌≡◌, List, ◌≤◌, ℤ};
-ghost use Rattle.base.specs.Verdicts.{reply_of};
-ghost use Rattle.matrix.specs.Matrix.{matrix_of};
+ghost use Rattle.std.specs.Prelude.{◌≡◌, true, ◌≤◌};
+ghost use Rattle.base.specs.Verdicts.{reply_of_check};
+ghost use Rattle.matrix.specs.Matrix.{is_matrix};
+ghost use Rattle.matrix.specs.Held.{held};
+ghost use Rattle.plan.specs.Groups.{group_of};
 ghost use Rattle.plan.specs.Sound.{max_distance, is_plan, is_plan_at, check_reply};
-ghost use Rattle.plan.specs.Code.Checks.{of_record};
-ghost use Rattle.apart.specs.Code.Marks.{OfMatrix};
 ghost use Rattle.sound.specs.Code.Whole.{is_whole};
 
-use base::{MATRIX, PARAMETER, UNSOUND, Verdict};
+use apart::net::{Net, Subject};
+use base::{Kind, Refusal};
 use below::all_sound;
-use plan::fields::{Record, WHOLE, WIDTH, record_at};
+use matrix::lists::Matrix;
+use plan::fields::{Colour, Group, WIDTH};
+use plan::lists::Plan;
 use plan::{MAX_GROUPS, MAX_WORKERS, is_distance};
 use shape::nesting::depth_first;
 use shape::order::each_once;
 use symmetric::is_matrix;
 
 // The record is the whole of n rows.
-fn is_whole(g: Record, n: usize) -> bool
-    ensures { result ≡ is_whole n (of_record g) }
+#[tactic(auto, using(std::proofs::lemmas::Bool::Decides::nat_tests), unfolding(crate::specs::Code::Whole::is_whole))]
+fn is_whole(g: Group, n: usize) -> bool
+    ensures { result ≡ is_whole n (group_of g) }
 {
-    if g.start != 0 {
+    if g.start != 0 || g.length as usize != n || g.first != 0 {
         return false;
     }
-    if g.length != n {
-        return false;
-    }
-    if g.first != 0 {
-        return false;
-    }
-    if g.colour != WHOLE {
-        return false;
-    }
-    if g.parent != 0 {
+    if g.colour != Colour::Whole as u32 || g.parent != 0 {
         return false;
     }
     if g.depth != 0 {
         return false;
     }
-    1 <= g.workers && g.workers <= MAX_WORKERS
+    1 <= g.workers && g.workers as usize <= MAX_WORKERS
 }
 
-// Whether the lists hold a plan that is sound at the distance k for the matrix, whatever its values.
-fn is_plan_at(
-    n: u32,
-    starts: &[u32],
-    columns: &[u32],
-    order: &[u32],
-    groups: &[u32],
-    count: u32,
-    k: usize,
-) -> bool
-    requires { OfMatrix n starts.now columns.now × (k ≤ max_distance) }
-    ensures { (values : List ℤ) → result ≡ is_plan_at k (matrix_of n starts.now columns.now values) order.now groups.now count }
+// Whether the lists hold a plan that is sound at the distance k for the matrix.
+fn is_plan_at(m: &Matrix, plan: &Plan, k: usize) -> bool
+    requires { (is_matrix (held m.now) ≡ true) × (k ≤ max_distance) }
+    ensures { result ≡ is_plan_at k (held m.now) plan.now.order.now plan.now.groups.now plan.now.count }
 {
-    let rows = n as usize;
-    let records = count as usize;
-    if order.len() < rows {
+    if plan.order.len() < m.n || plan.count < 1 || MAX_GROUPS < plan.count {
         return false;
     }
-    if records < 1 {
+    if plan.groups.len() < WIDTH * plan.count {
         return false;
     }
-    if MAX_GROUPS < records {
+    if !is_whole(plan.record(0), m.n) {
         return false;
     }
-    if groups.len() < WIDTH * records {
+    if !each_once(plan.order, m.n) {
         return false;
     }
-    if !is_whole(record_at(groups, 0), rows) {
+    if !depth_first(plan) {
         return false;
     }
-    if !each_once(order, rows) {
-        return false;
-    }
-    if !depth_first(groups, records) {
-        return false;
-    }
-    all_sound(rows, starts, columns, order, groups, records, k)
+    all_sound(&Subject {
+        net: Net { m: *m },
+        plan: *plan,
+        k,
+    })
 }
 
 // "The force run still checks at 2"
 const RUN_DISTANCE: usize = 2;
 
 // Whether they hold a plan that is sound, as a run asks.
-pub fn is_plan(
-    n: u32,
-    starts: &[u32],
-    columns: &[u32],
-    order: &[u32],
-    groups: &[u32],
-    count: u32,
-) -> bool
-    requires { OfMatrix n starts.now columns.now }
-    ensures { (values : List ℤ) → result ≡ is_plan (matrix_of n starts.now columns.now values) order.now groups.now count }
+pub fn is_plan(m: &Matrix, plan: &Plan) -> bool
+    requires { is_matrix (held m.now) ≡ true }
+    ensures { result ≡ is_plan (held m.now) plan.now.order.now plan.now.groups.now plan.now.count }
 {
-    is_plan_at(n, starts, columns, order, groups, count, RUN_DISTANCE)
+    is_plan_at(m, plan, RUN_DISTANCE)
 }
 
 // The check of a plan at the distance k: 5 if the lists are no matrix, 7 if k is no distance, 8 if the plan is not
 // sound at k.
-pub fn check(
-    n: u32,
-    starts: &[u32],
-    columns: &[u32],
-    values: &[i32],
-    order: &[u32],
-    groups: &[u32],
-    count: u32,
-    k: u32,
-) -> Verdict
-    ensures { reply_of result ≡ check_reply (matrix_of n starts.now columns.now values.now) order.now groups.now count k }
+pub fn check(m: &Matrix, plan: &Plan, k: u32) -> Result<(), Refusal>
+    ensures { reply_of_check result ≡ check_reply (held m.now) plan.now.order.now plan.now.groups.now plan.now.count k }
 {
-    if !is_matrix(n, starts, columns, values) {
-        return Verdict::Refused(MATRIX, 0);
+    if !is_matrix(m) {
+        return Err(Refusal {
+            kind: Kind::NotMatrix,
+            place: 0,
+        });
     }
     if !is_distance(k) {
-        return Verdict::Refused(PARAMETER, 0);
+        return Err(Refusal {
+            kind: Kind::BadParameter,
+            place: 0,
+        });
     }
-    if !is_plan_at(n, starts, columns, order, groups, count, k as usize) {
-        return Verdict::Refused(UNSOUND, 0);
+    if !is_plan_at(m, plan, k as usize) {
+        return Err(Refusal {
+            kind: Kind::Unsound,
+            place: 0,
+        });
     }
-    Verdict::Accepted(0)
+    Ok(())
 }

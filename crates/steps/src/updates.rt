@@ -4,8 +4,8 @@ ghost use Rattle.matrix.specs.Limits.{max_rows};
 ghost use Rattle.tables.specs.Code.Laid.{max_updates};
 ghost use Rattle.steps.specs.Code.Updates.{by_turns, entry_place, target_in, amount_in, Readable};
 
-use base::shorts::wide;
 use matrix::limits::MAX_ROWS;
+use tables::Entries;
 
 // a at even numbers k, b at odd ones.
 fn by_turns(k: usize, a: usize, b: usize) -> usize
@@ -30,26 +30,19 @@ fn entry_place(parts: &[u32; MAX_ROWS], p: usize, k: usize) -> usize
 }
 
 // The position of its sum: the other row's, then the row's own.
-pub fn target_of(parts: &[u32; MAX_ROWS], at: &[u16], p: usize, k: usize) -> usize
-    requires { (p < max_rows) × (entry_place parts.now p k < length at.now) × (length at.now ≤ max_updates) }
-    ensures { result ≡ target_in parts.now at.now p k }
+pub fn target_of(entries: &Entries, p: usize, k: usize) -> usize
+    requires { (p < max_rows) × (entry_place entries.now.parts.now p k < length entries.now.at.now) × (length entries.now.at.now ≤ max_updates) }
+    ensures { result ≡ target_in entries.now.parts.now entries.now.at.now p k }
 {
-    by_turns(k, wide(at[entry_place(parts, p, k)]), p)
+    by_turns(k, entries.at[entry_place(entries.parts, p, k)] as usize, p)
 }
 
 // What it adds: the entry times the displacement of the row whose sum it is not.
-pub fn amount_of(
-    parts: &[u32; MAX_ROWS],
-    displaced: &[i32; MAX_ROWS],
-    at: &[u16],
-    beside: &[i32],
-    p: usize,
-    k: usize,
-) -> i64
-    requires { (n : ℕ) × Readable n parts.now at.now beside.now p k }
-    ensures { result ≡ amount_in parts.now displaced.now at.now beside.now p k }
+pub fn amount_of(entries: &Entries, displaced: &[i32; MAX_ROWS], p: usize, k: usize) -> i64
+    requires { (n : ℕ) × Readable n entries.now.parts.now entries.now.at.now entries.now.beside.now p k }
+    ensures { result ≡ amount_in entries.now.parts.now displaced.now entries.now.at.now entries.now.beside.now p k }
 {
-    let place = entry_place(parts, p, k);
-    let row = by_turns(k, p, wide(at[place]));
-    product(beside[place], displaced[row])
+    let place = entry_place(entries.parts, p, k);
+    let row = by_turns(k, p, entries.at[place] as usize);
+    product(entries.beside[place], displaced[row])
 }

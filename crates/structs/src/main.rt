@@ -2,78 +2,19 @@
 // A plan with a group twice, or with a wrong depth, is not sound, and a slice is too short for the plan of more rows.
 #![tactic(auto)]
 
-ghost use Rattle.std.specs.Prelude.{◌≡◌, map, ◌*◌, length};
-ghost use Rattle.base.specs.Replies.{lent};
-ghost use Rattle.base.specs.Verdicts.{reply_of};
-ghost use Rattle.matrix.specs.Matrix.{matrix_of};
-ghost use Rattle.plan.specs.Groups.{width, flat, group_of};
-ghost use Rattle.plan.specs.Sound.{check_reply};
-ghost use Rattle.race.specs.Planner.{plan, plan_reply};
-ghost use Rattle.groups.specs.Structs.{of_group};
-
-use base::Verdict;
+use base::Refusal;
+use matrix::lists::Matrix;
 use plan::fields::Group;
 use std::io;
-
-// Five groups, and the planner's answer.
-#[derive(Clone, Copy)]
-struct Five {
-    groups: [Group; 5],
-    answer: Verdict,
-}
 
 // The distance that a run asks for.
 const DISTANCE: u32 = 2;
 
-// The plan of a matrix in an array of five groups, which is lent as a slice.
-fn plan_in(
-    n: u32,
-    starts: &[u32],
-    columns: &[u32],
-    values: &[i32],
-    workers: u32,
-    p: u32,
-    order: &mut [u32],
-    list: [Group; 5],
-) -> Five
-    ensures { (reply_of result.answer ≡ plan_reply (matrix_of n starts.now columns.now values.now) workers p 2 (length order.old) (width * length list))
-        × (result.groups ≡ lent (plan_reply (matrix_of n starts.now columns.now values.now) workers p 2 (length order.old) (width * length list))
-        (map of_group (plan (matrix_of n starts.now columns.now values.now) workers p 2).groups) list) }
-{
-    let mut groups = list;
-    let answer = groups::plan(
-        n,
-        starts,
-        columns,
-        values,
-        workers,
-        p,
-        DISTANCE,
-        order,
-        &mut groups,
-    );
-    Five { groups, answer }
-}
-
-// The check of a plan of five groups.
-fn check_in(
-    n: u32,
-    starts: &[u32],
-    columns: &[u32],
-    values: &[i32],
-    order: &[u32],
-    list: [Group; 5],
-) -> Verdict
-    ensures { reply_of result ≡ check_reply (matrix_of n starts.now columns.now values.now) order.now (flat (map group_of list)) (length list) 2 }
-{
-    groups::check(n, starts, columns, values, order, &list, DISTANCE)
-}
-
 // Writes an answer's line.
-fn put_answer(rt: &impl Print, answer: Verdict) -> io::Result<()> {
+fn put_answer(rt: &impl Print, answer: Result<u32, Refusal>) -> io::Result<()> {
     match answer {
-        Verdict::Accepted(count) => println!(rt; "accepted {count}"),
-        Verdict::Refused(number, place) => println!(rt; "refused {number} {place}"),
+        Ok(count) => println!(rt; "accepted {count}"),
+        Err(refusal) => println!(rt; "refused {} {}", refusal.kind.number(), refusal.place),
     }
 }
 
@@ -83,14 +24,6 @@ fn put_group(rt: &impl Print, g: Group) -> io::Result<()> {
         "group {} {} {} {} {} {} {}",
         g.start, g.length, g.first, g.workers, g.colour, g.parent, g.depth
     )
-}
-
-// Writes the lines of five groups.
-fn put_groups(rt: &impl Print, groups: [Group; 5]) -> io::Result<()> {
-    for k in 0..5 {
-        put_group(rt, groups[k])?;
-    }
-    Ok(())
 }
 
 // A group that stands for none.
@@ -120,66 +53,51 @@ fn chain_values() -> [i32; 22] {
     ]
 }
 
-// The group, said to be as deep as the whole.
-fn raised(g: Group) -> Group {
-    Group {
-        start: g.start,
-        length: g.length,
-        first: g.first,
-        workers: g.workers,
-        colour: g.colour,
-        parent: g.parent,
-        depth: 0,
-    }
+// Checks a plan, and writes the answer's line.
+fn put_check(rt: &impl Print, m: &Matrix, order: &[u32], groups: &[Group]) -> io::Result<()> {
+    let answer = groups::check(m, order, groups, DISTANCE);
+    put_answer(rt, answer.map(|()| 0))
 }
 
 // Checks a plan of eight rows: it is sound; with a group twice, or one at another depth, it is not.
-fn put_checks(
-    rt: &impl Print,
-    starts: &[u32],
-    columns: &[u32],
-    values: &[i32],
-    order: &[u32],
-    groups: [Group; 5],
-) -> io::Result<()> {
-    put_answer(rt, check_in(8, starts, columns, values, order, groups))?;
+fn put_checks(rt: &impl Print, m: &Matrix, order: &[u32], groups: [Group; 5]) -> io::Result<()> {
+    put_check(rt, m, order, &groups)?;
     let mut twice = groups;
     twice[2] = groups[1];
-    put_answer(rt, check_in(8, starts, columns, values, order, twice))?;
-    let mut other = groups;
-    other[1] = raised(groups[1]);
-    put_answer(rt, check_in(8, starts, columns, values, order, other))
+    put_check(rt, m, order, &twice)?;
+    let mut raised = groups;
+    raised[1].depth = 0;
+    put_check(rt, m, order, &raised)
 }
 
 // The chain is planned for two workers, and its plan is checked.
 fn chain(rt: &impl Print) -> io::Result<()> {
-    let starts = [0u32, 2, 5, 8, 11, 14, 17, 20, 22];
-    let columns = chain_columns();
-    let values = chain_values();
+    let m = Matrix {
+        n: 8,
+        starts: &[0, 2, 5, 8, 11, 14, 17, 20, 22],
+        columns: &chain_columns(),
+        values: &chain_values(),
+    };
     let mut order = [0u32; 8];
-    let made = plan_in(
-        8,
-        &starts,
-        &columns,
-        &values,
-        2,
-        60,
-        &mut order,
-        [none(); 5],
-    );
-    let groups = made.groups;
-    let answer = made.answer;
+    let mut list = [none(); 5];
+    let answer = groups::plan(&m, 2, 60, DISTANCE, &mut order, &mut list);
     put_answer(rt, answer)?;
-    put_groups(rt, groups)?;
-    put_checks(rt, &starts, &columns, &values, &order, groups)
+    for g in list {
+        put_group(rt, g)?;
+    }
+    put_checks(rt, &m, &order, list)
 }
 
 // Sixteen unjoined rows and four workers need more than five groups.
 fn unjoined(rt: &impl Print) -> io::Result<()> {
-    let starts = [0u32; 17];
+    let m = Matrix {
+        n: 16,
+        starts: &[0; 17],
+        columns: &[],
+        values: &[],
+    };
     let mut order = [0u32; 16];
-    let made = plan_in(16, &starts, &[], &[], 4, 60, &mut order, [none(); 5]);
-    let answer = made.answer;
+    let answer = groups::plan(&m, 4, 60, DISTANCE, &mut order, &mut [none(); 5]);
     put_answer(rt, answer)
 }
 

@@ -1,17 +1,17 @@
 -- The reply of the survey's call: 5, 6, 17, 9 in turn, and what the lists hold after it.
 use mathlib.Core.Path.{◌≡◌, sym, ap, ◌∙◌}
 use mathlib.Core.Bool.{true, false}
-use mathlib.Core.List.{List, [], ◌++◌, map}
+use mathlib.Core.List.{List, ◌++◌, map}
 use Prim.Native.Nat.{ℕ, ◌≤◌, ◌<◌}
 use native.Mathlib.Omega.{arith}
 use lib.IntN.{ℤ, pos}
 use lib.ListN.{length, drop}
-use borrow.Author.Tests.{lt-ltb, le-ltb, le-leb, lt-leb}
+use borrow.Author.Tests.{lt-ltb, le-leb, lt-leb}
 use Rattle.base.specs.Lists.{range}
 use Rattle.base.specs.Refusals as why
 use Rattle.base.specs.Replies.{Reply, accepted, refused, in_turn, lent}
 use Rattle.base.proofs.Fill.{length-made}
-use Rattle.base.proofs.Replies.{checked, checked_accepted, checked_refused, in_turn_fail, lent-refused, lent-accepted}
+use Rattle.base.proofs.Replies.{checked, checked_accepted, lent-refused, lent-accepted}
 use Rattle.matrix.specs.Matrix.{Matrix, columns_of, values_of, lookup, entry, is_matrix, matrix_check, are_displacements, displacement_check}
 use Rattle.survey.specs.Survey.{max_error, has_room, amount, amounts_of, with_sign, farthest, written_shift, survey_reply}
 use Rattle.survey.proofs.Shifts.{farthest-long}
@@ -31,31 +31,9 @@ module _ (m : Matrix) (x : List ℤ) (t i room size : ℕ) where
   abbrev reply : Reply
   reply = survey_reply m x t i room size
 
-  pub unmade : is_matrix m ≡ false → refused why.not_matrix 0 ≡ reply
-  unfolding survey_reply matrix_check in_turn
-  unmade h = sym (rw h)
-
-  pub unmoved : is_matrix m ≡ true → (q p : ℕ) → refused q p ≡ checked (displacement_check m.n x) → refused q p ≡ reply
-  unfolding survey_reply matrix_check in_turn
-  unmoved h q p e =
-      let fail = checked_refused (displacement_check m.n x) q p e in
-      e ∙ in_turn_fail refused (displacement_check m.n x) [] (accepted 0) fail ∙ sym (rw (h, fail))
-
   module _ (g : Judged m x) where
-    pub far : max_error < t → refused why.bad_survey 0 ≡ reply
-    unfolding survey_reply matrix_check displacement_check in_turn
-    far l = sym (rw (g.matrix, g.moved, lt-leb t max_error l))
-
     module _ (h : t ≤ max_error) where
-      pub nowhere : m.n ≤ i → refused why.bad_survey 0 ≡ reply
-      unfolding survey_reply matrix_check displacement_check in_turn
-      nowhere l = sym (rw (g.matrix, g.moved, le-leb t max_error h, le-ltb i m.n l))
-
       module _ (l : i < m.n) where
-        pub short-amounts : room < m.n → refused why.too_short m.n ≡ reply
-        unfolding survey_reply matrix_check displacement_check in_turn
-        short-amounts k = sym (rw (g.matrix, g.moved, le-leb t max_error h, lt-ltb i m.n l, lt-leb m.n room k))
-
         module _ (k : m.n ≤ room) where
           pub no_shift : has_room t x ≡ false → accepted 0 ≡ reply
           unfolding survey_reply matrix_check displacement_check in_turn written_shift

@@ -70,15 +70,7 @@ module _ (m : Matrix) (ok : is_matrix m ≡ true) (i : ℕ) (l : i < m.n) {vs : 
   pub row_fits : sizes_to vs (length vs) < 2 ^ 63
   row_fits = omega (arith, row_sizes, row_bound m ok i)
 
--- ---- sizes and signs
-
-pub size_down : (v : ℤ) → lt_z v (pos 0) ≡ true → pos 0 -ℤ v ≡ pos (nat_abs v)
-size_down (pos k) h = absurd (omega (arith, ltb-true k 0 h))
-size_down (negsuc k) h = +ℤ_idl (pos (suc k))
-
-pub size-up : (v : ℤ) → lt_z v (pos 0) ≡ false → v ≡ pos (nat_abs v)
-size-up (pos k) h = refl
-size-up (negsuc k) h = never (sym h)
+-- ---- signs
 
 pub sign_up : (t : ℕ) (v : ℤ) → lt_z (pos 0) v ≡ true → pos t ≡ with_sign t v
 unfolding with_sign

@@ -12,12 +12,12 @@ fn with_sign(t: u32, v: i32) -> i32
 {
     let up = t as i32;
     if 0 < v {
-        return up;
+        up
+    } else if v < 0 {
+        0 - up
+    } else {
+        0
     }
-    if v < 0 {
-        return 0 - up;
-    }
-    0
 }
 
 // Whether column j is one of the columns; k of them stand before it.
@@ -25,10 +25,7 @@ fn stands(columns: &[u32], k: usize, j: u32) -> bool
     requires { Passed columns.now k j }
     ensures { result ≡ is_in columns.now j }
 {
-    if columns.len() <= k {
-        return false;
-    }
-    columns[k] == j
+    k < columns.len() && columns[k] == j
 }
 
 // The value in column j, 0 where there is none.
@@ -36,10 +33,7 @@ fn value_at(columns: &[u32], values: &[i32], k: usize, j: u32) -> i32
     requires { Passed columns.now k j × (length columns.now ≡ length values.now) }
     ensures { result ≡ lookup j columns.now values.now }
 {
-    if stands(columns, k, j) {
-        return values[k];
-    }
-    0
+    if stands(columns, k, j) { values[k] } else { 0 }
 }
 
 // How many columns stand before the column after j.
@@ -47,10 +41,7 @@ fn past(columns: &[u32], k: usize, j: u32) -> usize
     requires { Passed columns.now k j }
     ensures { Passed columns.now result (j + 1) }
 {
-    if stands(columns, k, j) {
-        return k + 1;
-    }
-    k
+    if stands(columns, k, j) { k + 1 } else { k }
 }
 
 // t with the sign of the row's value in each column, in the first n places.
@@ -59,11 +50,9 @@ pub(crate) fn put_shift(columns: &[u32], values: &[i32], t: u32, n: usize, out: 
     ensures { out.new ≡ map (λ j. with_sign t (lookup j columns.now values.now)) (range 0 n) ++ drop n out.old }
 {
     let mut k = 0;
-    let mut j = 0;
-    while j < n {
+    for j in 0..n {
         let column = j as u32;
         out[j] = with_sign(t, value_at(columns, values, k, column));
         k = past(columns, k, column);
-        j += 1;
     }
 }

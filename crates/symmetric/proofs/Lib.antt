@@ -1,3 +1,4 @@
 mod Regular
 mod Cursors
 mod RowsMet
+mod Bits

@@ -6,7 +6,7 @@ use native.Mathlib.Nat.{min_comm}
 use native.Mathlib.Omega.{arith}
 use lib.IntN.{ℤ}
 use lib.Dec.{leb}
-use lib.ListN.{length, get_or, take, length-map}
+use lib.ListN.{length, get_or, take, drop, length-map}
 use lib.Seq.{length-take-le}
 use borrow.Author.Tests.{leb-true, le-leb}
 use Rattle.base.specs.Replies.{Reply, accepted, refused, Check, room_for, in_turn, lent}
@@ -145,6 +145,18 @@ module _ {text start_bytes column_bytes value_bytes : List ℕ} {r : Reply} (sam
         columns-room = rw last made.columns-room;
         values-room = rw last made.values-room;
       }
+
+-- the same for the arrays of a call, of which the first i, j and k numbers are lent on
+pub read_into : {text start_bytes column_bytes value_bytes : List ℕ} (starts columns : List ℕ) (values : List ℤ) {i j k : ℕ}
+    → (max_starts ≤ length starts) × Ample column_bytes (length columns) × Ample value_bytes (length values)
+    → i ≡ min (length start_bytes / 4) (length starts) → j ≡ min (length column_bytes / 4) (length columns) → k ≡ min (length value_bytes / 4) (length values)
+    → {n : ℕ} → accepted n ≡ read_reply (parse text) (length (take i starts)) (length (take j columns)) (length (take k values))
+    → {ss cs : List ℕ} {vs : List ℤ} → ss ≡ lent (read_reply (parse text) (length (take i starts)) (length (take j columns)) (length (take k values))) (read_matrix (parse text)).starts (take i starts)
+    → cs ≡ lent (read_reply (parse text) (length (take i starts)) (length (take j columns)) (length (take k values))) (read_matrix (parse text)).columns (take j columns)
+    → vs ≡ lent (read_reply (parse text) (length (take i starts)) (length (take j columns)) (length (take k values))) (read_matrix (parse text)).values (take k values)
+    → Held text start_bytes column_bytes value_bytes n (ss ++ drop i starts) (cs ++ drop j columns) (vs ++ drop k values)
+read_into {text} {start_bytes} {column_bytes} {value_bytes} starts columns values {i} {j} {k} enough ei ej ek e es ec ev =
+    read_held (same-reply text starts columns values start_bytes column_bytes value_bytes enough ei ej ek) e (take i starts) (take j columns) (take k values) es ec ev (drop i starts) (drop j columns) (drop k values)
 
 -- .. and stores it
 pub read-stored : {text start_bytes column_bytes value_bytes : List ℕ} {n : ℕ} {starts columns : List ℕ} {values : List ℤ} → Held text start_bytes column_bytes value_bytes n starts columns values

@@ -1,16 +1,17 @@
 // read: the matrix of a text.
 ghost use Rattle.std.specs.Prelude.{◌≤◌, length};
+ghost use Rattle.base.specs.Verdicts.{reply_of};
+ghost use Rattle.lent.specs.Word.{word};
 ghost use Rattle.texts.specs.Lent.{ReadAnswered};
 ghost use Rattle.texts.specs.Code.Room.{Ample};
 ghost use Rattle.matrix.specs.Code.Room.{max_starts};
 
-use base::Verdict;
-use base::numbers::{least, wide};
+use base::Refusal;
 use lent::few::{FEW_CELLS, are_few};
 use lent::word::word_of;
 use matrix::limits::{MAX_CELLS, MAX_STARTS};
 use reader::read;
-use words::store::{store_i32, store_u32};
+use words::lists::store;
 
 // The matrix is made in starts, columns and values, as far as the lent lists have room; then it is stored.
 fn read_of(
@@ -21,28 +22,25 @@ fn read_of(
     start_bytes: &mut [u8],
     column_bytes: &mut [u8],
     value_bytes: &mut [u8],
-) -> u64
+) -> Result<u32, Refusal>
     requires { (max_starts ≤ length starts.old) × Ample column_bytes.old (length columns.old) × Ample value_bytes.old (length values.old) }
-    ensures { ReadAnswered text.now start_bytes.old column_bytes.old value_bytes.old result start_bytes.new column_bytes.new value_bytes.new }
+    ensures { ReadAnswered text.now start_bytes.old column_bytes.old value_bytes.old (word (reply_of result)) start_bytes.new column_bytes.new value_bytes.new }
 {
-    let starts_room = least(start_bytes.len() / 4, starts.len());
-    let columns_room = least(column_bytes.len() / 4, columns.len());
-    let values_room = least(value_bytes.len() / 4, values.len());
-    let answer = read(
+    let starts_room = (start_bytes.len() / 4).min(starts.len());
+    let columns_room = (column_bytes.len() / 4).min(columns.len());
+    let values_room = (value_bytes.len() / 4).min(values.len());
+    let n = read(
         text,
         &mut starts[..starts_room],
         &mut columns[..columns_room],
         &mut values[..values_room],
-    );
-    let Verdict::Accepted(n) = answer else {
-        return word_of(answer);
-    };
+    )?;
     let rows = n as usize;
-    let entries = wide(starts[rows]);
-    store_u32(&starts[..rows + 1], start_bytes);
-    store_u32(&columns[..entries], column_bytes);
-    store_i32(&values[..entries], value_bytes);
-    word_of(answer)
+    let entries = starts[rows] as usize;
+    store(&starts[..rows + 1], start_bytes);
+    store(&columns[..entries], column_bytes);
+    store(&values[..entries], value_bytes);
+    Ok(n)
 }
 
 pub fn read_in(text: &[u8], row_starts: &mut [u8], columns: &mut [u8], values: &mut [u8]) -> u64
@@ -52,7 +50,7 @@ pub fn read_in(text: &[u8], row_starts: &mut [u8], columns: &mut [u8], values: &
     if are_few(columns, values) {
         let mut column_list = [0u32; FEW_CELLS];
         let mut value_list = [0i32; FEW_CELLS];
-        return read_of(
+        return word_of(read_of(
             text,
             &mut starts,
             &mut column_list,
@@ -60,11 +58,11 @@ pub fn read_in(text: &[u8], row_starts: &mut [u8], columns: &mut [u8], values: &
             row_starts,
             columns,
             values,
-        );
+        ));
     }
     let mut column_list = [0u32; MAX_CELLS];
     let mut value_list = [0i32; MAX_CELLS];
-    read_of(
+    word_of(read_of(
         text,
         &mut starts,
         &mut column_list,
@@ -72,5 +70,5 @@ pub fn read_in(text: &[u8], row_starts: &mut [u8], columns: &mut [u8], values: &
         row_starts,
         columns,
         values,
-    )
+    ))
 }

@@ -42,6 +42,16 @@ unfolding unless_away
 never_away zero = refl
 never_away (suc k) = refl
 
+-- a reason of its own counts comes first
+pub counts_first : (k : ℕ) (b : Bool) → k ≢ 0 → k ≡ unless_away k b
+unfolding unless_away
+counts_first zero b d = absurd (d refl)
+counts_first (suc k) b d = refl
+
+pub away_alone : unless_away 0 true ≡ why.elsewhere
+unfolding unless_away
+away_alone = refl
+
 -- who is inside a row by the tables is inside one
 module _ (j : Job) {first row begins leaves ends : List ℕ} (laid : Laid j first row begins leaves ends) (made : List ℕ) (w : ℕ) (l : w < max_workers) where
   -- the place of its row's first update, from the worker's first on

@@ -20,30 +20,33 @@ ghost use Rattle.turns.specs.Records.{states_of};
 ghost use Rattle.turns.specs.Code.Both.{both};
 ghost use Rattle.turns.specs.Code.Turned.{crews_in, turned_with, turned_of};
 
-use both::{CREWS, access_for, begin_for, find_for, renew_for};
+use base::Kind;
+use both::{access_for, begin_for, find_for, renew_for};
 use layout::lay;
+use machine::state::State;
 use matrix::limits::MAX_ROWS;
-use plan::fields::{WIDTH, record_at};
+use plan::fields::{WIDTH, get};
 use plan::{MAX_GROUPS, MAX_WORKERS};
 use steps::NONE;
-use tables::{FIRSTS, MAX_UPDATES};
+use tables::{Entries, FIRSTS, MAX_UPDATES, Tables};
 
-// The state of each crew's run: accesses made, and the number held, of each of 16 workers.
+// How many crews there are.
+pub const CREWS: usize = 2;
+
+// The state of each crew's run.
 #[derive(Clone, Copy)]
 pub struct Crews {
-    pub made0: [u32; MAX_WORKERS],
-    pub held0: [i64; MAX_WORKERS],
-    pub made1: [u32; MAX_WORKERS],
-    pub held1: [i64; MAX_WORKERS],
+    pub of0: State,
+    pub of1: State,
 }
 
-// What a schedule comes to: the states, how many picks were taken, and the number of the one that ended it; 0 if none
+// What a schedule comes to: the states, how many picks were taken, and why the one that ended it was refused, if one
 // did.
 #[derive(Clone, Copy)]
 pub struct Turned {
     pub crews: Crews,
     pub taken: usize,
-    pub number: u32,
+    pub stop: Option<Kind>,
 }
 
 // A schedule that led to these counts and held numbers.
@@ -51,42 +54,44 @@ fn ended(
     made: [[u32; MAX_WORKERS]; CREWS],
     held: [[i64; MAX_WORKERS]; CREWS],
     taken: usize,
-    number: u32,
+    stop: Option<Kind>,
 ) -> Turned
-    ensures { result ≡ turned_with (crews_in made held) taken number }
+    ensures { result ≡ turned_with (crews_in made held) taken stop }
 {
-    let made0 = made[0];
-    let held0 = held[0];
-    let made1 = made[1];
-    let held1 = held[1];
+    let [made0, made1] = made;
+    let [held0, held1] = held;
     Turned {
         crews: Crews {
-            made0: made0,
-            held0: held0,
-            made1: made1,
-            held1: held1,
+            of0: State {
+                made: made0,
+                held: held0,
+            },
+            of1: State {
+                made: made1,
+                held: held1,
+            },
         },
-        taken: taken,
-        number: number,
+        taken,
+        stop,
     }
 }
 
 impl Crews {
     // Both crews' counts.
     fn counts(self) -> [[u32; MAX_WORKERS]; CREWS]
-        ensures { result ≡ self.made0 ∷ self.made1 ∷ [] }
+        ensures { result ≡ self.of0.made ∷ self.of1.made ∷ [] }
     {
-        let of0 = self.made0;
-        let of1 = self.made1;
+        let of0 = self.of0.made;
+        let of1 = self.of1.made;
         [of0, of1]
     }
 
     // .. and held numbers.
     fn numbers(self) -> [[i64; MAX_WORKERS]; CREWS]
-        ensures { result ≡ self.held0 ∷ self.held1 ∷ [] }
+        ensures { result ≡ self.of0.held ∷ self.of1.held ∷ [] }
     {
-        let of0 = self.held0;
-        let of1 = self.held1;
+        let of0 = self.of0.held;
+        let of1 = self.of1.held;
         [of0, of1]
     }
 
@@ -96,62 +101,57 @@ impl Crews {
         sums0: &mut [i64],
         sums1: &mut [i64],
         schedule: &[u8],
-        groups: &[u32],
-        ends: &[u32; MAX_GROUPS],
-        first: &[u32; FIRSTS],
-        row: &[u16; MAX_UPDATES],
-        begins: &[u32; MAX_ROWS],
-        parts: &[u32; MAX_ROWS],
-        leaves: &[u16; MAX_ROWS],
+        tables: &Tables,
+        entries: &Entries,
         displaced: &[[i32; MAX_ROWS]; CREWS],
-        at: &[u16],
-        beside: &[i32],
     ) -> Turned
-        requires { ((record_at groups.now 0).workers ≤ max_workers) × Recorded (length groups.now / width) groups.now
-            × StepTables (length sums0.old) first.now row.now begins.now parts.now leaves.now at.now beside.now × (length sums1.old ≡ length sums0.old) }
-        ensures { (q : Roof) → AcceptedRoof q → q.plan.groups ≡ records (length groups.now / width) groups.now
-            → ((c : Crew) → Laid (job_for q c) first.now row.now begins.now leaves.now ends.now)
-            → ((c : Crew) → Triangle (job_for q c) parts.now (own_of (both displaced.now) c) at.now beside.now)
+        requires { ((record_at tables.now.groups.now 0).workers ≤ max_workers) × Recorded (length tables.now.groups.now / width) tables.now.groups.now
+            × StepTables (length sums0.old) tables.now.first.now tables.now.row.now tables.now.begins.now
+            entries.now.parts.now tables.now.leaves.now entries.now.at.now entries.now.beside.now × (length sums1.old ≡ length sums0.old) }
+        ensures { (q : Roof) → AcceptedRoof q → q.plan.groups ≡ records (length tables.now.groups.now / width) tables.now.groups.now
+            → ((c : Crew) → Laid (job_for q c) tables.now.first.now tables.now.row.now tables.now.begins.now tables.now.leaves.now tables.now.ends.now)
+            → ((c : Crew) → Triangle (job_for q c) entries.now.parts.now (own_of (both displaced.now) c) entries.now.at.now entries.now.beside.now)
             → turned_of result sums0.new sums1.new ≡ turns q (states_of self sums0.old sums1.old) schedule.now }
     {
         let mut made = self.counts();
         let mut held = self.numbers();
-        let whole = record_at(groups, 0);
+        let workers = get(tables.groups, 0).workers as usize;
         let mut blocks = [[0u8; MAX_GROUPS]; CREWS];
         let mut stops = [[0u32; MAX_WORKERS]; CREWS];
-        find_for(groups, ends, &made, &mut blocks, &mut stops);
+        find_for(tables, &made, &mut blocks, &mut stops);
         let mut targets = [[NONE; MAX_WORKERS]; CREWS];
         let mut adds = [[0i64; MAX_WORKERS]; CREWS];
-        for k in 0..schedule.len() {
-            let who = schedule[k] as usize;
-            let why = begin_for(
+        for (k, pick) in schedule.iter().enumerate() {
+            let who = *pick as usize;
+            if let Err(kind) = begin_for(
                 who,
-                whole.workers,
+                workers,
                 &made,
-                first,
-                row,
-                begins,
-                parts,
-                leaves,
-                &blocks,
+                tables,
+                entries,
                 displaced,
-                at,
-                beside,
+                &blocks,
                 &mut targets,
                 &mut adds,
-            );
-            if why != 0 {
-                return ended(made, held, k, why);
+            ) {
+                return ended(made, held, k, Some(kind));
             }
-            let number = access_for(&mut made, &mut held, sums0, sums1, who, &mut targets, &adds);
-            if number != 0 {
-                return ended(made, held, k, number);
+            if let Err(kind) = access_for(
+                &mut made,
+                &mut held,
+                sums0,
+                sums1,
+                who,
+                &mut targets,
+                &adds,
+            ) {
+                return ended(made, held, k, Some(kind));
             }
-            if renew_for(groups, ends, &made, who, &mut blocks, &mut stops) {
+            if renew_for(tables, &made, who, &mut blocks, &mut stops) {
                 targets = [[NONE; MAX_WORKERS]; CREWS];
             }
         }
-        ended(made, held, schedule.len(), 0)
+        ended(made, held, schedule.len(), None)
     }
 
     // .. by the upper triangle and its sizes: lays the rows of the updates. There is a sum for each row, for each crew.
@@ -163,22 +163,17 @@ impl Crews {
         groups: &[u32],
         sizes: &[u32; MAX_ROWS],
         first: [u32; FIRSTS],
-        parts: &[u32; MAX_ROWS],
-        displaced0: &[i32; MAX_ROWS],
-        displaced1: &[i32; MAX_ROWS],
-        at: &[u16],
-        beside: &[i32],
+        entries: &Entries,
+        displaced: &[[i32; MAX_ROWS]; CREWS],
     ) -> Turned
         requires { (q : Roof) × ((c : Crew) → Planned (job_for q c) groups.now (length groups.now / width) sizes.now) × ((c : Crew) → Counted (job_for q c) first)
-            × Triangle (job_for q crew0) parts.now displaced0.now at.now beside.now × (length sums0.old ≡ q.matrix.n) × (length sums1.old ≡ q.matrix.n) }
+            × Triangle (job_for q crew0) entries.now.parts.now (both displaced.now).of0 entries.now.at.now entries.now.beside.now
+            × (length sums0.old ≡ q.matrix.n) × (length sums1.old ≡ q.matrix.n) }
         ensures { (q : Roof) → ((c : Crew) → Planned (job_for q c) groups.now (length groups.now / width) sizes.now) → ((c : Crew) → Counted (job_for q c) first)
-            → Triangle (job_for q crew0) parts.now displaced0.now at.now beside.now
-            → Triangle (job_for q crew1) parts.now displaced1.now at.now beside.now
+            → Triangle (job_for q crew0) entries.now.parts.now (both displaced.now).of0 entries.now.at.now entries.now.beside.now
+            → Triangle (job_for q crew1) entries.now.parts.now (both displaced.now).of1 entries.now.at.now entries.now.beside.now
             → turned_of result sums0.new sums1.new ≡ turns q (states_of self sums0.old sums1.old) schedule.now }
     {
-        let of0 = *displaced0;
-        let of1 = *displaced1;
-        let displaced = [of0, of1];
         let mut row = [0u16; MAX_UPDATES];
         let mut begins = [0u32; MAX_ROWS];
         let mut leaves = [0u16; MAX_ROWS];
@@ -193,9 +188,14 @@ impl Crews {
             &mut leaves,
             &mut ends,
         );
-        self.walk(
-            sums0, sums1, schedule, groups, &ends, &first, &row, &begins, parts, &leaves,
-            &displaced, at, beside,
-        )
+        let tables = Tables {
+            groups,
+            ends: &ends,
+            first: &first,
+            row: &row,
+            begins: &begins,
+            leaves: &leaves,
+        };
+        self.walk(sums0, sums1, schedule, &tables, entries, displaced)
     }
 }

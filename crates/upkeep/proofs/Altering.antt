@@ -8,21 +8,19 @@ use native.Mathlib.Omega.{arith}
 use lib.Dec.{ltb}
 use lib.IntN.{ℤ, pos, nat_abs, ◌-ℤ◌, ◌*ℤ◌}
 use lib.ListN.{length, get_or, take, set}
-use lib.Seq.{slice, length-slice, ext_get_or, get_or-take, get_or-drop}
+use lib.Seq.{ext_get_or, get_or-take, get_or-drop}
 use borrow.Author.Tests.{leb-true, ltb-true, lt-ltb, ne_eqb}
 use Rattle.base.specs.Lists.{is_in, position_of}
 use Rattle.base.specs.Integers.{within}
 use Rattle.base.proofs.Booleans.{same_or, is_false, both_ways}
-use Rattle.base.proofs.Positions.{position_at, position_in, position_most}
+use Rattle.base.proofs.Positions.{position_at, position_in}
 use Rattle.matrix.specs.Limits.{max_value}
 use Rattle.matrix.specs.Matrix.{Matrix, part_of, columns_of, values_of, entry, is_matrix, displacement}
-use Rattle.matrix.specs.Code.Checks.{RowIn}
-use Rattle.matrix.specs.Code.Pattern.{pattern}
 use Rattle.matrix.specs.Product.{force_at, product}
 use Rattle.matrix.proofs.Checks.{matrix_tidy}
 use Rattle.matrix.proofs.Matrix.{lookup_position, column-row, column-low, symmetric, displacements-many}
 use Rattle.matrix.proofs.Product.{length-product, product_at}
-use Rattle.matrix.proofs.Rows.{values_in, length-columns, length-values, columns-part, values-part}
+use Rattle.matrix.proofs.Rows.{values_in, length-columns, length-values, values-part}
 use Rattle.matrix.proofs.SmallForces.{small-forces}
 use Rattle.upkeep.specs.Upkeep.{new_value, with_value, entry_place, is_named, is_small, changed, matrix_after, displacements_after}
 use Rattle.upkeep.specs.KeptCurrent.{Current}
@@ -50,17 +48,6 @@ position_test xs v = both_ways (ltb (position_of xs v) (length xs)) (is_in xs v)
 pub none-past : (m : Matrix) (i j : ℕ) → m.n ≤ i → is_in (columns_of m i) j ≡ false
 none-past m i j l = is_false (λ h. omega (arith, column-row m i j h))
 
--- the columns of a matrix without its values
-pub pattern-columns : (m : Matrix) (i : ℕ) → columns_of (pattern m.n m.starts m.columns) i ≡ columns_of m i
-unfolding columns_of part_of
-pattern-columns m i = refl
-
--- in the row, or at its end
-pub place-most : (starts columns : List ℕ) (i j : ℕ) → RowIn starts (length columns) i → get_or starts i 0 + position_of (slice (get_or starts i 0) (get_or starts (i + 1) 0) columns) j ≤ length columns
-place-most starts columns i j h =
-    let cs = slice (get_or starts i 0) (get_or starts (i + 1) 0) columns in
-    omega (arith, position_most cs j, length-slice (get_or starts i 0) (get_or starts (i + 1) 0) columns h.ends, h.rises, h.ends)
-
 module _ (m : Matrix) (ok : is_matrix m ≡ true) where
   module _ (i j : ℕ) (c : is_in (columns_of m i) j ≡ true) where
     first-row : i < m.n
@@ -68,10 +55,6 @@ module _ (m : Matrix) (ok : is_matrix m ≡ true) where
 
     there : position_of (columns_of m i) j < length (columns_of m i)
     there = (position_at (columns_of m i) j c).0
-
-    pub place_is : {p : ℕ} → p ≡ get_or m.starts i 0 + position_of (slice (get_or m.starts i 0) (get_or m.starts (i + 1) 0) m.columns) j → p ≡ entry_place m i j
-    unfolding entry_place
-    place_is e = rw (sym (columns-part m i first-row)) at e
 
     pub place_low : entry_place m i j < length m.values
     unfolding entry_place

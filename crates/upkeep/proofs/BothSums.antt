@@ -26,14 +26,6 @@ module _ (fs : List ℤ) (i j : ℕ) (first second : ℤ) (ok : BothIn fs i j fi
   pub once-length : length once ≡ length fs
   once-length = length-set fs i (get_or fs i (pos 0) +ℤ first)
 
-  pub one-added : i ≡ j → BothAdded i j first second fs once
-  one-added e = record {
-    long = once-length;
-    own = get_or-set_same fs i (get_or fs i (pos 0) +ℤ first) (pos 0) ok.here;
-    other = λ d. absurd (d e);
-    rest = λ r d f. get_or-set_other fs i r (get_or fs i (pos 0) +ℤ first) (pos 0) d;
-  }
-
   module _ (d : i ≢ j) where
     pub second-same : get_or once j (pos 0) ≡ get_or fs j (pos 0)
     second-same = get_or-set_other fs i j (get_or fs i (pos 0) +ℤ first) (pos 0) (λ q. d (sym q))

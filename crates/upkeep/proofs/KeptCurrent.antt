@@ -44,7 +44,7 @@ forces-product m x fs h =
     long = eqb-true (length fs) m.n (and_left (eqb (length fs) m.n) equal h)
 
 -- .. and the product passes it
-product-forces : (m : Matrix) (x fs : List ℤ) → fs ≡ product m x → are_forces m x fs ≡ true
+pub product-forces : (m : Matrix) (x fs : List ℤ) → fs ≡ product m x → are_forces m x fs ≡ true
 unfolding are_forces
 product-forces m x fs e =
     rw (e, eq-eqb (length (product m x)) m.n (length-product m x))

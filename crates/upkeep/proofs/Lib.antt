@@ -7,3 +7,4 @@ pub mod BothSums
 pub mod CurrentReply
 pub mod Displacing
 pub mod Altering
+mod Positioned

@@ -91,6 +91,10 @@ module _ (cs : List ℕ) (vs : List ℤ) (step : ℤ) (old : List ℤ) (ok : Add
             rw (lookup-next cs vs k r ascends ok.beside l, e, eq-eqb c c refl, get_or-set_same new c (get_or new c (pos 0) +ℤ get_or vs k (pos 0) *ℤ step) (pos 0) (omega (arith, below k l, p.long)), here)
         each r (inr d) = rw (lookup-next cs vs k r ascends ok.beside l, ne_eqb r c d, get_or-set_other new c r (get_or new c (pos 0) +ℤ get_or vs k (pos 0) *ℤ step) (pos 0) d) (p.each r)
 
+  -- the turn, by the step as the code has it
+  pub turn_as : {s : ℤ} → s ≡ step → (new : List ℤ) (k : ℕ) → Added (take k cs) (take k vs) s old new → k < length cs → Turn new k
+  turn_as e new k p l = turn new k (rw e at p) l
+
   pub all-passed : (new : List ℤ) (k : ℕ) → Passed new k → k ≡ length cs → Added cs vs step old new
   all-passed new k p e =
       let c : take k cs ≡ cs = rw e (take-length cs) in

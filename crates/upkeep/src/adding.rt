@@ -23,12 +23,8 @@ pub(crate) fn add_row(columns: &[u32], values: &[i32], step: i64, forces: &mut [
     requires { Addable columns.now values.now step forces.old }
     ensures { Added columns.now values.now step forces.old forces.new }
 {
-    let mut k = 0;
-    while k < columns.len() {
-        let c = columns[k] as usize;
-        let more = values[k] as i64 * step;
-        forces[c] = forces[c] + more;
-        k += 1;
+    for (k, column) in columns.iter().enumerate() {
+        forces[*column as usize] += values[k] as i64 * step;
     }
 }
 
@@ -37,9 +33,8 @@ pub(crate) fn add_both(forces: &mut [i64], i: usize, first: i64, j: usize, secon
     requires { BothIn forces.old i j first second }
     ensures { BothAdded i j first second forces.old forces.new }
 {
-    forces[i] = forces[i] + first;
-    if i == j {
-        return;
+    forces[i] += first;
+    if i != j {
+        forces[j] += second;
     }
-    forces[j] = forces[j] + second;
 }

@@ -1,45 +1,39 @@
 // Where an entry is stored.
-ghost use Rattle.std.specs.Prelude.{◌≡◌, ◌+◌, ◌<◌, length, get_or};
-ghost use Rattle.std.proofs.Math.Seq.{slice};
-ghost use Rattle.base.specs.Lists.{is_in, position_of};
-ghost use Rattle.matrix.specs.Matrix.{columns_of};
-ghost use Rattle.matrix.specs.Code.Checks.{RowIn};
-ghost use Rattle.matrix.specs.Code.Pattern.{pattern};
+ghost use Rattle.std.specs.Prelude.{◌≡◌, true, false, ◌<◌, ◌==◌, position, MatchOption};
+ghost use Rattle.base.specs.Lists.{is_in};
+ghost use Rattle.matrix.specs.Matrix.{columns_of, is_matrix};
+ghost use Rattle.matrix.specs.Code.Checks.{shaped};
+ghost use Rattle.matrix.specs.Held.{held};
+ghost use Rattle.upkeep.specs.Upkeep.{entry_place};
+ghost use Rattle.upkeep.specs.Code.Sums.{Placed};
 
-use base::numbers::wide;
-use matrix::row::columns_of;
+use matrix::lists::Matrix;
 
-// Where v stands in a list; its length if it does not.
-fn position(list: &[u32], v: u32) -> usize
-    ensures { result ≡ position_of list.now v }
+// Where v stands in a list.
+fn position(list: &[u32], v: u32) -> Option<usize>
+    ensures { result ≡ position (λ x. x == v) list.now }
 {
-    let mut k = 0;
-    while k < list.len() {
-        if list[k] == v {
-            return k;
-        }
-        k += 1;
-    }
-    k
+    list.iter().position(|x| *x == v)
 }
 
-// Whether row i of n stores column j.
-pub(crate) fn has_entry(n: u32, starts: &[u32], columns: &[u32], i: u32, j: u32) -> bool
-    requires { i < n → RowIn starts.now (length columns.now) i }
-    ensures { result ≡ is_in (columns_of (pattern n starts.now columns.now) i) j }
+// The place of column j of row i among all columns, if it is stored.
+fn place(m: &Matrix, i: usize, j: u32) -> Option<usize>
+    requires { (shaped (held m.now) ≡ true) × (i < m.now.n) }
+    ensures { MatchOption result (is_in (columns_of (held m.now) i) j ≡ false) (λ p. (is_in (columns_of (held m.now) i) j ≡ true) × (p ≡ entry_place (held m.now) i j)) }
 {
-    if n <= i {
-        return false;
-    }
-    let row = columns_of(starts, columns, i as usize);
-    position(row, j) < row.len()
+    let k = position(m.columns_of(i), j)?;
+    Some(m.starts[i] as usize + k)
 }
 
-// The place of column j of row i among all columns.
-pub(crate) fn entry_place(starts: &[u32], columns: &[u32], i: usize, j: u32) -> usize
-    requires { RowIn starts.now (length columns.now) i }
-    ensures { result ≡ get_or starts.now i 0 + position_of (slice (get_or starts.now i 0) (get_or starts.now (i + 1) 0) columns.now) j }
+// The places of entry (i, j) and of its mirror, if they are stored.
+pub(crate) fn places(m: &Matrix, i: u32, j: u32) -> Option<(usize, usize)>
+    requires { is_matrix (held m.now) ≡ true }
+    ensures { MatchOption result (is_in (columns_of (held m.now) i) j ≡ false) (λ at. Placed (held m.now) i j at.0 at.1) }
 {
-    let from = wide(starts[i]);
-    from + position(columns_of(starts, columns, i), j)
+    if m.n <= i as usize {
+        return None;
+    }
+    let p = place(m, i as usize, j)?;
+    let q = place(m, j as usize, i)?;
+    Some((p, q))
 }

@@ -8,4 +8,4 @@ pub mod RowParts
 pub mod JoinNames
 pub mod BeginPartsNames
 pub mod PartSizesNames
-pub mod LayEntriesNames
+pub mod EntryRoom

@@ -24,9 +24,6 @@ held_next d place f k xs l apart is v e p h = go (same_or p k)
     go (inl q) = rw q (get_or-set_same xs (place k) v d l ∙ e)
     go (inr q) = let i : p < k = omega (arith, q) in get_or-set_other xs (place k) (place p) v d (apart p i) ∙ is p i
 
-pub positions-none : (order position : List ℕ) → length position ≡ max_rows → Positions 0 order position
-positions-none order position e = record { long = e; is = λ p l. absurd (omega arith) }
-
 module _ (n : ℕ) (order : List ℕ) (once : Once n order) (few : n ≤ max_rows) (k : ℕ) (l : k < n) where
   -- the row at a position is one of the table's
   pub row_below : get_or order k 0 < max_rows
@@ -54,18 +51,12 @@ pub table-next : {A : Type 0} (d : A) (f : ℕ → A) (k : ℕ) → k < max_rows
 table-next d f k l xs long is v e = (length-set xs k v ∙ long, held_next d (λ p. p) f k xs (omega (arith, long)) (λ p h e. omega arith) is v e)
 
 -- the displacements in plan order
-pub displaced_none : (x : List ℤ) (order : List ℕ) (displaced : List ℤ) → length displaced ≡ max_rows → Displaced 0 x order displaced
-displaced_none x order displaced l = record { long = l; is = λ p h. absurd (omega arith) }
-
 pub displaced_next : (x : List ℤ) (order : List ℕ) (k : ℕ) → k < max_rows → (displaced : List ℤ) → Displaced k x order displaced → Displaced (k + 1) x order (set displaced k (displacement x (get_or order k 0)))
 displaced_next x order k l displaced d =
     let t = table-next (pos 0) (λ p. displacement x (get_or order p 0)) k l displaced d.long d.is _ refl in
     record { long = t.0; is = t.1 }
 
 -- where the parts begin
-pub begun-none : (starts order parts : List ℕ) → length parts ≡ max_rows → Begun 0 starts order parts
-begun-none starts order parts l = record { long = l; is = λ p h. absurd (omega arith) }
-
 pub begun-next : (starts order : List ℕ) (k : ℕ) → k < max_rows → {v : ℕ} → v ≡ part_at starts (get_or order k 0) → {parts : List ℕ} → Begun k starts order parts → Begun (k + 1) starts order (set parts k v)
 begun-next starts order k l {v} e {parts} b =
     let t = table-next 0 (λ p. part_at starts (get_or order p 0)) k l parts b.long b.is v e in

@@ -4,7 +4,6 @@ ghost use Rattle.matrix.specs.Limits.{max_rows};
 ghost use Rattle.plan.specs.Sound.{each_once};
 ghost use Rattle.upper.specs.Code.Upper.{Positions, Displaced};
 
-use base::slices::wide_at;
 use matrix::limits::MAX_ROWS;
 
 // The position of each row.
@@ -12,10 +11,8 @@ pub fn positions(order: &[u32], n: usize, position: &mut [u32; MAX_ROWS])
     requires { (n ≤ length order.now) × (n ≤ max_rows) × (each_once n (take n order.now) ≡ true) × (length position.old ≡ max_rows) }
     ensures { Positions n (take n order.now) position.new }
 {
-    let mut p = 0;
-    while p < n {
-        position[wide_at(order, p)] = p as u32;
-        p += 1;
+    for p in 0..n {
+        position[order[p] as usize] = p as u32;
     }
 }
 
@@ -25,9 +22,7 @@ pub fn displace(displacements: &[i32], order: &[u32], displaced: &mut [i32; MAX_
         × ((p : ℕ) → p < length displacements.now → get_or order.now p 0 < length displacements.now) × (length displaced.old ≡ max_rows) }
     ensures { Displaced (length displacements.now) displacements.now order.now displaced.new }
 {
-    let mut p = 0;
-    while p < displacements.len() {
-        displaced[p] = displacements[wide_at(order, p)];
-        p += 1;
+    for p in 0..displacements.len() {
+        displaced[p] = displacements[order[p] as usize];
     }
 }

@@ -1,4 +1,5 @@
-// Which leaves are blocked, and up to which counts this stays so: found by passes over the records.
+// Which leaves are blocked, and up to which counts this stays so: found by passes over the records. A mark is 1 or 0,
+// as the steps' tables and the proofs above have it.
 #![tactic(auto)]
 
 ghost use Rattle.std.specs.Prelude.{◌≡◌, false, List, ℕ, ◌/◌, ◌<◌, length, replicate};
@@ -7,7 +8,7 @@ ghost use Rattle.plan.specs.Groups.{width};
 ghost use Rattle.run.specs.Machine.{onward};
 ghost use Rattle.waits.specs.Code.Waits.{Recorded, open_if, open_red, blocked_if, next_end, OpenReds, Passed, Blocks, Ahead, Current};
 
-use plan::fields::{BLUE, RED, WIDTH, record_at};
+use plan::fields::{Colour, WIDTH, get};
 use plan::{MAX_GROUPS, MAX_WORKERS};
 
 // Whether a group is open, 1 or 0: no parent, so a leaf, with a count below its end; or with an open group below.
@@ -25,30 +26,29 @@ fn open_if(parent: u8, below: u8, made: u32, end: u32) -> u8
 fn open_red(colour: u32, opened: u8) -> u8
     ensures { result ≡ open_red colour opened }
 {
-    if colour == RED { opened } else { 0 }
+    if colour == Colour::Red as u32 {
+        opened
+    } else {
+        0
+    }
 }
 
 // A group is blocked if its parent is, or if it is blue and has an open red sibling.
 fn blocked_if(above: u8, colour: u32, red: u8) -> u8
     ensures { result ≡ blocked_if above colour red }
 {
-    if above == 1 {
-        return 1;
+    if above == 1 || colour == Colour::Blue as u32 && red == 1 {
+        1
+    } else {
+        0
     }
-    if colour != BLUE {
-        return 0;
-    }
-    if red == 1 { 1 } else { 0 }
 }
 
 // An end past the count that comes before the stop is the stop.
 fn next_end(made: u32, end: u32, stop: u32) -> u32
     ensures { result ≡ next_end made end stop }
 {
-    if end <= made {
-        return stop;
-    }
-    if end < stop { end } else { stop }
+    if made < end && end < stop { end } else { stop }
 }
 
 // Marks the groups that have an open red child, from the last record to the first. None is marked yet.
@@ -64,12 +64,10 @@ fn open_reds(
 {
     let mut parents = [0u8; MAX_GROUPS];
     let mut opens = [0u8; MAX_GROUPS];
-    let mut i = count;
-    while 1 < i {
-        i -= 1;
-        let g = record_at(groups, i);
-        let first = g.first;
-        let parent = g.parent;
+    for i in (1..count).rev() {
+        let g = get(groups, i);
+        let first = g.first as usize;
+        let parent = g.parent as usize;
         let opened = open_if(parents[i], opens[i], made[first], ends[i]);
         parents[parent] = 1;
         opens[parent] = opens[parent] | opened;
@@ -82,12 +80,10 @@ fn pass_down(groups: &[u32], count: usize, reds: &[u8; MAX_GROUPS], blocks: &mut
     requires { Recorded count groups.now × (blocks.old ≡ replicate max_groups 0) }
     ensures { Passed count groups.now reds.now blocks.new }
 {
-    let mut i = 1;
-    while i < count {
-        let g = record_at(groups, i);
-        let parent = g.parent;
+    for i in 1..count {
+        let g = get(groups, i);
+        let parent = g.parent as usize;
         blocks[i] = blocked_if(blocks[parent], g.colour, reds[parent]);
-        i += 1;
     }
 }
 
@@ -118,12 +114,10 @@ fn next_ends(
     ensures { Ahead count groups.now ends.now made.now result }
 {
     let mut stops = [4294967295u32; MAX_WORKERS];
-    let mut i = 0;
-    while i < count {
-        let g = record_at(groups, i);
-        let first = g.first;
+    for i in 0..count {
+        let g = get(groups, i);
+        let first = g.first as usize;
         stops[first] = next_end(made[first], ends[i], stops[first]);
-        i += 1;
     }
     stops
 }

@@ -3,14 +3,14 @@
 use mathlib.Core.Path.{◌≡◌, refl, ap, ◌∙◌}
 use mathlib.Core.List.{List, [], ◌∷◌, ◌++◌, map, map-append, append_assoc, append-nil}
 use Prim.Native.Nat.{ℕ, zero, suc, ◌+◌, ◌*◌, ◌/◌, ◌≤◌, ◌<◌, min}
-use native.Mathlib.Nat.{add_comm, zero-mul, suc-mul, le_of_lt, not-suc-le-zero, le_of_suc-le-suc}
+use native.Mathlib.Nat.{add_comm, div-mul-le_self, mul-le-mul_right, zero-mul, suc-mul, le_of_lt, not-suc-le-zero, le_of_suc-le-suc}
 use native.Mathlib.Numerals.{add-one}
 use native.Mathlib.Omega.{arith}
 use lib.ListN.{length, get_or, set, take, drop, length-append, length-set, length-drop, length-map, get_or-map}
 use lib.Seq.{sets, sets-eq, length-sets, drop-drop, drop-append-add, take-suc, length-take-le, take_at}
-use Rattle.base.specs.Lists.{concat}
 use Rattle.base.proofs.Lists.{concat-append}
 use Rattle.words.specs.LittleEndian.{blocks, whole_blocks, stored}
+pub use Rattle.words.specs.LittleEndian.{decoded, encoded}
 use Rattle.words.proofs.Copies.{take_min, stored_more}
 
 -- ---- blocks
@@ -28,11 +28,14 @@ blocks_at width zero bytes k h = absurd (not-suc-le-zero h)
 blocks_at width (suc count) bytes zero h = rw zero-mul
 blocks_at width (suc count) bytes (suc k) h = blocks_at width count (drop width bytes) k (le_of_suc-le-suc h) ∙ rw (drop-drop (k * width) width bytes, suc-mul, add_comm width (k * width))
 
--- ---- loading
+-- a block before the last whole one's end lies within the bytes
+pub room : (width k long : ℕ) → k < long / width → k * width + width ≤ long
+room width k long h =
+    let last : suc k * width ≤ long / width * width = mul-le-mul_right width h in
+    let next : suc k * width ≡ k * width + width = suc-mul k width in
+    omega (arith, last, next, div-mul-le_self long width)
 
--- the numbers of bytes, where f reads one
-abbrev pub decoded : {A : Type 0} → (List ℕ → A) → (width : ℕ) → List ℕ → List A
-decoded f width bytes = map f (whole_blocks width bytes)
+-- ---- loading
 
 module _ {A : Type 0} (f : List ℕ → A) (width : ℕ) (bytes : List ℕ) where
   -- as many as the bytes hold
@@ -55,12 +58,12 @@ module _ {A : Type 0} (f : List ℕ → A) (width : ℕ) (bytes : List ℕ) wher
     load-none = record { far = omega arith; long = refl; is = refl }
 
     -- a turn
-    pub load_more : (now : List A) (k : ℕ) (v : A) → count ≤ length bytes / width → count ≤ length old → k < count → v ≡ f (take width (drop (k * width) bytes))
-        → Loading old count now k → Loading old count (set now k v) (k + 1)
-    load_more now k v hb ho h e l = record {
+    pub load_more : count ≤ length bytes / width → count ≤ length old → (now : List A) (k next : ℕ) (v : A) → k < count → next ≡ k + 1 → v ≡ f (take width (drop (k * width) bytes))
+        → Loading old count now k → Loading old count (set now k v) next
+    load_more hb ho now k next v h one e l = record {
       far = omega arith;
       long = length-set now k v ∙ l.long;
-      is = rw (l.is, e, ← decoded_at k (omega arith)) (stored_more (decoded f width bytes) old k (f []) (rw length_decoded (omega arith)) (omega arith));
+      is = rw (one, l.is, e, ← decoded_at k (omega arith)) (stored_more (decoded f width bytes) old k (f []) (rw length_decoded (omega arith)) (omega arith));
     }
 
     -- after the last turn
@@ -70,10 +73,6 @@ module _ {A : Type 0} (f : List ℕ → A) (width : ℕ) (bytes : List ℕ) wher
         l.is ∙ rw all
 
 -- ---- storing
-
--- the bytes of numbers, where f gives those of one
-abbrev pub encoded : {A : Type 0} → (A → List ℕ) → List A → List ℕ
-encoded f xs = concat (map f xs)
 
 module _ {A : Type 0} (f : A → List ℕ) (width : ℕ) (same : (a : A) → length (f a) ≡ width) where
   -- as many as the numbers' widths together

@@ -4,10 +4,10 @@ use mathlib.Core.List.{List, [], ◌∷◌, ◌++◌}
 use Prim.Native.Nat.{ℕ, zero, suc, ◌+◌, ◌*◌, ◌/◌, ◌%◌, ◌^◌, ◌≤◌, ◌<◌}
 use native.Mathlib.Nat.{add-zero, zero-add, add-suc, suc-add, mul_comm, mul_assoc, pow-suc}
 use native.Mathlib.Omega.{arith}
-use lib.IntN.{ℤ}
 use lib.ListN.{length, take, drop, get_or, length-take, length-drop}
 use lib.Seq.{drop-cons, drop-drop, take-add}
-use Rattle.words.specs.LittleEndian.{number, bytes_of, of_signed, signed_bytes_of}
+use Rattle.words.specs.LittleEndian.{number, bytes_of}
+pub use Rattle.words.specs.Code.Sizes.{length-bytes_of, length-signed_bytes_of}
 use Rattle.words.specs.Code.Places.{four_at, eight_at}
 
 -- the number of the `width` bytes that a function gives
@@ -25,16 +25,6 @@ number_at (suc width) bytes at h =
     rw (drop-cons bytes at 0 inside, add-zero at, later) (ap (λ (f : ℕ → ℕ). get_or bytes at 0 + 256 * sum_of f width) (fun_ext (λ i. ap (λ (k : ℕ). get_or bytes k 0) (suc-add at i ∙ sym (add-suc at i)))))
 
 -- ---- the bytes of a number
-
--- as many as the width
-pub length-bytes_of : (width v : ℕ) → length (bytes_of width v) ≡ width
-unfolding bytes_of
-length-bytes_of zero v = refl
-length-bytes_of (suc width) v = ap suc (length-bytes_of width (v / 256))
-
--- .. of a signed number
-pub length-signed_bytes_of : (width : ℕ) (z : ℤ) → length (signed_bytes_of width z) ≡ width
-length-signed_bytes_of width z = length-bytes_of width (of_signed width z)
 
 -- the number of a number's bytes, if it fits them
 pub number-bytes_of : (width v : ℕ) → v < 256 ^ width → number (bytes_of width v) ≡ v

@@ -1,4 +1,5 @@
 pub mod Digits
+pub mod Machine
 pub mod Twos
 pub mod Copies
 pub mod Blocks

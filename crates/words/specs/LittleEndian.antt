@@ -41,19 +41,27 @@ blocks width (suc count) bytes = take width bytes ∷ blocks width count (drop w
 abbrev pub whole_blocks : (width : ℕ) → List ℕ → List (List ℕ)
 whole_blocks width bytes = blocks width (length bytes / width) bytes
 
--- the numbers that bytes hold, and the bytes of numbers
+-- the numbers that bytes hold, where f reads one, and the bytes of numbers, where f gives those of one
+module _ {A : Type 0} where
+  abbrev pub decoded : (f : List ℕ → A) (width : ℕ) → List ℕ → List A
+  decoded f width bytes = map f (whole_blocks width bytes)
+
+  abbrev pub encoded : (f : A → List ℕ) → List A → List ℕ
+  encoded f xs = concat (map f xs)
+
+-- .. of unsigned numbers
 abbrev pub unsigned : (width : ℕ) → List ℕ → List ℕ
-unsigned width bytes = map number (whole_blocks width bytes)
+unsigned = decoded number
 
 abbrev pub unsigned_bytes : (width : ℕ) → List ℕ → List ℕ
-unsigned_bytes width vs = concat (map (bytes_of width) vs)
+unsigned_bytes width = encoded (bytes_of width)
 
--- the same of signed numbers
+-- .. of signed numbers
 abbrev pub signed : (width : ℕ) → List ℕ → List ℤ
-signed width bytes = map (signed_number width) (whole_blocks width bytes)
+signed width = decoded (signed_number width) width
 
 abbrev pub signed_bytes : (width : ℕ) → List ℤ → List ℕ
-signed_bytes width zs = concat (map (signed_bytes_of width) zs)
+signed_bytes width = encoded (signed_bytes_of width)
 
 -- ---- a list that another is copied over
 

@@ -2,14 +2,11 @@
 ghost use Rattle.std.specs.Prelude.{◌≡◌, ◌+◌, ◌≤◌, length, take, drop};
 ghost use Rattle.std.proofs.lemmas.List.Edits.{sets};
 
-// Copies `count` bytes from `start` on to where `at` is.
+// Copies `count` bytes from `start` on to where `at` is. It stands beside `copy_from_slice`, since a caller proves the
+// two bounds of this call, and of that one four.
 pub fn copy(from: &[u8], start: usize, count: usize, to: &mut [u8], at: usize)
     requires { (start + count ≤ length from.now) × (at + count ≤ length to.old) }
     ensures { to.new ≡ sets to.old at (take count (drop start from.now)) }
 {
-    let mut k = 0;
-    while k < count {
-        to[at + k] = from[start + k];
-        k += 1;
-    }
+    to[at..at + count].copy_from_slice(&from[start..start + count]);
 }

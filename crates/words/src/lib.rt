@@ -2,7 +2,5 @@
 #![tactic(auto)]
 
 pub mod copy;
-pub mod load;
-pub mod number;
-pub mod signs;
-pub mod store;
+pub mod lists;
+pub mod word;

@@ -17,11 +17,9 @@ fn width(v: u32, most: usize) -> usize
     let x = v as u64;
     let mut digits: usize = 1;
     let mut power: u64 = 10;
-    let mut k: usize = 1;
-    while k < most {
-        digits = digits + (power <= x) as usize;
-        power = power * 10;
-        k += 1;
+    for _k in 1..most {
+        digits += (power <= x) as usize;
+        power *= 10;
     }
     digits
 }
@@ -65,32 +63,22 @@ pub fn put_number(text: &mut [u8], at: usize, v: u32) -> usize
     let end = at + width(v, 10);
     let mut x = v;
     let mut i = end;
+    // A turn takes a digit away: a number, and no range, is gone through.
     while 10 <= x {
-        i = i - 1;
+        i -= 1;
         text[i] = (48 + x % 10) as u8;
-        x = x / 10;
+        x /= 10;
     }
-    i = i - 1;
+    i -= 1;
     text[i] = (48 + x) as u8;
     end
-}
-
-// A value without its sign.
-fn magnitude(v: i32) -> u32
-    ensures { result ≡ nat_abs v }
-{
-    let z = v as i64;
-    if z < 0 {
-        return (0 - z) as u32;
-    }
-    z as u32
 }
 
 // How many bytes a value takes.
 fn integer_width(v: i32) -> usize
     ensures { result ≡ length (integer v) }
 {
-    width(magnitude(v), 10) + (v < 0) as usize
+    width(v.unsigned_abs(), 10) + (v < 0) as usize
 }
 
 // A value, and the place after it. A sign is put first; the digits of a value that has none are put over it.
@@ -100,7 +88,7 @@ fn put_integer(text: &mut [u8], at: usize, v: i32) -> usize
 {
     text[at] = b'-';
     let first = at + (v < 0) as usize;
-    put_number(text, first, magnitude(v))
+    put_number(text, first, v.unsigned_abs())
 }
 
 // How many bytes a line takes.
@@ -129,10 +117,6 @@ pub(crate) fn put_header(text: &mut [u8]) -> usize
     requires { 51 ≤ length text.old }
     ensures { Put header 0 result text.old text.new }
 {
-    let mut i: usize = 0;
-    while i < 51 {
-        text[i] = HEADER[i];
-        i += 1;
-    }
+    text[..51].copy_from_slice(&HEADER);
     51
 }

@@ -1,13 +1,14 @@
 // A matrix as text: measured first, then put. Column j on and below the diagonal is row j from the diagonal on.
 
 ghost use Rattle.std.specs.Prelude.{◌≡◌, true, ◌+◌, ◌≤◌, ◌<◌, length};
-ghost use Rattle.matrix.specs.Matrix.{is_matrix, matrix_of};
+ghost use Rattle.matrix.specs.Matrix.{is_matrix};
+ghost use Rattle.matrix.specs.Held.{held};
 ghost use Rattle.market.specs.Text.{lower};
 ghost use Rattle.writer.specs.Code.Puts.{Put, from_diagonal, if_lower, lines_of, Row, Tallied};
 ghost use Rattle.matrix.specs.Limits.{max_rows};
 
 use crate::puts::{line_width, put_line};
-use base::numbers::wide;
+use matrix::lists::Matrix;
 
 // How many entries, and how many bytes their lines take.
 #[derive(Clone, Copy)]
@@ -40,32 +41,25 @@ fn tally_row(j: u32, columns: &[u32], values: &[i32]) -> Tally
 {
     let mut entries: usize = 0;
     let mut bytes: usize = 0;
-    let mut k: usize = 0;
-    while k < columns.len() {
+    for k in 0..columns.len() {
         let t = tally_entry(j, columns[k], values[k]);
-        entries = entries + t.entries;
-        bytes = bytes + t.bytes;
-        k += 1;
+        entries += t.entries;
+        bytes += t.bytes;
     }
     Tally { entries, bytes }
 }
 
 // What all entries on and below the diagonal take.
-pub(crate) fn tally_rows(n: u32, starts: &[u32], columns: &[u32], values: &[i32]) -> Tally
-    requires { is_matrix (matrix_of n starts.now columns.now values.now) ≡ true }
-    ensures { Tallied (lower (matrix_of n starts.now columns.now values.now)) result.entries result.bytes }
+pub(crate) fn tally_rows(m: &Matrix) -> Tally
+    requires { is_matrix (held m.now) ≡ true }
+    ensures { Tallied (lower (held m.now)) result.entries result.bytes }
 {
     let mut entries: usize = 0;
     let mut bytes: usize = 0;
-    let mut j: u32 = 0;
-    while j < n {
-        let i = j as usize;
-        let from = wide(starts[i]);
-        let to = wide(starts[i + 1]);
-        let t = tally_row(j, &columns[from..to], &values[from..to]);
-        entries = entries + t.entries;
-        bytes = bytes + t.bytes;
-        j += 1;
+    for j in 0..m.n {
+        let t = tally_row(j as u32, m.columns_of(j), m.values_of(j));
+        entries += t.entries;
+        bytes += t.bytes;
     }
     Tally { entries, bytes }
 }
@@ -87,34 +81,20 @@ fn put_row(text: &mut [u8], at: usize, j: u32, columns: &[u32], values: &[i32]) 
     ensures { Put (lines_of (from_diagonal j columns.now values.now)) at result text.old text.new }
 {
     let mut p = at;
-    let mut k: usize = 0;
-    while k < columns.len() {
+    for k in 0..columns.len() {
         p = put_entry(text, p, j, columns[k], values[k]);
-        k += 1;
     }
     p
 }
 
 // The lines of all entries on and below the diagonal, and the place after them.
-pub(crate) fn put_rows(
-    text: &mut [u8],
-    at: usize,
-    n: u32,
-    starts: &[u32],
-    columns: &[u32],
-    values: &[i32],
-) -> usize
-    requires { (is_matrix (matrix_of n starts.now columns.now values.now) ≡ true) × (at + length (lines_of (lower (matrix_of n starts.now columns.now values.now))) ≤ length text.old) }
-    ensures { Put (lines_of (lower (matrix_of n starts.now columns.now values.now))) at result text.old text.new }
+pub(crate) fn put_rows(text: &mut [u8], at: usize, m: &Matrix) -> usize
+    requires { (is_matrix (held m.now) ≡ true) × (at + length (lines_of (lower (held m.now))) ≤ length text.old) }
+    ensures { Put (lines_of (lower (held m.now))) at result text.old text.new }
 {
     let mut p = at;
-    let mut j: u32 = 0;
-    while j < n {
-        let i = j as usize;
-        let from = wide(starts[i]);
-        let to = wide(starts[i + 1]);
-        p = put_row(text, p, j, &columns[from..to], &values[from..to]);
-        j += 1;
+    for j in 0..m.n {
+        p = put_row(text, p, j as u32, m.columns_of(j), m.values_of(j));
     }
     p
 }

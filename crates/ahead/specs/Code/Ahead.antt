@@ -7,12 +7,17 @@ use Rattle.tables.specs.Code.Laid.{max_updates}
 use Rattle.upper.specs.Code.Upper.{Positions, Lent, Sizes, upper_of, UpperLaid}
 use Rattle.upper.specs.Code.Row.{Part}
 use Rattle.steps.specs.Code.Steps.{place_next}
+use Rattle.ahead.specs.declared.Rows.{Rows}
 
 -- lent lists of n rows, with their positions, and how many entries each has
 pub record Indexed (n : ℕ) (starts columns : List ℕ) (values : List ℤ) (order position sizes : List ℕ) : Type 0 where
   pub lent : Lent n starts columns values order
   pub positions : Positions n (take n order) position
   pub sizes_are : Sizes (matrix_of n starts columns values) (take n order) n sizes
+
+-- .. as the code holds them
+abbrev pub IndexedBy : Rows → Type 0
+IndexedBy r = Indexed r.m.now.n r.m.now.starts.now r.m.now.columns.now r.m.now.values.now r.order.now r.position.now r.sizes.now
 
 -- the row at p has its part, before place b
 pub record PartBefore (m : Matrix) (order : List ℕ) (b p : ℕ) (parts at : List ℕ) (beside : List ℤ) : Type 0 where

@@ -1,5 +1,6 @@
 -- A call on a run in bytes before its answer is stored, and what the code needs to store it.
-use Rattle.std.specs.Prelude.{◌≡◌, List, ℕ, ◌/◌, ◌^◌, ◌≤◌, ◌<◌, ℤ, length, take, drop}
+use Rattle.std.specs.Prelude.{◌≡◌, Result, Ok, List, [], ℕ, ◌/◌, ◌^◌, ◌≤◌, ◌<◌, ℤ, length, take, drop}
+use Rattle.base.specs.declared.Refusal.{Refusal}
 use Rattle.base.specs.Replies.{lent}
 use Rattle.matrix.specs.Matrix.{Matrix}
 use Rattle.run.specs.State.{State}
@@ -9,7 +10,7 @@ use Rattle.machine.specs.Record.{state_of}
 use Rattle.machine.specs.declared.state.State as code
 use Rattle.calls.specs.Performed.{as_answer}
 use Rattle.calls.specs.declared.Response.{Response}
-use Rattle.calls.specs.declared.Response.TheVariants.{Picked, Forces, Previewed}
+use Rattle.calls.specs.declared.Response.TheVariants.{Forces}
 use Rattle.words.specs.LittleEndian.{unsigned, signed, signed_bytes}
 use Rattle.answers.specs.Runs.{state_bytes, count_bytes, state_in, answer_in, reply_to, force_bytes, bytes_in, left_by}
 
@@ -20,7 +21,7 @@ pub record StateIs (r : code.State) (bytes : List ℕ) : Type 0 where
 
 -- call c on a run whose state and sums are decoded: the code's answer, with the forces that it may have, the state
 -- after it, and the lent list after it
-pub record Called (m : Matrix) (x : List ℤ) (order groups : List ℕ) (count : ℕ) (s : State) (c : Call) (old : List ℕ) (answer : Response) (after : State) (left : List ℕ) : Type 0 where
+pub record Called (m : Matrix) (x : List ℤ) (order groups : List ℕ) (count : ℕ) (s : State) (c : Call) (old : List ℕ) (answer : Result Response Refusal) (after : State) (left : List ℕ) : Type 0 where
   pub made : List ℤ
   pub answers : as_answer answer made ≡ answer_lent m x order groups count s c
   pub leaves : after ≡ after_lent m x order groups count s c
@@ -54,7 +55,7 @@ Plain (rounds ws) = ⊥
 
 -- call c with the answer a, that leaves state s if that is of picks: the code's answer,
 -- with the forces that it may have, and what stands in the lists
-pub record Ran (n : ℕ) (c : Call) (a : Answer) (s : State) (state sums old : List ℕ) (answer : Response) (after : code.State) (new : List ℤ) (left : List ℕ) : Type 0 where
+pub record Ran (n : ℕ) (c : Call) (a : Answer) (s : State) (state sums old : List ℕ) (answer : Result Response Refusal) (after : code.State) (new : List ℤ) (left : List ℕ) : Type 0 where
   pub made : List ℤ
   pub answers : as_answer answer made ≡ a
   pub lists : left ≡ lent (reply_to a) (force_bytes a) old
@@ -63,34 +64,34 @@ pub record Ran (n : ℕ) (c : Call) (a : Answer) (s : State) (state sums old : L
   pub looked : (t q p b k : ℕ) → a ≡ previewed t q p b k → Parts t q p b k
 
 -- .. on a run whose lists are lent
-abbrev pub RanLent : Matrix → List ℤ → (order groups : List ℕ) (count : ℕ) (state sums old : List ℕ) → Call → Response → code.State → (new : List ℤ) (left : List ℕ) → Type 0
+abbrev pub RanLent : Matrix → List ℤ → (order groups : List ℕ) (count : ℕ) (state sums old : List ℕ) → Call → Result Response Refusal → code.State → (new : List ℤ) (left : List ℕ) → Type 0
 RanLent m x order groups count state sums old c =
     Ran m.n c (answer_in m x order groups count state sums c) (after_lent m x order groups count (state_in state sums) c) state sums old
 
 -- the parts of a preview's word fit it
-abbrev pub Looks : Response → Type 0
-Looks answer = (t q p b k : ℕ) → answer ≡ Previewed t q p b k → Parts t q p b k
+abbrev pub Looks : Result Response Refusal → Type 0
+Looks answer = (t q p b k : ℕ) → as_answer answer [] ≡ previewed t q p b k → Parts t q p b k
 
 -- the place of picks' ending fits a word's low half
-abbrev pub LowPlace : Response → Type 0
-LowPlace answer = ((k q p : ℕ) → answer ≡ Picked k q p → p < 2 ^ 32) × Looks answer
+abbrev pub LowPlace : Result Response Refusal → Type 0
+LowPlace answer = ((k q p : ℕ) → as_answer answer [] ≡ picked k q p → p < 2 ^ 32) × Looks answer
 
 -- the moves made and the number of rounds fit their word
-abbrev pub LowMoves : Response → Type 0
-LowMoves answer = ((k q p : ℕ) → answer ≡ Picked k q p → (k < 2 ^ 24) × (q < 2 ^ 8)) × Looks answer
+abbrev pub LowMoves : Result Response Refusal → Type 0
+LowMoves answer = ((k q p : ℕ) → as_answer answer [] ≡ picked k q p → (k < 2 ^ 24) × (q < 2 ^ 8)) × Looks answer
 
 -- picks have a whole state and n sums to be stored over
-abbrev pub PicksFit : (n : ℕ) → Response → (new : List ℤ) (state sums : List ℕ) → Type 0
-PicksFit n answer new state sums = (k q p : ℕ) → answer ≡ Picked k q p → (length state ≡ state_bytes) × (n ≤ length new) × (n ≤ length sums / 8)
+abbrev pub PicksFit : (n : ℕ) → Result Response Refusal → (new : List ℤ) (state sums : List ℕ) → Type 0
+PicksFit n answer new state sums = (k q p : ℕ) → as_answer answer [] ≡ picked k q p → (length state ≡ state_bytes) × (n ≤ length new) × (n ≤ length sums / 8)
 
 -- forces have n places
-abbrev pub ForcesFit : (n : ℕ) → Response → (made : List ℤ) (forces : List ℕ) → Type 0
-ForcesFit n answer made forces = answer ≡ Forces → (n ≤ length made) × (n ≤ length forces / 8)
+abbrev pub ForcesFit : (n : ℕ) → Result Response Refusal → (made : List ℤ) (forces : List ℕ) → Type 0
+ForcesFit n answer made forces = answer ≡ Ok Forces → (n ≤ length made) × (n ≤ length forces / 8)
 
 -- ---- a call before its word is made, where told is the answer that its word says
 
 -- one that takes picks: the code's answer, whose parts fit a word, and the lent lists after it
-pub record Took (c : Call) (told a : Answer) (s : State) (state sums : List ℕ) (answer : Response) (new_state new_sums : List ℕ) : Type 0 where
+pub record Took (c : Call) (told a : Answer) (s : State) (state sums : List ℕ) (answer : Result Response Refusal) (new_state new_sums : List ℕ) : Type 0 where
   pub made : List ℤ
   pub answers : as_answer answer made ≡ told
   pub state-left : new_state ≡ left_by a (bytes_in s) state
@@ -99,16 +100,16 @@ pub record Took (c : Call) (told a : Answer) (s : State) (state sums : List ℕ)
   pub moves_low : LowMoves answer
 
 -- one that leaves state and sums: the code's answer, with the forces that it may have, and their lent list after it
-pub record Gave (c : Call) (told : Answer) (old : List ℕ) (answer : Response) (new : List ℕ) : Type 0 where
+pub record Gave (c : Call) (told : Answer) (old : List ℕ) (answer : Result Response Refusal) (new : List ℕ) : Type 0 where
   pub made : List ℤ
   pub answers : as_answer answer made ≡ told
   pub lists : new ≡ lent (reply_to told) (force_bytes told) old
   pub place_low : Plain c → LowPlace answer
 
 -- .. on a run whose lists are lent
-abbrev pub TookLent : Matrix → List ℤ → (order groups : List ℕ) (count : ℕ) (state sums : List ℕ) → Call → Response → (new_state new_sums : List ℕ) → Type 0
+abbrev pub TookLent : Matrix → List ℤ → (order groups : List ℕ) (count : ℕ) (state sums : List ℕ) → Call → Result Response Refusal → (new_state new_sums : List ℕ) → Type 0
 TookLent m x order groups count state sums c =
     Took c (answer_in m x order groups count state sums c) (answer_in m x order groups count state sums c) (after_lent m x order groups count (state_in state sums) c) state sums
 
-abbrev pub GaveLent : Matrix → List ℤ → (order groups : List ℕ) (count : ℕ) (state sums : List ℕ) → Call → (old : List ℕ) → Response → (new : List ℕ) → Type 0
+abbrev pub GaveLent : Matrix → List ℤ → (order groups : List ℕ) (count : ℕ) (state sums : List ℕ) → Call → (old : List ℕ) → Result Response Refusal → (new : List ℕ) → Type 0
 GaveLent m x order groups count state sums c = Gave c (answer_in m x order groups count state sums c)

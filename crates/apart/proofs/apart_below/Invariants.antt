@@ -1,10 +1,12 @@
--- `apart_below`: the children before index i are compared.
+-- `apart_below`: the children before the next one are compared.
 use Prim.Native.Nat.{◌-◌}
+use Rattle.plan.specs.Code.Checks.{colour_of}
+use Rattle.shape.specs.Code.Shape.{index_of}
 use Rattle.apart.proofs.Compare.{Comparing}
 use Rattle.apart.proofs.apart_below.Given as goal
 
-abbrev pub invariant-loop-i : goal.invariant-loop-i
-invariant-loop-i l = Comparing l.n l.starts l.columns l.order l.groups l.count l.parent l.k l.colour l.low l.marks l.done l.i
+abbrev pub invariant-loop-next : goal.invariant-loop-next
+invariant-loop-next l = Comparing l.subject l.parent (colour_of l.colour) l.low l.marks l.next
 
-abbrev pub decreases-loop-i : goal.decreases-loop-i
-decreases-loop-i l = l.count - l.i
+abbrev pub decreases-loop-next : goal.decreases-loop-next
+decreases-loop-next l = l.subject.plan.count - index_of l.subject.plan.count l.next

@@ -17,29 +17,29 @@ use Rattle.cabinet.proofs.perform_in.Goals as goal
 
 pub slice_bounds-perform_on-end-then-are_few : goal.slice_bounds-perform_on-end-then-are_few
 slice_bounds-perform_on-end-then-are_few c =
-    let array : List ℤ = c.load_i64-kept.new.out in
-    let fits : c.load_i64-kept.result ≤ length array = let a = c.args in let e = c.load_i64-kept.ensures in sums_fit (eqb (length a.state.now) state_bytes) a.sums.now _ a.new.now c.sums_of.ensures c.requires e.0 e.1 in
+    let array : List ℤ = c.load-kept.new.out in
+    let fits : c.load-kept.result ≤ length array = let a = c.args in let e = c.load-kept.ensures in sums_fit (eqb (length a.state.now) state_bytes) a.sums.now _ a.new.now c.sums_of.ensures c.requires e.0 e.1 in
     sym (length-take-le _ _ fits)
 
 pub returns-then-are_few : goal.returns-then-are_few
 returns-then-are_few c =
-    let array : List ℤ = c.load_i64-kept.new.out in
-    let lent : let a = c.args in take c.load_i64-kept.result array ≡ cond (eqb (length a.state.now) state_bytes) (take max_starts (signed 8 a.sums.now)) [] = let a = c.args in let e = c.load_i64-kept.ensures in sums_decoded (eqb (length a.state.now) state_bytes) a.sums.now _ a.new.now c.sums_of.ensures c.requires e.0 e.1 in
+    let array : List ℤ = c.load-kept.new.out in
+    let lent : let a = c.args in take c.load-kept.result array ≡ cond (eqb (length a.state.now) state_bytes) (take max_starts (signed 8 a.sums.now)) [] = let a = c.args in let e = c.load-kept.ensures in sums_decoded (eqb (length a.state.now) state_bytes) a.sums.now _ a.new.now c.sums_of.ensures c.requires e.0 e.1 in
     let a = c.args in
     let h = c.are_few.ensures c.if-are_few.true in
-    ran _ _ _ _ _ _ a.state.now a.sums.now c.load_state.result c.load_state.ensures lent _ c.perform_on.auto.sums
-    (c.perform_on.ensures a.columns.now a.values.now (few-whole number a.columns.now h.0 c.load_unsigned.ensures) (few-whole (signed_number 4) a.values.now h.1 c.load_signed.ensures))
+    ran _ _ _ _ _ _ a.state.now a.sums.now c.load_state-after.result c.load_state-after.ensures lent _ c.perform_on-answer.auto.sums
+    (c.perform_on-answer.ensures a.columns.now a.values.now (few-whole number a.columns.now h.0 c.decode.ensures) (few-whole (signed_number 4) a.values.now h.1 c.decode-then-are_few.ensures))
 
 pub slice_bounds-perform_on-end-3 : goal.slice_bounds-perform_on-end-3
 slice_bounds-perform_on-end-3 c =
-    let array : List ℤ = c.load_i64-kept.new.out in
-    let fits : c.load_i64-kept.result ≤ length array = let a = c.args in let e = c.load_i64-kept.ensures in sums_fit (eqb (length a.state.now) state_bytes) a.sums.now _ a.new.now c.sums_of.ensures c.requires e.0 e.1 in
+    let array : List ℤ = c.load-kept.new.out in
+    let fits : c.load-kept.result ≤ length array = let a = c.args in let e = c.load-kept.ensures in sums_fit (eqb (length a.state.now) state_bytes) a.sums.now _ a.new.now c.sums_of.ensures c.requires e.0 e.1 in
     sym (length-take-le _ _ fits)
 
 pub returns : goal.returns
 returns c =
-    let array : List ℤ = c.load_i64-kept.new.out in
-    let lent : let a = c.args in take c.load_i64-kept.result array ≡ cond (eqb (length a.state.now) state_bytes) (take max_starts (signed 8 a.sums.now)) [] = let a = c.args in let e = c.load_i64-kept.ensures in sums_decoded (eqb (length a.state.now) state_bytes) a.sums.now _ a.new.now c.sums_of.ensures c.requires e.0 e.1 in
+    let array : List ℤ = c.load-kept.new.out in
+    let lent : let a = c.args in take c.load-kept.result array ≡ cond (eqb (length a.state.now) state_bytes) (take max_starts (signed 8 a.sums.now)) [] = let a = c.args in let e = c.load-kept.ensures in sums_decoded (eqb (length a.state.now) state_bytes) a.sums.now _ a.new.now c.sums_of.ensures c.requires e.0 e.1 in
     let a = c.args in
-    ran _ _ _ _ _ _ a.state.now a.sums.now c.load_state.result c.load_state.ensures lent _ c.perform_on-2.auto.sums
-    (c.perform_on-2.ensures a.columns.now a.values.now c.load_unsigned-2.ensures c.load_signed-2.ensures)
+    ran _ _ _ _ _ _ a.state.now a.sums.now c.load_state-after.result c.load_state-after.ensures lent _ c.perform_on-answer-2.auto.sums
+    (c.perform_on-answer-2.ensures a.columns.now a.values.now c.decode-2.ensures c.decode-3.ensures)

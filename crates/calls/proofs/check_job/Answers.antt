@@ -1,36 +1,39 @@
 -- `check_job`: the matrix, its displacements, then the plan.
-use mathlib.Core.Bool.{not}
-use mathlib.Core.Path.{◌≡◌, sym, ap, ◌∙◌}
-use mathlib.Core.Bool.{true}
-use Rattle.base.specs.Verdicts.{reply_of}
+use mathlib.Core.Bool.{true, not}
+use mathlib.Core.Path.{◌≡◌, sym, ap}
+use Rattle.std.proofs.Common.{Err, arith}
 use Rattle.base.proofs.Booleans.{fails, holds}
-use Rattle.matrix.specs.Matrix.{Matrix, is_matrix, matrix_of}
+use Rattle.matrix.specs.Matrix.{is_matrix}
+use Rattle.matrix.proofs.Checks.{shape, matrix_tidy}
+use Rattle.matrix.specs.Held.{held}
 use Rattle.calls.proofs.JobChecked.{job_unmade, job-unmoved, job-unsound, job-taken}
+use borrow.Author.Rules.{rules}
 use Rattle.calls.proofs.check_job.Goals as goal
+use Rattle.calls.proofs.check_job.Goals.{Else-not-is_matrix}
+
+is_made : (c : Else-not-is_matrix) → is_matrix (held c.args.job.now.matrix) ≡ true
+is_made c = holds c.is_matrix.ensures (ap not c.if-not-is_matrix.false)
 
 pub returns-then-not-is_matrix : goal.returns-then-not-is_matrix
 returns-then-not-is_matrix c = sym (job_unmade _ _ _ _ _ (fails c.is_matrix.ensures (ap not c.if-not-is_matrix.true)))
 
-pub returns-in-Refused : goal.returns-in-Refused
-returns-in-Refused c =
-    let given : Matrix = let a = c.args in matrix_of a.n a.starts.now a.columns.now a.values.now in
-    let is_made : is_matrix given ≡ true = holds c.is_matrix.ensures (ap not c.if-not-is_matrix.false) in
-    sym (job-unmoved _ _ _ _ _ is_made _ _ (ap reply_of (sym c.in-Refused.is) ∙ c.check_displacements-checked.ensures))
+pub overflow_cast-job : goal.overflow_cast-job
+overflow_cast-job c =
+    let few = (shape _ (matrix_tidy _ (is_made (goal.at.overflow_cast-job c).Else-not-is_matrix)).shape).few in
+    search rules
+
+pub returns-in_err-check_displacements : goal.returns-in_err-check_displacements
+returns-in_err-check_displacements c =
+    let up : c.from_residual.result ≡ Err c.in_err-check_displacements.field-0.0 = grind arith in
+    rw up (sym (job-unmoved _ _ _ _ _ (is_made (goal.at.returns-in_err-check_displacements c).Else-not-is_matrix) _ _ c.in_err-check_displacements.ensures))
 
 pub is_plan-requires : goal.is_plan-requires
-is_plan-requires c =
-    let given : Matrix = let a = c.args in matrix_of a.n a.starts.now a.columns.now a.values.now in
-    let is_made : is_matrix given ≡ true = holds c.is_matrix.ensures (ap not c.if-not-is_matrix.false) in
-    record { values = c.args.values.now; is = is_made }
+is_plan-requires c = is_made (goal.at.is_plan-requires c).Else-not-is_matrix
 
 pub returns-then-not-is_plan : goal.returns-then-not-is_plan
 returns-then-not-is_plan c =
-    let given : Matrix = let a = c.args in matrix_of a.n a.starts.now a.columns.now a.values.now in
-    let is_made : is_matrix given ≡ true = holds c.is_matrix.ensures (ap not c.if-not-is_matrix.false) in
-    sym (job-unsound _ _ _ _ _ is_made _ (ap reply_of (sym c.in_default.is) ∙ c.check_displacements-checked.ensures) (fails (c.is_plan.ensures _) (ap not c.if-not-is_plan.true)))
+    sym (job-unsound _ _ _ _ _ (is_made (goal.at.returns-then-not-is_plan c).Else-not-is_matrix) _ c.in_ok-check_displacements.ensures (fails c.is_plan.ensures (ap not c.if-not-is_plan.true)))
 
 pub returns : goal.returns
 returns c =
-    let given : Matrix = let a = c.args in matrix_of a.n a.starts.now a.columns.now a.values.now in
-    let is_made : is_matrix given ≡ true = holds c.is_matrix.ensures (ap not c.if-not-is_matrix.false) in
-    sym (job-taken _ _ _ _ _ is_made _ (ap reply_of (sym c.in_default.is) ∙ c.check_displacements-checked.ensures) (holds (c.is_plan.ensures _) (ap not c.if-not-is_plan.false)))
+    sym (job-taken _ _ _ _ _ (is_made (goal.at.returns c).Else-not-is_matrix) _ c.in_ok-check_displacements.ensures (holds c.is_plan.ensures (ap not c.if-not-is_plan.false)))

@@ -76,7 +76,7 @@ overflow_sub-result c =
     pair_bounds a.up.workers a.up.load (policy_of a.policy) a.left.free a.loads.now c.next_extent-e.result.levels c.cut-c.result
     (omega arith) (omega arith) (omega arith) c.next_extent-e.ensures.0 c.cut-c.ensures in
     let b = bounds in
-    c.requires.7 (c.cut-c.result - 1) (omega (arith, c.requires.6))
+    c.requires.5 (c.cut-c.result - 1) (omega (arith, c.requires.4))
 
 pub overflow_sub-result-2 : goal.overflow_sub-result-2
 overflow_sub-result-2 c =
@@ -84,7 +84,7 @@ overflow_sub-result-2 c =
     pair_bounds a.up.workers a.up.load (policy_of a.policy) a.left.free a.loads.now c.next_extent-e.result.levels c.cut-c.result
     (omega arith) (omega arith) (omega arith) c.next_extent-e.ensures.0 c.cut-c.ensures in
     let b = bounds in
-    c.requires.7 (c.next_extent-e.result.levels - 1) (omega (arith, c.requires.6))
+    c.requires.5 (c.next_extent-e.result.levels - 1) (omega (arith, c.requires.4))
 
 pub returns : goal.returns
 returns c = (c.next_extent-e.ensures.0, c.next_extent-e.ensures.1, rw c.cut-c.ensures refl, refl)

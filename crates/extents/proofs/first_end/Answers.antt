@@ -1,14 +1,11 @@
-use mathlib.Core.Path.{sym, ◌∙◌}
+use mathlib.Core.Path.{◌≡◌, sym, ◌∙◌}
 use Prim.Native.Nat.{◌+◌, ◌-◌}
+use lib.ListN.{length}
 use native.Mathlib.Omega.{arith}
-use lib.Seq.{length-take-le}
 use Rattle.extents.specs.Extents.{serves}
 use Rattle.extents.proofs.Ends.{sum-next, sum-split}
 use Rattle.extents.proofs.FirstEnd.{seek_start, seek_next, seek_found, seek_none}
 use Rattle.extents.proofs.first_end.Goals as goal
-
-pub slice_bounds-total-end : goal.slice_bounds-total-end
-slice_bounds-total-end c = let a = c.args in sym (length-take-le (a.least - 1) a.loads.now (omega arith))
 
 pub total-q-requires : goal.total-q-requires
 total-q-requires c = let a = c.args in omega (arith, sum-split (a.least - 1) a.loads.now)
@@ -44,4 +41,5 @@ pub returns : goal.returns
 returns c =
     let a = c.args in
     let l = c.loop-k in
-    (seek_none (λ e. serves e.load a.w a.load a.p) a.loads.now a.least l.k l.q l.invariant (omega arith), omega (arith, l.invariant.some))
+    let e : l.k ≡ length a.loads.now = omega (arith, l.invariant.most) in
+    (rw (← e) (seek_none (λ e. serves e.load a.w a.load a.p) a.loads.now a.least l.k l.q l.invariant (omega arith)), omega (arith, l.invariant.some))

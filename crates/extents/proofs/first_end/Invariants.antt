@@ -1,12 +1,7 @@
--- `first_end` meets its contract: no end of least to k levels serves.
-use Prim.Native.Nat.{◌-◌}
-use lib.ListN.{length}
+-- No end of least to k levels serves.
 use Rattle.extents.specs.Extents.{serves}
 use Rattle.extents.proofs.FirstEnd.{Seeking}
 use Rattle.extents.proofs.first_end.Given as goal
 
 abbrev pub invariant-loop-k : goal.invariant-loop-k
 invariant-loop-k l = Seeking (λ e. serves e.load l.w l.load l.p) l.loads l.least l.k l.q
-
-abbrev pub decreases-loop-k : goal.decreases-loop-k
-decreases-loop-k l = length l.loads - l.k

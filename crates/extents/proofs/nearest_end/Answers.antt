@@ -6,6 +6,7 @@ use lib.Seq.{length-take-le}
 use Rattle.extents.proofs.Ends.{product-few, sum-next, sum-split}
 use Rattle.extents.proofs.NearestEnd.{nearing_start, nearing_nearer, nearing_further, nearing_past, nearing_end}
 use Rattle.extents.proofs.nearest_end.Goals as goal
+use Rattle.extents.proofs.nearest_end.Goals.{then-d-least, else-d-least}
 
 pub slice_bounds-total-end : goal.slice_bounds-total-end
 slice_bounds-total-end c = let a = c.args in sym (length-take-le a.k a.loads.now (omega arith))
@@ -21,7 +22,7 @@ overflow_mul-q c =
 pub loop-i-init : goal.loop-i-init
 loop-i-init c =
     let a = c.args in
-    nearing_start a.loads.now a.k a.x a.y c.total-q.result c.off-least.result (omega arith) (omega arith) c.total-q.ensures c.off-least.ensures
+    nearing_start a.loads.now a.k a.x a.y c.total-q.result c.abs_diff-least.result (omega arith) (omega arith) c.total-q.ensures c.abs_diff-least.ensures
 
 pub overflow_mul-q-in-loop-i : goal.overflow_mul-q-in-loop-i
 overflow_mul-q-in-loop-i c =
@@ -52,18 +53,14 @@ overflow_mul-q-in-loop-i-2 c =
           (omega arith),
     )
 
-pub loop-i-preserved-then-d-least : goal.loop-i-preserved-then-d-least
-loop-i-preserved-then-d-least c =
-    let a = c.args in
-    let l = c.loop-i in
-    rw c.off-d.ensures
-    (nearing_nearer a.loads.now a.k a.x a.y l.q l.best l.least l.i l.invariant (omega arith) (rw c.off-d.ensures at c.if-d-least.true))
-
 pub loop-i-preserved : goal.loop-i-preserved
 loop-i-preserved c =
     let a = c.args in
     let l = c.loop-i in
-    nearing_further a.loads.now a.k a.x a.y l.q l.best l.least l.i l.invariant (omega arith) (rw c.off-d.ensures at c.if-d-least.false)
+    elim c.if-d-least.branch [
+      | then-d-least w ↦ rw (w.best-is, w.least-is, c.abs_diff-d.ensures) (nearing_nearer a.loads.now a.k a.x a.y l.q l.best l.least l.i l.invariant (omega arith) (rw c.abs_diff-d.ensures at w.if-d-least.true))
+      | else-d-least w ↦ rw (w.best-is, w.least-is) (nearing_further a.loads.now a.k a.x a.y l.q l.best l.least l.i l.invariant (omega arith) (rw c.abs_diff-d.ensures at w.if-d-least.false))
+    ]
 
 pub returns : goal.returns
 returns c =

@@ -1,11 +1,6 @@
--- `nearest_end` meets its contract: of the ends of k to i levels, that of `best` levels is the nearest.
-use Prim.Native.Nat.{◌-◌}
-use lib.ListN.{length}
+-- Of the ends of k to i levels, that of `best` levels is the nearest.
 use Rattle.extents.proofs.NearestEnd.{Nearing}
 use Rattle.extents.proofs.nearest_end.Given as goal
 
 abbrev pub invariant-loop-i : goal.invariant-loop-i
 invariant-loop-i l = Nearing l.loads l.k l.x l.y l.q l.best l.least l.i
-
-abbrev pub decreases-loop-i : goal.decreases-loop-i
-decreases-loop-i l = length l.loads - l.i

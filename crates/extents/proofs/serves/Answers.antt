@@ -15,11 +15,11 @@ overflow_mul-b c =
 pub overflow_mul-result : goal.overflow_mul-result
 overflow_mul-result c =
     let a = c.args in
-    rw (c.off.ensures, c.nearest-b.ensures) (omega (arith, product-few a.q a.w (omega arith) (omega arith), nearest-few a.q a.w a.load))
+    rw (c.abs_diff.ensures, c.nearest-b.ensures) (omega (arith, product-few a.q a.w (omega arith) (omega arith), nearest-few a.q a.w a.load))
 
 pub overflow_mul-result-2 : goal.overflow_mul-result-2
 overflow_mul-result-2 c = let a = c.args in omega (arith, share-few a.p a.load (omega arith))
 
 pub returns : goal.returns
 unfolding serves off
-returns c = rw (c.off.ensures, c.nearest-b.ensures)
+returns c = rw (c.abs_diff.ensures, c.nearest-b.ensures)

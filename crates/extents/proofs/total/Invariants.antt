@@ -1,12 +1,8 @@
--- `total` meets its contract: s is the load of the first k levels.
+-- sum is the load of the first k levels.
 use mathlib.Core.Path.{◌≡◌}
-use Prim.Native.Nat.{◌≤◌, ◌-◌}
-use lib.ListN.{length, take}
+use lib.ListN.{take}
 use Rattle.base.specs.Lists.{sum}
 use Rattle.extents.proofs.total.Given as goal
 
-abbrev pub invariant-loop-k : goal.invariant-loop-k
-invariant-loop-k l = (l.k ≤ length l.loads) × (l.s ≡ sum (take l.k l.loads))
-
-abbrev pub decreases-loop-k : goal.decreases-loop-k
-decreases-loop-k l = length l.loads - l.k
+abbrev pub invariant-loop-q : goal.invariant-loop-q
+invariant-loop-q l = l.sum ≡ sum (take l.q-index l.loads)

@@ -4,7 +4,7 @@ use Rattle.std.specs.Prelude.{List, [], ◌∷◌, ℕ, ◌*◌, ◌-◌, ◌≤
 use Rattle.base.specs.Lists.{best, distance}
 use Rattle.plan.specs.Sound.{max_workers}
 use Rattle.extents.specs.Extents.{Policy, End, ends_from}
-use Rattle.extents.specs.declared.Policy as code
+use Rattle.extents.specs.declared.policy.Policy as code
 
 -- the policy that a struct stands for
 abbrev pub policy_of : code.Policy → Policy

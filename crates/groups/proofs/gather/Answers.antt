@@ -1,10 +1,14 @@
-use mathlib.Core.Path.{sym}
+use mathlib.Core.Path.{◌≡◌, sym, ap}
 use native.Mathlib.Omega.{arith}
+use Rattle.plan.specs.Code.Checks.{record_at}
+use Rattle.groups.specs.Structs.{of_group}
 use Rattle.groups.proofs.Gathering.{gathered_none, gathered_next}
 use Rattle.groups.proofs.gather.Goals as goal
 
 pub loop-k-init : goal.loop-k-init
-loop-k-init c = (omega arith, sym (gathered_none c.args.numbers c.args.groups.now))
+loop-k-init c = sym (gathered_none c.args.numbers.now c.args.groups.now)
 
 pub loop-k-preserved : goal.loop-k-preserved
-loop-k-preserved c = (omega arith, rw (c.loop-k.invariant.1, c.get.ensures) (gathered_next c.args.numbers c.args.groups.now c.loop-k.k c.get.result (omega arith)))
+loop-k-preserved c =
+    let e : c.get.result ≡ of_group (record_at c.args.numbers.now c.loop-k.k) = ap of_group c.get.ensures in
+    rw (c.loop-k.invariant, e) (gathered_next c.args.numbers.now c.args.groups.now c.loop-k.k c.get.result (omega arith))

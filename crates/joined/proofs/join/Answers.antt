@@ -10,10 +10,12 @@ use lib.ListN.{length, length-replicate}
 use Rattle.base.proofs.Booleans.{fails, holds}
 use Rattle.base.proofs.Lists.{length-filter-le, get_d_zeros}
 use Rattle.matrix.specs.Limits.{max_rows}
-use Rattle.matrix.specs.Matrix.{Matrix, is_matrix, matrix_of}
+use Rattle.matrix.specs.Matrix.{Matrix, is_matrix}
+use Rattle.matrix.specs.Held.{held}
 use Rattle.matrix.proofs.Matrix.{matrix_facts}
 use Rattle.joined.specs.Joined.{joined_rows, are_places}
 use Rattle.joined.specs.Code.Rows.{Sewing}
+use Rattle.compress.proofs.rows.Cut.{placed_cut}
 use Rattle.joined.proofs.Gathering.{many-rows}
 use Rattle.joined.proofs.Joining.{entries, placed_joins, first_unmade, second_unmade, misplaced, unlimited, other_length, tested_places, rows_are}
 use Rattle.joined.proofs.join.Goals as goal
@@ -25,125 +27,101 @@ returns-then-not-is_matrix c =
 
 pub returns-then-not-is_matrix-2 : goal.returns-then-not-is_matrix-2
 returns-then-not-is_matrix-2 c =
-    let one : Matrix = let a = c.args in matrix_of a.n1 a.starts1.now a.columns1.now a.values1.now in
+    let one : Matrix = held c.args.first.now in
     let first_made : is_matrix one ≡ true = holds c.is_matrix.ensures (ap not c.if-not-is_matrix.false) in
     let q = second_unmade _ _ _ _ _ _ first_made (fails c.is_matrix-2.ensures (ap not c.if-not-is_matrix-2.true)) in
     record { reply = q.0; lent_starts = q.1.0; lent_columns = q.1.1.0; lent_values = q.1.1.1 }
 
-pub returns-then-places-n2 : goal.returns-then-places-n2
-returns-then-places-n2 c =
-    let one : Matrix = let a = c.args in matrix_of a.n1 a.starts1.now a.columns1.now a.values1.now in
+pub returns-then-places-second : goal.returns-then-places-second
+returns-then-places-second c =
+    let one : Matrix = held c.args.first.now in
     let first_made : is_matrix one ≡ true = holds c.is_matrix.ensures (ap not c.if-not-is_matrix.false) in
-    let two : Matrix = let a = c.args in matrix_of a.n2 a.starts2.now a.columns2.now a.values2.now in
+    let two : Matrix = held c.args.second.now in
     let second-made : is_matrix two ≡ true = holds c.is_matrix-2.ensures (ap not c.if-not-is_matrix-2.false) in
-    let q = misplaced _ _ _ _ _ _ first_made second-made (other_length _ _ _ c.if-places-n2.true) in
+    let q = misplaced _ _ _ _ _ _ first_made second-made (other_length _ _ _ c.if-places-second.true) in
     record { reply = q.0; lent_starts = q.1.0; lent_columns = q.1.1.0; lent_values = q.1.1.1 }
 
 pub overflow_add-n : goal.overflow_add-n
 overflow_add-n c =
-    let one : Matrix = let a = c.args in matrix_of a.n1 a.starts1.now a.columns1.now a.values1.now in
-    let two : Matrix = let a = c.args in matrix_of a.n2 a.starts2.now a.columns2.now a.values2.now in
+    let one : Matrix = held c.args.first.now in
+    let two : Matrix = held c.args.second.now in
     let first_made : is_matrix one ≡ true = holds c.is_matrix.ensures (ap not c.if-not-is_matrix.false) in
     let second-made : is_matrix two ≡ true = holds c.is_matrix-2.ensures (ap not c.if-not-is_matrix-2.false) in
-    let few-rows : (c.args.n1 + c.count_from.result ≤ 2 * max_rows) × (length c.args.places.now ≤ max_rows) = let a = (matrix_facts one first_made).few in
+    let few-rows : (c.args.first.now.n + c.count_from.result ≤ 2 * max_rows) × (length c.args.places.now ≤ max_rows) = let a = (matrix_facts one first_made).few in
     let b = (matrix_facts two second-made).few in
-    omega (arith, c.count_from.ensures, length-filter-le (leb c.args.n1) c.args.places.now, c.if-places-n2.false) in
+    omega (arith, c.count_from.ensures, length-filter-le (leb c.args.first.now.n) c.args.places.now, c.if-places-second.false) in
     let f = few-rows in omega arith
 
 pub put_tenants-requires : goal.put_tenants-requires
 put_tenants-requires c =
-    let one : Matrix = let a = c.args in matrix_of a.n1 a.starts1.now a.columns1.now a.values1.now in
-    let two : Matrix = let a = c.args in matrix_of a.n2 a.starts2.now a.columns2.now a.values2.now in
+    let one : Matrix = held c.args.first.now in
+    let two : Matrix = held c.args.second.now in
     let first_made : is_matrix one ≡ true = holds c.is_matrix.ensures (ap not c.if-not-is_matrix.false) in
     let second-made : is_matrix two ≡ true = holds c.is_matrix-2.ensures (ap not c.if-not-is_matrix-2.false) in
-    let few-rows : (c.args.n1 + c.count_from.result ≤ 2 * max_rows) × (length c.args.places.now ≤ max_rows) = let a = (matrix_facts one first_made).few in
+    let few-rows : (c.args.first.now.n + c.count_from.result ≤ 2 * max_rows) × (length c.args.places.now ≤ max_rows) = let a = (matrix_facts one first_made).few in
     let b = (matrix_facts two second-made).few in
-    omega (arith, c.count_from.ensures, length-filter-le (leb c.args.n1) c.args.places.now, c.if-places-n2.false) in
+    omega (arith, c.count_from.ensures, length-filter-le (leb c.args.first.now.n) c.args.places.now, c.if-places-second.false) in
     let f = few-rows in (f.0, f.1, length-replicate {A = ℕ} (2 * max_rows) 0, λ k. get_d_zeros (2 * max_rows) k)
 
 pub returns-then-not-put_tenants : goal.returns-then-not-put_tenants
 returns-then-not-put_tenants c =
-    let one : Matrix = let a = c.args in matrix_of a.n1 a.starts1.now a.columns1.now a.values1.now in
+    let one : Matrix = held c.args.first.now in
     let first_made : is_matrix one ≡ true = holds c.is_matrix.ensures (ap not c.if-not-is_matrix.false) in
-    let two : Matrix = let a = c.args in matrix_of a.n2 a.starts2.now a.columns2.now a.values2.now in
+    let two : Matrix = held c.args.second.now in
     let second-made : is_matrix two ≡ true = holds c.is_matrix-2.ensures (ap not c.if-not-is_matrix-2.false) in
-    let rows : c.args.n1 + c.count_from.result ≡ joined_rows one c.args.places.now = rows_are one two c.args.places.now c.count_from.ensures in
-    let tested : are_places one two c.args.places.now ≡ c.put_tenants.result = tested_places one two c.args.places.now c.if-places-n2.false rows c.put_tenants.ensures.test in
+    let rows : c.args.first.now.n + c.count_from.result ≡ joined_rows one c.args.places.now = rows_are one two c.args.places.now c.count_from.ensures in
+    let tested : are_places one two c.args.places.now ≡ c.put_tenants.result = tested_places one two c.args.places.now c.if-places-second.false rows c.put_tenants.ensures.test in
     let q = misplaced _ _ _ _ _ _ first_made second-made (fails (sym tested) (ap not c.if-not-put_tenants.true)) in
     record { reply = q.0; lent_starts = q.1.0; lent_columns = q.1.1.0; lent_values = q.1.1.1 }
 
 pub returns-then-n-gt-MAX_ROWS : goal.returns-then-n-gt-MAX_ROWS
 returns-then-n-gt-MAX_ROWS c =
-    let one : Matrix = let a = c.args in matrix_of a.n1 a.starts1.now a.columns1.now a.values1.now in
+    let one : Matrix = held c.args.first.now in
     let first_made : is_matrix one ≡ true = holds c.is_matrix.ensures (ap not c.if-not-is_matrix.false) in
-    let two : Matrix = let a = c.args in matrix_of a.n2 a.starts2.now a.columns2.now a.values2.now in
+    let two : Matrix = held c.args.second.now in
     let second-made : is_matrix two ≡ true = holds c.is_matrix-2.ensures (ap not c.if-not-is_matrix-2.false) in
-    let rows : c.args.n1 + c.count_from.result ≡ joined_rows one c.args.places.now = rows_are one two c.args.places.now c.count_from.ensures in
-    let tested : are_places one two c.args.places.now ≡ c.put_tenants.result = tested_places one two c.args.places.now c.if-places-n2.false rows c.put_tenants.ensures.test in
+    let rows : c.args.first.now.n + c.count_from.result ≡ joined_rows one c.args.places.now = rows_are one two c.args.places.now c.count_from.ensures in
+    let tested : are_places one two c.args.places.now ≡ c.put_tenants.result = tested_places one two c.args.places.now c.if-places-second.false rows c.put_tenants.ensures.test in
     let placed : are_places one two c.args.places.now ≡ true = holds (sym tested) (ap not c.if-not-put_tenants.false) in
     let oka = first_made in
     let okb = second-made in
     let q = unlimited _ _ _ _ _ _ oka okb placed (many-rows _ _ _ oka okb placed (omega (arith, c.if-n-gt-MAX_ROWS.true, rows))) in
     record { reply = q.0; lent_starts = q.1.0; lent_columns = q.1.1.0; lent_values = q.1.1.1 }
 
-pub gather-m-requires : goal.gather-m-requires
-gather-m-requires c =
-    let one : Matrix = let a = c.args in matrix_of a.n1 a.starts1.now a.columns1.now a.values1.now in
-    let two : Matrix = let a = c.args in matrix_of a.n2 a.starts2.now a.columns2.now a.values2.now in
-    let rows : c.args.n1 + c.count_from.result ≡ joined_rows one c.args.places.now = rows_are one two c.args.places.now c.count_from.ensures in
+pub gather-requires : goal.gather-requires
+gather-requires c =
+    let one : Matrix = held c.args.first.now in
+    let two : Matrix = held c.args.second.now in
+    let rows : c.args.first.now.n + c.count_from.result ≡ joined_rows one c.args.places.now = rows_are one two c.args.places.now c.count_from.ensures in
     let first_made : is_matrix one ≡ true = holds c.is_matrix.ensures (ap not c.if-not-is_matrix.false) in
     let second-made : is_matrix two ≡ true = holds c.is_matrix-2.ensures (ap not c.if-not-is_matrix-2.false) in
-    let tested : are_places one two c.args.places.now ≡ c.put_tenants.result = tested_places one two c.args.places.now c.if-places-n2.false rows c.put_tenants.ensures.test in
+    let tested : are_places one two c.args.places.now ≡ c.put_tenants.result = tested_places one two c.args.places.now c.if-places-second.false rows c.put_tenants.ensures.test in
     let placed : are_places one two c.args.places.now ≡ true = holds (sym tested) (ap not c.if-not-put_tenants.false) in
-    let sewing : Sewing one two c.args.places.now (c.args.n1 + c.count_from.result) = record { first = first_made; second = second-made; placed = placed; rows = rows; few = c.if-n-gt-MAX_ROWS.false } in
+    let sewing : Sewing one two c.args.places.now (c.args.first.now.n + c.count_from.result) = record { first = first_made; second = second-made; placed = placed; rows = rows; few = c.if-n-gt-MAX_ROWS.false } in
     (sewing, c.put_tenants.ensures.tenants (holds refl (ap not c.if-not-put_tenants.false)), record { rows = refl; columns = refl; values = refl })
 
-pub returns-then-m-gt-MAX_ENTRIES : goal.returns-then-m-gt-MAX_ENTRIES
-returns-then-m-gt-MAX_ENTRIES c =
-    let one : Matrix = let a = c.args in matrix_of a.n1 a.starts1.now a.columns1.now a.values1.now in
-    let two : Matrix = let a = c.args in matrix_of a.n2 a.starts2.now a.columns2.now a.values2.now in
+pub returns-in_default : goal.returns-in_default
+returns-in_default c =
+    let one : Matrix = held c.args.first.now in
+    let two : Matrix = held c.args.second.now in
     let first_made : is_matrix one ≡ true = holds c.is_matrix.ensures (ap not c.if-not-is_matrix.false) in
     let second-made : is_matrix two ≡ true = holds c.is_matrix-2.ensures (ap not c.if-not-is_matrix-2.false) in
-    let rows : c.args.n1 + c.count_from.result ≡ joined_rows one c.args.places.now = rows_are one two c.args.places.now c.count_from.ensures in
-    let tested : are_places one two c.args.places.now ≡ c.put_tenants.result = tested_places one two c.args.places.now c.if-places-n2.false rows c.put_tenants.ensures.test in
+    let rows : c.args.first.now.n + c.count_from.result ≡ joined_rows one c.args.places.now = rows_are one two c.args.places.now c.count_from.ensures in
+    let tested : are_places one two c.args.places.now ≡ c.put_tenants.result = tested_places one two c.args.places.now c.if-places-second.false rows c.put_tenants.ensures.test in
     let placed : are_places one two c.args.places.now ≡ true = holds (sym tested) (ap not c.if-not-put_tenants.false) in
-    let sewing : Sewing one two c.args.places.now (c.args.n1 + c.count_from.result) = record { first = first_made; second = second-made; placed = placed; rows = rows; few = c.if-n-gt-MAX_ROWS.false } in
-    let w = sewing in
-    let q = unlimited _ _ _ _ _ _ w.first w.second w.placed (c.gather-m.ensures.past c.if-m-gt-MAX_ENTRIES.true) in
+    let q = unlimited _ _ _ _ _ _ first_made second-made placed c.in_default.ensures in
     record { reply = q.0; lent_starts = q.1.0; lent_columns = q.1.1.0; lent_values = q.1.1.1 }
-
-pub slice_bounds-place_rows-end : goal.slice_bounds-place_rows-end
-slice_bounds-place_rows-end c = sym (c.gather-m.ensures.all c.if-m-gt-MAX_ENTRIES.false).1.rows
-
-pub slice_bounds-place_rows-end-2 : goal.slice_bounds-place_rows-end-2
-slice_bounds-place_rows-end-2 c = sym (c.gather-m.ensures.all c.if-m-gt-MAX_ENTRIES.false).1.columns
-
-pub slice_bounds-place_rows-end-3 : goal.slice_bounds-place_rows-end-3
-slice_bounds-place_rows-end-3 c = sym (c.gather-m.ensures.all c.if-m-gt-MAX_ENTRIES.false).1.values
-
-pub place_rows-requires : goal.place_rows-requires
-place_rows-requires c =
-    let one : Matrix = let a = c.args in matrix_of a.n1 a.starts1.now a.columns1.now a.values1.now in
-    let two : Matrix = let a = c.args in matrix_of a.n2 a.starts2.now a.columns2.now a.values2.now in
-    let first_made : is_matrix one ≡ true = holds c.is_matrix.ensures (ap not c.if-not-is_matrix.false) in
-    let second-made : is_matrix two ≡ true = holds c.is_matrix-2.ensures (ap not c.if-not-is_matrix-2.false) in
-    let rows : c.args.n1 + c.count_from.result ≡ joined_rows one c.args.places.now = rows_are one two c.args.places.now c.count_from.ensures in
-    let tested : are_places one two c.args.places.now ≡ c.put_tenants.result = tested_places one two c.args.places.now c.if-places-n2.false rows c.put_tenants.ensures.test in
-    let placed : are_places one two c.args.places.now ≡ true = holds (sym tested) (ap not c.if-not-put_tenants.false) in
-    let sewing : Sewing one two c.args.places.now (c.args.n1 + c.count_from.result) = record { first = first_made; second = second-made; placed = placed; rows = rows; few = c.if-n-gt-MAX_ROWS.false } in
-    let g = c.gather-m.ensures.all c.if-m-gt-MAX_ENTRIES.false in
-    entries _ _ _ _ sewing g.0 c.if-m-gt-MAX_ENTRIES.false g.1
 
 pub returns : goal.returns
 returns c =
-    let one : Matrix = let a = c.args in matrix_of a.n1 a.starts1.now a.columns1.now a.values1.now in
-    let two : Matrix = let a = c.args in matrix_of a.n2 a.starts2.now a.columns2.now a.values2.now in
+    let one : Matrix = held c.args.first.now in
+    let two : Matrix = held c.args.second.now in
     let first_made : is_matrix one ≡ true = holds c.is_matrix.ensures (ap not c.if-not-is_matrix.false) in
     let second-made : is_matrix two ≡ true = holds c.is_matrix-2.ensures (ap not c.if-not-is_matrix-2.false) in
-    let rows : c.args.n1 + c.count_from.result ≡ joined_rows one c.args.places.now = rows_are one two c.args.places.now c.count_from.ensures in
-    let tested : are_places one two c.args.places.now ≡ c.put_tenants.result = tested_places one two c.args.places.now c.if-places-n2.false rows c.put_tenants.ensures.test in
+    let rows : c.args.first.now.n + c.count_from.result ≡ joined_rows one c.args.places.now = rows_are one two c.args.places.now c.count_from.ensures in
+    let tested : are_places one two c.args.places.now ≡ c.put_tenants.result = tested_places one two c.args.places.now c.if-places-second.false rows c.put_tenants.ensures.test in
     let placed : are_places one two c.args.places.now ≡ true = holds (sym tested) (ap not c.if-not-put_tenants.false) in
-    let sewing : Sewing one two c.args.places.now (c.args.n1 + c.count_from.result) = record { first = first_made; second = second-made; placed = placed; rows = rows; few = c.if-n-gt-MAX_ROWS.false } in
-    let g = c.gather-m.ensures.all c.if-m-gt-MAX_ENTRIES.false in
-    let q = placed_joins _ _ _ _ sewing g.0 c.if-m-gt-MAX_ENTRIES.false c.place_rows.ensures in
+    let sewing : Sewing one two c.args.places.now (c.args.first.now.n + c.count_from.result) = record { first = first_made; second = second-made; placed = placed; rows = rows; few = c.if-n-gt-MAX_ROWS.false } in
+    let whole = entries _ _ _ _ sewing c.in-Some.ensures.1 c.in-Some.ensures.0 c.in-Some.ensures.2 in
+    let q = placed_joins _ _ _ _ sewing c.in-Some.ensures.1 c.in-Some.ensures.0 (placed_cut c.in-Some.m c.gather.new.rs c.gather.new.cs c.gather.new.vs whole c.place_rows.ensures) in
     record { reply = q.0; lent_starts = q.1.0; lent_columns = q.1.1.0; lent_values = q.1.1.1 }

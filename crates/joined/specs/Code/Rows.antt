@@ -1,5 +1,5 @@
 -- The entries of the joined net on and below the diagonal, row by row, in three arrays.
-use Rattle.std.specs.Prelude.{◌≡◌, ◌⊎◌, Bool, true, false, not, ◌&&◌, cond, List, [], ◌∷◌, ◌++◌, map, ℕ, suc, ◌+◌, ◌≤◌, ◌<◌, eqb, leb, ℤ, pos, ◌+ℤ◌, length, get_or}
+use Rattle.std.specs.Prelude.{Option, Some, None, ◌≡◌, ◌⊎◌, Bool, true, false, not, ◌&&◌, cond, List, [], ◌∷◌, ◌++◌, map, ℕ, suc, ◌+◌, ◌≤◌, ◌<◌, eqb, leb, ℤ, pos, ◌+ℤ◌, length, get_or}
 use Rattle.base.specs.Lists.{filter, all, concat, is_in, range, distinct, position_of}
 use Rattle.base.specs.Integers.{within}
 use Rattle.matrix.specs.Limits.{max_rows, max_entries, max_value}
@@ -82,6 +82,11 @@ pub record Emitted (new : List Triplet) (m : ℕ) (rs cs : List ℕ) (vs : List 
   pub small : r ≤ max_entries → are_small new ≡ true
   pub past : max_entries < r → (are_small new ≡ false) ⊎ (max_entries < m + length new)
 
+-- .. as the code tells it: how many there are then, none if a limit is broken
+abbrev pub Told : (new : List Triplet) (m : ℕ) (rs cs : List ℕ) (vs : List ℤ) → Option ℕ → (rs' cs' : List ℕ) (vs' : List ℤ) → Type 0
+Told new m rs cs vs (Some r) rs' cs' vs' = (r ≤ max_entries) × Emitted new m rs cs vs r rs' cs' vs'
+Told new m rs cs vs None rs' cs' vs' = Emitted new m rs cs vs (max_entries + 1) rs' cs' vs'
+
 -- ---- the whole net
 
 -- two nets and places that pass 5, 5 and 23, and rows that pass 24
@@ -99,6 +104,6 @@ pub record Collected (n : ℕ) (stored : ℕ → ℕ → Bool) (value : ℕ → 
   pub cells : (i j : ℕ) → i < n → filter (is_at i j) (triplets_of m rs cs vs) ≡ cond (stored i j && leb j i) (triplet i j (value i j) ∷ []) []
 
 -- the arrays after the gathering: the entries of the joined net, or a limit of it is broken
-pub record Gathers (a b : Matrix) (places : List ℕ) (n m : ℕ) (rs cs : List ℕ) (vs : List ℤ) : Type 0 where
-  pub all : m ≤ max_entries → Collected n (stored_in a b places) (stiffness a b places) m rs cs vs × Arrays rs cs vs
-  pub past : max_entries < m → in_limits (joined a b places) ≡ false
+abbrev pub Gathers : (a b : Matrix) (places : List ℕ) (n : ℕ) → Option ℕ → (rs cs : List ℕ) (vs : List ℤ) → Type 0
+Gathers a b places n (Some m) rs cs vs = (m ≤ max_entries) × Collected n (stored_in a b places) (stiffness a b places) m rs cs vs × Arrays rs cs vs
+Gathers a b places n None rs cs vs = in_limits (joined a b places) ≡ false

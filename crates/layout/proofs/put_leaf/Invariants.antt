@@ -1,6 +1,6 @@
 -- `put_leaf` meets its contract: the rows of the leaf before position p have their updates.
 use mathlib.Core.Path.{◌≡◌}
-use Prim.Native.Nat.{ℕ, ◌-◌, ◌≤◌}
+use Prim.Native.Nat.{ℕ}
 use Rattle.run.specs.Job.{Job}
 use Rattle.tables.specs.Code.Laid.{next_of}
 use Rattle.layout.specs.Code.UpdateTable.{Sized, Stretch, Filled}
@@ -8,8 +8,4 @@ use Rattle.layout.proofs.put_leaf.Given as goal
 
 abbrev pub invariant-loop-p : goal.invariant-loop-p
 invariant-loop-p l =
-    (l.start ≤ l.p) × (l.p ≤ l.end)
-    × ((j : Job) (w : ℕ) → Sized j l.sizes → Stretch j l.i w l.start l.end → l.place ≡ next_of j w l.start → Filled j l.start l.initial.row l.initial.begins l.initial.leaves → (l.next ≡ next_of j w l.p) × Filled j l.p l.row l.begins l.leaves)
-
-abbrev pub decreases-loop-p : goal.decreases-loop-p
-decreases-loop-p l = l.end - l.p
+    ((j : Job) (w : ℕ) → Sized j l.sizes → Stretch j l.i w l.start l.end → l.place ≡ next_of j w l.start → Filled j l.start l.initial.row l.initial.begins l.initial.leaves → (l.next ≡ next_of j w l.p) × Filled j l.p l.row l.begins l.leaves)

@@ -1,10 +1,9 @@
--- `put_planned` meets its contract.
-use mathlib.Core.Path.{sym, ap, ◌∙◌}
-use Prim.Native.Nat.{ℕ}
+use mathlib.Core.Path.{sym}
 use native.Mathlib.Omega.{arith}
 use lib.ListN.{replicate, length-replicate}
-use Rattle.base.specs.Verdicts.{reply_of}
-use Rattle.matrix.specs.Matrix.{Matrix, matrix_of}
+use Prim.Native.Nat.{ℕ}
+use Rattle.base.specs.Verdicts.{number_of}
+use Rattle.matrix.specs.Held.{held}
 use Rattle.matrix.proofs.Matrix.{matrix_facts}
 use Rattle.matrix.specs.Limits.{max_rows}
 use Rattle.plan.specs.Code.Room.{max_fields}
@@ -14,23 +13,25 @@ use Rattle.listing.proofs.put_planned.Goals as goal
 
 pub put_plan-requires : goal.put_plan-requires
 put_plan-requires c =
-    let held : Matrix = matrix_of c.args.n c.args.starts.now c.args.columns.now c.args.values.now in
-    let left : Left held c.args.workers c.args.p c.in-Accepted.count c.plan-made.new.order c.plan-made.new.groups = planned-accepted held c.args.workers c.args.p c.requires.0 (replicate max_rows 0) (replicate max_fields 0) (length-replicate {A = ℕ} max_rows 0) (length-replicate {A = ℕ} max_fields 0) c.in-Accepted.count
-    (ap reply_of (sym c.in-Accepted.is) ∙ c.plan-made.ensures.reply) _ _ c.plan-made.ensures.lent_order c.plan-made.ensures.lent_groups in
-    let rows = (matrix_facts held c.requires.0).few in
+    let m = held c.args.m.now in
+    let e = c.in-Ok.ensures in
+    let left : Left m c.args.workers c.args.p c.in-Ok.count c.plan.new.order c.plan.new.groups = planned-accepted m c.args.workers c.args.p c.requires.0 (replicate max_rows 0) (replicate max_fields 0) (length-replicate {A = ℕ} max_rows 0) (length-replicate {A = ℕ} max_fields 0) c.in-Ok.count
+    e.reply _ _ e.lent_order e.lent_groups in
+    let rows = (matrix_facts m c.requires.0).few in
     let count = left.few in
-    (omega (arith, c.plan-made.auto.order, length-replicate {A = ℕ} max_rows 0), omega (arith, c.plan-made.auto.groups, length-replicate {A = ℕ} max_fields 0), omega (arith, c.requires.1))
+    (omega (arith, c.plan.auto.order, length-replicate {A = ℕ} max_rows 0), omega (arith, c.plan.auto.groups, length-replicate {A = ℕ} max_fields 0), omega (arith, c.requires.1))
 
-pub returns-in-Refused : goal.returns-in-Refused
-returns-in-Refused c =
-    let held : Matrix = matrix_of c.args.n c.args.starts.now c.args.columns.now c.args.values.now in
-    let e = planned-refused held c.args.workers c.args.p c.requires.0 (replicate max_rows 0) (replicate max_fields 0) (length-replicate {A = ℕ} max_rows 0) (length-replicate {A = ℕ} max_fields 0) c.in-Refused.number c.in-Refused.place
-    (ap reply_of (sym c.in-Refused.is) ∙ c.plan-made.ensures.reply) in
-    put_as (sym e) c.put_refusal.ensures
+pub returns-in-Err : goal.returns-in-Err
+returns-in-Err c =
+    let r = c.in-Err.refusal in
+    put_as
+    (sym (planned-refused (held c.args.m.now) c.args.workers c.args.p c.requires.0 (replicate max_rows 0) (replicate max_fields 0) (length-replicate {A = ℕ} max_rows 0) (length-replicate {A = ℕ} max_fields 0) (number_of r.kind) r.place c.in-Err.ensures.reply))
+    c.put_refusal.ensures
 
-pub returns-in-Accepted : goal.returns-in-Accepted
-returns-in-Accepted c =
-    let held : Matrix = matrix_of c.args.n c.args.starts.now c.args.columns.now c.args.values.now in
-    let left : Left held c.args.workers c.args.p c.in-Accepted.count c.plan-made.new.order c.plan-made.new.groups = planned-accepted held c.args.workers c.args.p c.requires.0 (replicate max_rows 0) (replicate max_fields 0) (length-replicate {A = ℕ} max_rows 0) (length-replicate {A = ℕ} max_fields 0) c.in-Accepted.count
-    (ap reply_of (sym c.in-Accepted.is) ∙ c.plan-made.ensures.reply) _ _ c.plan-made.ensures.lent_order c.plan-made.ensures.lent_groups in
+pub returns-in-Ok : goal.returns-in-Ok
+returns-in-Ok c =
+    let m = held c.args.m.now in
+    let e = c.in-Ok.ensures in
+    let left : Left m c.args.workers c.args.p c.in-Ok.count c.plan.new.order c.plan.new.groups = planned-accepted m c.args.workers c.args.p c.requires.0 (replicate max_rows 0) (replicate max_fields 0) (length-replicate {A = ℕ} max_rows 0) (length-replicate {A = ℕ} max_fields 0) c.in-Ok.count
+    e.reply _ _ e.lent_order e.lent_groups in
     put_as (sym left.listed) c.put_plan.ensures

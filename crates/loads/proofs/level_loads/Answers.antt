@@ -9,7 +9,7 @@ use Rattle.loads.proofs.level_loads.Goals as goal
 pub loop-k-init : goal.loop-k-init
 loop-k-init c =
     let a = c.args in
-    loading_start a.keys.now a.ends.now a.stretch.now (levels_in 0 a.ends.now a.stretch.now) c.requires.1 c.requires.2 a.loads.now c.requires.3
+    loading_start a.keys.now a.ends.now a.stretch.now (levels_in 0 a.ends.now a.stretch.now) c.requires.1 c.requires.2 a.loads.now (omega arith)
 
 pub overflow_cast-to : goal.overflow_cast-to
 overflow_cast-to c = omega (arith, c.type_inv.ends c.loop-k.k)

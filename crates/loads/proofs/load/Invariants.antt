@@ -1,12 +1,8 @@
--- `load` meets its contract: sum is the load of the first i rows.
+-- sum is the load of the first i rows.
 use mathlib.Core.Path.{◌≡◌}
-use Prim.Native.Nat.{◌≤◌, ◌-◌}
-use lib.ListN.{length, take}
+use lib.ListN.{take}
 use Rattle.loads.specs.Code.Stretches.{key_load}
 use Rattle.loads.proofs.load.Given as goal
 
-abbrev pub invariant-loop-i : goal.invariant-loop-i
-invariant-loop-i l = (l.i ≤ length l.rows) × (l.sum ≡ key_load l.keys (take l.i l.rows))
-
-abbrev pub decreases-loop-i : goal.decreases-loop-i
-decreases-loop-i l = length l.rows - l.i
+abbrev pub invariant-loop-v : goal.invariant-loop-v
+invariant-loop-v l = l.sum ≡ key_load l.keys (take l.v-index l.rows)

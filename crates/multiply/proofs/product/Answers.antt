@@ -1,44 +1,22 @@
--- `product`: the checks in turn, then the forces.
-use mathlib.Core.Bool.{not}
-use mathlib.Core.Path.{◌≡◌, sym, ap, ◌∙◌}
+-- `product`: what the checks in turn found.
+use mathlib.Core.Path.{◌≡◌}
 use mathlib.Core.Bool.{true}
-use Rattle.base.specs.Verdicts.{reply_of}
-use Rattle.base.proofs.Booleans.{fails, holds}
-use Rattle.matrix.specs.Matrix.{Matrix, is_matrix, matrix_of}
-use Rattle.multiply.proofs.Replied.{product_unmade, product-unmoved, product-short, product-accepted, product_loaded, refused-forces, made-forces}
+use native.Mathlib.Omega.{arith}
+use Rattle.base.proofs.Replies.{checked_accepted}
+use Rattle.matrix.specs.Matrix.{is_matrix, displacement_check}
+use Rattle.matrix.specs.Held.{held}
+use Rattle.matrix.proofs.Checks.{shape, matrix_tidy}
 use Rattle.multiply.proofs.product.Goals as goal
 
-pub returns-then-not-is_matrix : goal.returns-then-not-is_matrix
-returns-then-not-is_matrix c =
-    let given : Matrix = let a = c.args in matrix_of a.n a.starts.now a.columns.now a.values.now in
-    let q = refused-forces given _ _ _ _ _ (product_unmade given _ _ (fails c.is_matrix.ensures (ap not c.if-not-is_matrix.true))) in
-    record { reply = q.0; lent_forces = q.1 }
-
-pub returns-in-Refused : goal.returns-in-Refused
-returns-in-Refused c =
-    let given : Matrix = let a = c.args in matrix_of a.n a.starts.now a.columns.now a.values.now in
-    let is_made : is_matrix given ≡ true = holds c.is_matrix.ensures (ap not c.if-not-is_matrix.false) in
-    let q = refused-forces given _ _ _ _ _ (product-unmoved given _ _ is_made _ _ (ap reply_of (sym c.in-Refused.is) ∙ c.check_displacements-checked.ensures)) in
-    record { reply = q.0; lent_forces = q.1 }
-
-pub returns-then-forces-rows : goal.returns-then-forces-rows
-returns-then-forces-rows c =
-    let given : Matrix = let a = c.args in matrix_of a.n a.starts.now a.columns.now a.values.now in
-    let is_made : is_matrix given ≡ true = holds c.is_matrix.ensures (ap not c.if-not-is_matrix.false) in
-    let q = refused-forces given _ _ _ _ _ (product-short given _ _ is_made _ (ap reply_of (sym c.in_default.is) ∙ c.check_displacements-checked.ensures) c.if-forces-rows.true) in
-    record { reply = q.0; lent_forces = q.1 }
+pub overflow_cast-n : goal.overflow_cast-n
+overflow_cast-n c =
+    let made : is_matrix (held c.args.m.now) ≡ true = cc in
+    omega (arith, (shape _ (matrix_tidy _ made).shape).few)
 
 pub fill-requires : goal.fill-requires
-fill-requires c =
-    let given : Matrix = let a = c.args in matrix_of a.n a.starts.now a.columns.now a.values.now in
-    let is_made : is_matrix given ≡ true = holds c.is_matrix.ensures (ap not c.if-not-is_matrix.false) in
-    product_loaded given _ _ is_made _ (ap reply_of (sym c.in_default.is) ∙ c.check_displacements-checked.ensures) c.if-forces-rows.false
-
-pub returns : goal.returns
-returns c =
-    let given : Matrix = let a = c.args in matrix_of a.n a.starts.now a.columns.now a.values.now in
-    let is_made : is_matrix given ≡ true = holds c.is_matrix.ensures (ap not c.if-not-is_matrix.false) in
-    let q = made-forces given _ _ _ _
-    (product-accepted given _ _ is_made _ (ap reply_of (sym c.in_default.is) ∙ c.check_displacements-checked.ensures) c.if-forces-rows.false)
-    c.fill.ensures in
-    record { reply = q.0; lent_forces = q.1 }
+unfolding displacement_check
+fill-requires c = record {
+  matrix = cc;
+  moved = checked_accepted (displacement_check c.args.m.now.n c.args.displacements.now) 0 c.in_ok-check_displacements.ensures;
+  long = omega arith;
+}

@@ -6,7 +6,8 @@ use Rattle.market.specs.Fields.{got, none, Signed, is, no, digits, value_of, pos
 use Rattle.scan.proofs.Left.{left-cons}
 use Rattle.scan.proofs.numbers.Scanning.{class_inside}
 use Rattle.numbers.specs.Lines.{is_spelled, whole_number, with_end, number_on}
-use Rattle.numbers.specs.declared.line.Line.TheVariants as line
+use Rattle.std.proofs.Common.{Err}
+use Rattle.base.specs.declared.Kind.TheVariants as kind
 use Rattle.numbers.specs.Code.Lines.{many, plain_of, negative_of, line_at}
 
 -- what k digits of the value v are, after a sign or not, if the line ends after them or not
@@ -73,7 +74,7 @@ negative-told p (suc v) k = go (ltb v (2 ^ 63)) refl
     next : p + 1 + k + 1 ≡ p + suc k + 1
     next = omega arith
 
-    past : (m : ℕ) → 2 ^ 63 < m → negative_of m (p + 1 + k + 1) ≡ line.Past
+    past : (m : ℕ) → 2 ^ 63 < m → negative_of m (p + 1 + k + 1) ≡ Err kind.BadEntry
     past zero h = absurd (omega arith)
     past (suc m) h = rw (le-ltb m (2 ^ 63) (omega arith))
 
@@ -91,10 +92,10 @@ module _ (s : List ℕ) (at : ℕ) {t : Bool} (signed : is_sign (get_or s at 0) 
   by_end : is_spelled (digits_at s at t) ≡ true → {e : Bool} → is_end (get_or s next 0) ≡ e → number_on (drop at s) ≡ number_by t (value_of 0 (digits_at s at t)) (length (digits_at s at t)) e
   by_end w {e} end = number_at s at t signed (digits_at s at t) refl ∙ rw (w, ← after, end)
 
-  pub line-none : is_spelled (digits_at s at t) ≡ false → line.Broken ≡ line_at at (number_on (drop at s))
+  pub line-none : is_spelled (digits_at s at t) ≡ false → Err kind.BadForm ≡ line_at at (number_on (drop at s))
   line-none w = rw (number_at s at t signed (digits_at s at t) refl, w)
 
-  pub line_unended : is_spelled (digits_at s at t) ≡ true → is_end (get_or s next 0) ≡ false → line.Broken ≡ line_at at (number_on (drop at s))
+  pub line_unended : is_spelled (digits_at s at t) ≡ true → is_end (get_or s next 0) ≡ false → Err kind.BadForm ≡ line_at at (number_on (drop at s))
   line_unended w e = rw (by_end w e, number_unended t (value_of 0 (digits_at s at t)) (length (digits_at s at t)))
 
   pub line-negative : is_spelled (digits_at s at t) ≡ true → is_end (get_or s next 0) ≡ true → t ≡ true → negative_of value (next + 1) ≡ line_at at (number_on (drop at s))

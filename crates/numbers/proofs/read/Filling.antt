@@ -1,20 +1,17 @@
 -- The loop that stores the numbers of a text.
-use Rattle.std.proofs.Common.{◌≡◌, ℕ, ◌+◌, ◌*◌, ◌<◌, ◌≤◌, List, [], ◌∷◌, ◌++◌, length, get_or, take, drop, ℤ, pos, refl, sym, ap, ◌∙◌, inl, inr, ⊎_elim, append_assoc, arith, length-append, take_all}
+use Rattle.std.proofs.Common.{◌≡◌, ℕ, ◌+◌, ◌*◌, ◌<◌, ◌≤◌, List, [], ◌∷◌, ◌++◌, length, get_or, take, drop, ℤ, pos, refl, sym, ap, ◌∙◌, append_assoc, arith, length-append, take_all}
 use lib.Seq.{sets, get_or-append_seam}
-use types.Run.{OneOf}
-use denote.Enum.Declared.{tag_of}
 use Rattle.words.specs.LittleEndian.{bytes_of, signed_bytes_of, signed_bytes, stored}
 use Rattle.words.proofs.Digits.{length-signed_bytes_of}
 use Rattle.words.proofs.Blocks.{Storing, store-none, store_more}
-use Rattle.numbers.specs.declared.line.Line.{Line}
-use Rattle.numbers.specs.declared.line.Line.TheVariants.{Number, Past, Broken}
+use Rattle.std.proofs.Common.{Result, Ok, Err, IsOk}
+use Rattle.base.specs.declared.Kind.{Kind}
 use Rattle.numbers.specs.Code.Lines.{line_at}
 use Rattle.numbers.specs.Lines.{number_on, numbers, faulty, listed}
 use Rattle.numbers.specs.Calls.{numbers_in}
-use Rattle.numbers.specs.contracts.line.Line.{the_type}
 use Rattle.numbers.proofs.NumberLists.{text-only}
-use Rattle.numbers.proofs.read.Told.{IsNumber, past-told, broken-told}
-use Rattle.numbers.proofs.read.Judging.{Judging, judging_start, judging_next, judging_more, judging_past, judging_broken, judging_done}
+use Rattle.numbers.proofs.read.Told.{IsNumber}
+use Rattle.numbers.proofs.read.Judging.{Judging, judging_start, judging_next, judging_more, judging_fault, judging_done}
 
 -- the numbers of the text
 abbrev pub all : List ℕ → List ℤ
@@ -35,17 +32,11 @@ module _ (s : List ℕ) (good : listed s ≡ numbers (numbers_in (listed s))) wh
 
   -- there is a number
   never : {X : Type 0} {q p : ℕ} → listed s ≡ faulty q p → X
-  never e = let z : ◌≡◌ {A = ℕ} 0 1 = cc in absurd (omega arith)
+  never e = absurd (cc)
 
-  pub other_line : (l : Line) → ((bits next : ℕ) → l ≡ Number bits next → ⊥) → OneOf (1 ∷ 2 ∷ []) (tag_of the_type l)
-  other_line (Number bits next) h = absurd (h bits next refl)
-  other_line Past h = inl refl
-  other_line Broken h = inr refl
-
-  pub always_number : {k at : ℕ} → Judging s k at → at < length s → (l : Line) → OneOf (1 ∷ 2 ∷ []) (tag_of the_type l) → l ≡ line_at at (number_on (drop at s)) → ⊥
-  always_number j h (Number bits next) o e = ⊎_elim (λ y. omega arith) (λ y. omega arith) o
-  always_number {at = at} j h Past o e = never (judging_past s j (past-told at (number_on (drop at s)) e))
-  always_number {at = at} j h Broken o e = never (judging_broken s j h (broken-told at (number_on (drop at s)) e))
+  pub always_number : {k at : ℕ} → Judging s k at → at < length s → (r : Result (ℕ × ℕ) Kind) → r ≡ line_at at (number_on (drop at s)) → IsOk r
+  always_number j h (Ok x) e = refl
+  always_number j h (Err q) e = never (judging_fault s j h q e)
 
   module _ (old : List ℕ) where
     pub filling_start : Filling s old old 0 0

@@ -1,21 +1,25 @@
 -- The loop that measures a text, number by number.
-use Rattle.std.proofs.Common.{◌≡◌, ℕ, ◌+◌, ◌-◌, ◌*◌, ◌/◌, ◌%◌, ◌^◌, ◌<◌, ◌≤◌, min, Bool, true, false, ltb, List, [], ◌∷◌, ◌++◌, map, length, get_or, take, ℤ, pos, sym, refl, ap, ◌∙◌, append-nil, add-one, arith, length-append, take_all, take-suc, ltb-false, ltb-true, le-leb}
+use Rattle.std.proofs.Common.{◌≡◌, ℕ, ◌+◌, ◌-◌, ◌*◌, ◌/◌, ◌%◌, ◌^◌, ◌<◌, ◌≤◌, min, Bool, true, false, ltb, List, [], ◌∷◌, ◌++◌, map, length, get_or, take, drop, ℤ, pos, sym, refl, ap, ◌∙◌, append-nil, add-one, arith, length-append, take_all, take-suc, ltb-false, ltb-true, le-leb}
 use mathlib.Core.List.{map-append}
 use mir.Val.{bool_byte}
 use borrow.Author.Tests.{lt-leb}
 use Rattle.base.proofs.Lists.{concat-append}
 use Rattle.words.specs.LittleEndian.{number, to_signed, signed_number, signed}
-use Rattle.words.specs.Code.Places.{eight_at}
-use Rattle.words.proofs.Digits.{eight-at}
 use Rattle.words.proofs.Blocks.{decoded_at}
 use Rattle.numbers.specs.Lines.{number_line, numbers_text}
-use Rattle.numbers.specs.declared.write.Size.TheVariants as size
+use Rattle.std.proofs.Common.{Ok, Err}
+use Rattle.base.specs.declared.Kind.TheVariants as kind
+use Rattle.base.specs.declared.Refusal.{Refusal}
 use Rattle.numbers.specs.Code.Puts.{size_of}
 
+-- the refusal of a text with no room
+abbrev pub too_short : ℕ → Refusal
+too_short low = record { kind = kind.TooShort; place = low }
+
 -- the number at an index
-pub number-here : (bytes : List ℕ) (k : ℕ) → k < length bytes / 8 → to_signed 8 (eight_at bytes (k * 8)) ≡ get_or (signed 8 bytes) k (pos 0)
+pub number-here : (bytes : List ℕ) (k : ℕ) → k < length bytes / 8 → to_signed 8 (number (take 8 (drop (k * 8) bytes))) ≡ get_or (signed 8 bytes) k (pos 0)
 unfolding to_signed number
-number-here bytes k h = ap (to_signed 8) (eight-at bytes (k * 8) (omega arith)) ∙ sym (decoded_at (signed_number 8) 8 bytes k h)
+number-here bytes k h = sym (decoded_at (signed_number 8) 8 bytes k h)
 
 -- one line more
 pub text-next : (zs : List ℤ) (k : ℕ) → k < length zs → numbers_text (take (k + 1) zs) ≡ numbers_text (take k zs) ++ number_line (get_or zs k (pos 0))
@@ -77,14 +81,14 @@ module _ (zs : List ℤ) (room : ℕ) where
     whole : length zs ≤ k → bytes_to zs k ≡ length (numbers_text zs)
     whole h = ap (λ (ys : List ℤ). length (numbers_text ys)) (take_all k zs h)
 
-    pub measure_short : length zs ≤ k → 0 < over → size.Short needed ≡ size_of (length (numbers_text zs)) room
-    measure_short h o = rw (lt-leb (length (numbers_text zs)) room (omega (arith, m.short o, whole h))) (ap size.Short (m.low ∙ rw (whole h)))
+    pub measure_short : length zs ≤ k → 0 < over → Err (too_short needed) ≡ size_of (length (numbers_text zs)) room
+    measure_short h o = rw (lt-leb (length (numbers_text zs)) room (omega (arith, m.short o, whole h))) (ap (λ (k : ℕ). Err (too_short k)) (m.low ∙ rw (whole h)))
 
-    pub measure_fits : length zs ≤ k → over ≤ 0 → size.Fits (room - left) ≡ size_of (length (numbers_text zs)) room
+    pub measure_fits : length zs ≤ k → over ≤ 0 → Ok (room - left) ≡ size_of (length (numbers_text zs)) room
     measure_fits h o =
         let f = m.fits (omega arith) in
         let w = whole h in
-        rw (le-leb (length (numbers_text zs)) room (omega arith)) (ap size.Fits (omega arith))
+        rw (le-leb (length (numbers_text zs)) room (omega arith)) (ap (λ (k : ℕ). Ok k) (omega arith))
 
     pub measure_left : over ≤ 0 → left ≤ room
     measure_left o = omega (arith, m.fits (omega arith))

@@ -1,29 +1,20 @@
 -- Records where they stand in a flat list, and `tiled` one child at a time.
-use Rattle.std.specs.Prelude.{◌≡◌, Bool, true, ◌&&◌, cond, List, [], ◌∷◌, ℕ, ◌+◌, ◌*◌, ◌^◌, ◌<◌, eqb, leb, drop}
+use Rattle.std.specs.Prelude.{Bool, true, ◌&&◌, cond, List, [], ◌∷◌, ℕ, ◌+◌, ◌*◌, eqb, leb, drop}
 use Rattle.base.specs.Lists.{filter}
-use Rattle.plan.specs.Groups.{Group, red, blue, width, of_fields, records}
+use Rattle.plan.specs.Groups.{Group, whole, red, blue, width, of_fields, records}
 use Rattle.plan.specs.Sound.{depth_first, tiled}
-use Rattle.plan.specs.declared.fields.Record.{Record}
+use Rattle.plan.specs.declared.fields.Colour.{Colour}
+use Rattle.plan.specs.declared.fields.Colour.TheVariants as colour
+
+-- the number of a colour
+abbrev pub colour_of : Colour → ℕ
+colour_of colour.Whole = whole
+colour_of colour.Red = red
+colour_of colour.Blue = blue
 
 -- the record at an index of a flat list
 unfoldable pub record_at : List ℕ → ℕ → Group
 record_at ns i = of_fields (drop (width * i) ns)
-
--- .. and one with wide numbers
-abbrev pub of_record : Record → Group
-of_record r = record { start = r.start; length = r.length; first = r.first; workers = r.workers; colour = r.colour; parent = r.parent; depth = r.depth }
-
--- sums of two numbers of a record fit 64 bits
-pub record Small (r : Record) : Type 0 where
-  pub start : r.start < 2 ^ 32
-  pub length : r.length < 2 ^ 32
-  pub first : r.first < 2 ^ 32
-  pub workers : r.workers < 2 ^ 32
-
--- what the code reads of a record is the group g
-pub record Reads (r : Record) (g : Group) : Type 0 where
-  pub is : of_record r ≡ g
-  pub small : Small r
 
 -- the records of a flat list after the whole
 abbrev pub below_whole : (count : ℕ) → List ℕ → List Group

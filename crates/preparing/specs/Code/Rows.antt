@@ -4,11 +4,6 @@ use Rattle.plan.specs.Sound.{max_workers}
 use Rattle.tables.specs.Code.Laid.{updates_in}
 use Rattle.prepared.specs.Format.{mark}
 
--- the rows at the first k positions have them in `places`
-pub record Positions (k : ℕ) (order old places : List ℕ) : Type 0 where
-  pub long : length places ≡ length old
-  pub is : (p : ℕ) → p < k → get_or places (get_or order p 0) 0 ≡ p
-
 -- the numbers of a head, those of the first k workers
 pub record HeadTo (k n workers : ℕ) (first head : List ℕ) : Type 0 where
   pub long : length head ≡ 36

@@ -23,66 +23,66 @@ use Rattle.quarters.proofs.picks_both_in.Goals as goal
 
 pub slice_bounds-picks_both-end : goal.slice_bounds-picks_both-end
 slice_bounds-picks_both-end c =
-    let e0 = c.load_i64-kept0.ensures in
-    let fits0 : c.load_i64-kept0.result ≤ length c.load_i64-kept0.new.out = sums_fit (eqb (length c.args.state0.now) state_bytes) c.args.sums0.now _ zeros c.sums_of.ensures refl e0.0 e0.1 in
+    let e0 = c.load-kept0.ensures in
+    let fits0 : c.load-kept0.result ≤ length c.load-kept0.new.out = sums_fit (eqb (length c.args.state0.now) state_bytes) c.args.sums0.now _ zeros c.sums_of.ensures refl e0.0 e0.1 in
     sym (length-take-le _ _ fits0)
 
 pub slice_bounds-picks_both-end-2 : goal.slice_bounds-picks_both-end-2
 slice_bounds-picks_both-end-2 c =
-    let e1 = c.load_i64-kept1.ensures in
-    let fits1 : c.load_i64-kept1.result ≤ length c.load_i64-kept1.new.out = sums_fit (eqb (length c.args.state1.now) state_bytes) c.args.sums1.now _ zeros c.sums_of-2.ensures refl e1.0 e1.1 in
+    let e1 = c.load-kept1.ensures in
+    let fits1 : c.load-kept1.result ≤ length c.load-kept1.new.out = sums_fit (eqb (length c.args.state1.now) state_bytes) c.args.sums1.now _ zeros c.sums_of-2.ensures refl e1.0 e1.1 in
     sym (length-take-le _ _ fits1)
 
 pub slice_bounds-store_both-end : goal.slice_bounds-store_both-end
 slice_bounds-store_both-end c =
-    let e0 = c.load_i64-kept0.ensures in
-    let fits0 : c.load_i64-kept0.result ≤ length c.load_i64-kept0.new.out = sums_fit (eqb (length c.args.state0.now) state_bytes) c.args.sums0.now _ zeros c.sums_of.ensures refl e0.0 e0.1 in
-    let part0 : List ℤ = c.picks_both-done.new.sums0 in
-    sym (array_length part0 c.load_i64-kept0.new.out c.load_i64-kept0.result fits0 c.picks_both-done.auto.sums0 ∙ c.load_i64-kept0.auto.out)
+    let e0 = c.load-kept0.ensures in
+    let fits0 : c.load-kept0.result ≤ length c.load-kept0.new.out = sums_fit (eqb (length c.args.state0.now) state_bytes) c.args.sums0.now _ zeros c.sums_of.ensures refl e0.0 e0.1 in
+    let part0 : List ℤ = c.picks_both-answer.new.sums0 in
+    sym (array_length part0 c.load-kept0.new.out c.load-kept0.result fits0 c.picks_both-answer.auto.sums0 ∙ c.load-kept0.auto.out)
 
 pub slice_bounds-store_both-end-2 : goal.slice_bounds-store_both-end-2
 slice_bounds-store_both-end-2 c =
-    let e1 = c.load_i64-kept1.ensures in
-    let fits1 : c.load_i64-kept1.result ≤ length c.load_i64-kept1.new.out = sums_fit (eqb (length c.args.state1.now) state_bytes) c.args.sums1.now _ zeros c.sums_of-2.ensures refl e1.0 e1.1 in
-    let part1 : List ℤ = c.picks_both-done.new.sums1 in
-    sym (array_length part1 c.load_i64-kept1.new.out c.load_i64-kept1.result fits1 c.picks_both-done.auto.sums1 ∙ c.load_i64-kept1.auto.out)
+    let e1 = c.load-kept1.ensures in
+    let fits1 : c.load-kept1.result ≤ length c.load-kept1.new.out = sums_fit (eqb (length c.args.state1.now) state_bytes) c.args.sums1.now _ zeros c.sums_of-2.ensures refl e1.0 e1.1 in
+    let part1 : List ℤ = c.picks_both-answer.new.sums1 in
+    sym (array_length part1 c.load-kept1.new.out c.load-kept1.result fits1 c.picks_both-answer.auto.sums1 ∙ c.load-kept1.auto.out)
 
 pub store_both-requires : goal.store_both-requires
 store_both-requires c =
     let matrix : Matrix = let a = c.args in matrix_in a.n a.row_starts.now a.columns.now a.values.now in
     let movements : Two (List ℤ) = let a = c.args in record { of0 = signed 4 a.movements0.now; of1 = signed 4 a.movements1.now } in
     let bytes : Two Bytes = let a = c.args in record { of0 = record { state = a.state0.now; sums = a.sums0.now }; of1 = record { state = a.state1.now; sums = a.sums1.now } } in
-    let e0 = c.load_i64-kept0.ensures in
-    let e1 = c.load_i64-kept1.ensures in
-    let lent0 : take c.load_i64-kept0.result c.load_i64-kept0.new.out ≡ cond (eqb (length c.args.state0.now) state_bytes) (take max_starts (signed 8 c.args.sums0.now)) [] = sums_decoded (eqb (length c.args.state0.now) state_bytes) c.args.sums0.now _ zeros c.sums_of.ensures refl e0.0 e0.1 in
-    let lent1 : take c.load_i64-kept1.result c.load_i64-kept1.new.out ≡ cond (eqb (length c.args.state1.now) state_bytes) (take max_starts (signed 8 c.args.sums1.now)) [] = sums_decoded (eqb (length c.args.state1.now) state_bytes) c.args.sums1.now _ zeros c.sums_of-2.ensures refl e1.0 e1.1 in
-    let part0 : List ℤ = c.picks_both-done.new.sums0 in
-    let part1 : List ℤ = c.picks_both-done.new.sums1 in
+    let e0 = c.load-kept0.ensures in
+    let e1 = c.load-kept1.ensures in
+    let lent0 : take c.load-kept0.result c.load-kept0.new.out ≡ cond (eqb (length c.args.state0.now) state_bytes) (take max_starts (signed 8 c.args.sums0.now)) [] = sums_decoded (eqb (length c.args.state0.now) state_bytes) c.args.sums0.now _ zeros c.sums_of.ensures refl e0.0 e0.1 in
+    let lent1 : take c.load-kept1.result c.load-kept1.new.out ≡ cond (eqb (length c.args.state1.now) state_bytes) (take max_starts (signed 8 c.args.sums1.now)) [] = sums_decoded (eqb (length c.args.state1.now) state_bytes) c.args.sums1.now _ zeros c.sums_of-2.ensures refl e1.0 e1.1 in
+    let part0 : List ℤ = c.picks_both-answer.new.sums0 in
+    let part1 : List ℤ = c.picks_both-answer.new.sums1 in
     let made : PicksMade matrix movements (unsigned 4 c.args.order.now) (unsigned 4 c.args.groups.now) c.args.group_count
-    (states_of c.load_crews-crews.result (take c.load_i64-kept0.result c.load_i64-kept0.new.out) (take c.load_i64-kept1.result c.load_i64-kept1.new.out)) c.args.picks.now c.picks_both-done.result.answer (states_of c.picks_both-done.result.crews part0 part1) =
+    (states_of c.load_crews-crews.result (take c.load-kept0.result c.load-kept0.new.out) (take c.load-kept1.result c.load-kept1.new.out)) c.args.picks.now c.picks_both-answer.result (states_of c.picks_both-answer.new.crews part0 part1) =
     picks-whole matrix movements (unsigned 4 c.args.order.now) (unsigned 4 c.args.groups.now) c.args.group_count
-    (loaded_matrix matrix c.load_unsigned.ensures c.load_unsigned-2.ensures c.load_signed.ensures)
-    (λ i. record { of0 = c.load_signed-2.ensures i; of1 = c.load_signed-3.ensures i }) c.load_unsigned-3.ensures c.load_unsigned-4.ensures
-    _ c.args.picks.now c.picks_both-done.ensures in
+    (loaded_matrix matrix c.decode.ensures c.decode-2.ensures c.decode-3.ensures)
+    (λ i. record { of0 = c.decode-4.ensures i; of1 = c.decode-5.ensures i }) c.decode-6.ensures c.decode-7.ensures
+    _ c.args.picks.now c.picks_both-answer.ensures in
     both_fit matrix movements _ _ _ bytes c.load_crews-crews.result c.load_crews-crews.ensures lent0 lent1 _
-    {part0 = part0} {part1 = part1} _ _ c.picks_both-done.auto.sums0 c.picks_both-done.auto.sums1 made
+    {part0 = part0} {part1 = part1} _ _ c.picks_both-answer.auto.sums0 c.picks_both-answer.auto.sums1 made
 
 pub returns : goal.returns
 returns c =
     let matrix : Matrix = let a = c.args in matrix_in a.n a.row_starts.now a.columns.now a.values.now in
     let movements : Two (List ℤ) = let a = c.args in record { of0 = signed 4 a.movements0.now; of1 = signed 4 a.movements1.now } in
     let bytes : Two Bytes = let a = c.args in record { of0 = record { state = a.state0.now; sums = a.sums0.now }; of1 = record { state = a.state1.now; sums = a.sums1.now } } in
-    let e0 = c.load_i64-kept0.ensures in
-    let e1 = c.load_i64-kept1.ensures in
-    let lent0 : take c.load_i64-kept0.result c.load_i64-kept0.new.out ≡ cond (eqb (length c.args.state0.now) state_bytes) (take max_starts (signed 8 c.args.sums0.now)) [] = sums_decoded (eqb (length c.args.state0.now) state_bytes) c.args.sums0.now _ zeros c.sums_of.ensures refl e0.0 e0.1 in
-    let lent1 : take c.load_i64-kept1.result c.load_i64-kept1.new.out ≡ cond (eqb (length c.args.state1.now) state_bytes) (take max_starts (signed 8 c.args.sums1.now)) [] = sums_decoded (eqb (length c.args.state1.now) state_bytes) c.args.sums1.now _ zeros c.sums_of-2.ensures refl e1.0 e1.1 in
-    let part0 : List ℤ = c.picks_both-done.new.sums0 in
-    let part1 : List ℤ = c.picks_both-done.new.sums1 in
+    let e0 = c.load-kept0.ensures in
+    let e1 = c.load-kept1.ensures in
+    let lent0 : take c.load-kept0.result c.load-kept0.new.out ≡ cond (eqb (length c.args.state0.now) state_bytes) (take max_starts (signed 8 c.args.sums0.now)) [] = sums_decoded (eqb (length c.args.state0.now) state_bytes) c.args.sums0.now _ zeros c.sums_of.ensures refl e0.0 e0.1 in
+    let lent1 : take c.load-kept1.result c.load-kept1.new.out ≡ cond (eqb (length c.args.state1.now) state_bytes) (take max_starts (signed 8 c.args.sums1.now)) [] = sums_decoded (eqb (length c.args.state1.now) state_bytes) c.args.sums1.now _ zeros c.sums_of-2.ensures refl e1.0 e1.1 in
+    let part0 : List ℤ = c.picks_both-answer.new.sums0 in
+    let part1 : List ℤ = c.picks_both-answer.new.sums1 in
     let made : PicksMade matrix movements (unsigned 4 c.args.order.now) (unsigned 4 c.args.groups.now) c.args.group_count
-    (states_of c.load_crews-crews.result (take c.load_i64-kept0.result c.load_i64-kept0.new.out) (take c.load_i64-kept1.result c.load_i64-kept1.new.out)) c.args.picks.now c.picks_both-done.result.answer (states_of c.picks_both-done.result.crews part0 part1) =
+    (states_of c.load_crews-crews.result (take c.load-kept0.result c.load-kept0.new.out) (take c.load-kept1.result c.load-kept1.new.out)) c.args.picks.now c.picks_both-answer.result (states_of c.picks_both-answer.new.crews part0 part1) =
     picks-whole matrix movements (unsigned 4 c.args.order.now) (unsigned 4 c.args.groups.now) c.args.group_count
-    (loaded_matrix matrix c.load_unsigned.ensures c.load_unsigned-2.ensures c.load_signed.ensures)
-    (λ i. record { of0 = c.load_signed-2.ensures i; of1 = c.load_signed-3.ensures i }) c.load_unsigned-3.ensures c.load_unsigned-4.ensures
-    _ c.args.picks.now c.picks_both-done.ensures in
+    (loaded_matrix matrix c.decode.ensures c.decode-2.ensures c.decode-3.ensures)
+    (λ i. record { of0 = c.decode-4.ensures i; of1 = c.decode-5.ensures i }) c.decode-6.ensures c.decode-7.ensures
+    _ c.args.picks.now c.picks_both-answer.ensures in
     both-answered matrix movements _ _ _ bytes c.load_crews-crews.result c.load_crews-crews.ensures lent0 lent1 _
-    {part0 = part0} {part1 = part1} _ _ c.picks_both-done.auto.sums0 c.picks_both-done.auto.sums1 made c.store_both.ensures
+    {part0 = part0} {part1 = part1} _ _ c.picks_both-answer.auto.sums0 c.picks_both-answer.auto.sums1 made c.store_both.ensures

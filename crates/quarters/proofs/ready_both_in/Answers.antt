@@ -20,10 +20,10 @@ use Rattle.quarters.proofs.ReadyFew.{few-ready}
 use Rattle.quarters.proofs.ready_both_in.Goals as goal
 
 pub slice_bounds-ready_both-end : goal.slice_bounds-ready_both-end
-slice_bounds-ready_both-end c = sym (length-take-le _ _ (let e = c.load_i64-kept0.ensures in loaded_fits (signed_number 8) 8 c.args.sums0.now zeros e.0 e.1))
+slice_bounds-ready_both-end c = sym (length-take-le _ _ (let e = c.load-kept0.ensures in loaded_fits (signed_number 8) 8 c.args.sums0.now zeros e.0 e.1))
 
 pub slice_bounds-ready_both-end-2 : goal.slice_bounds-ready_both-end-2
-slice_bounds-ready_both-end-2 c = sym (length-take-le _ _ (let e = c.load_i64-kept1.ensures in loaded_fits (signed_number 8) 8 c.args.sums1.now zeros e.0 e.1))
+slice_bounds-ready_both-end-2 c = sym (length-take-le _ _ (let e = c.load-kept1.ensures in loaded_fits (signed_number 8) 8 c.args.sums1.now zeros e.0 e.1))
 
 pub word_of_sets-requires : goal.word_of_sets-requires
 word_of_sets-requires c = few-ready _ _ _ _ _ _ c.ready_both-sets.ensures
@@ -35,14 +35,14 @@ returns c b h =
     let x : Two (List ℤ) = record { of0 = signed 4 a.movements0.now; of1 = signed 4 a.movements1.now } in
     let o = unsigned 4 a.order.now in
     let g = unsigned 4 a.groups.now in
-    let e0 = c.load_i64-kept0.ensures in
-    let e1 = c.load_i64-kept1.ensures in
+    let e0 = c.load-kept0.ensures in
+    let e1 = c.load-kept1.ensures in
     c.word_of_sets.ensures
     ∙ ap (λ (y : BothAnswer). word (reply_to_both y))
     (c.ready_both-sets.ensures
     ∙ sets-whole m x o g a.group_count
-    (loaded_matrix m c.load_unsigned.ensures c.load_unsigned-2.ensures c.load_signed.ensures)
-    (λ i. record { of0 = c.load_signed-2.ensures i; of1 = c.load_signed-3.ensures i }) c.load_unsigned-3.ensures c.load_unsigned-4.ensures
+    (loaded_matrix m c.decode.ensures c.decode-2.ensures c.decode-3.ensures)
+    (λ i. record { of0 = c.decode-4.ensures i; of1 = c.decode-5.ensures i }) c.decode-6.ensures c.decode-7.ensures
     _
     ∙ sets_in m x o g a.group_count b a.crews h.crews
     (sums_decoded (eqb (length b.of0.state) state_bytes) b.of0.sums a.sums0.now zeros h.sums0 refl e0.0 e0.1)

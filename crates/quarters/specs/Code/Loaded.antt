@@ -1,25 +1,17 @@
 -- States and sums decoded from bytes, and what is needed to store them.
-use Rattle.std.specs.Prelude.{◌≡◌, cond, List, [], ℕ, ◌≤◌, eqb, ℤ, length}
-use Rattle.machine.specs.declared.state.State as code
+use Rattle.std.specs.Prelude.{◌≡◌, Result, Ok, cond, List, [], ℕ, ◌≤◌, eqb, ℤ, length}
+use Rattle.base.specs.declared.Refusal.{Refusal}
 use Rattle.calls.specs.declared.Response.{Response}
 use Rattle.answers.specs.Runs.{state_bytes, Bytes}
 use Rattle.answers.specs.Code.Ran.{StateIs, LowPlace, PicksFit}
 use Rattle.crews.specs.Crews.{Two}
 use Rattle.turns.specs.declared.Crews.{Crews}
 use Rattle.shared.specs.declared.Sets.{Sets}
-use Rattle.shared.specs.declared.Sets.TheVariants.{Ready}
-
--- one crew's part of the record
-abbrev pub state0 : Crews → code.State
-state0 r = record { made = r.made0; held = r.held0 }
-
-abbrev pub state1 : Crews → code.State
-state1 r = record { made = r.made1; held = r.held1 }
 
 -- the record that the bytes of both stand for, where they are of a state's length
 pub record CrewsAre (r : Crews) (bytes0 bytes1 : List ℕ) : Type 0 where
-  pub is0 : length bytes0 ≡ state_bytes → StateIs (state0 r) bytes0
-  pub is1 : length bytes1 ≡ state_bytes → StateIs (state1 r) bytes1
+  pub is0 : length bytes0 ≡ state_bytes → StateIs r.of0 bytes0
+  pub is1 : length bytes1 ≡ state_bytes → StateIs r.of1 bytes1
 
 -- .. and the bytes of the sums beside them: none, where the bytes are no state
 pub record CrewsLent (r : Crews) (bytes0 bytes1 : List ℕ) (b : Two Bytes) : Type 0 where
@@ -28,11 +20,11 @@ pub record CrewsLent (r : Crews) (bytes0 bytes1 : List ℕ) (b : Two Bytes) : Ty
   pub sums1 : bytes1 ≡ cond (eqb (length b.of1.state) state_bytes) b.of1.sums []
 
 -- picks have states and sums to be stored over, and the place of their ending fits a word's low half
-pub record BothFit (n : ℕ) (answer : Response) (new0 new1 : List ℤ) (old : Two Bytes) : Type 0 where
+pub record BothFit (n : ℕ) (answer : Result Response Refusal) (new0 new1 : List ℤ) (old : Two Bytes) : Type 0 where
   pub fit0 : PicksFit n answer new0 old.of0.state old.of0.sums
   pub fit1 : PicksFit n answer new1 old.of1.state old.of1.sums
   pub low : LowPlace answer
 
 -- no count is above eight bits
-abbrev pub FewReady : Sets → Type 0
-FewReady r = (bits0 count0 bits1 count1 : ℕ) → r ≡ Ready bits0 count0 bits1 count1 → (count0 ≤ 255) × (count1 ≤ 255)
+abbrev pub FewReady : Result Sets Refusal → Type 0
+FewReady r = (t : Sets) → r ≡ Ok t → (t.count0 ≤ 255) × (t.count1 ≤ 255)

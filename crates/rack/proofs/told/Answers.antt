@@ -1,10 +1,6 @@
 -- `told` meets its contract.
-use mathlib.Core.Path.{ap}
-use Prim.Native.Nat.{ℕ, ◌%◌, ◌^◌}
-use Rattle.calls.specs.declared.Response.TheVariants.{Picked}
+use Rattle.rack.proofs.Takes.{place-low}
 use Rattle.rack.proofs.told.Goals as goal
 
 pub returns : goal.returns
-returns c =
-    let w = c.args.walked in
-    ap (λ (p : ℕ). Picked (w.taken % 2 ^ 24) w.number (p % 2 ^ 32)) c.place_of.ensures
+returns c = rw (c.stop_of-stop.ensures.0, c.stop_of-stop.ensures.1, place-low)

@@ -1,6 +1,7 @@
 -- A call on a prepared list before its word is made.
-use Rattle.std.specs.Prelude.{◌&&◌, cond, List, ℕ, ◌/◌, eqb, length}
+use Rattle.std.specs.Prelude.{◌&&◌, Result, cond, List, ℕ, ◌/◌, eqb, length}
 use Rattle.base.specs.Refusals as why
+use Rattle.base.specs.declared.Refusal.{Refusal}
 use Rattle.run.specs.Answers.{Call, picks, force_list, rounds}
 use Rattle.machine.specs.declared.state.Rule.{Rule}
 use Rattle.machine.specs.declared.state.Rule.TheVariants.{Stop, Skip}
@@ -23,9 +24,9 @@ takes Stop ws = picks ws
 takes Skip ws = rounds ws
 
 -- .. its answer as a word has room for it, and the lists after it
-abbrev pub TookKept : (list state sums : List ℕ) → Call → Response → (new_state new_sums : List ℕ) → Type 0
+abbrev pub TookKept : (list state sums : List ℕ) → Call → Result Response Refusal → (new_state new_sums : List ℕ) → Type 0
 TookKept list state sums c = Took c (fitting (answer_kept list state sums c)) (answer_kept list state sums c) (after_prepared list (state_in state sums) c) state sums
 
 -- the force list of a run
-abbrev pub GaveKept : (list state sums old : List ℕ) → Response → (new : List ℕ) → Type 0
+abbrev pub GaveKept : (list state sums old : List ℕ) → Result Response Refusal → (new : List ℕ) → Type 0
 GaveKept list state sums old = Gave (force_list (length old / 8)) (answer_kept list state sums (force_list (length old / 8))) old

@@ -5,7 +5,8 @@ use mathlib.Core.List.{List}
 use Prim.Native.Nat.{ℕ, ◌+◌, ◌<◌}
 use lib.IntN.{ℤ}
 use lib.ListN.{set}
-use Rattle.reader.specs.declared.entry.Entry.TheVariants as line
+use Rattle.std.proofs.Common.{Ok}
+use Rattle.reader.specs.declared.entry.Entry.{Entry}
 use Rattle.market.specs.Parse.{triplet, Parsed, is_among}
 use Rattle.compress.specs.Code.Arrays.{triplets_of}
 use Rattle.reader.specs.Code.Entries.{EntryAt, Held, remaining}
@@ -21,11 +22,11 @@ pub record Going (all : Parsed) (s : List ℕ) (n m k : ℕ) (rs cs : List ℕ) 
 
 -- one more line: its bit q is set, and its value is w in the array
 pub going_more : {all : Parsed} {s : List ℕ} {n m k : ℕ} {rs cs : List ℕ} {vs : List ℤ} {ms : List ℕ} {p i : ℕ} → Going all s n m k rs cs vs ms p i → i < m
-    → {r c : ℕ} (z : ℕ) {v w : ℤ} → EntryAt s p n (line.At r c v z) → w ≡ v → is_among (triplets_of i rs cs vs) r c ≡ false
-    → {q : ℕ} → q ≡ bit_of r c → q < 8390656 → {ms' : List ℕ} → ms' ≡ marked ms q → Going all s n m k (set rs i r) (set cs i c) (set vs i w) ms' z (i + 1)
-going_more {s = s} {k = k} {p = p} g more {r} {c} z {v} l e new eq small em =
+    → (e : Entry) → EntryAt s p n (Ok e) → {w : ℤ} → w ≡ e.value → is_among (triplets_of i rs cs vs) e.row e.column ≡ false
+    → {q : ℕ} → q ≡ bit_of e.row e.column → q < 8390656 → {ms' : List ℕ} → ms' ≡ marked ms q → Going all s n m k (set rs i e.row) (set cs i e.column) (set vs i w) ms' e.next (i + 1)
+going_more {s = s} {k = k} {p = p} g more e l is new eq small em =
     record {
-      held = held_more g.held s p more v z l e;
-      marks = rw (one_more g.held s p more v z l e) (marks_more g.marks (triplet r c v) l.0 eq small em);
-      same = taken-line g.held s p more v z l e new k ∙ g.same;
+      held = held_more g.held s p more e l is;
+      marks = rw (one_more g.held s p more e l is) (marks_more g.marks (triplet e.row e.column e.value) l.0 eq small em);
+      same = taken-line g.held s p more e l is new k ∙ g.same;
     }

@@ -8,7 +8,8 @@ use lib.Dec.{eqb}
 use lib.IntN.{ℤ, pos}
 use lib.ListN.{length, get_or, set, drop}
 use borrow.Author.Tests.{eqb-true}
-use Rattle.reader.specs.declared.entry.Entry.TheVariants as line
+use Rattle.std.proofs.Common.{Ok}
+use Rattle.reader.specs.declared.entry.Entry.{Entry}
 use Rattle.market.specs.Parse.{triplet, is_among, entries}
 use Rattle.compress.specs.Code.Arrays.{triplets_of}
 use Rattle.reader.specs.Code.Entries.{EntryAt, Held, remaining}
@@ -48,11 +49,11 @@ sorted_start s at n m rs cs vs g = record { held = g; rising = λ j h. absurd (o
 
 -- one more line, whose value is w in the array
 pub sorted_more : {s : List ℕ} {at n m : ℕ} {rs cs : List ℕ} {vs : List ℤ} {low p i : ℕ} → Sorted s at n m rs cs vs low p i → i < m
-    → (r c z : ℕ) {v w : ℤ} → EntryAt s p n (line.At r c v z) → w ≡ v → low ≤ c * 4096 + r → Sorted s at n m (set rs i r) (set cs i c) (set vs i w) (c * 4096 + r + 1) z (i + 1)
-sorted_more {s} {at} {n} {m} {rs} {cs} {vs} {low} {p} {i} g more r c z {v} l e h =
+    → (e : Entry) → EntryAt s p n (Ok e) → {w : ℤ} → w ≡ e.value → low ≤ e.column * 4096 + e.row → Sorted s at n m (set rs i e.row) (set cs i e.column) (set vs i w) (e.column * 4096 + e.row + 1) e.next (i + 1)
+sorted_more {s} {at} {n} {m} {rs} {cs} {vs} {low} {p} {i} g more e l is h =
     let a = g.held.arrays in
     record {
-      held = held_more g.held s p more v z l e;
-      rising = rising_more rs cs r c g.rising (omega (arith, g.held.total, a.rows)) (omega (arith, g.held.total, a.columns)) h;
-      same = λ k. taken-line g.held s p more v z l e (rising_new rs cs vs i r c g.rising h) k ∙ g.same k;
+      held = held_more g.held s p more e l is;
+      rising = rising_more rs cs e.row e.column g.rising (omega (arith, g.held.total, a.rows)) (omega (arith, g.held.total, a.columns)) h;
+      same = λ k. taken-line g.held s p more e l is (rising_new rs cs vs i e.row e.column g.rising h) k ∙ g.same k;
     }

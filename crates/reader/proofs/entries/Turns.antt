@@ -11,7 +11,10 @@ use lib.Seq.{get_or-set_same, get_or-set_other}
 use borrow.Author.Tests.{eqb-true, eqb-false}
 use Rattle.base.specs.Refusals as why
 use Rattle.matrix.specs.Limits.{max_rows}
-use Rattle.reader.specs.declared.entry.Entry.TheVariants as line
+use Rattle.std.proofs.Common.{Ok, Err}
+use Rattle.base.specs.Verdicts.{number_of}
+use Rattle.base.specs.declared.Kind.{Kind}
+use Rattle.reader.specs.declared.entry.Entry.{Entry}
 use Rattle.market.specs.Parse.{Triplet, triplet, matrix_text, rejected, is_among, entries}
 use Rattle.compress.specs.Code.Arrays.{triplets_of}
 use Rattle.reader.specs.Code.Entries.{EntryAt, Held, remaining}
@@ -50,31 +53,31 @@ module _ {n m : ℕ} {rs cs : List ℕ} {vs : List ℤ} {i : ℕ} (g : Held n m 
     turn : m - i ≡ suc (m - (i + 1))
     turn = omega arith
 
-    pub refused-line : {q : ℕ} → EntryAt s p n (line.Refused q) → (k : ℕ) → remaining s n m k rs cs vs p i ≡ rejected q (k + i)
-    refused-line l k = rw turn (l (m - (i + 1)) (k + i) (triplets_of i rs cs vs))
+    pub refused-line : (q : Kind) → EntryAt s p n (Err q) → (k : ℕ) → remaining s n m k rs cs vs p i ≡ rejected (number_of q) (k + i)
+    refused-line q l k = rw turn (l (m - (i + 1)) (k + i) (triplets_of i rs cs vs))
 
     -- a line with a place and a value
-    module _ {r c : ℕ} (v : ℤ) (z : ℕ) (l : EntryAt s p n (line.At r c v z)) where
-      pub again_line : is_among (triplets_of i rs cs vs) r c ≡ true → (k : ℕ) → remaining s n m k rs cs vs p i ≡ rejected why.bad_entry (k + i)
+    module _ (e : Entry) (l : EntryAt s p n (Ok e)) where
+      pub again_line : is_among (triplets_of i rs cs vs) e.row e.column ≡ true → (k : ℕ) → remaining s n m k rs cs vs p i ≡ rejected why.bad_entry (k + i)
       again_line t k = rw turn (l.2 (m - (i + 1)) (k + i) (triplets_of i rs cs vs) ∙ rw t)
 
       -- the value is w in the array
-      module _ {w : ℤ} (e : w ≡ v) where
-        pub one_more : triplets_of (i + 1) (set rs i r) (set cs i c) (set vs i w) ≡ triplets_of i rs cs vs ++ triplet r c v ∷ []
-        one_more = let a = g.arrays in rw e (triplets_more i r c v rs cs vs (omega (arith, g.total, a.rows)) (omega (arith, g.total, a.columns)) (omega (arith, g.total, a.values)))
+      module _ {w : ℤ} (is : w ≡ e.value) where
+        pub one_more : triplets_of (i + 1) (set rs i e.row) (set cs i e.column) (set vs i w) ≡ triplets_of i rs cs vs ++ triplet e.row e.column e.value ∷ []
+        one_more = let a = g.arrays in rw is (triplets_more i e.row e.column e.value rs cs vs (omega (arith, g.total, a.rows)) (omega (arith, g.total, a.columns)) (omega (arith, g.total, a.values)))
 
-        pub taken-line : is_among (triplets_of i rs cs vs) r c ≡ false → (k : ℕ) → remaining s n m k (set rs i r) (set cs i c) (set vs i w) z (i + 1) ≡ remaining s n m k rs cs vs p i
+        pub taken-line : is_among (triplets_of i rs cs vs) e.row e.column ≡ false → (k : ℕ) → remaining s n m k (set rs i e.row) (set cs i e.column) (set vs i w) e.next (i + 1) ≡ remaining s n m k rs cs vs p i
         taken-line t k =
             let f : k + (i + 1) ≡ suc (k + i) = omega arith in
             rw (one_more, f, turn) (sym (l.2 (m - (i + 1)) (k + i) (triplets_of i rs cs vs) ∙ rw t))
 
-        pub held_more : Held n m (set rs i r) (set cs i c) (set vs i w) (i + 1)
+        pub held_more : Held n m (set rs i e.row) (set cs i e.column) (set vs i w) (i + 1)
         held_more =
             let a = g.arrays in
             record {
               rows = g.rows;
               total = g.total;
               count = omega arith;
-              arrays = record { rows = length-set rs i r ∙ a.rows; columns = length-set cs i c ∙ a.columns; values = length-set vs i w ∙ a.values };
+              arrays = record { rows = length-set rs i e.row ∙ a.rows; columns = length-set cs i e.column ∙ a.columns; values = length-set vs i w ∙ a.values };
               lower = places_more (λ x y. (y ≤ x) × (x < max_rows)) rs cs g.lower (l.0, omega (arith, l.1, g.rows)) (omega (arith, g.total, a.rows)) (omega (arith, g.total, a.columns));
             }

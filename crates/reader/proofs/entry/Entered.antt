@@ -7,8 +7,9 @@ use native.Mathlib.Omega.{arith}
 use lib.IntN.{ℤ}
 use lib.ListN.{drop}
 use Rattle.base.specs.Refusals as why
-use Rattle.scan.specs.declared.lines.Fields.TheVariants as fld
-use Rattle.reader.specs.declared.entry.Entry.TheVariants as line
+use Rattle.std.proofs.Common.{Some, None, Ok, Err}
+use Rattle.base.specs.declared.Kind.TheVariants as kind
+use Rattle.scan.specs.declared.lines.Line as code
 use Rattle.market.specs.Fields.{fields}
 use Rattle.market.specs.Parse.{Triplet, triplet, rejected, is_entry, is_among, on_line, entries}
 use Rattle.scan.specs.Code.Positions.{fields_at}
@@ -25,16 +26,16 @@ module _ (s : List ℕ) (p n : ℕ) where
   unfolding entries
   turn m k es = refl
 
-  pub broken-line : fld.Broken ≡ fields_at p (fields (drop p s)) → EntryAt s p n (line.Refused why.bad_form)
+  pub broken-line : None ≡ fields_at p (fields (drop p s)) → EntryAt s p n (Err kind.BadForm)
   broken-line b m k es = turn m k es ∙ rw (line-no p (fields (drop p s)) b)
 
-  module _ {r c z : ℕ} {v : ℤ} (l : fld.Line r c v z ≡ fields_at p (fields (drop p s))) where
-    pub bad_line : is_entry n r c v ≡ false → EntryAt s p n (line.Refused why.bad_entry)
-    bad_line f m k es = turn m k es ∙ rw ((line_at p r c z v (fields (drop p s)) l).0, f)
+  module _ (f : code.Line) (l : Some f ≡ fields_at p (fields (drop p s))) where
+    pub bad_line : is_entry n f.row f.column f.value ≡ false → EntryAt s p n (Err kind.BadEntry)
+    bad_line not-one m k es = turn m k es ∙ rw ((line_at p f.row f.column f.next f.value (fields (drop p s)) l).0, not-one)
 
     -- the value is w in 32 bits
-    pub good_line : is_entry n r c v ≡ true → {w : ℤ} → w ≡ v → EntryAt s p n (line.At (r - 1) (c - 1) w z)
-    good_line f e =
-        let a = line_at p r c z v (fields (drop p s)) l in
-        let i = inside n r c v f in
-        (omega (arith, i.below), omega (arith, i.first, i.below, i.last), λ m k es. turn m k es ∙ rw (a.0, f, left-later s p z a.1, e))
+    pub good_line : is_entry n f.row f.column f.value ≡ true → {w : ℤ} → w ≡ f.value → EntryAt s p n (Ok (record { row = f.row - 1; column = f.column - 1; value = w; next = f.next }))
+    good_line is-one e =
+        let a = line_at p f.row f.column f.next f.value (fields (drop p s)) l in
+        let i = inside n f.row f.column f.value is-one in
+        (omega (arith, i.below), omega (arith, i.first, i.below, i.last), λ m k es. turn m k es ∙ rw (a.0, is-one, left-later s p f.next a.1, e))

@@ -16,7 +16,8 @@ use Rattle.base.specs.Lists.{begins}
 use Rattle.base.specs.Refusals as why
 use Rattle.base.proofs.Booleans.{and_left, and_right}
 use Rattle.matrix.specs.Limits.{max_rows, max_entries, max_text}
-use Rattle.scan.specs.declared.lines.Fields.TheVariants as fld
+use Rattle.std.proofs.Common.{Some, None}
+use Rattle.scan.specs.declared.lines.Line as code
 use Rattle.market.specs.Bytes.{header}
 use Rattle.market.specs.Fields.{fields}
 use Rattle.market.specs.Parse.{rejected, entries, sized, size_line, Place, place, comments, parse}
@@ -30,27 +31,29 @@ fits-natural (pos n) f = record { fits = omega (arith, f.sfits) }
 fits-natural (negsuc n) f = record { fits = omega (arith, f.sfits) }
 
 module _ (s : List ℕ) (p k : ℕ) where
-  pub size-broken : fld.Broken ≡ fields_at p (fields (drop p s)) → size_line k (drop p s) ≡ rejected why.bad_form k
+  pub size-broken : None ≡ fields_at p (fields (drop p s)) → size_line k (drop p s) ≡ rejected why.bad_form k
   unfolding size_line
   size-broken b = rw (line-no p (fields (drop p s)) b)
 
-  module _ {r c z : ℕ} {v : ℤ} (l : fld.Line r c v z ≡ fields_at p (fields (drop p s))) where
-    size_is : size_line k (drop p s) ≡ sized k r c v (drop z s)
+  module _ (f : code.Line) (l : Some f ≡ fields_at p (fields (drop p s))) where
+    size_is : size_line k (drop p s) ≡ sized k f.row f.column f.value (drop f.next s)
     unfolding size_line
-    size_is = let a = line_at p r c z v (fields (drop p s)) l in rw (a.0, left-later s p z a.1)
+    size_is = let a = line_at p f.row f.column f.next f.value (fields (drop p s)) l in rw (a.0, left-later s p f.next a.1)
 
-    pub size-negative : lt_z v (pos 0) ≡ true → size_line k (drop p s) ≡ rejected why.bad_form k
-    size-negative h = size_is ∙ go v h
+    pub size-negative : lt_z f.value (pos 0) ≡ true → size_line k (drop p s) ≡ rejected why.bad_form k
+    size-negative h = size_is ∙ go f.value h
       where
-        go : (v : ℤ) → lt_z v (pos 0) ≡ true → sized k r c v (drop z s) ≡ rejected why.bad_form k
+        go : (v : ℤ) → lt_z v (pos 0) ≡ true → sized k f.row f.column v (drop f.next s) ≡ rejected why.bad_form k
         go (pos n) h = absurd (omega (arith, ltb-true n 0 h))
         go (negsuc n) h = refl
 
     -- the size is tested, m being the entry count
-    pub size_tested : lt_z v (pos 0) ≡ false → {m : ℕ} → m ≡ nat_abs v → {t : Bool} → t ≡ eqb r c && leb 1 r && leb r max_rows && leb m max_entries → size_line k (drop p s) ≡ cond t (entries r m (k + 1) [] (drop z s)) (rejected why.bad_size k)
-    size_tested h em e = size_is ∙ rw (e, em) (go v h)
+    pub size_tested : lt_z f.value (pos 0) ≡ false → {m : ℕ} → m ≡ nat_abs f.value → {t : Bool} → t ≡ eqb f.row f.column && leb 1 f.row && leb f.row max_rows && leb m max_entries
+        → size_line k (drop p s) ≡ cond t (entries f.row m (k + 1) [] (drop f.next s)) (rejected why.bad_size k)
+    size_tested h em e = size_is ∙ rw (e, em) (go f.value h)
       where
-        go : (v : ℤ) → lt_z v (pos 0) ≡ false → sized k r c v (drop z s) ≡ cond (eqb r c && leb 1 r && leb r max_rows && leb (nat_abs v) max_entries) (entries r (nat_abs v) (k + 1) [] (drop z s)) (rejected why.bad_size k)
+        go : (v : ℤ) → lt_z v (pos 0) ≡ false
+            → sized k f.row f.column v (drop f.next s) ≡ cond (eqb f.row f.column && leb 1 f.row && leb f.row max_rows && leb (nat_abs v) max_entries) (entries f.row (nat_abs v) (k + 1) [] (drop f.next s)) (rejected why.bad_size k)
         go (pos n) h = rw (add-one k)
         go (negsuc n) h = absurd (true≢false h)
 

@@ -1,22 +1,20 @@
 -- What the code that passes over the lines before the size line answers.
-use Rattle.std.specs.Prelude.{◌≡◌, true, false, List, [], ℕ, suc, ◌+◌, ◌≤◌, ◌<◌, length, drop}
-use Rattle.reader.specs.declared.opening.LineEnd.{LineEnd}
-use Rattle.reader.specs.declared.opening.LineEnd.TheVariants as end
+use Rattle.std.specs.Prelude.{Option, Some, None, ◌≡◌, true, false, List, [], ℕ, suc, ◌+◌, ◌≤◌, ◌<◌, length, drop}
 use Rattle.reader.specs.declared.opening.LineStart.{LineStart}
 use Rattle.market.specs.Parse.{Place, place, comments}
 
 -- what comes after a % line, line k, that ends so
-abbrev pub after_line : List ℕ → ℕ → LineEnd → Place
-after_line s k (end.At e) = comments false (suc k) (drop e s)
-after_line s k end.No = place k []
+abbrev pub after_line : List ℕ → ℕ → Option ℕ → Place
+after_line s k (Some e) = comments false (suc k) (drop e s)
+after_line s k None = place k []
 
 -- the end lies after the position
-abbrev pub Ends : List ℕ → ℕ → LineEnd → Type 0
-Ends s p (end.At e) = (p < e) × (e ≤ length s)
-Ends s p end.No = Unit
+abbrev pub Ends : List ℕ → ℕ → Option ℕ → Type 0
+Ends s p (Some e) = (p < e) × (e ≤ length s)
+Ends s p None = Unit
 
 -- where the line at p ends
-pub record LineEnds (s : List ℕ) (p : ℕ) (r : LineEnd) : Type 0 where
+pub record LineEnds (s : List ℕ) (p : ℕ) (r : Option ℕ) : Type 0 where
   pub rest : (k : ℕ) → comments true k (drop p s) ≡ after_line s k r
   pub later : Ends s p r
 

@@ -1,4 +1,5 @@
 -- What a scanned number at a position says of the text there.
+use Rattle.std.proofs.Common.{Some, None}
 use mathlib.Core.Path.{◌≡◌, refl, ap}
 use mathlib.Core.Bool.{Bool, true, false, ◌&&◌, cond}
 use mathlib.Core.List.{List, [], ◌∷◌}
@@ -8,7 +9,6 @@ use native.Mathlib.Omega.{arith}
 use lib.Dec.{leb}
 use lib.ListN.{length, drop}
 use borrow.Author.Tests.{leb-true, le-leb, eqb-true}
-use Rattle.scan.specs.declared.numbers.Number.TheVariants as num
 use Rattle.market.specs.Bytes.{class_of, is_digit}
 use Rattle.market.specs.Fields.{Scan, got, none, digits, is_number, value_of, numeral, spaces, field, shifted}
 use Rattle.scan.specs.Code.Positions.{number_at}
@@ -16,19 +16,20 @@ use Rattle.scan.proofs.Left.{left-later}
 use Rattle.scan.proofs.numbers.Scanning.{digit_range}
 
 -- what an answer at a position says of the scan
-pub scan_at : (at v p : ℕ) (sc : Scan) → num.At v p ≡ number_at at sc → (sc ≡ got v (p - at)) × (at ≤ p)
+pub scan_at : (at v p : ℕ) (sc : Scan) → Some (v, p) ≡ number_at at sc → (sc ≡ got v (p - at)) × (at ≤ p)
 scan_at at v p (got w k) e =
-    let f : v ≡ w = cc in
-    let g : p ≡ at + k = cc in
+    let q : (v, p) ≡ (w, at + k) = cc in
+    let f : v ≡ w = ap (λ (x : ℕ × ℕ). x.0) q in
+    let g : p ≡ at + k = ap (λ (x : ℕ × ℕ). x.1) q in
     let h : k ≡ p - at = omega arith in
     (rw (f, ← h), omega arith)
-scan_at at v p none e = let z : ◌≡◌ {A = ℕ} 0 1 = cc in absurd (omega arith)
+scan_at at v p none e = absurd (cc)
 
-pub scan_no : (at : ℕ) (sc : Scan) → num.No ≡ number_at at sc → sc ≡ none
-scan_no at (got w k) e = let z : ◌≡◌ {A = ℕ} 0 1 = cc in absurd (omega arith)
+pub scan_no : (at : ℕ) (sc : Scan) → None ≡ number_at at sc → sc ≡ none
+scan_no at (got w k) e = absurd (cc)
 scan_no at none e = refl
 
-pub field-none : (s : List ℕ) (at : ℕ) → spaces (drop at s) ≡ 0 → num.No ≡ number_at at (field (drop at s))
+pub field-none : (s : List ℕ) (at : ℕ) → spaces (drop at s) ≡ 0 → None ≡ number_at at (field (drop at s))
 unfolding field
 field-none s at h = rw h
 
@@ -40,7 +41,7 @@ module _ (s : List ℕ) (at p : ℕ) (ep : p ≡ at + spaces (drop at s)) where
       rw (le-leb 1 (spaces (drop at s)) (omega arith), g, left-later s at p (omega arith)) (go (numeral (drop p s)))
     where
       go : (sc : Scan) → number_at p sc ≡ number_at at (shifted (p - at) sc)
-      go (got v k) = ap (λ (i : ℕ). num.At v i) (omega arith)
+      go (got v k) = ap (λ (i : ℕ). Some (v, i)) (omega arith)
       go none = refl
 
 -- a number is below 10 ^ 10
@@ -65,7 +66,7 @@ number_bound xs v k e = go (leb (length (digits xs)) 10) refl (leb 1 (length (di
     go true t true true e =
         let f : value_of 0 (digits xs) ≡ v = cc in
         omega (arith, value_bound 0 xs, pow-le-pow_right {n = 10} (omega arith) (leb-true (length (digits xs)) 10 t))
-    go true t true false e = let z : ◌≡◌ {A = ℕ} 0 1 = cc in absurd (omega arith)
-    go true t false c e = let z : ◌≡◌ {A = ℕ} 0 1 = cc in absurd (omega arith)
-    go false t true c e = let z : ◌≡◌ {A = ℕ} 0 1 = cc in absurd (omega arith)
-    go false t false c e = let z : ◌≡◌ {A = ℕ} 0 1 = cc in absurd (omega arith)
+    go true t true false e = absurd (cc)
+    go true t false c e = absurd (cc)
+    go false t true c e = absurd (cc)
+    go false t false c e = absurd (cc)

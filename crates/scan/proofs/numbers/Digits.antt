@@ -1,4 +1,5 @@
 -- The loop over a number's digits: after i - at digits that make v, what is left decides.
+use Rattle.std.proofs.Common.{Some, None}
 use mathlib.Core.Path.{◌≡◌, refl, ap, subst, ◌∙◌}
 use mathlib.Core.Bool.{Bool, true, false, ◌&&◌, ◌||◌, not}
 use mathlib.Core.List.{List, []}
@@ -9,7 +10,6 @@ use lib.Dec.{leb, eqb}
 use lib.ListN.{length, get_or, drop}
 use borrow.Author.Tests.{le-leb, lt-leb, eqb-true}
 use Rattle.base.proofs.Booleans.{and_false, or_true}
-use Rattle.scan.specs.declared.numbers.Number.TheVariants as num
 use Rattle.market.specs.Bytes.{class_of}
 use Rattle.market.specs.Fields.{digits, is_number, value_of, numeral}
 use Rattle.scan.specs.Code.Positions.{number_at}
@@ -45,15 +45,15 @@ digits_step s at v i d h e l =
 
 -- the digits at a position are a number, or are none
 module _ (s : List ℕ) (at : ℕ) where
-  number-yes : is_number (digits (drop at s)) ≡ true → num.At (value_of 0 (digits (drop at s))) (at + length (digits (drop at s))) ≡ number_at at (numeral (drop at s))
+  number-yes : is_number (digits (drop at s)) ≡ true → Some (value_of 0 (digits (drop at s)), at + length (digits (drop at s))) ≡ number_at at (numeral (drop at s))
   unfolding numeral
   number-yes e = rw e
 
-  number-no : is_number (digits (drop at s)) ≡ false → num.No ≡ number_at at (numeral (drop at s))
+  number-no : is_number (digits (drop at s)) ≡ false → None ≡ number_at at (numeral (drop at s))
   unfolding numeral
   number-no e = rw e
 
-  pub number-none : digits (drop at s) ≡ [] → num.No ≡ number_at at (numeral (drop at s))
+  pub number-none : digits (drop at s) ≡ [] → None ≡ number_at at (numeral (drop at s))
   unfolding is_number
   number-none e = number-no (rw e)
 
@@ -65,14 +65,14 @@ digits-first s at h e =
 
 module _ (s : List ℕ) (at v i : ℕ) (d : Digits s at v i) (h : at < i) where
   -- no digit is left, and a 0 stands alone
-  pub digits-done : digits (drop i s) ≡ [] → (get_or s at 0 ≡ 48 → i ≡ at + 1) → num.At v i ≡ number_at at (numeral (drop at s))
+  pub digits-done : digits (drop i s) ≡ [] → (get_or s at 0 ≡ 48 → i ≡ at + 1) → Some (v, i) ≡ number_at at (numeral (drop at s))
   unfolding is_number value_of
   digits-done e lone =
       let n : length (digits (drop at s)) ≡ i - at = omega (arith, d.count, ap length e) in
       let w : v ≡ value_of 0 (digits (drop at s)) = rw e at d.made in
       let p : i ≡ at + length (digits (drop at s)) = omega (arith, h) in
       let f = (first_digit s at (omega (arith, h))).1 in
-      ap (λ (y : ℕ). num.At y i) w ∙ ap (λ (y : ℕ). num.At (value_of 0 (digits (drop at s))) y) p
+      ap (λ (y : ℕ). Some (y, i)) w ∙ ap (λ (y : ℕ). Some (value_of 0 (digits (drop at s)), y)) p
       ∙ number-yes s at (rw (n, f, le-leb 1 (i - at) (omega arith), le-leb (i - at) 10 d.few) (go (eqb (get_or s at 0) 48) refl))
     where
       go : (b : Bool) → eqb (get_or s at 0) 48 ≡ b → leb (i - at) 1 || not b ≡ true
@@ -80,21 +80,17 @@ module _ (s : List ℕ) (at v i : ℕ) (d : Digits s at v i) (h : at < i) where
       go false e = or_true (leb (i - at) 1)
 
   -- a digit is left after ten
-  pub digits-many : 10 ≤ i - at → class_of (get_or s i 0) ≡ 1 → num.No ≡ number_at at (numeral (drop at s))
+  pub digits-many : 10 ≤ i - at → class_of (get_or s i 0) ≡ 1 → None ≡ number_at at (numeral (drop at s))
   unfolding is_number
   digits-many l e =
       let m = digits_more s i (class_inside s i (omega (arith, e))) e in
       number-no s at (rw (lt-leb (length (digits (drop at s))) 10 (omega (arith, d.count, ap length m)), and_false (leb 1 (length (digits (drop at s))))))
 
   -- a digit is left after a 0
-  pub digits_needless : get_or s at 0 ≡ 48 → class_of (get_or s i 0) ≡ 1 → num.No ≡ number_at at (numeral (drop at s))
+  pub digits_needless : get_or s at 0 ≡ 48 → class_of (get_or s i 0) ≡ 1 → None ≡ number_at at (numeral (drop at s))
   unfolding is_number
   digits_needless z e =
       let m = digits_more s i (class_inside s i (omega (arith, e))) e in
       let n : 1 < length (digits (drop at s)) = omega (arith, d.count, ap length m, h) in
       let f = (first_digit s at (omega arith)).1 in
       number-no s at (rw (f, z, lt-leb (length (digits (drop at s))) 1 n) (and_false (leb 1 (length (digits (drop at s))) && leb (length (digits (drop at s))) 10)))
-
--- at most ten digits make less than 10 ^ 10
-pub digits-small : (s : List ℕ) (at v i : ℕ) → Digits s at v i → v < 10000000000
-digits-small s at v i d = omega (arith, d.small, pow-le-pow_right {n = 10} (omega arith) d.few)

@@ -97,7 +97,6 @@ pub record Levelled (adj : ℕ → List ℕ) (reach n : ℕ) (T : List ℕ) (k :
 -- own are the rows of T, ascending, and they have mark 1, the others 0
 pub record Gathered (n : ℕ) (T own marks : List ℕ) : Type 0 where
   pub own_is : own ≡ filter (is_in T) (range 0 n)
-  pub long : length marks ≡ max_rows
   pub marked : (v : ℕ) → get_or marks v 0 ≡ bit (is_in T v)
   pub all : length own ≡ unreached n marks
 

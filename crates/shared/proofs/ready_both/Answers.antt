@@ -1,56 +1,53 @@
 -- `ready_both`: the lists, the numbers of sums, then the ready sets.
-use mathlib.Core.Path.{◌≡◌, refl, sym, ap, ◌∙◌}
+use mathlib.Core.Path.{◌≡◌, refl, sym}
 use Prim.Native.Nat.{◌*◌}
 use lib.Seq.{length-take-le}
-use Rattle.base.specs.Replies.{accepted, refused, in_turn}
-use Rattle.base.specs.Verdicts.{reply_of}
-use Rattle.matrix.specs.Matrix.{Matrix, matrix_of}
+use Rattle.std.proofs.Common.{Err, arith}
+use borrow.Author.Rules.{rules}
 use Rattle.plan.specs.Groups.{width}
 use Rattle.layout.specs.Code.UpdateTable.{Given}
+use Rattle.matrix.specs.Held.{held}
 use Rattle.calls.proofs.Prepared.{cut-given}
 use Rattle.crews.specs.Crews.{Crew, crew0, own_of}
-use Rattle.crews.specs.Calls.{roof_of, roof_checks}
+use Rattle.crews.specs.Calls.{roof_of}
+use Rattle.shared.specs.Code.Held.{both_moves}
 use Rattle.shared.proofs.RoofChecked.{roof_given}
 use Rattle.shared.proofs.Sharing.{states_short0, states_short1, cut_roof, sets-refused, lent-sets-refused, lent-sets}
 use Rattle.shared.proofs.ready_both.Goals as goal
+use Rattle.shared.proofs.ready_both.Goals.{In_ok-check_roof}
 
-pub returns-in-Refused : goal.returns-in-Refused
-returns-in-Refused c = lent-sets-refused _ _ _ _ _ _ _ _ (ap reply_of (sym c.in-Refused.is) ∙ c.check_roof-checked.ensures)
+pub returns-in_err-check_roof : goal.returns-in_err-check_roof
+returns-in_err-check_roof c =
+    let up : c.from_residual.result ≡ Err c.in_err-check_roof.field-0.0 = grind arith in
+    rw up (lent-sets-refused _ _ _ _ _ _ _ _ c.in_err-check_roof.ensures)
 
-pub returns-then-sums0-rows : goal.returns-then-sums0-rows
+pub returns-then-sums0-roof : goal.returns-then-sums0-roof
 unfolding roof_of
-returns-then-sums0-rows c =
-    let given : Matrix = let a = c.args in matrix_of a.n a.starts.now a.columns.now a.values.now in
-    let passed : let a = c.args in accepted c.in_default.field-0 ≡ in_turn refused (roof_checks given (record { of0 = a.displacements0.now; of1 = a.displacements1.now }) a.order.now a.groups.now a.count) (accepted 0) = ap reply_of (sym c.in_default.is) ∙ c.check_roof-checked.ensures in
-    lent-sets _ _ _ _ _ _ _ passed refl (sets-refused _ _ (states_short0 (roof_of given _ _ _ _) _ c.if-sums0-rows.true))
+returns-then-sums0-roof c =
+    lent-sets _ _ _ _ _ _ _ c.in_ok-check_roof.ensures refl (sets-refused _ _ (states_short0 (roof_of (held c.args.roof.now.matrix) _ _ _ _) _ c.if-sums0-roof.true))
 
-pub returns-then-sums1-rows : goal.returns-then-sums1-rows
+pub returns-then-sums1-roof : goal.returns-then-sums1-roof
 unfolding roof_of
-returns-then-sums1-rows c =
-    let given : Matrix = let a = c.args in matrix_of a.n a.starts.now a.columns.now a.values.now in
-    let passed : let a = c.args in accepted c.in_default.field-0 ≡ in_turn refused (roof_checks given (record { of0 = a.displacements0.now; of1 = a.displacements1.now }) a.order.now a.groups.now a.count) (accepted 0) = ap reply_of (sym c.in_default.is) ∙ c.check_roof-checked.ensures in
-    lent-sets _ _ _ _ _ _ _ passed refl (sets-refused _ _ (states_short1 (roof_of given _ _ _ _) _ c.if-sums1-rows.true))
+returns-then-sums1-roof c =
+    lent-sets _ _ _ _ _ _ _ c.in_ok-check_roof.ensures refl (sets-refused _ _ (states_short1 (roof_of (held c.args.roof.now.matrix) _ _ _ _) _ c.if-sums1-roof.true))
 
-pub slice_bounds-look-end : goal.slice_bounds-look-end
-slice_bounds-look-end c =
-    let given : Matrix = let a = c.args in matrix_of a.n a.starts.now a.columns.now a.values.now in
-    let passed : let a = c.args in accepted c.in_default.field-0 ≡ in_turn refused (roof_checks given (record { of0 = a.displacements0.now; of1 = a.displacements1.now }) a.order.now a.groups.now a.count) (accepted 0) = ap reply_of (sym c.in_default.is) ∙ c.check_roof-checked.ensures in
-    let holds-job : (d : Crew) → let a = c.args in Given a.n a.starts.now a.columns.now a.values.now (own_of (record { of0 = a.displacements0.now; of1 = a.displacements1.now }) d) a.order.now a.groups.now a.count = λ d. roof_given _ _ _ _ _ _ (sym passed) d in
-    sym (length-take-le (width * c.args.count) c.args.groups.now (holds-job crew0).groups_long)
+-- the lists hold a roof
+given : (c : In_ok-check_roof) → let r = c.args.roof.now in (d : Crew) → Given r.matrix.n r.matrix.starts.now r.matrix.columns.now r.matrix.values.now (own_of (both_moves r) d) r.plan.order.now r.plan.groups.now r.plan.count
+given c d = roof_given _ _ _ _ _ 0 (sym c.in_ok-check_roof.ensures) d
+
+pub overflow_mul-records : goal.overflow_mul-records
+overflow_mul-records c = let long = (given (goal.at.overflow_mul-records c).In_ok-check_roof crew0).groups_long in search rules
+
+pub slice_bounds-records-end : goal.slice_bounds-records-end
+slice_bounds-records-end c =
+    let p = c.args.roof.now.plan in
+    sym (length-take-le (width * p.count) p.groups.now (given (goal.at.slice_bounds-records-end c).In_ok-check_roof crew0).groups_long)
 
 pub look-requires : goal.look-requires
-look-requires c =
-    let given : Matrix = let a = c.args in matrix_of a.n a.starts.now a.columns.now a.values.now in
-    let passed : let a = c.args in accepted c.in_default.field-0 ≡ in_turn refused (roof_checks given (record { of0 = a.displacements0.now; of1 = a.displacements1.now }) a.order.now a.groups.now a.count) (accepted 0) = ap reply_of (sym c.in_default.is) ∙ c.check_roof-checked.ensures in
-    let holds-job : (d : Crew) → let a = c.args in Given a.n a.starts.now a.columns.now a.values.now (own_of (record { of0 = a.displacements0.now; of1 = a.displacements1.now }) d) a.order.now a.groups.now a.count = λ d. roof_given _ _ _ _ _ _ (sym passed) d in
-    let a = c.args in
-    (a.values.now, record { of0 = a.displacements0.now; of1 = a.displacements1.now }, λ d. (let g = holds-job d in cut-given _ _ g.groups_long g))
+look-requires c = let g = given (goal.at.look-requires c).In_ok-check_roof in λ d. cut-given _ _ (g d).groups_long (g d)
 
 pub returns : goal.returns
 returns c =
-    let given : Matrix = let a = c.args in matrix_of a.n a.starts.now a.columns.now a.values.now in
-    let passed : let a = c.args in accepted c.in_default.field-0 ≡ in_turn refused (roof_checks given (record { of0 = a.displacements0.now; of1 = a.displacements1.now }) a.order.now a.groups.now a.count) (accepted 0) = ap reply_of (sym c.in_default.is) ∙ c.check_roof-checked.ensures in
-    let holds-job : (d : Crew) → let a = c.args in Given a.n a.starts.now a.columns.now a.values.now (own_of (record { of0 = a.displacements0.now; of1 = a.displacements1.now }) d) a.order.now a.groups.now a.count = λ d. roof_given _ _ _ _ _ _ (sym passed) d in
     let a = c.args in
-    lent-sets _ _ _ _ _ _ _ passed (cut_roof _ _ (holds-job crew0).groups_long _ _ _)
-    (c.look.ensures a.values.now (record { of0 = a.displacements0.now; of1 = a.displacements1.now }) a.sums0.now a.sums1.now (λ d. (let g = holds-job d in cut-given _ _ g.groups_long g)) c.if-sums0-rows.false c.if-sums1-rows.false)
+    lent-sets _ _ _ _ _ _ _ c.in_ok-check_roof.ensures (cut_roof _ _ (given (goal.at.returns c).In_ok-check_roof crew0).groups_long _ _ _)
+    (c.look.ensures a.sums0.now a.sums1.now c.if-sums0-roof.false c.if-sums1-roof.false)

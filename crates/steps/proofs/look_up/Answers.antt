@@ -1,29 +1,12 @@
 -- `look_up` meets its contract.
 use Prim.Native.Nat.{◌+◌, ◌<◌}
 use native.Mathlib.Omega.{arith}
-use borrow.Author.Rules.{rules}
 use Rattle.steps.specs.Code.Steps.{place_next}
 use Rattle.steps.proofs.look_up.Goals as goal
 
 pub next_place-place-requires : goal.next_place-place-requires
 next_place-place-requires c =
-    let left : let a = c.args in place_next a.first.now a.made.now a.w < 69632 = let a = c.args in
+    let left : let a = c.args in place_next a.tables.now.first.now a.made.now a.w < 69632 = let a = c.args in
     let r = c.requires.2.2.bounded.rising in
     omega (arith, c.requires.1, r.rises a.w c.requires.0, r.few (a.w + 1) (omega (arith, c.requires.0))) in
     (c.requires.0, left)
-
-pub offset_bounds-row-place : goal.offset_bounds-row-place
-offset_bounds-row-place c =
-    let left : let a = c.args in place_next a.first.now a.made.now a.w < 69632 = let a = c.args in
-    let r = c.requires.2.2.bounded.rising in
-    omega (arith, c.requires.1, r.rises a.w c.requires.0, r.few (a.w + 1) (omega (arith, c.requires.0))) in
-    let place : c.next_place-place.result < 69632 = rw c.next_place-place.ensures left in
-    let h = place in search rules
-
-pub bounds-row-place : goal.bounds-row-place
-bounds-row-place c =
-    let left : let a = c.args in place_next a.first.now a.made.now a.w < 69632 = let a = c.args in
-    let r = c.requires.2.2.bounded.rising in
-    omega (arith, c.requires.1, r.rises a.w c.requires.0, r.few (a.w + 1) (omega (arith, c.requires.0))) in
-    let place : c.next_place-place.result < 69632 = rw c.next_place-place.ensures left in
-    let h = place in search rules

@@ -1,11 +1,15 @@
 -- A step by the tables that a call makes, and what the code makes of it.
-use Rattle.std.specs.Prelude.{◌≡◌, ◌≢◌, List, ℕ, zero, suc, ◌+◌, ◌*◌, ◌-◌, ◌/◌, ◌≤◌, ◌<◌, eqb, leb, ltb, ℤ, length, get_or}
+use Rattle.std.specs.Prelude.{◌≡◌, ◌≢◌, Result, Ok, Err, List, ℕ, zero, suc, ◌+◌, ◌*◌, ◌-◌, ◌/◌, ◌≤◌, ◌<◌, eqb, leb, ltb, ℤ, length, get_or}
+use Rattle.base.specs.Verdicts.{number_of}
+use Rattle.base.specs.declared.Kind.{Kind}
 use Rattle.run.specs.Job.{Job}
 use Rattle.run.specs.Updates.{Update, count, accesses, next}
 use Rattle.run.specs.Machine.{reason, Outcome, moved, halted, onward, step_if}
 use Rattle.run.specs.State.{State}
 use Rattle.plan.specs.Sound.{max_workers}
 use Rattle.tables.specs.Code.Laid.{max_updates, updates_in, Bounded}
+use Rattle.tables.specs.declared.Tables.{Tables}
+use Rattle.tables.specs.declared.Entries.{Entries}
 use Rattle.steps.specs.Code.Updates.{entry_place, update_in}
 
 abbrev pub state_with : (made : List ℕ) (held sums : List ℤ) → State
@@ -34,6 +38,13 @@ abbrev pub reason_at : (workers : ℕ) (first row leaves blocks made : List ℕ)
 reason_at workers first row leaves blocks made w =
     reason (ltb w workers) (leb (2 * updates_in first w) (count made w)) (eqb (get_or blocks (get_or leaves (row_next first row made w) 0) 0) 1)
 
+-- .. by the tables that the code holds
+abbrev pub reason_by : (workers : ℕ) → Tables → (blocks made : List ℕ) → ℕ → ℕ
+reason_by workers t blocks = reason_at workers t.first.now t.row.now t.leaves.now blocks
+
+abbrev pub update_by : Tables → Entries → (displaced : List ℤ) (made : List ℕ) → ℕ → Update
+update_by t e displaced = update_next t.first.now t.row.now t.begins.now e.parts.now displaced e.at.now e.beside.now
+
 -- ---- what the code needs for a step
 
 -- every worker's updates stand inside the table, those of a row from where they begin on, their entries inside the
@@ -52,7 +63,19 @@ pub record UpdatesAhead (j : Job) (made : List ℕ) (picks : ℕ) (first row beg
   pub is : (new : List ℕ) (w : ℕ) → w < max_workers → count made w ≤ count new w → count new w < count made w + picks → count new w < accesses j w
       → update_next first row begins parts displaced at beside new w ≡ next j new w
 
+-- .. by the tables that the code holds
+abbrev pub StepsBy : (n : ℕ) → Tables → Entries → Type 0
+StepsBy n t e = StepTables n t.first.now t.row.now t.begins.now e.parts.now t.leaves.now e.at.now e.beside.now
+
+abbrev pub AheadBy : Job → (made : List ℕ) (picks : ℕ) → Tables → Entries → (displaced : List ℤ) → Type 0
+AheadBy j made picks t e displaced = UpdatesAhead j made picks t.first.now t.row.now t.begins.now e.parts.now displaced e.at.now e.beside.now
+
 -- ---- what it makes of one
+
+-- the number of the code's answer: 0, or why it is refused
+abbrev pub told : Result (Unit {0}) Kind → ℕ
+told (Ok _) = 0
+told (Err k) = number_of k
 
 -- a pick's answer, 0 or why it is refused, and the state after it, as the machine's
 unfoldable pub outcome_of : (number : ℕ) → State → Outcome State

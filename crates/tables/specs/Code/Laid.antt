@@ -8,6 +8,7 @@ use Rattle.plan.specs.Sound.{max_workers, max_groups}
 use Rattle.run.specs.Job.{Job}
 use Rattle.run.specs.Tree.{tree, holds, blocked}
 use Rattle.run.specs.Updates.{Update, row_updates, owner, up_to, updates, finished, no_update}
+use Rattle.tables.specs.declared.Tables.{Tables}
 
 -- ---- leaves
 
@@ -86,6 +87,13 @@ pub record Bounded (n : ℕ) (first row leaves : List ℕ) : Type 0 where
   pub rows_few : n ≤ max_rows
   pub row_low : (k : ℕ) → get_or row k 0 < n
   pub leaf_low : (p : ℕ) → get_or leaves p 0 < max_groups
+
+-- .. by the tables that the code holds
+abbrev pub LaidIn : Job → Tables → Type 0
+LaidIn j t = Laid j t.first.now t.row.now t.begins.now t.leaves.now t.ends.now
+
+abbrev pub BoundedIn : ℕ → Tables → Type 0
+BoundedIn n t = Bounded n t.first.now t.row.now t.leaves.now
 
 -- ---- waits
 

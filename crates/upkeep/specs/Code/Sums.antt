@@ -3,10 +3,11 @@ use Rattle.std.specs.Prelude.{◌≡◌, ◌≢◌, true, List, [], ◌∷◌, �
 use Rattle.base.specs.Replies.{Reply, accepted, refused, check, in_turn}
 use Rattle.base.specs.Refusals as why
 use Rattle.matrix.specs.Limits.{max_value, max_displacement}
-use Rattle.matrix.specs.Matrix.{Matrix, lookup, matrix_check, displacement_check}
+use Rattle.base.specs.Lists.{is_in}
+use Rattle.matrix.specs.Matrix.{Matrix, columns_of, lookup, matrix_check, displacement_check}
 use Rattle.matrix.specs.Code.Checks.{is_ordered}
 use Rattle.matrix.specs.SmallForces.{largest_force}
-use Rattle.upkeep.specs.Upkeep.{are_forces}
+use Rattle.upkeep.specs.Upkeep.{are_forces, entry_place}
 
 -- 5, 6, 20: the checks before those of the change
 unfoldable pub current_reply : Matrix → (displacements forces : List ℤ) → Reply
@@ -38,3 +39,9 @@ pub record BothAdded (i j : ℕ) (first second : ℤ) (old new : List ℤ) : Typ
   pub own : get_or new i (pos 0) ≡ get_or old i (pos 0) +ℤ first
   pub other : i ≢ j → get_or new j (pos 0) ≡ get_or old j (pos 0) +ℤ second
   pub rest : (r : ℕ) → r ≢ i → r ≢ j → get_or new r (pos 0) ≡ get_or old r (pos 0)
+
+-- entry (i, j) is stored at place p of the values, and its mirror at place q
+pub record Placed (m : Matrix) (i j p q : ℕ) : Type 0 where
+  pub stored : is_in (columns_of m i) j ≡ true
+  pub first : p ≡ entry_place m i j
+  pub second : q ≡ entry_place m j i

@@ -5,7 +5,7 @@ use Rattle.upper.proofs.PartRows.{parts-ended, part_sizes_are}
 use Rattle.upper.proofs.upper.Goals as goal
 
 pub begin_parts-requires : goal.begin_parts-requires
-begin_parts-requires c = let g = c.requires in ((_, _, g.0), g.1)
+begin_parts-requires c = let g = c.requires in (g.0, g.1)
 
 pub join_all-requires : goal.join_all-requires
 join_all-requires c =

@@ -1,10 +1,6 @@
 -- `waits::next_ends` meets its contract: the records before index i are treated.
-use Prim.Native.Nat.{◌-◌, ◌≤◌}
 use Rattle.waits.specs.Code.Waits.{Ahead}
 use Rattle.waits.proofs.next_ends.Given as goal
 
 abbrev pub invariant-loop-i : goal.invariant-loop-i
-invariant-loop-i l = (l.i ≤ l.count) × Ahead l.i l.groups l.ends l.made l.stops
-
-abbrev pub decreases-loop-i : goal.decreases-loop-i
-decreases-loop-i l = l.count - l.i
+invariant-loop-i l = Ahead l.i l.groups l.ends l.made l.stops

@@ -4,7 +4,4 @@ use Rattle.waits.proofs.PassTurns.{Backward}
 use Rattle.waits.proofs.open_reds.Given as goal
 
 abbrev pub invariant-loop-i : goal.invariant-loop-i
-invariant-loop-i l = (1 ≤ l.i) × (l.i ≤ l.count) × Backward l.count l.groups l.ends l.made l.i l.parents l.opens l.reds
-
-abbrev pub decreases-loop-i : goal.decreases-loop-i
-decreases-loop-i l = l.i
+invariant-loop-i l = (1 ≤ l.i) × Backward l.count l.groups l.ends l.made l.i l.parents l.opens l.reds

@@ -4,10 +4,9 @@ use mathlib.Core.List.{List, [], ◌∷◌, ◌++◌, append_assoc, append-nil}
 use Prim.Native.Nat.{ℕ, ◌+◌, ◌≤◌, ◌<◌}
 use native.Mathlib.Numerals.{add-one}
 use native.Mathlib.Omega.{arith}
-use lib.ListN.{length, get_or, set, take, drop, length-append, length-set, take-append-drop}
-use lib.Seq.{set_split, take-length, length-take-le, take_at, drop_at, drop-drop, take-set-le, drop-set-lt}
+use lib.ListN.{length, set, take, drop, length-append, length-set, take-append-drop}
+use lib.Seq.{set_split, length-take-le, take_at, drop_at, drop-drop, take-set-le, drop-set-lt}
 use Rattle.writer.specs.Code.Puts.{Put}
-use Rattle.base.proofs.Fill.{copy_one}
 
 -- one byte
 pub put_one : (old : List ℕ) (at b : ℕ) → at < length old → Put (b ∷ []) at (at + 1) old (set old at b)
@@ -43,31 +42,6 @@ put_none old at = let e : at ≡ at + 0 = omega arith in record { next = e; long
 -- the same bytes
 pub put_as : {xs ys : List ℕ} {at r : ℕ} {old new : List ℕ} → xs ≡ ys → Put xs at r old new → Put ys at r old new
 put_as {at = at} {r = r} {old = old} {new = new} e a = subst (λ (l : List ℕ). Put l at r old new) e a
-
--- the first i bytes of hs are copied
-pub record Copying (hs old text : List ℕ) (i : ℕ) : Type 0 where
-  pub count : i ≤ length hs
-  pub room : length hs ≤ length old
-  pub long : length text ≡ length old
-  pub text-is : text ≡ take i hs ++ drop i old
-
-pub copying_start : (hs old : List ℕ) → length hs ≤ length old → Copying hs old old 0
-copying_start hs old h = record { count = omega arith; room = h; long = refl; text-is = refl }
-
-module _ {hs old text : List ℕ} {i : ℕ} (g : Copying hs old text i) where
-  pub copying_more : i < length hs → Copying hs old (set text i (get_or hs i 0)) (i + 1)
-  copying_more h = record {
-    count = omega arith;
-    room = g.room;
-    long = length-set text i (get_or hs i 0) ∙ g.long;
-    text-is = rw g.text-is (copy_one hs old 0 i h (omega (arith, g.room)));
-  }
-
-  pub copying_end : length hs ≤ i → {r : ℕ} → r ≡ length hs → Put hs 0 r old text
-  copying_end h er =
-      let e : i ≡ length hs = omega (arith, g.count) in
-      let z : 0 + length hs ≡ length hs = omega arith in
-      record { next = er ∙ sym z; long = g.long; text = g.text-is ∙ rw (e, take-length hs, z) }
 
 -- what is left begins with xs
 pub record Next (left xs left' : List ℕ) : Type 0 where

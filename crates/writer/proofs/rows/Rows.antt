@@ -1,5 +1,5 @@
 -- The rows of a matrix as the writer goes through them.
-use mathlib.Core.Path.{◌≡◌, refl, sym, ap, ◌∙◌}
+use mathlib.Core.Path.{◌≡◌, refl, ap, ◌∙◌}
 use mathlib.Core.Bool.{Bool, true, false}
 use mathlib.Core.List.{List, [], ◌∷◌, ◌++◌, map}
 use Prim.Native.Nat.{ℕ, suc, ◌+◌, ◌-◌, ◌≤◌, ◌<◌}
@@ -7,10 +7,11 @@ use native.Mathlib.Numerals.{add-one}
 use native.Mathlib.Omega.{arith}
 use lib.Dec.{leb}
 use lib.IntN.{ℤ}
-use lib.ListN.{length, get_or, take, drop}
+use lib.ListN.{length, get_or}
+use lib.Seq.{slice}
 use borrow.Author.Tests.{eq-eqb, ne_eqb, leb-true, leb-false}
 use Rattle.base.specs.Lists.{filter, keep, is_in, concat, range}
-use Rattle.base.proofs.Lists.{length-filter-le, length-range, take-drop, in_get, filter_in}
+use Rattle.base.proofs.Lists.{length-filter-le, length-range, in_get, filter_in}
 use Rattle.matrix.specs.Matrix.{Matrix, columns_of, values_of, lookup, entry, ascending, is_matrix}
 use Rattle.matrix.specs.Code.Checks.{RowIn}
 use Rattle.matrix.proofs.Matrix.{matrix_facts, column-low}
@@ -86,16 +87,10 @@ module _ (m : Matrix) (ok : is_matrix m ≡ true) where
           columns = λ k h. omega (arith, column-low m ok j (get_or (columns_of m j) k 0) (in_get (columns_of m j) k h));
         }
 
-    -- as the code takes it from the lists, from a up to e
-    module _ {a e : ℕ} (ea : a ≡ get_or m.starts j 0) (ee : e ≡ get_or m.starts (j + 1) 0) where
-      columns-taken : take (e - a) (drop a m.columns) ≡ columns_of m j
-      columns-taken = take-drop a e m.columns ∙ rw (ea, ee) (sym (columns-part m j l))
+    -- as the code takes it from the lists
+    module _ {cs : List ℕ} {vs : List ℤ} (ec : cs ≡ slice (get_or m.starts j 0) (get_or m.starts (j + 1) 0) m.columns) (ev : vs ≡ slice (get_or m.starts j 0) (get_or m.starts (j + 1) 0) m.values) where
+      pub row-taken : Row j cs vs
+      row-taken = rw (ec, ← columns-part m j l, ev, ← values-part m j l) row_within
 
-      values-taken : take (e - a) (drop a m.values) ≡ values_of m j
-      values-taken = take-drop a e m.values ∙ rw (ea, ee) (sym (values-part m j l))
-
-      pub row-taken : Row j (take (e - a) (drop a m.columns)) (take (e - a) (drop a m.values))
-      row-taken = rw (columns-taken, values-taken) row_within
-
-      pub left-taken : lower_left m j ≡ from_diagonal j (take (e - a) (drop a m.columns)) (take (e - a) (drop a m.values)) ++ lower_left m (j + 1)
-      left-taken = rw (columns-taken, values-taken) (left-next j l)
+      pub left-taken : lower_left m j ≡ from_diagonal j cs vs ++ lower_left m (j + 1)
+      left-taken = left-next j l ∙ rw (ec, ← columns-part m j l, ev, ← values-part m j l)

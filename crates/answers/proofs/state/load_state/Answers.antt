@@ -11,8 +11,8 @@ use Rattle.answers.proofs.state.load_state.Goals as goal
 pub returns-then-bytes-ne-STATE_BYTES : goal.returns-then-bytes-ne-STATE_BYTES
 returns-then-bytes-ne-STATE_BYTES c whole = absurd (c.if-bytes-ne-STATE_BYTES.true whole)
 
-pub slice_bounds-load_u32-end : goal.slice_bounds-load_u32-end
-slice_bounds-load_u32-end c = sym (length-take-le 64 c.args.bytes.now (omega (arith, c.if-bytes-ne-STATE_BYTES.false)))
+pub slice_bounds-load-end : goal.slice_bounds-load-end
+slice_bounds-load-end c = sym (length-take-le 64 c.args.bytes.now (omega (arith, c.if-bytes-ne-STATE_BYTES.false)))
 
 pub returns : goal.returns
 returns c whole =
@@ -21,6 +21,6 @@ returns c whole =
     let held : take (length bytes - 64) (drop 64 bytes) ≡ drop 64 bytes = take_all (length bytes - 64) (drop 64 bytes) (rw length-drop (omega arith)) in
     let numbers : length (take (length bytes - 64) (drop 64 bytes)) ≡ 128 = rw (held, length-drop) (omega (arith, whole)) in
     record {
-      made = loaded_whole number 4 (take 64 bytes) _ c.load_u32.ensures.0 c.load_u32.ensures.1 (rw counts);
-      held = loaded_whole (signed_number 8) 8 (take (length bytes - 64) (drop 64 bytes)) _ c.load_i64.ensures.0 c.load_i64.ensures.1 (rw numbers) ∙ ap (signed 8) held;
+      made = loaded_whole number 4 (take 64 bytes) _ c.load.ensures.0 c.load.ensures.1 (rw counts);
+      held = loaded_whole (signed_number 8) 8 (take (length bytes - 64) (drop 64 bytes)) _ c.load-2.ensures.0 c.load-2.ensures.1 (rw numbers) ∙ ap (signed 8) held;
     }

@@ -1,7 +1,6 @@
 -- `force_list`: whether the run is over, then the room.
 use mathlib.Core.Bool.{not}
-use mathlib.Core.Path.{ap}
-use mathlib.Core.Path.{refl}
+use mathlib.Core.Path.{refl, ap}
 use Rattle.base.proofs.Booleans.{fails, holds}
 use Rattle.calls.proofs.ForceList.{listed-early, listed-short, listed}
 use Rattle.calls.proofs.force_list.force_list.Goals as goal

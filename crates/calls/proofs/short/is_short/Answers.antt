@@ -1,11 +1,13 @@
 -- `short::is_short`: the picks are few.
-use mathlib.Core.Path.{refl}
 use native.Mathlib.Omega.{arith}
-use Rattle.base.proofs.Booleans.{clash}
+use lib.ListN.{get_or}
+use mir.Syntax.{w32}
+use mir.Val.{Fits}
+use borrow.Author.Rules.{rules}
 use Rattle.calls.proofs.short.is_short.Goals as goal
 
-pub returns-then-wide_at-picks : goal.returns-then-wide_at-picks
-returns-then-wide_at-picks c y = absurd (clash y refl)
-
 pub returns : goal.returns
-returns c y = omega (arith, c.if-wide_at-picks.false, c.wide_at.ensures.1)
+returns c y =
+    let m = c.args.m.now in
+    let small : Fits w32 (get_or m.starts.now m.n 0) = search rules in
+    omega (arith, small)

@@ -13,37 +13,25 @@ use Rattle.base.specs.Integers.{within}
 use Rattle.base.proofs.Booleans.{fails, holds}
 use Rattle.base.proofs.Integers.{fits-abs}
 use Rattle.matrix.specs.Limits.{max_value}
-use Rattle.joined.proofs.Emitting.{emitted_one, emitted_large, emitted_many}
+use Rattle.joined.proofs.Emitting.{emitted_one, emitted_large}
 use Rattle.joined.proofs.puts.put.Goals as goal
 
 narrow : (z : ℤ) → within max_value z ≡ true → SFits w32 z
 unfolding within
 narrow z h = fits-abs (omega (arith, leb-true (nat_abs z) max_value h))
 
-pub returns-then-not-is_small : goal.returns-then-not-is_small
-returns-then-not-is_small c =
-    let tested : c.is_small.result ≡ within max_value c.args.v = simp (to_z-of_z c.ranges.v) at c.is_small.ensures in
-    emitted_large c.requires _ _ _ (fails tested (ap not c.if-not-is_small.true))
-
-pub returns-then-m-ge-MAX_ENTRIES : goal.returns-then-m-ge-MAX_ENTRIES
-returns-then-m-ge-MAX_ENTRIES c = emitted_many c.requires c.if-m-ge-MAX_ENTRIES.true _
-
-pub bounds-rs-m : goal.bounds-rs-m
-bounds-rs-m c = omega (arith, c.if-m-ge-MAX_ENTRIES.false)
-
-pub bounds-cs-m : goal.bounds-cs-m
-bounds-cs-m c = omega (arith, c.if-m-ge-MAX_ENTRIES.false)
+pub returns-then-not-in_limits : goal.returns-then-not-in_limits
+returns-then-not-in_limits c =
+    let tested : c.in_limits.result ≡ within max_value c.args.v = simp (to_z-of_z c.ranges.v) at c.in_limits.ensures in
+    emitted_large c.requires _ _ _ (fails tested (ap not c.if-not-in_limits.true))
 
 pub overflow_cast-vs : goal.overflow_cast-vs
 overflow_cast-vs c =
-    let tested : c.is_small.result ≡ within max_value c.args.v = simp (to_z-of_z c.ranges.v) at c.is_small.ensures in
-    simp (to_z-of_z c.ranges.v) (narrow c.args.v (holds tested (ap not c.if-not-is_small.false)))
-
-pub bounds-vs-m : goal.bounds-vs-m
-bounds-vs-m c = omega (arith, c.if-m-ge-MAX_ENTRIES.false)
+    let tested : c.in_limits.result ≡ within max_value c.args.v = simp (to_z-of_z c.ranges.v) at c.in_limits.ensures in
+    simp (to_z-of_z c.ranges.v) (narrow c.args.v (holds tested (ap not c.if-not-in_limits.false)))
 
 pub returns : goal.returns
 returns c =
-    let tested : c.is_small.result ≡ within max_value c.args.v = simp (to_z-of_z c.ranges.v) at c.is_small.ensures in
-    let small = holds tested (ap not c.if-not-is_small.false) in
-    simp (to_z-of_z c.ranges.v, to_z-of_z (narrow c.args.v small)) (emitted_one c.requires (omega (arith, c.if-m-ge-MAX_ENTRIES.false)) _ _ c.args.v small)
+    let tested : c.in_limits.result ≡ within max_value c.args.v = simp (to_z-of_z c.ranges.v) at c.in_limits.ensures in
+    let small = holds tested (ap not c.if-not-in_limits.false) in
+    (omega (arith, c.if-m-ge-MAX_ENTRIES.false), simp (to_z-of_z c.ranges.v, to_z-of_z (narrow c.args.v small)) (emitted_one c.requires (omega (arith, c.if-m-ge-MAX_ENTRIES.false)) _ _ c.args.v small))

@@ -10,29 +10,17 @@ use mir.Facts.{to_z-of_z}
 use Rattle.joined.specs.Code.Rows.{held_at}
 use Rattle.joined.proofs.Emitting.{emitted_none, emitted_same}
 use Rattle.joined.proofs.Cells.{cells-none}
-use Rattle.joined.proofs.Turns.{turn-next, turn_stop, turn-all}
+use Rattle.joined.proofs.Turns.{turn-next, turn_stop}
 use Rattle.joined.proofs.row.put_first.Goals as goal
 
 pub loop-k-init : goal.loop-k-init
 loop-k-init c =
     let column : ℕ → ℕ = λ k. get_or c.args.columns.now k 0 in
     let value : ℕ → ℤ = λ k. get_or c.args.values.now k (pos 0) +ℤ held_at (c.args.i + 1) c.args.marks.now c.args.held.now (column k) in
-    (omega arith, c.requires.4, emitted_same (sym (cells-none c.args.i (λ j. leb j c.args.i) column value)) (emitted_none c.requires.5 c.requires.4))
+    (c.requires.4, emitted_same (sym (cells-none c.args.i (λ j. leb j c.args.i) column value)) (emitted_none c.requires.5 c.requires.4))
 
-pub bounds-values-k : goal.bounds-values-k
-bounds-values-k c = omega (arith, c.requires.0.beside, c.loop-k-test.true)
-
-pub overflow_add-i : goal.overflow_add-i
-overflow_add-i c = omega (arith, c.requires.3)
-
-pub held_at-requires : goal.held_at-requires
-held_at-requires c = (c.requires.1, c.requires.2, c.requires.0.low c.loop-k.k c.loop-k-test.true)
-
-pub put_low-count-requires : goal.put_low-count-requires
-put_low-count-requires c = (c.loop-k.invariant.1, c.loop-k.invariant.2.arrays)
-
-pub returns-then-count-gt-MAX_ENTRIES : goal.returns-then-count-gt-MAX_ENTRIES
-returns-then-count-gt-MAX_ENTRIES c =
+pub returns-in_err-count : goal.returns-in_err-count
+returns-in_err-count c =
     let column : ℕ → ℕ = λ k. get_or c.args.columns.now k 0 in
     let value : ℕ → ℤ = λ k. get_or c.args.values.now k (pos 0) +ℤ held_at (c.args.i + 1) c.args.marks.now c.args.held.now (column k) in
     let sum_is : c.plus-v.result ≡ value c.loop-k.k =
@@ -41,9 +29,10 @@ returns-then-count-gt-MAX_ENTRIES c =
     (simp (to_z-of_z f, to_z-of_z g) at c.plus-v.ensures) ∙ ap (λ (z : ℤ). get_or c.args.values.now c.loop-k.k (pos 0) +ℤ z) c.held_at.ensures in
     let sum_fits : SFits w64 c.plus-v.result = record { sfits = c.plus-v.type_inv } in
     let m = c.loop-k-test.true in
-    turn_stop c.args.i (λ j. leb j c.args.i) column value (c.loop-k.k + 1)
-    (turn-next c.args.i (λ j. leb j c.args.i) column value c.loop-k.k c.loop-k.invariant.2 c.loop-k.invariant.1 (to_z-of_z sum_fits ∙ sum_is) c.put_low-count.ensures)
-    c.if-count-gt-MAX_ENTRIES.true (length c.args.columns.now) (omega arith)
+    rw c.from_residual.ensures
+    (turn_stop c.args.i (λ j. leb j c.args.i) column value (c.loop-k.k + 1)
+    (turn-next c.args.i (λ j. leb j c.args.i) column value c.loop-k.k c.loop-k.invariant.1 c.loop-k.invariant.0 (to_z-of_z sum_fits ∙ sum_is) c.in_err-count.ensures)
+    (omega arith) (length c.args.columns.now) (omega arith))
 
 pub loop-k-preserved : goal.loop-k-preserved
 loop-k-preserved c =
@@ -55,10 +44,4 @@ loop-k-preserved c =
     (simp (to_z-of_z f, to_z-of_z g) at c.plus-v.ensures) ∙ ap (λ (z : ℤ). get_or c.args.values.now c.loop-k.k (pos 0) +ℤ z) c.held_at.ensures in
     let sum_fits : SFits w64 c.plus-v.result = record { sfits = c.plus-v.type_inv } in
     let m = c.loop-k-test.true in
-    (omega (arith, m), c.if-count-gt-MAX_ENTRIES.false, turn-next c.args.i (λ j. leb j c.args.i) column value c.loop-k.k c.loop-k.invariant.2 c.loop-k.invariant.1 (to_z-of_z sum_fits ∙ sum_is) c.put_low-count.ensures)
-
-pub returns : goal.returns
-returns c =
-    let column : ℕ → ℕ = λ k. get_or c.args.columns.now k 0 in
-    let value : ℕ → ℤ = λ k. get_or c.args.values.now k (pos 0) +ℤ held_at (c.args.i + 1) c.args.marks.now c.args.held.now (column k) in
-    turn-all c.args.i (λ j. leb j c.args.i) column value c.loop-k.k c.loop-k.invariant.2 (length c.args.columns.now) (omega (arith, c.loop-k.invariant.0, c.loop-k-test.false))
+    (c.in_ok-count.ensures.0, turn-next c.args.i (λ j. leb j c.args.i) column value c.loop-k.k c.loop-k.invariant.1 c.loop-k.invariant.0 (to_z-of_z sum_fits ∙ sum_is) c.in_ok-count.ensures.1)

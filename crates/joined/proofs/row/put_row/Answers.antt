@@ -8,7 +8,7 @@ use lib.Dec.{leb}
 use lib.IntN.{ℤ, pos, ◌+ℤ◌}
 use lib.ListN.{length, get_or}
 use Rattle.joined.specs.Code.Rows.{from_first, from_second, row_entries, marked, held_at, Held, Seen}
-use Rattle.joined.proofs.Emitting.{emitted_then, emitted_stop, emitted_same}
+use Rattle.joined.proofs.Emitting.{emitted_stop, emitted_same, told_then, told_same}
 use Rattle.joined.proofs.Cells.{cells_same}
 use Rattle.joined.proofs.Tables.{held-before, seen_before}
 use Rattle.joined.proofs.row.put_row.Goals as goal
@@ -24,44 +24,19 @@ second-same i places ds ws {first} {seen} h =
     cells_same i (λ c. leb c i && not (marked (i + 1) seen c)) (λ c. leb c i && not (first c)) (λ k. get_or places (get_or ds k 0) 0) (λ k. get_or ws k (pos 0)) (λ k. get_or ws k (pos 0)) (length ds)
     (λ l m. ap (λ (b : Bool). leb (get_or places (get_or ds l 0) 0) i && not b) (h.is (get_or places (get_or ds l 0) 0))) (λ l m. refl)
 
-pub overflow_add-i : goal.overflow_add-i
-overflow_add-i c = omega (arith, c.requires.2)
-
-pub hold-requires : goal.hold-requires
-hold-requires c = (c.requires.1, c.requires.3, c.requires.4)
-
-pub overflow_add-i-2 : goal.overflow_add-i-2
-overflow_add-i-2 c = omega (arith, c.requires.2)
-
-pub mark-requires : goal.mark-requires
-mark-requires c = (c.requires.0.low, c.requires.5)
-
-pub put_first-count-requires : goal.put_first-count-requires
-put_first-count-requires c = let h = c.hold.ensures in (c.requires.0, h.long, h.beside, c.requires.2, c.requires.6, c.requires.7)
-
-pub returns-then-count-gt-MAX_ENTRIES : goal.returns-then-count-gt-MAX_ENTRIES
+pub returns-in_err-count : goal.returns-in_err-count
 unfolding row_entries
-returns-then-count-gt-MAX_ENTRIES c =
-    let h = c.hold.ensures in
-    let k = c.mark.ensures in (
-      emitted_stop (emitted_same (first-same c.args.i c.args.columns1.now c.args.values1.now h) c.put_first-count.ensures) c.if-count-gt-MAX_ENTRIES.true _,
-      held-before h,
-      h.beside,
-      seen_before k,
+returns-in_err-count c =
+    rw c.from_residual.ensures (
+      emitted_stop (emitted_same (first-same c.args.i c.args.columns1.now c.args.values1.now c.hold.ensures) c.in_err-count.ensures) (omega arith) _,
+      held-before c.hold.ensures,
+      c.hold.ensures.beside,
+      seen_before c.mark.ensures,
     )
-
-pub put_second-requires : goal.put_second-requires
-put_second-requires c =
-    (c.requires.1, c.mark.ensures.long, c.requires.2, c.if-count-gt-MAX_ENTRIES.false, c.put_first-count.ensures.arrays)
 
 pub returns : goal.returns
 unfolding row_entries
 returns c =
-    let h = c.hold.ensures in
-    let k = c.mark.ensures in (
-      emitted_then (emitted_same (first-same c.args.i c.args.columns1.now c.args.values1.now h) c.put_first-count.ensures) c.if-count-gt-MAX_ENTRIES.false
-          (emitted_same (second-same c.args.i c.args.places.now c.args.columns2.now c.args.values2.now k) c.put_second.ensures),
-      held-before h,
-      h.beside,
-      seen_before k,
-    )
+    let first = emitted_same (first-same c.args.i c.args.columns1.now c.args.values1.now c.hold.ensures) c.in_ok-count.ensures.1 in
+    let same = second-same c.args.i c.args.places.now c.args.columns2.now c.args.values2.now c.mark.ensures in
+    (told_then first c.in_ok-count.ensures.0 _ _ _ _ _ (told_same same _ _ _ _ _ _ _ _ c.put_second.ensures), held-before c.hold.ensures, c.hold.ensures.beside, seen_before c.mark.ensures)

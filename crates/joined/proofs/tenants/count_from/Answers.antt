@@ -1,19 +1,12 @@
-use mathlib.Core.Path.{◌∙◌}
 use native.Mathlib.Omega.{arith}
-use Rattle.joined.proofs.Settled.{count-one, count_none, count-all}
+use Rattle.joined.proofs.Settled.{count-one, count_none}
 use Rattle.joined.proofs.tenants.count_from.Goals as goal
-use Rattle.joined.proofs.tenants.count_from.Goals.{then-n-list, else-n-list}
+use Rattle.joined.proofs.tenants.count_from.Goals.{then-n-p, else-n-p}
 
-pub loop-k-preserved : goal.loop-k-preserved
-loop-k-preserved c =
+pub loop-p-preserved : goal.loop-p-preserved
+loop-p-preserved c =
     let a = c.args in
-    let m = c.loop-k-test.true in
-    elim c.if-n-list.branch [
-      | then-n-list w ↦ (omega arith, omega arith, omega (arith, w.count-is, c.loop-k.invariant.2, count-one a.n a.list.now c.loop-k.k m w.if-n-list.true))
-      | else-n-list w ↦ (omega arith, omega arith, omega (arith, w.count-is, c.loop-k.invariant.2, count_none a.n a.list.now c.loop-k.k m w.if-n-list.false))
+    elim c.if-n-p.branch [
+      | then-n-p w ↦ (omega arith, omega (arith, w.count-is, c.loop-p.invariant.1, count-one a.n a.list.now c.loop-p.p-index c.loop-p-test.true w.if-n-p.true))
+      | else-n-p w ↦ (omega arith, omega (arith, w.count-is, c.loop-p.invariant.1, count_none a.n a.list.now c.loop-p.p-index c.loop-p-test.true w.if-n-p.false))
     ]
-
-pub returns : goal.returns
-returns c =
-    let a = c.args in
-    c.loop-k.invariant.2 ∙ count-all a.n a.list.now c.loop-k.k c.loop-k-test.false

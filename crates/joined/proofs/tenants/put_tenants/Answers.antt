@@ -2,37 +2,17 @@ use mathlib.Core.Path.{sym, ◌∙◌}
 use mathlib.Core.Bool.{true≢false}
 use native.Mathlib.Omega.{arith}
 use lib.ListN.{length-set}
-use Rattle.joined.proofs.Settled.{settled_none, settled_next, not_low, not-distinct, all-distinct, all_tenants}
+use Rattle.joined.proofs.Settled.{settled_none, settled_next, not-distinct}
 use Rattle.joined.proofs.tenants.put_tenants.Goals as goal
 
 pub loop-k-init : goal.loop-k-init
 loop-k-init c = (settled_none c.args.n c.args.list.now c.args.tenants.now c.requires.3, c.requires.2)
 
-pub overflow_cast-p : goal.overflow_cast-p
-overflow_cast-p c = omega (arith, c.type_inv.list c.loop-k.k)
-
-pub returns-then-n-p : goal.returns-then-n-p
-returns-then-n-p c =
-    record { test = sym (not_low c.args.n c.args.list.now c.loop-k.invariant.0 c.loop-k-test.true c.if-n-p.true); tenants = λ e. absurd (true≢false (sym e)) }
-
-pub bounds-tenants-p : goal.bounds-tenants-p
-bounds-tenants-p c = omega (arith, c.requires.0, c.if-n-p.false)
-
 pub returns-then-tenants-p-ne0 : goal.returns-then-tenants-p-ne0
 returns-then-tenants-p-ne0 c =
     record { test = sym (not-distinct c.args.n c.args.list.now c.loop-k.invariant.0 c.loop-k-test.true c.if-tenants-p-ne0.true); tenants = λ e. absurd (true≢false (sym e)) }
-
-pub overflow_cast-tenants : goal.overflow_cast-tenants
-overflow_cast-tenants c = omega (arith, c.requires.1)
-
-pub bounds-tenants-p-in-loop-k : goal.bounds-tenants-p-in-loop-k
-bounds-tenants-p-in-loop-k c = omega (arith, c.requires.0, c.if-n-p.false)
 
 pub loop-k-preserved : goal.loop-k-preserved
 loop-k-preserved c =
     let low = c.if-n-p.false in
     (settled_next c.args.n c.args.list.now c.loop-k.invariant.0 c.loop-k-test.true low (omega (arith, c.loop-k.invariant.1, c.requires.0)) c.if-tenants-p-ne0.false, length-set c.loop-k.tenants _ _ ∙ c.loop-k.invariant.1)
-
-pub returns : goal.returns
-returns c =
-    record { test = sym (all-distinct c.args.n c.args.list.now c.loop-k.invariant.0 c.loop-k-test.false); tenants = λ e. all_tenants c.args.n c.args.list.now c.loop-k.invariant.0 c.loop-k-test.false }

@@ -1,11 +1,7 @@
 -- `counts::count_updates` meets its contract: the leaves before record i are counted.
-use Prim.Native.Nat.{◌-◌, ◌≤◌}
 use Rattle.run.specs.Job.{Job}
 use Rattle.layout.specs.Code.UpdateTable.{Planned, Numbers, reached}
 use Rattle.layout.proofs.counts.count_updates.Given as goal
 
 abbrev pub invariant-loop-i : goal.invariant-loop-i
-invariant-loop-i l = (l.i ≤ l.count) × ((j : Job) → Planned j l.groups l.count l.sizes → Numbers j (reached l.count l.groups l.i) l.first)
-
-abbrev pub decreases-loop-i : goal.decreases-loop-i
-decreases-loop-i l = l.count - l.i
+invariant-loop-i l = ((j : Job) → Planned j l.groups l.count l.sizes → Numbers j (reached l.count l.groups l.i) l.first)

@@ -1,16 +1,12 @@
 use native.Mathlib.Omega.{arith}
 use Rattle.layout.proofs.CountRows.{summed_none, next-few, summed_next}
-use borrow.Author.Rules.{rules}
 use Rattle.layout.proofs.counts.cumulate.Goals as goal
 
 pub loop-w-init : goal.loop-w-init
-loop-w-init c = (search rules, summed_none _ c.requires.0 c.requires.1)
+loop-w-init c = summed_none _ c.requires.0 c.requires.1
 
 pub overflow_add-first-in-loop-w : goal.overflow_add-first-in-loop-w
-overflow_add-first-in-loop-w c = omega (arith, next-few _ c.loop-w-test.true c.loop-w.invariant.1 c.requires.2)
+overflow_add-first-in-loop-w c = omega (arith, next-few _ c.loop-w-test.true c.loop-w.invariant c.requires.2)
 
 pub loop-w-preserved : goal.loop-w-preserved
-loop-w-preserved c = (search rules, summed_next _ c.loop-w-test.true c.loop-w.invariant.1)
-
-pub returns : goal.returns
-returns c = let t = c.loop-w.invariant.1 in (t.long, λ w l. t.sums w (omega (arith, c.loop-w-test.false)))
+loop-w-preserved c = summed_next _ c.loop-w-test.true c.loop-w.invariant

@@ -1,6 +1,6 @@
 -- `counts::leaf_updates` meets its contract: the rows before position p are counted.
 use mathlib.Core.Path.{◌≡◌}
-use Prim.Native.Nat.{ℕ, ◌+◌, ◌-◌, ◌≤◌}
+use Prim.Native.Nat.{ℕ, ◌+◌}
 use lib.ListN.{length}
 use Rattle.run.specs.Job.{Job}
 use Rattle.run.specs.Updates.{up_to}
@@ -9,7 +9,4 @@ use Rattle.layout.proofs.counts.leaf_updates.Given as goal
 
 abbrev pub invariant-loop-p : goal.invariant-loop-p
 invariant-loop-p l =
-    (l.start ≤ l.p) × (l.p ≤ l.end) × ((j : Job) (i w : ℕ) → Sized j l.sizes → Stretch j i w l.start l.end → length (up_to j w l.start) + l.updates ≡ length (up_to j w l.p))
-
-abbrev pub decreases-loop-p : goal.decreases-loop-p
-decreases-loop-p l = l.end - l.p
+    ((j : Job) (i w : ℕ) → Sized j l.sizes → Stretch j i w l.start l.end → length (up_to j w l.start) + l.updates ≡ length (up_to j w l.p))

@@ -13,4 +13,4 @@ returns-then-count-next c =
 
 pub returns : goal.returns
 returns c =
-    ap not (ap (λ (g : Group). eqb g.parent c.args.i) c.record_at-h.ensures.is ∙ sym (next-child c.args.count c.args.groups.now c.requires.1 c.args.i (search rules)))
+    ap not (ap (λ (g : Group). eqb g.parent c.args.i) c.get-h.ensures ∙ sym (next-child c.args.count c.args.groups.now c.requires.1 c.args.i (search rules)))

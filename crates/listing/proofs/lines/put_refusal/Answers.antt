@@ -1,4 +1,3 @@
--- `put_refusal` meets its contract.
 use mathlib.Core.List.{[], ◌∷◌}
 use native.Mathlib.Omega.{arith}
 use Rattle.writer.proofs.puts.Putting.{put_then}
@@ -8,9 +7,8 @@ use Rattle.listing.proofs.lines.put_refusal.Goals as goal
 
 pub put_fields-requires : goal.put_fields-requires
 put_fields-requires c =
-    omega (arith, c.requires, c.put_bytes-word.ensures.next, c.put_bytes-word.ensures.long, fields-few (c.args.number ∷ c.args.place ∷ []))
+    omega (arith, c.requires, c.put_bytes-word.ensures.next, c.put_bytes-word.ensures.long, fields-few (c.number.result ∷ c.args.refusal.place ∷ []))
 
 pub returns : goal.returns
 unfolding refused_line
-returns c =
-    put_then (omega arith) c.put_bytes-word.ensures c.put_fields.ensures
+returns c = put_then (omega arith) c.put_bytes-word.ensures (rw c.number.ensures at c.put_fields.ensures)

@@ -2,31 +2,29 @@ use mathlib.Core.Path.{◌≡◌, refl, ap, ◌∙◌}
 use Prim.Native.Nat.{ℕ}
 use native.Mathlib.Omega.{arith}
 use lib.Dec.{eqb}
-use borrow.Author.Rules.{rules}
 use Rattle.run.specs.Job.{Job}
 use Rattle.run.specs.Job as job
 use Rattle.run.specs.Machine.{refusal, ready_below, ready, bits}
+use Rattle.steps.proofs.TableSteps.{told_none}
 use Rattle.machine.proofs.TableWaits.{table-reason}
 use Rattle.machine.proofs.ReadyBits.{passing, bits-turn, ready_passing}
 use Rattle.machine.proofs.ready.ready_bits.Goals as goal
 
 pub loop-w-init : goal.loop-w-init
 unfolding passing bits
-loop-w-init c = (search rules, λ j begins ends e laid waits. refl)
+loop-w-init c = λ j begins ends e laid waits. refl
 
-pub refusal-why-requires : goal.refusal-why-requires
-refusal-why-requires c = c.requires
+pub refusal-requires : goal.refusal-requires
+refusal-requires c = c.requires
 
 pub loop-w-preserved : goal.loop-w-preserved
 loop-w-preserved c =
     let a = c.args in
-    let w = c.loop-w.w in (
-      search rules,
-      λ j begins ends e laid waits.
-          (let free : eqb c.refusal-why.result 0 ≡ eqb (refusal j a.made.now w) 0 =
-          ap (λ (k : ℕ). eqb k 0) (c.refusal-why.ensures ∙ table-reason j laid a.made.now a.blocks.now waits a.workers e c.requires.0 w) in
-          rw (c.loop-w.invariant.1 j begins ends e laid waits) (bits-turn (λ v. eqb (refusal j a.made.now v) 0) w (eqb c.refusal-why.result 0) (omega arith) free)),
-    )
+    let w = c.loop-w.w in
+    λ j begins ends e laid waits.
+    (let free : c.is_ok-is_ready.result ≡ eqb (refusal j a.made.now w) 0 =
+    c.is_ok-is_ready.ensures.value ∙ told_none _ ∙ ap (λ (k : ℕ). eqb k 0) (c.refusal.ensures ∙ table-reason j laid a.made.now a.blocks.now waits a.workers e c.requires.0 w) in
+    rw (c.loop-w.invariant j begins ends e laid waits) (bits-turn (λ v. eqb (refusal j a.made.now v) 0) w c.is_ok-is_ready.result (omega arith) free))
 
 pub returns : goal.returns
 unfolding ready
@@ -34,4 +32,4 @@ returns c =
     let a = c.args in
     λ j begins ends e laid waits.
     (let all : c.loop-w.w ≡ job.workers j = omega arith in
-    c.loop-w.invariant.1 j begins ends e laid waits ∙ ap bits (ready_passing j a.made.now c.loop-w.w) ∙ ap (λ (k : ℕ). bits (ready_below j a.made.now k)) all)
+    c.loop-w.invariant j begins ends e laid waits ∙ ap bits (ready_passing j a.made.now c.loop-w.w) ∙ ap (λ (k : ℕ). bits (ready_below j a.made.now k)) all)

@@ -1,7 +1,7 @@
 -- `ready_bits`: the bits of the workers below w.
 use mathlib.Core.Path.{◌≡◌}
 use mathlib.Core.List.{List}
-use Prim.Native.Nat.{ℕ, ◌-◌, ◌≤◌}
+use Prim.Native.Nat.{ℕ}
 use lib.Dec.{eqb}
 use Rattle.run.specs.Job.{Job}
 use Rattle.run.specs.Job as job
@@ -12,7 +12,5 @@ use Rattle.machine.proofs.ready.ready_bits.Given as goal
 
 abbrev pub invariant-loop-w : goal.invariant-loop-w
 invariant-loop-w l =
-    (l.w ≤ l.workers) × ((j : Job) (begins ends : List ℕ) → l.workers ≡ job.workers j → Laid j l.first l.row begins l.leaves ends → Waits j l.made l.blocks → l.set ≡ bits (passing (λ v. eqb (refusal j l.made v) 0) l.w))
-
-abbrev pub decreases-loop-w : goal.decreases-loop-w
-decreases-loop-w l = l.workers - l.w
+    (j : Job) (begins ends : List ℕ) → l.workers ≡ job.workers j → Laid j l.tables.first.now l.tables.row.now begins l.tables.leaves.now ends → Waits j l.made l.blocks
+    → l.set ≡ bits (passing (λ v. eqb (refusal j l.made v) 0) l.w)

@@ -1,10 +1,6 @@
 -- `read_digits` meets its contract: a turn reads one digit.
-use Rattle.std.proofs.Common.{◌-◌, length}
 use Rattle.numbers.proofs.digits.Reading.{Reading}
 use Rattle.numbers.proofs.digits.read_digits.Given as goal
 
 abbrev pub invariant-loop-i : goal.invariant-loop-i
 invariant-loop-i l = Reading l.text l.at l.value l.i
-
-abbrev pub decreases-loop-i : goal.decreases-loop-i
-decreases-loop-i l = length l.text - l.i

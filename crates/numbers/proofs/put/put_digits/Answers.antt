@@ -1,9 +1,6 @@
 use Rattle.std.proofs.Common.{arith}
-use Rattle.numbers.proofs.put.Spelling.{spelling_start, spelling_some, spelling_more, spelling_last}
+use Rattle.numbers.proofs.put.Spelling.{spelling_some, spelling_more, spelling_last}
 use Rattle.numbers.proofs.put.put_digits.Goals as goal
-
-pub loop-x-init : goal.loop-x-init
-loop-x-init c = let a = c.args in spelling_start a.v a.end a.text.now c.requires.0 c.requires.1 c.requires.2
 
 pub overflow_sub-i : goal.overflow_sub-i
 overflow_sub-i c = omega (arith, spelling_some c.loop-x.invariant)
@@ -19,9 +16,6 @@ overflow_sub-i-2 c = omega (arith, spelling_some c.loop-x.invariant)
 
 pub bounds-text-i-2 : goal.bounds-text-i-2
 bounds-text-i-2 c = let g = c.loop-x.invariant in omega (arith, spelling_some g, g.inside, g.long)
-
-pub shape_of-text : goal.shape_of-text
-shape_of-text c = (spelling_last c.loop-x.invariant c.loop-x-test.false).long
 
 pub returns : goal.returns
 returns c = spelling_last c.loop-x.invariant c.loop-x-test.false

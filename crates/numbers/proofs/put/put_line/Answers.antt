@@ -15,9 +15,6 @@ put_digits-first-requires c =
     let w = line-width c.args.bits in
     rw c.magnitude.ensures (magnitude_small c.args.bits c.ranges.bits.fits, omega (arith, c.requires, w), simp length-set (omega (arith, c.requires, w)))
 
-pub shape_of-text-then-bits-lt-LEAST : goal.shape_of-text-then-bits-lt-LEAST
-shape_of-text-then-bits-lt-LEAST c = (put_plain c.args.bits c.args.text.now c.magnitude.ensures c.requires.0 c.requires.1 c.put_digits-first.ensures c.if-bits-lt-LEAST.true).long
-
 pub returns-then-bits-lt-LEAST : goal.returns-then-bits-lt-LEAST
 returns-then-bits-lt-LEAST c = put_plain c.args.bits c.args.text.now c.magnitude.ensures c.requires.0 c.requires.1 c.put_digits-first.ensures c.if-bits-lt-LEAST.true
 
@@ -26,9 +23,6 @@ overflow_sub-sign c = sign_room c.args.bits c.args.text.now c.magnitude.ensures 
 
 pub bounds-text-sign : goal.bounds-text-sign
 bounds-text-sign c = omega (arith, sign_room c.args.bits c.args.text.now c.magnitude.ensures c.requires.0 c.requires.1 c.put_digits-first.ensures c.if-bits-lt-LEAST.false, sign_inside c.args.bits c.args.text.now c.magnitude.ensures c.requires.0 c.requires.1 c.put_digits-first.ensures c.if-bits-lt-LEAST.false)
-
-pub shape_of-text : goal.shape_of-text
-shape_of-text c = (put_negative c.args.bits c.args.text.now c.magnitude.ensures c.requires.0 c.requires.1 c.put_digits-first.ensures c.if-bits-lt-LEAST.false).long
 
 pub returns : goal.returns
 returns c = put_negative c.args.bits c.args.text.now c.magnitude.ensures c.requires.0 c.requires.1 c.put_digits-first.ensures c.if-bits-lt-LEAST.false

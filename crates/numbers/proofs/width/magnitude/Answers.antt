@@ -1,10 +1,7 @@
--- `magnitude` meets its contract.
-use Rattle.std.proofs.Common.{arith}
-use Rattle.numbers.proofs.Bits.{low_half, high_half}
+use Rattle.std.proofs.Common.{rules, refl}
+use mir.Syntax.{w64}
+use Rattle.words.proofs.Twos.{to_signed-is}
 use Rattle.numbers.proofs.width.magnitude.Goals as goal
 
-pub returns-then-bits-lt-LEAST : goal.returns-then-bits-lt-LEAST
-returns-then-bits-lt-LEAST c = rw (low_half _ c.if-bits-lt-LEAST.true)
-
 pub returns : goal.returns
-returns c = rw (high_half _ c.if-bits-lt-LEAST.false) (omega arith)
+returns c = rw (to_signed-is w64 8 refl c.args.bits) (search rules)

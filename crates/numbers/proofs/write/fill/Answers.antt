@@ -10,26 +10,17 @@ loop-k-init c =
     let b = c.args.numbers.now in
     writing_start (signed 8 b) c.args.text.now (sym (length_decoded (signed_number 8) 8 b)) c.requires.0 c.requires.1
 
-pub overflow_mul-k : goal.overflow_mul-k
-overflow_mul-k c = omega (arith, c.loop-k.invariant.far, length_decoded (signed_number 8) 8 c.args.numbers.now)
-
-pub read_u64-requires : goal.read_u64-requires
-read_u64-requires c = omega (arith, c.loop-k.invariant.far, length_decoded (signed_number 8) 8 c.args.numbers.now, c.loop-k-test.true)
-
 pub put_line-at-requires : goal.put_line-at-requires
 put_line-at-requires c =
-    let next : to_signed 8 c.read_u64.result ≡ get_or (signed 8 c.args.numbers.now) (c.loop-k.k - 1) (pos 0) = let b = c.args.numbers.now in
-    ap (to_signed 8) c.read_u64.ensures ∙ number-here b (c.loop-k.k - 1) (omega (arith, c.loop-k.invariant.far, length_decoded (signed_number 8) 8 b, c.loop-k-test.true)) in
+    let next : to_signed 8 c.read.result ≡ get_or (signed 8 c.args.numbers.now) (c.loop-k.k - 1) (pos 0) = let b = c.args.numbers.now in
+    ap (to_signed 8) c.read.ensures ∙ number-here b (c.loop-k.k - 1) (omega (arith, c.loop-k.invariant.far, length_decoded (signed_number 8) 8 b, c.loop-k-test.true)) in
     rw next (writing_room (signed 8 c.args.numbers.now) c.args.text.now c.loop-k.invariant c.loop-k-test.true)
 
 pub loop-k-preserved : goal.loop-k-preserved
 loop-k-preserved c =
-    let next : to_signed 8 c.read_u64.result ≡ get_or (signed 8 c.args.numbers.now) (c.loop-k.k - 1) (pos 0) = let b = c.args.numbers.now in
-    ap (to_signed 8) c.read_u64.ensures ∙ number-here b (c.loop-k.k - 1) (omega (arith, c.loop-k.invariant.far, length_decoded (signed_number 8) 8 b, c.loop-k-test.true)) in
+    let next : to_signed 8 c.read.result ≡ get_or (signed 8 c.args.numbers.now) (c.loop-k.k - 1) (pos 0) = let b = c.args.numbers.now in
+    ap (to_signed 8) c.read.ensures ∙ number-here b (c.loop-k.k - 1) (omega (arith, c.loop-k.invariant.far, length_decoded (signed_number 8) 8 b, c.loop-k-test.true)) in
     writing_more (signed 8 c.args.numbers.now) c.args.text.now c.loop-k.invariant c.loop-k-test.true (rw next at c.put_line-at.ensures)
-
-pub shape_of-text : goal.shape_of-text
-shape_of-text c = c.loop-k.invariant.long
 
 pub returns : goal.returns
 returns c =

@@ -5,6 +5,3 @@ use Rattle.numbers.proofs.write.fill.Given as goal
 
 abbrev pub invariant-loop-k : goal.invariant-loop-k
 invariant-loop-k l = Writing (signed 8 l.numbers) l.initial.text l.text l.k l.at
-
-abbrev pub decreases-loop-k : goal.decreases-loop-k
-decreases-loop-k l = l.k

@@ -1,6 +1,6 @@
 use mathlib.Core.Path.{◌≡◌, sym, ap, ◌∙◌}
 use mathlib.Core.List.{List}
-use Prim.Native.Nat.{◌*◌}
+use Prim.Native.Nat.{◌*◌, ◌<◌}
 use native.Mathlib.Omega.{arith}
 use lib.IntN.{ℤ, pos}
 use lib.ListN.{get_or}
@@ -22,7 +22,7 @@ use Rattle.picking.proofs.forces.store_forces.Goals as goal
 pub loop-i-init : goal.loop-i-init
 loop-i-init c =
     let a = c.args in
-    store-none (signed_bytes_of 8) 8 (length-signed_bytes_of 8) (original_by (tables_in a.list.now) (signed 8 a.sums.now)) a.forces.now a.rows
+    store-none (signed_bytes_of 8) 8 (length-signed_bytes_of 8) (original_by (tables_in a.list.now) (signed 8 a.sums.now)) a.forces.now a.sizes.rows
 
 pub loop-i-preserved : goal.loop-i-preserved
 loop-i-preserved c =
@@ -30,11 +30,12 @@ loop-i-preserved c =
     let a = c.args in
     let head = c.requires.0 in
     let i = c.loop-i.i in
+    let low : i < a.sizes.rows = omega arith in
     let forces : List ℤ = original_by (tables_in a.list.now) (signed 8 a.sums.now) in
     let value : to_z w64 (of_z w64 c.load_at.result) ≡ get_or forces i (pos 0) =
-    to_z-of_z loaded_fits ∙ c.load_at.ensures ∙ ap (loaded_at a.sums.now a.rows) c.number_at-place.ensures.0 ∙ force-at head a.sums.now c.requires.1 i c.loop-i-test.true in
-    store_more (signed_bytes_of 8) 8 (length-signed_bytes_of 8) forces a.forces.now a.rows c.loop-i.forces _ i (pos 0) (omega (arith, forces-long head a.sums.now)) c.loop-i-test.true (omega (arith, c.loop-i-test.true, c.requires.2))
-    (c.store_at.ensures ∙ sym (stored_is c.loop-i.forces a.rows i c.loop-i-test.true (to_z w64 (of_z w64 c.load_at.result))) ∙ ap (λ (z : ℤ). sets c.loop-i.forces (i * 8) (signed_bytes_of 8 z)) value)
+    to_z-of_z loaded_fits ∙ c.load_at.ensures ∙ ap (loaded_at a.sums.now a.sizes.rows) c.number_at-place.ensures.0 ∙ force-at head a.sums.now c.requires.1 i low in
+    store_more (signed_bytes_of 8) 8 (length-signed_bytes_of 8) forces a.forces.now a.sizes.rows c.loop-i.forces _ i (pos 0) (omega (arith, forces-long head a.sums.now)) low (omega (arith, low, c.requires.2))
+    (c.store_at.ensures ∙ sym (stored_is c.loop-i.forces a.sizes.rows i low (to_z w64 (of_z w64 c.load_at.result))) ∙ ap (λ (z : ℤ). sets c.loop-i.forces (i * 8) (signed_bytes_of 8 z)) value)
     c.loop-i.invariant
 
 pub returns : goal.returns
@@ -42,5 +43,5 @@ returns c =
     let a = c.args in
     let forces : List ℤ = original_by (tables_in a.list.now) (signed 8 a.sums.now) in
     let long = forces-long c.requires.0 a.sums.now in
-    store-all (signed_bytes_of 8) 8 (length-signed_bytes_of 8) forces a.forces.now a.rows a.rows c.loop-i.forces c.loop-i.i (omega (arith, long)) (search rules) c.loop-i.invariant
-    ∙ ap (λ (zs : List ℤ). stored (signed_bytes 8 zs) a.forces.now) (take_all a.rows forces (omega (arith, long)))
+    store-all (signed_bytes_of 8) 8 (length-signed_bytes_of 8) forces a.forces.now a.sizes.rows a.sizes.rows c.loop-i.forces c.loop-i.i (omega (arith, long)) (search rules) c.loop-i.invariant
+    ∙ ap (λ (zs : List ℤ). stored (signed_bytes 8 zs) a.forces.now) (take_all a.sizes.rows forces (omega (arith, long)))

@@ -1,5 +1,4 @@
 -- `store_forces` meets its contract: a turn stores one force more.
-use Prim.Native.Nat.{◌-◌}
 use Rattle.words.specs.LittleEndian.{signed, signed_bytes_of}
 use Rattle.words.proofs.Digits.{length-signed_bytes_of}
 use Rattle.words.proofs.Blocks.{Storing}
@@ -10,6 +9,3 @@ use Rattle.picking.proofs.forces.store_forces.Given as goal
 abbrev pub invariant-loop-i : goal.invariant-loop-i
 invariant-loop-i l =
     Storing (signed_bytes_of 8) 8 (length-signed_bytes_of 8) (original_by (tables_in l.list) (signed 8 l.sums)) l.initial.forces l.rows l.forces l.i
-
-abbrev pub decreases-loop-i : goal.decreases-loop-i
-decreases-loop-i l = l.rows - l.i

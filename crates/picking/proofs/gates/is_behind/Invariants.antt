@@ -1,11 +1,7 @@
 use mathlib.Core.Path.{◌≡◌}
-use Prim.Native.Nat.{◌≤◌, ◌-◌}
 use Rattle.prepared.specs.Gates.{behind}
 use Rattle.picking.specs.Code.Reads.{gate_at}
 use Rattle.picking.proofs.gates.is_behind.Given as goal
 
 abbrev pub invariant-loop-v : goal.invariant-loop-v
-invariant-loop-v l = (l.v ≤ 16) × (l.late ≡ behind l.made (gate_at l.list l.at) l.v)
-
-abbrev pub decreases-loop-v : goal.decreases-loop-v
-decreases-loop-v l = 16 - l.v
+invariant-loop-v l = l.late ≡ behind l.made (gate_at l.list l.at) l.v

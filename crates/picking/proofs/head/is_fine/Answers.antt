@@ -1,44 +1,41 @@
 use mathlib.Core.Path.{◌≡◌, sym, ◌∙◌}
-use mathlib.Core.Bool.{Bool}
-use mathlib.Core.List.{List}
-use Prim.Native.Nat.{ℕ, ◌-◌, ◌≤◌, ◌<◌}
+use Prim.Native.Nat.{◌≤◌, ◌<◌}
 use native.Mathlib.Omega.{arith}
-use lib.Dec.{leb}
 use lib.ListN.{length}
 use borrow.Author.Tests.{le-leb, lt-leb}
-use Rattle.run.specs.Updates.{count}
-use Rattle.machine.proofs.AllBelow.{below-pass, below_fail, below_none}
 use Rattle.prepared.proofs.Places as at
 use Rattle.picking.specs.Code.Picks.{tables_in}
 use Rattle.picking.proofs.Read.{most-read}
-use Rattle.picking.proofs.Heads.{fine-below}
+use Rattle.machine.proofs.AllBelow.{below_none, below_more, below_fail}
+use Rattle.picking.proofs.Heads.{is_fine, fine-below}
 use borrow.Author.Rules.{rules}
 use Rattle.picking.proofs.head.is_fine.Goals as goal
 
-abbrev fine_at : (list made : List ℕ) → ℕ → Bool
-fine_at list made w = leb (count made w) ((tables_in list).most w)
-
-pub read_u32-requires : goal.read_u32-requires
-read_u32-requires c =
+pub word_at-requires : goal.word_at-requires
+word_at-requires c =
     let long : 144 ≤ length c.args.list.now = at.long c.args.list.now c.requires in
-    let low : c.loop-w.w - 1 < 16 = omega (arith, c.loop-w-test.true, c.loop-w.invariant.0) in
+    let low : c.loop-w.w < 16 = search rules in
     omega (arith, long, low)
 
-pub returns-then-read_u32-made : goal.returns-then-read_u32-made
-returns-then-read_u32-made c =
-    let low : c.loop-w.w - 1 < 16 = omega (arith, c.loop-w-test.true, c.loop-w.invariant.0) in
-    let most : c.read_u32.result ≡ (tables_in c.args.list.now).most (c.loop-w.w - 1) = c.read_u32.ensures ∙ sym (most-read c.args.list.now c.requires (c.loop-w.w - 1) low) in
+pub returns-then-word_at-done : goal.returns-then-word_at-done
+returns-then-word_at-done c =
     let a = c.args in
-    below_fail (fine_at a.list.now a.made.now) c.loop-w.w c.loop-w-test.true (lt-leb _ _ (rw most at c.if-read_u32-made.true)) ∙ c.loop-w.invariant.1 ∙ fine-below (tables_in a.list.now) a.made.now 16
+    let low : c.loop-w.w < 16 = search rules in
+    let most : c.word_at.result ≡ (tables_in a.list.now).most c.loop-w.w = c.word_at.ensures ∙ sym (most-read a.list.now c.requires c.loop-w.w low) in
+    sym (below_fail (is_fine (tables_in a.list.now) a.made.now) c.loop-w.w 16 (search rules) (lt-leb _ _ (rw most at c.if-word_at-done.true))) ∙ fine-below (tables_in a.list.now) a.made.now 16
+
+pub loop-w-init : goal.loop-w-init
+loop-w-init c = below_none _
 
 pub loop-w-preserved : goal.loop-w-preserved
 loop-w-preserved c =
-    let low : c.loop-w.w - 1 < 16 = omega (arith, c.loop-w-test.true, c.loop-w.invariant.0) in
-    let most : c.read_u32.result ≡ (tables_in c.args.list.now).most (c.loop-w.w - 1) = c.read_u32.ensures ∙ sym (most-read c.args.list.now c.requires (c.loop-w.w - 1) low) in
     let a = c.args in
-    (search rules, below-pass (fine_at a.list.now a.made.now) c.loop-w.w c.loop-w-test.true (le-leb _ _ (rw most at c.if-read_u32-made.false)) ∙ c.loop-w.invariant.1)
+    let low : c.loop-w.w < 16 = search rules in
+    let most : c.word_at.result ≡ (tables_in a.list.now).most c.loop-w.w = c.word_at.ensures ∙ sym (most-read a.list.now c.requires c.loop-w.w low) in
+    below_more (is_fine (tables_in a.list.now) a.made.now) c.loop-w.w (le-leb _ _ (rw most at c.if-word_at-done.false)) c.loop-w.invariant
 
 pub returns : goal.returns
 returns c =
     let a = c.args in
-    below_none (fine_at a.list.now a.made.now) c.loop-w.w (search rules) ∙ c.loop-w.invariant.1 ∙ fine-below (tables_in a.list.now) a.made.now 16
+    let e : c.loop-w.w ≡ 16 = search rules in
+    sym (rw e at c.loop-w.invariant) ∙ fine-below (tables_in a.list.now) a.made.now 16

@@ -1,10 +1,11 @@
 use mathlib.Core.Path.{ap, ◌∙◌}
-use Prim.Native.Nat.{ℕ, ◌*◌}
+use Prim.Native.Nat.{◌*◌}
+use lib.IntN.{ℤ}
 use mir.Syntax.{w64}
 use mir.Val.{SFits}
 use mir.Facts.{to_z-of_z}
 use lib.Seq.{sets}
-use Rattle.words.specs.LittleEndian.{bytes_of, of_signed}
+use Rattle.words.specs.LittleEndian.{signed_bytes_of}
 use Rattle.picking.proofs.Turns.{stored-none, stored_is}
 use borrow.Author.Rules.{rules}
 use Rattle.picking.proofs.places.store_at.Goals as goal
@@ -13,8 +14,7 @@ pub returns-then-t-rows : goal.returns-then-t-rows
 returns-then-t-rows c =
     let a = c.args in
     let h : SFits w64 a.z = search rules in
-    let value = c.of_i64.ensures ∙ ap (of_signed 8) (to_z-of_z h) in
-    c.write_u64.ensures ∙ ap (λ (v : ℕ). sets a.sums.now (a.t * 8) (bytes_of 8 v)) value ∙ stored_is a.sums.now a.rows a.t (search rules) a.z
+    c.write.ensures ∙ ap (λ (v : ℤ). sets a.sums.now (a.t * 8) (signed_bytes_of 8 v)) (to_z-of_z h) ∙ stored_is a.sums.now a.rows a.t (search rules) a.z
 
 pub returns-else-t-rows : goal.returns-else-t-rows
 returns-else-t-rows c = stored-none _ _ _ (search rules) _

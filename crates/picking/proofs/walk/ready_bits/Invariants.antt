@@ -1,6 +1,5 @@
 -- `ready_bits`: the bits of the workers below w.
 use mathlib.Core.Path.{◌≡◌}
-use Prim.Native.Nat.{◌-◌, ◌≤◌}
 use lib.Dec.{eqb}
 use Rattle.run.specs.Machine.{bits}
 use Rattle.machine.proofs.ReadyBits.{passing}
@@ -9,7 +8,4 @@ use Rattle.picking.specs.Code.Picks.{tables_in}
 use Rattle.picking.proofs.walk.ready_bits.Given as goal
 
 abbrev pub invariant-loop-w : goal.invariant-loop-w
-invariant-loop-w l = (l.w ≤ l.crew) × (l.set ≡ bits (passing (λ v. eqb (refusal_by (tables_in l.list) l.made v) 0) l.w))
-
-abbrev pub decreases-loop-w : goal.decreases-loop-w
-decreases-loop-w l = l.crew - l.w
+invariant-loop-w l = l.set ≡ bits (passing (λ v. eqb (refusal_by (tables_in l.list) l.made v) 0) l.w)

@@ -1,14 +1,11 @@
-use mathlib.Core.Path.{refl, sym, ◌∙◌}
+use mathlib.Core.Path.{sym, ◌∙◌}
 use Prim.Native.Nat.{◌<◌}
 use native.Mathlib.Omega.{arith}
 use lib.ListN.{length}
-use Rattle.base.proofs.Begins.{begins_more, begins_bad, begins_end}
+use Rattle.base.proofs.Begins.{begins_more, begins_bad}
 use Rattle.words.specs.LittleEndian.{number, unsigned}
 use Rattle.words.proofs.Blocks.{length_decoded}
 use Rattle.planfile.proofs.judge.has_table.Goals as goal
-
-pub loop-k-init : goal.loop-k-init
-loop-k-init c = (omega arith, refl)
 
 pub returns-then-number_at-table : goal.returns-then-number_at-table
 returns-then-number_at-table c =
@@ -21,8 +18,3 @@ loop-k-preserved c =
     let inside : c.loop-k.k < length (unsigned 4 c.args.file.now) = rw (length_decoded number 4 c.args.file.now) (omega arith) in
     let a = c.args in
     (omega arith, sym (begins_more (unsigned 4 a.file.now) a.table.now c.loop-k.k (omega arith) inside (sym c.number_at.ensures ∙ c.if-number_at-table.false)) ∙ c.loop-k.invariant.1)
-
-pub returns : goal.returns
-returns c =
-    let a = c.args in
-    sym (begins_end (unsigned 4 a.file.now) a.table.now c.loop-k.k (omega arith)) ∙ c.loop-k.invariant.1

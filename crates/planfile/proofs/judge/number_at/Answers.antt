@@ -1,7 +1,9 @@
 -- `number_at` meets its contract.
-use mathlib.Core.Path.{◌∙◌}
-use Rattle.words.proofs.Bytes.{four_number}
+use mathlib.Core.Path.{◌∙◌, sym}
+use Rattle.words.specs.LittleEndian.{number}
+use Rattle.words.proofs.Blocks.{decoded_at}
 use Rattle.planfile.proofs.judge.number_at.Goals as goal
 
 pub returns : goal.returns
-returns c = c.read_u32.ensures ∙ four_number c.args.file.now c.args.k c.requires
+unfolding number
+returns c = c.read.ensures ∙ sym (decoded_at number 4 c.args.file.now c.args.k c.requires)

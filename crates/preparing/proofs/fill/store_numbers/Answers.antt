@@ -18,7 +18,7 @@ pub loop-k-preserved : goal.loop-k-preserved
 loop-k-preserved c =
     let a = c.args in
     let f : ℕ → ℕ = λ i. get_or a.numbers.now i 0 in
-    fill_more (four_of f) 4 (four_long f) a.out.now a.from (length a.numbers.now) c.loop-k.out _ c.loop-k.k c.loop-k-test.true c.write_u32.ensures c.loop-k.invariant
+    fill_more (four_of f) 4 (four_long f) a.out.now a.from (length a.numbers.now) c.loop-k.out _ c.loop-k.k c.loop-k-test.true c.write.ensures c.loop-k.invariant
 
 pub returns : goal.returns
 returns c =

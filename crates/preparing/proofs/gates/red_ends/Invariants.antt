@@ -4,7 +4,4 @@ use Rattle.preparing.proofs.Passes.{Backward}
 use Rattle.preparing.proofs.gates.red_ends.Given as goal
 
 abbrev pub invariant-loop-i : goal.invariant-loop-i
-invariant-loop-i l = (1 ≤ l.i) × (l.i ≤ l.count) × Backward l.count l.groups l.ends l.v l.i l.parents l.lasts l.reds
-
-abbrev pub decreases-loop-i : goal.decreases-loop-i
-decreases-loop-i l = l.i
+invariant-loop-i l = (1 ≤ l.i) × Backward l.count l.groups l.ends l.v l.i l.parents l.lasts l.reds

@@ -1,10 +1,6 @@
 -- `put_column` meets its contract: i gates are put.
-use Prim.Native.Nat.{◌-◌, ◌≤◌}
 use Rattle.preparing.specs.Code.Gates.{Column}
 use Rattle.preparing.proofs.table.put_column.Given as goal
 
 abbrev pub invariant-loop-i : goal.invariant-loop-i
-invariant-loop-i l = (l.i ≤ 512) × Column l.v l.i l.gates l.initial.table l.table
-
-abbrev pub decreases-loop-i : goal.decreases-loop-i
-decreases-loop-i l = 512 - l.i
+invariant-loop-i l = Column l.v l.i l.gates l.initial.table l.table

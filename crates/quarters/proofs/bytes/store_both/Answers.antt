@@ -19,9 +19,9 @@ pub returns : goal.returns
 unfolding reply_to_both
 returns c =
     let a = c.args in
-    let s = states_of a.done.crews (take a.n a.new0.now) (take a.n a.new1.now) in
+    let s = states_of a.crews (take a.n a.new0.now) (take a.n a.new1.now) in
     record {
       returns = c.word_of.ensures [];
-      left0 = stored-left a.done.answer a.new0.now s.of0 (record { state = a.state0.now; sums = a.sums0.now }) c.store_picks.ensures.state c.store_picks.ensures.sums;
-      left1 = stored-left a.done.answer a.new1.now s.of1 (record { state = a.state1.now; sums = a.sums1.now }) c.store_picks-2.ensures.state c.store_picks-2.ensures.sums;
+      left0 = stored-left a.answer a.new0.now s.of0 (record { state = a.state0.now; sums = a.sums0.now }) c.store_picks.ensures.state c.store_picks.ensures.sums;
+      left1 = stored-left a.answer a.new1.now s.of1 (record { state = a.state1.now; sums = a.sums1.now }) c.store_picks-2.ensures.state c.store_picks-2.ensures.sums;
     }

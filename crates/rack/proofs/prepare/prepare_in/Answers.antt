@@ -10,5 +10,5 @@ returns c =
     let a = c.args in
     let m = matrix_in a.n a.row_starts.now a.columns.now a.values.now in
     prepared-whole m (signed 4 a.movements.now) (unsigned 4 a.order.now) (unsigned 4 a.groups.now) a.group_count
-    (loaded_matrix m c.load_unsigned.ensures c.load_unsigned-2.ensures c.load_signed.ensures)
-    c.load_signed-2.ensures c.load_unsigned-3.ensures c.load_unsigned-4.ensures a.out.now c.prepare-answer.ensures c.word_of.ensures
+    (loaded_matrix m c.decode.ensures c.decode-2.ensures c.decode-3.ensures)
+    c.decode-4.ensures c.decode-5.ensures c.decode-6.ensures a.out.now c.prepare.ensures c.word_of.ensures

@@ -1,11 +1,11 @@
-use mathlib.Core.Path.{◌≡◌, refl, sym, ap, subst, ◌∙◌}
+use mathlib.Core.Path.{◌≡◌, refl, sym, ap, ◌∙◌}
 use mathlib.Core.Bool.{false}
 use Prim.Native.Nat.{ℕ, ◌≤◌, ◌<◌, ◌+◌}
 use native.Mathlib.Numerals.{add-one}
 use native.Mathlib.Omega.{arith}
 use lib.ListN.{length, drop}
 use lib.Seq.{drop-length}
-use Rattle.reader.specs.declared.opening.LineEnd.TheVariants as end
+use Rattle.std.proofs.Common.{Some, None}
 use Rattle.market.specs.Parse.{place, comments}
 use Rattle.reader.specs.Code.Opening.{LineEnds}
 use Rattle.reader.proofs.opening.Comments.{no_comment, a_comment, no_line}
@@ -24,7 +24,7 @@ pub returns-in_default : goal.returns-in_default
 returns-in_default c =
     let s = c.args.s.now in
     let h = c.loop-i-test.true in
-    let r : LineEnds s c.loop-i.i end.No = subst (LineEnds s c.loop-i.i) c.in_default.is c.line_end-found.ensures in
+    let r : LineEnds s c.loop-i.i None = c.in_default.ensures in
     record { rest = c.loop-i.invariant.3 ∙ a_comment s c.loop-i.i c.loop-i.line h c.if-b-ne37.false ∙ r.rest c.loop-i.line ∙ ap (place c.loop-i.line) (sym (drop-length s)); small = omega arith }
 
 pub overflow_add-line : goal.overflow_add-line
@@ -33,18 +33,18 @@ overflow_add-line c =
 
 pub loop-i-smaller : goal.loop-i-smaller
 loop-i-smaller c =
-    let ended : let s = c.args.s.now in let e = c.in-At.e in (comments false c.loop-i.line (drop c.loop-i.i s) ≡ comments false (c.loop-i.line + 1) (drop e s)) × (c.loop-i.i < e) × (e ≤ length s) = let s = c.args.s.now in
+    let ended : let s = c.args.s.now in let e = c.in-Some.e in (comments false c.loop-i.line (drop c.loop-i.i s) ≡ comments false (c.loop-i.line + 1) (drop e s)) × (c.loop-i.i < e) × (e ≤ length s) = let s = c.args.s.now in
     let h = c.loop-i-test.true in
-    let r : LineEnds s c.loop-i.i (end.At c.in-At.e) = subst (LineEnds s c.loop-i.i) c.in-At.is c.line_end-found.ensures in
-    (a_comment s c.loop-i.i c.loop-i.line h c.if-b-ne37.false ∙ r.rest c.loop-i.line ∙ ap (λ (k : ℕ). comments false k (drop c.in-At.e s)) (sym (add-one c.loop-i.line)), r.later.0, r.later.1) in
+    let r : LineEnds s c.loop-i.i (Some c.in-Some.e) = c.in-Some.ensures in
+    (a_comment s c.loop-i.i c.loop-i.line h c.if-b-ne37.false ∙ r.rest c.loop-i.line ∙ ap (λ (k : ℕ). comments false k (drop c.in-Some.e s)) (sym (add-one c.loop-i.line)), r.later.0, r.later.1) in
     let e = ended in omega arith
 
 pub loop-i-preserved : goal.loop-i-preserved
 loop-i-preserved c =
-    let ended : let s = c.args.s.now in let e = c.in-At.e in (comments false c.loop-i.line (drop c.loop-i.i s) ≡ comments false (c.loop-i.line + 1) (drop e s)) × (c.loop-i.i < e) × (e ≤ length s) = let s = c.args.s.now in
+    let ended : let s = c.args.s.now in let e = c.in-Some.e in (comments false c.loop-i.line (drop c.loop-i.i s) ≡ comments false (c.loop-i.line + 1) (drop e s)) × (c.loop-i.i < e) × (e ≤ length s) = let s = c.args.s.now in
     let h = c.loop-i-test.true in
-    let r : LineEnds s c.loop-i.i (end.At c.in-At.e) = subst (LineEnds s c.loop-i.i) c.in-At.is c.line_end-found.ensures in
-    (a_comment s c.loop-i.i c.loop-i.line h c.if-b-ne37.false ∙ r.rest c.loop-i.line ∙ ap (λ (k : ℕ). comments false k (drop c.in-At.e s)) (sym (add-one c.loop-i.line)), r.later.0, r.later.1) in
+    let r : LineEnds s c.loop-i.i (Some c.in-Some.e) = c.in-Some.ensures in
+    (a_comment s c.loop-i.i c.loop-i.line h c.if-b-ne37.false ∙ r.rest c.loop-i.line ∙ ap (λ (k : ℕ). comments false k (drop c.in-Some.e s)) (sym (add-one c.loop-i.line)), r.later.0, r.later.1) in
     let e = ended in
     (omega arith, e.2, omega arith, c.loop-i.invariant.3 ∙ e.0)
 

@@ -14,6 +14,4 @@ loop-i-preserved c =
     omega (arith, spaces_more a.s.now c.loop-i.i c.loop-i-test.true (sym c.class_of.ensures ∙ c.if-class_of-ne-SPACE.false))
 
 pub returns : goal.returns
-returns c =
-    let a = c.args in
-    omega (arith, spaces_end a.s.now c.loop-i.i c.loop-i-test.false)
+returns c = grind (arith, spaces_end c.args.s.now c.args.at, spaces_end c.args.s.now c.loop-i.i)

@@ -1,12 +1,9 @@
 -- `skip_spaces` meets its contract.
 use mathlib.Core.Path.{◌≡◌}
-use Prim.Native.Nat.{◌≤◌, ◌-◌, ◌+◌}
-use lib.ListN.{length, drop}
+use Prim.Native.Nat.{◌+◌}
+use lib.ListN.{drop}
 use Rattle.market.specs.Fields.{spaces}
 use Rattle.scan.proofs.numbers.skip_spaces.Given as goal
 
 abbrev pub invariant-loop-i : goal.invariant-loop-i
-invariant-loop-i l = (l.at ≤ l.i) × (l.i + spaces (drop l.i l.s) ≡ l.at + spaces (drop l.at l.s))
-
-abbrev pub decreases-loop-i : goal.decreases-loop-i
-decreases-loop-i l = length l.s - l.i
+invariant-loop-i l = l.i + spaces (drop l.i l.s) ≡ l.at + spaces (drop l.at l.s)

@@ -1,24 +1,23 @@
-use mathlib.Core.Path.{◌≡◌, refl, sym, ◌∙◌}
+use mathlib.Core.Path.{◌≡◌, sym, ◌∙◌}
+use Prim.Native.Nat.{◌+◌, ◌-◌}
 use native.Mathlib.Omega.{arith}
 use Rattle.shape.specs.Code.Shape.{path_of}
 use Rattle.shape.proofs.Path.{up-found, up-past}
 use Rattle.shape.proofs.nesting.up_to.Goals as goal
 
-pub loop-up-init : goal.loop-up-init
-loop-up-init c = (refl, omega arith)
-
-pub returns-then-path-up : goal.returns-then-path-up
-returns-then-path-up c =
+pub returns-then-path-k : goal.returns-then-path-k
+returns-then-path-k c =
     let a = c.args in
-    (up-found a.path.now c.loop-up.up a.parent (omega arith) c.if-path-up.true ∙ c.loop-up.invariant.0, c.loop-up.invariant.1)
+    let e : c.loop-k.k - 1 + 1 ≡ c.loop-k.k = omega arith in
+    (rw e (up-found a.path.now c.loop-k.k a.parent (omega arith) c.if-path-k.true ∙ c.loop-k.invariant), omega arith)
 
-pub loop-up-preserved : goal.loop-up-preserved
-loop-up-preserved c =
+pub loop-k-preserved : goal.loop-k-preserved
+loop-k-preserved c =
     let a = c.args in
-    (sym (up-past a.path.now c.loop-up.up a.parent (omega arith) c.if-path-up.false) ∙ c.loop-up.invariant.0, omega arith)
+    sym (up-past a.path.now c.loop-k.k a.parent (omega arith) c.if-path-k.false) ∙ c.loop-k.invariant
 
 pub returns : goal.returns
 unfolding path_of
 returns c =
-    let e : c.loop-up.up ≡ 0 = omega arith in
-    (rw e at c.loop-up.invariant.0, omega arith)
+    let e : c.loop-k.k ≡ 0 = omega arith in
+    (rw e at c.loop-k.invariant, omega arith)

@@ -1,18 +1,9 @@
-use mathlib.Core.Path.{◌≡◌, subst}
-use Prim.Native.Nat.{ℕ}
-use native.Mathlib.Omega.{arith}
+use mathlib.Core.Path.{◌≡◌}
 use lib.ListN.{take}
-use Rattle.shape.specs.Code.Shape.{Seen}
+use lib.Seq.{take_all}
 use Rattle.shape.proofs.order.mark_rows.Goals as goal
-
-pub loop-i-init : goal.loop-i-init
-loop-i-init c = (c.requires.2, omega arith)
-
-pub overflow_cast-v : goal.overflow_cast-v
-overflow_cast-v c = omega (arith, c.type_inv.order c.loop-i.i)
 
 pub returns : goal.returns
 returns c =
-    let a = c.args in
-    let e : c.loop-i.i ≡ a.n = omega arith in
-    subst (λ (k : ℕ). Seen a.n (take k a.order.now) c.loop-i.marks) e c.loop-i.invariant.0
+    let e : take c.loop-v.v-index c.args.rows.now ≡ c.args.rows.now = take_all _ _ c.loop-v-test.false in
+    rw e at c.loop-v.invariant

@@ -1,96 +1,79 @@
-use mathlib.Core.Bool.{not}
-use mathlib.Core.Path.{◌≡◌, sym, ap, ◌∙◌}
-use mathlib.Core.Bool.{true, ◌&&◌}
-use Prim.Native.Nat.{◌+◌, ◌^◌, ◌<◌}
+use mathlib.Core.Path.{sym, ap, ◌∙◌}
 use native.Mathlib.Omega.{arith}
-use lib.ListN.{drop}
-use Rattle.base.proofs.Booleans.{fails, holds}
-use Rattle.plan.specs.Groups.{Group, records}
-use Rattle.plan.specs.Sound.{children}
-use Rattle.plan.specs.Code.Checks.{record_at, of_record, below_whole, fitting, pending, complete, laid, tiles}
+use Rattle.plan.specs.Groups.{Group, group_of}
+use Rattle.plan.specs.Code.Checks.{record_at, complete}
 use Rattle.plan.proofs.Laid.{fits}
+use Rattle.shape.specs.Code.Shape.{index_of}
 use Rattle.shape.proofs.ChildTurns.{leaf-tiles, first-tiles, next-tiles, last-tiles}
 use Rattle.shape.proofs.tiling.tiled_below.Goals as goal
 
-pub next_child-i-requires : goal.next_child-i-requires
-next_child-i-requires c = (c.requires.0, c.requires.1, omega arith, omega arith)
+pub returns-then-is_none : goal.returns-then-is_none
+returns-then-is_none c =
+    let p = c.args.plan.now in
+    sym (leaf-tiles p.count c.args.k p.groups.now c.next_child-next.result _ c.requires.1 c.next_child-next.ensures c.if-is_none.ensures)
 
-pub returns-then-count-i : goal.returns-then-count-i
-returns-then-count-i c =
-    sym (leaf-tiles c.args.count c.args.k c.args.groups.now c.next_child-i.result _ c.requires.1 c.next_child-i.ensures c.if-count-i.true)
-
-pub loop-i-init : goal.loop-i-init
-loop-i-init c =
-    let g = c.record_at-g in
-    let e = c.next_child-i.ensures in (
-      first-tiles c.args.count c.args.k c.args.groups.now c.next_child-i.result g.result.start g.result.first _ c.requires.1 e c.if-count-i.false
-          (ap (λ (x : Group). x.start) g.ensures.is) (ap (λ (x : Group). x.first) g.ensures.is),
+pub loop-next-init : goal.loop-next-init
+loop-next-init c =
+    let p = c.args.plan.now in
+    let g = c.record-g in
+    let e = c.next_child-next.ensures in (
+      first-tiles p.count c.args.k p.groups.now c.next_child-next.result g.result.start g.result.first _ c.requires.1 e c.if-is_none.ensures
+          (ap (λ (x : Group). x.start) g.ensures) (ap (λ (x : Group). x.first) g.ensures),
       omega (arith, e.from_on),
       e.within,
       e.child,
     )
 
-pub record_at-h-requires : goal.record_at-h-requires
-record_at-h-requires c = omega (arith, c.requires.0)
-
-pub fits-requires : goal.fits-requires
-fits-requires c = tt
+pub record-h-requires : goal.record-h-requires
+record-h-requires c = omega (arith, c.requires.0, (c.loop-next.invariant.3 c.in-Some.i c.in-Some.is).0)
 
 pub returns-then-not-fits : goal.returns-then-not-fits
 returns-then-not-fits c =
-    let turn : let a = c.args in let h = c.record_at-h.result in tiles (record_at a.groups.now a.k) (children a.k (below_whole a.count a.groups.now)) ≡ fitting c.loop-i.s c.loop-i.f c.loop-i.w (of_record h) && laid (record_at a.groups.now a.k) (c.loop-i.s + h.length) (c.loop-i.f + c.loop-i.w) (pending c.loop-i.w (of_record h)) (children a.k (drop (c.loop-i.i + 1) (records a.count a.groups.now))) = let a = c.args in
-    let more = c.loop-i-test.true in
-    c.loop-i.invariant.0
-    ∙ next-tiles a.count a.k a.groups.now c.loop-i.i c.loop-i.s c.loop-i.f c.loop-i.w (record_at a.groups.now a.k) c.record_at-h.result more (c.loop-i.invariant.3 more) c.record_at-h.ensures in
-    sym (turn ∙ rw (fails c.fits.ensures (ap not c.if-not-fits.true)))
+    let p = c.args.plan.now in
+    let L = c.loop-next in
+    let here = L.invariant.3 c.in-Some.i c.in-Some.is in
+    let turn = next-tiles p.count c.args.k p.groups.now c.in-Some.i L.s L.f L.w (record_at p.groups.now c.args.k) (group_of c.record-h.result) here.0 here.1 c.record-h.ensures in
+    sym (rw c.in-Some.is at L.invariant.0 ∙ turn ∙ rw (← c.if-not-fits.ensures))
 
 pub overflow_add-s : goal.overflow_add-s
-overflow_add-s c =
-    let passed : fitting c.loop-i.s c.loop-i.f c.loop-i.w (of_record c.record_at-h.result) ≡ true = holds c.fits.ensures (ap not c.if-not-fits.false) in
-    let sums : let h = c.record_at-h.result in (c.loop-i.s + h.length < 2 ^ 33) × (c.loop-i.f + c.loop-i.w < 2 ^ 33) = let small = c.record_at-h.ensures.small in
-    let f = fits c.loop-i.s c.loop-i.f c.loop-i.w (of_record c.record_at-h.result) passed in
-    (omega (arith, small.start, small.length, f.start), omega (arith, small.first, small.workers, f.first, f.workers)) in
-    omega (arith, sums)
+overflow_add-s c = omega (arith, (fits _ _ _ _ (sym c.if-not-fits.ensures)).start)
 
 pub overflow_add-f : goal.overflow_add-f
 overflow_add-f c =
-    let passed : fitting c.loop-i.s c.loop-i.f c.loop-i.w (of_record c.record_at-h.result) ≡ true = holds c.fits.ensures (ap not c.if-not-fits.false) in
-    let sums : let h = c.record_at-h.result in (c.loop-i.s + h.length < 2 ^ 33) × (c.loop-i.f + c.loop-i.w < 2 ^ 33) = let small = c.record_at-h.ensures.small in
-    let f = fits c.loop-i.s c.loop-i.f c.loop-i.w (of_record c.record_at-h.result) passed in
-    (omega (arith, small.start, small.length, f.start), omega (arith, small.first, small.workers, f.first, f.workers)) in
-    omega (arith, sums)
+    let f = fits _ _ _ _ (sym c.if-not-fits.ensures) in
+    omega (arith, f.first, f.workers)
 
-pub next_pending-w-requires : goal.next_pending-w-requires
-next_pending-w-requires c = tt
+pub next_child-next-requires-in-Some : goal.next_child-next-requires-in-Some
+next_child-next-requires-in-Some c =
+    let L = c.loop-next in
+    let here = ap (index_of c.args.plan.now.count) c.in-Some.is in
+    (c.requires.0, c.requires.1, omega (arith, L.invariant.1, here), omega (arith, (L.invariant.3 c.in-Some.i c.in-Some.is).0))
 
-pub next_child-i-requires-in-loop-i : goal.next_child-i-requires-in-loop-i
-next_child-i-requires-in-loop-i c =
-    (c.requires.0, c.requires.1, omega (arith, c.loop-i.invariant.1), omega (arith, c.loop-i-test.true))
+pub loop-next-smaller : goal.loop-next-smaller
+loop-next-smaller c =
+    let L = c.loop-next in
+    let here = ap (index_of c.args.plan.now.count) c.in-Some.is in
+    omega (arith, here, c.next_child-next-in-Some.ensures.from_on, (L.invariant.3 c.in-Some.i c.in-Some.is).0)
 
-pub loop-i-smaller : goal.loop-i-smaller
-loop-i-smaller c =
-    omega (arith, c.next_child-i-in-loop-i.ensures.from_on, c.loop-i-test.true)
-
-pub loop-i-preserved : goal.loop-i-preserved
-loop-i-preserved c =
-    let turn : let a = c.args in let h = c.record_at-h.result in tiles (record_at a.groups.now a.k) (children a.k (below_whole a.count a.groups.now)) ≡ fitting c.loop-i.s c.loop-i.f c.loop-i.w (of_record h) && laid (record_at a.groups.now a.k) (c.loop-i.s + h.length) (c.loop-i.f + c.loop-i.w) (pending c.loop-i.w (of_record h)) (children a.k (drop (c.loop-i.i + 1) (records a.count a.groups.now))) = let a = c.args in
-    let more = c.loop-i-test.true in
-    c.loop-i.invariant.0
-    ∙ next-tiles a.count a.k a.groups.now c.loop-i.i c.loop-i.s c.loop-i.f c.loop-i.w (record_at a.groups.now a.k) c.record_at-h.result more (c.loop-i.invariant.3 more) c.record_at-h.ensures in
-    let passed : fitting c.loop-i.s c.loop-i.f c.loop-i.w (of_record c.record_at-h.result) ≡ true = holds c.fits.ensures (ap not c.if-not-fits.false) in
-    let e = c.next_child-i-in-loop-i.ensures in (
-      turn ∙ rw (passed, e.same, c.next_pending-w.ensures),
-      omega (arith, c.loop-i.invariant.1, e.from_on),
+pub loop-next-preserved : goal.loop-next-preserved
+loop-next-preserved c =
+    let p = c.args.plan.now in
+    let L = c.loop-next in
+    let here = L.invariant.3 c.in-Some.i c.in-Some.is in
+    let at = ap (index_of p.count) c.in-Some.is in
+    let turn = next-tiles p.count c.args.k p.groups.now c.in-Some.i L.s L.f L.w (record_at p.groups.now c.args.k) (group_of c.record-h.result) here.0 here.1 c.record-h.ensures in
+    let e = c.next_child-next-in-Some.ensures in (
+      rw c.in-Some.is at L.invariant.0 ∙ turn ∙ rw (← c.if-not-fits.ensures, e.same, c.next_pending-w.ensures),
+      omega (arith, L.invariant.1, e.from_on, at),
       e.within,
       e.child,
     )
 
-pub ends-requires : goal.ends-requires
-ends-requires c = c.record_at-g.ensures.small
-
 pub returns : goal.returns
 returns c =
-    let a = c.args in
+    let p = c.args.plan.now in
+    let L = c.loop-next in
+    let at = ap (index_of p.count) c.in_default.is in
     c.ends.ensures
-    ∙ ap (complete c.loop-i.s c.loop-i.f c.loop-i.w) c.record_at-g.ensures.is
-    ∙ sym (c.loop-i.invariant.0 ∙ last-tiles a.count a.k a.groups.now c.loop-i.i c.loop-i.s c.loop-i.f c.loop-i.w (record_at a.groups.now a.k) c.loop-i-test.false)
+    ∙ ap (complete L.s L.f L.w) c.record-g.ensures
+    ∙ sym (L.invariant.0 ∙ last-tiles p.count c.args.k p.groups.now (index_of p.count L.next) L.s L.f L.w (record_at p.groups.now c.args.k) (omega (arith, at)))

@@ -2,7 +2,6 @@ use mathlib.Core.Path.{◌≡◌, refl, ap, ◌∙◌}
 use Prim.Native.Nat.{ℕ}
 use native.Mathlib.Omega.{arith}
 use lib.Dec.{eqb}
-use borrow.Author.Rules.{rules}
 use Rattle.run.specs.Job as job
 use Rattle.run.specs.Machine.{ready, bits}
 use Rattle.machine.proofs.ReadyBits.{passing, bits-turn}
@@ -15,7 +14,7 @@ use Rattle.shared.proofs.ready_sets.crew_bits.Goals as goal
 
 pub loop-w-init : goal.loop-w-init
 unfolding passing bits
-loop-w-init c = (search rules, λ q s c ends e laid a b waits. refl)
+loop-w-init c = λ q s c ends e laid a b waits. refl
 
 pub is_free-free-requires : goal.is_free-free-requires
 is_free-free-requires c = (omega (arith, c.loop-w-test.true, c.requires.0), c.requires.0, c.requires.1)
@@ -23,18 +22,17 @@ is_free-free-requires c = (omega (arith, c.loop-w-test.true, c.requires.0), c.re
 pub loop-w-preserved : goal.loop-w-preserved
 loop-w-preserved c =
     let a = c.args in
-    let w = c.loop-w.w in (
-      search rules,
-      λ q s d ends e laid ea eb waits.
-          (let is : unless_away (reason_at a.workers a.first.now a.row.now a.leaves.now a.blocks.now a.made.now w) (inside_at a.first.now a.row.now a.begins.now a.theirs.now w) ≡ crew_refusal q s d w =
-          rw (← ea, ← eb) (free-is q s d laid a.workers e c.requires.0 a.blocks.now (rw ea waits) w (omega (arith, c.requires.0))) in
-          let free : c.is_free-free.result ≡ eqb (crew_refusal q s d w) 0 = c.is_free-free.ensures ∙ ap (λ (k : ℕ). eqb k 0) is in
-          rw (c.loop-w.invariant.1 q s d ends e laid ea eb waits) (bits-turn (λ v. eqb (crew_refusal q s d v) 0) w c.is_free-free.result (omega (arith, c.requires.0)) free)),
-    )
+    let t = a.tables.now in
+    let w = c.loop-w.w in
+    λ q s d ends e laid ea eb waits.
+    (let is : unless_away (reason_at a.workers t.first.now t.row.now t.leaves.now a.blocks.now a.made.now w) (inside_at t.first.now t.row.now t.begins.now a.theirs.now w) ≡ crew_refusal q s d w =
+    rw (← ea, ← eb) (free-is q s d laid a.workers e c.requires.0 a.blocks.now (rw ea waits) w (omega (arith, c.requires.0))) in
+    let free : c.is_free-free.result ≡ eqb (crew_refusal q s d w) 0 = c.is_free-free.ensures ∙ ap (λ (k : ℕ). eqb k 0) is in
+    rw (c.loop-w.invariant q s d ends e laid ea eb waits) (bits-turn (λ v. eqb (crew_refusal q s d v) 0) w c.is_free-free.result (omega (arith, c.requires.0)) free))
 
 pub returns : goal.returns
 unfolding crew_ready ready
 returns c =
     λ q s d ends e laid ea eb waits.
     (let all : c.loop-w.w ≡ job.workers (job_for q d) = omega arith in
-    c.loop-w.invariant.1 q s d ends e laid ea eb waits ∙ ap (λ (k : ℕ). bits (passing (λ v. eqb (crew_refusal q s d v) 0) k)) all ∙ ap bits (crew_passing q s d (job.workers (job_for q d))))
+    c.loop-w.invariant q s d ends e laid ea eb waits ∙ ap (λ (k : ℕ). bits (passing (λ v. eqb (crew_refusal q s d v) 0) k)) all ∙ ap bits (crew_passing q s d (job.workers (job_for q d))))

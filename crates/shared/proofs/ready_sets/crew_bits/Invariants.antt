@@ -1,7 +1,7 @@
 -- `crew_bits`: the bits of the workers below w.
 use mathlib.Core.Path.{◌≡◌}
 use mathlib.Core.List.{List}
-use Prim.Native.Nat.{ℕ, ◌-◌, ◌≤◌}
+use Prim.Native.Nat.{ℕ}
 use lib.Dec.{eqb}
 use Rattle.run.specs.Job as job
 use Rattle.run.specs.State.{State}
@@ -13,8 +13,6 @@ use Rattle.shared.proofs.ready_sets.crew_bits.Given as goal
 
 abbrev pub invariant-loop-w : goal.invariant-loop-w
 invariant-loop-w l =
-    (l.w ≤ l.workers) × ((q : Roof) (s : Two State) (c : Crew) (ends : List ℕ) → l.workers ≡ job.workers (job_for q c) → ((d : Crew) → Laid (job_for q d) l.first l.row l.begins l.leaves ends)
-    → (own_of s c).made ≡ l.made → (own_of s (other c)).made ≡ l.theirs → Waits (job_for q c) l.made l.blocks → l.set ≡ bits (passing (λ v. eqb (crew_refusal q s c v) 0) l.w))
-
-abbrev pub decreases-loop-w : goal.decreases-loop-w
-decreases-loop-w l = l.workers - l.w
+    (q : Roof) (s : Two State) (c : Crew) (ends : List ℕ) → l.workers ≡ job.workers (job_for q c)
+    → ((d : Crew) → Laid (job_for q d) l.tables.first.now l.tables.row.now l.tables.begins.now l.tables.leaves.now ends)
+    → (own_of s c).made ≡ l.made → (own_of s (other c)).made ≡ l.theirs → Waits (job_for q c) l.made l.blocks → l.set ≡ bits (passing (λ v. eqb (crew_refusal q s c v) 0) l.w)

@@ -11,13 +11,13 @@ entry_place-place-requires c = let r = c.requires.1 in (omega (arith, r.row_low,
 pub offset_bounds-displaced-row : goal.offset_bounds-displaced-row
 offset_bounds-displaced-row c =
     let other : c.by_turns-row.result < 4096 = let r = c.requires.1 in
-    let h : c.by_turns-row.result < c.requires.0 = rw (c.by_turns-row.ensures, c.wide.ensures) (by_low c.args.k c.args.p _ r.row_low (r.at_low _)) in
+    let h : c.by_turns-row.result < c.requires.0 = rw c.by_turns-row.ensures (by_low c.args.k c.args.p _ r.row_low (r.at_low _)) in
     omega (arith, r.few) in
     let h = other in search rules
 
 pub bounds-displaced-row : goal.bounds-displaced-row
 bounds-displaced-row c =
     let other : c.by_turns-row.result < 4096 = let r = c.requires.1 in
-    let h : c.by_turns-row.result < c.requires.0 = rw (c.by_turns-row.ensures, c.wide.ensures) (by_low c.args.k c.args.p _ r.row_low (r.at_low _)) in
+    let h : c.by_turns-row.result < c.requires.0 = rw c.by_turns-row.ensures (by_low c.args.k c.args.p _ r.row_low (r.at_low _)) in
     omega (arith, r.few) in
     let h = other in search rules

@@ -1,43 +1,36 @@
-use mathlib.Core.Path.{◌≡◌, subst}
-use Prim.Native.Nat.{ℕ, suc, ◌+◌}
+use mathlib.Core.Path.{◌≡◌}
+use Prim.Native.Nat.{suc}
 use native.Mathlib.Numerals.{add-one}
 use native.Mathlib.Omega.{arith}
 use lib.IntN.{pos, nat_abs, ◌+ℤ◌}
-use lib.ListN.{length, get_or}
+use lib.ListN.{get_or}
+use borrow.Author.Rules.{rules}
 use mir.Syntax.{w32, w64}
-use mir.Val.{SFits, of_z, to_z}
-use mir.Facts.{to_z-of_z}
+use mir.Val.{SFits, to_z}
+use mir.Facts.{to_z-of_z, to_z_pos}
 use Rattle.base.proofs.Integers.{fits-abs}
 use Rattle.survey.specs.Code.Rows.{sizes_to}
 use Rattle.survey.proofs.Rows.{sizes_none, sizes_next, sizes_up}
 use Rattle.survey.proofs.amounts.sizes.Goals as goal
 
-pub loop-k-init : goal.loop-k-init
-loop-k-init c = (omega arith, rw (sizes_none c.args.values.now))
+pub loop-v-init : goal.loop-v-init
+loop-v-init c = rw (sizes_none c.args.values.now)
 
 pub overflow_add-sum : goal.overflow_add-sum
 overflow_add-sum c =
-    let sum_fits : SFits w64 (pos (sizes_to c.args.values.now c.loop-k.k)) = fits-abs (omega (arith, sizes_up c.args.values.now c.loop-k.k c.loop-k.invariant.0, c.requires)) in
-    let made-fits : SFits w64 c.size-sum.result = record { sfits = c.size-sum.type_inv } in
-    let narrow : SFits w32 (get_or c.args.values.now c.loop-k.k (pos 0)) = record { sfits = c.size-arg-1.given } in
-    let made : c.size-sum.result ≡ pos (nat_abs (get_or c.args.values.now c.loop-k.k (pos 0))) = simp (to_z-of_z {w = w32} narrow) at c.size-sum.ensures in
-    let next : pos (sizes_to c.args.values.now c.loop-k.k) +ℤ c.size-sum.result ≡ pos (sizes_to c.args.values.now (suc c.loop-k.k)) = rw (made, sizes_next c.args.values.now c.loop-k.k) in
-    let next_fits : SFits w64 (pos (sizes_to c.args.values.now c.loop-k.k) +ℤ c.size-sum.result) = rw next (fits-abs (omega (arith, sizes_up c.args.values.now (suc c.loop-k.k) c.loop-k-test.true, c.requires))) in
-    rw c.loop-k.invariant.1 (simp (to_z-of_z {w = w64} made-fits) next_fits)
+    let vs = c.args.values.now in
+    let k = c.loop-v.v-index in
+    let narrow : SFits w32 (get_or vs k (pos 0)) = search rules in
+    let made : c.unsigned_abs.result ≡ nat_abs (get_or vs k (pos 0)) = simp (to_z-of_z narrow) at c.unsigned_abs.ensures.value in
+    let is : to_z w64 c.unsigned_abs.result ≡ pos c.unsigned_abs.result = to_z_pos w64 (omega arith) in
+    rw (c.loop-v.invariant, is) (fits-abs (omega (arith, made, sizes_next vs k, sizes_up vs (suc k) c.loop-v-test.true, c.requires)))
 
-pub loop-k-preserved : goal.loop-k-preserved
-loop-k-preserved c =
-    let sum_fits : SFits w64 (pos (sizes_to c.args.values.now c.loop-k.k)) = fits-abs (omega (arith, sizes_up c.args.values.now c.loop-k.k c.loop-k.invariant.0, c.requires)) in
-    let made-fits : SFits w64 c.size-sum.result = record { sfits = c.size-sum.type_inv } in
-    let narrow : SFits w32 (get_or c.args.values.now c.loop-k.k (pos 0)) = record { sfits = c.size-arg-1.given } in
-    let made : c.size-sum.result ≡ pos (nat_abs (get_or c.args.values.now c.loop-k.k (pos 0))) = simp (to_z-of_z {w = w32} narrow) at c.size-sum.ensures in
-    let next : pos (sizes_to c.args.values.now c.loop-k.k) +ℤ c.size-sum.result ≡ pos (sizes_to c.args.values.now (suc c.loop-k.k)) = rw (made, sizes_next c.args.values.now c.loop-k.k) in
-    let next_fits : SFits w64 (pos (sizes_to c.args.values.now c.loop-k.k) +ℤ c.size-sum.result) = rw next (fits-abs (omega (arith, sizes_up c.args.values.now (suc c.loop-k.k) c.loop-k-test.true, c.requires))) in
-    let sum_step : to_z w64 (of_z w64 (to_z w64 c.loop-k.sum-bits +ℤ to_z w64 (of_z w64 c.size-sum.result))) ≡ pos (sizes_to c.args.values.now (c.loop-k.k + 1))
-    = rw (c.loop-k.invariant.1, to_z-of_z {w = w64} made-fits, to_z-of_z {w = w64} next_fits, add-one c.loop-k.k) next in
-    (omega (arith, c.loop-k-test.true), sum_step)
-
-pub returns : goal.returns
-returns c =
-    let e : c.loop-k.k ≡ length c.args.values.now = omega arith in
-    subst (λ (k : ℕ). to_z w64 c.loop-k.sum-bits ≡ pos (sizes_to c.args.values.now k)) e c.loop-k.invariant.1
+pub loop-v-preserved : goal.loop-v-preserved
+loop-v-preserved c =
+    let vs = c.args.values.now in
+    let k = c.loop-v.v-index in
+    let narrow : SFits w32 (get_or vs k (pos 0)) = search rules in
+    let made : c.unsigned_abs.result ≡ nat_abs (get_or vs k (pos 0)) = simp (to_z-of_z narrow) at c.unsigned_abs.ensures.value in
+    let is : to_z w64 c.unsigned_abs.result ≡ pos c.unsigned_abs.result = to_z_pos w64 (omega arith) in
+    let fits : SFits w64 (pos (sizes_to vs k) +ℤ pos c.unsigned_abs.result) = fits-abs (omega (arith, made, sizes_next vs k, sizes_up vs (suc k) c.loop-v-test.true, c.requires)) in
+    rw (c.loop-v.invariant, is, to_z-of_z fits, add-one k, sizes_next vs k, made)

@@ -11,20 +11,14 @@ use Rattle.survey.proofs.shift.with_sign.Goals as goal
 
 pub returns-then-v-gt0 : goal.returns-then-v-gt0
 returns-then-v-gt0 c =
-    let up_is : to_z w32 c.args.t ≡ pos c.args.t = to_z_pos w32 (omega (arith, c.requires)) in
+    let up_is : to_z w32 c.args.t ≡ pos c.args.t = to_z_pos w32 (omega arith) in
     rw up_is (sign_up c.args.t c.args.v (simp (to_z-of_z c.ranges.v) at c.if-v-gt0.true))
-
-pub overflow_sub-result : goal.overflow_sub-result
-overflow_sub-result c =
-    let up_is : to_z w32 c.args.t ≡ pos c.args.t = to_z_pos w32 (omega (arith, c.requires)) in
-    let down_fits : SFits w32 (pos 0 -ℤ pos c.args.t) = fits-abs (omega (arith, abs-sub (pos 0) (pos c.args.t), c.requires)) in
-    rw up_is down_fits
 
 pub returns-then-v-lt0 : goal.returns-then-v-lt0
 returns-then-v-lt0 c =
-    let up_is : to_z w32 c.args.t ≡ pos c.args.t = to_z_pos w32 (omega (arith, c.requires)) in
-    let down_fits : SFits w32 (pos 0 -ℤ pos c.args.t) = fits-abs (omega (arith, abs-sub (pos 0) (pos c.args.t), c.requires)) in
+    let up_is : to_z w32 c.args.t ≡ pos c.args.t = to_z_pos w32 (omega arith) in
+    let down_fits : SFits w32 (pos 0 -ℤ pos c.args.t) = fits-abs (omega (arith, abs-sub (pos 0) (pos c.args.t))) in
     simp (up_is, to_z-of_z down_fits) (sign_down c.args.t c.args.v (simp (to_z-of_z c.ranges.v) at c.if-v-lt0.true))
 
-pub returns : goal.returns
-returns c = sign_none c.args.t c.args.v (simp (to_z-of_z c.ranges.v) at c.if-v-gt0.false) (simp (to_z-of_z c.ranges.v) at c.if-v-lt0.false)
+pub returns-else-v-lt0 : goal.returns-else-v-lt0
+returns-else-v-lt0 c = sign_none c.args.t c.args.v (simp (to_z-of_z c.ranges.v) at c.if-v-gt0.false) (simp (to_z-of_z c.ranges.v) at c.if-v-lt0.false)

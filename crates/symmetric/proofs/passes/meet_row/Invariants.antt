@@ -2,12 +2,12 @@
 use mathlib.Core.Path.{◌≡◌}
 use Prim.Native.Nat.{◌-◌}
 use lib.ListN.{length}
-use Rattle.matrix.specs.Matrix.{matrix_of}
+use Rattle.matrix.specs.Held.{held}
 use Rattle.symmetric.proofs.Cursors.{Turns}
 use Rattle.symmetric.proofs.passes.meet_row.Given as goal
 
 abbrev pub invariant-loop-j : goal.invariant-loop-j
-invariant-loop-j l = Turns (matrix_of l.n l.starts l.columns l.values) l.i l.p l.least l.cursors × (length l.cursors ≡ length l.initial.cursors)
+invariant-loop-j l = Turns (held l.m) l.i l.p l.least l.cursors × (length l.cursors ≡ length l.initial.cursors)
 
 abbrev pub decreases-loop-j : goal.decreases-loop-j
 decreases-loop-j l = l.end - l.p

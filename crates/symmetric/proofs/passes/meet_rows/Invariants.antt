@@ -1,14 +1,10 @@
 -- `passes::meet_rows`: the rows passed are met and their entries on and below the diagonal counted; at the end the
 -- cursors decide.
 use mathlib.Core.Path.{◌≡◌}
-use Prim.Native.Nat.{◌-◌}
 use lib.ListN.{length}
-use Rattle.matrix.specs.Matrix.{matrix_of}
+use Rattle.matrix.specs.Held.{held}
 use Rattle.symmetric.proofs.RowsMet.{RowsMet}
 use Rattle.symmetric.proofs.passes.meet_rows.Given as goal
 
 abbrev pub invariant-loop-i : goal.invariant-loop-i
-invariant-loop-i l = RowsMet (matrix_of l.n l.starts l.columns l.values) l.lower l.i l.cursors × (length l.cursors ≡ length l.initial.cursors)
-
-abbrev pub decreases-loop-i : goal.decreases-loop-i
-decreases-loop-i l = l.n - l.i
+invariant-loop-i l = RowsMet (held l.m) l.lower l.i l.cursors × (length l.cursors ≡ length l.initial.cursors)

@@ -1,9 +1,6 @@
 use native.Mathlib.Numerals.{add-one}
-use Rattle.base.proofs.Found.{found_none, found_number, found-numbers}
+use Rattle.base.proofs.Found.{found_number, found-numbers}
 use Rattle.symmetric.proofs.passes.starts_rise.Goals as goal
-
-pub loop-i-init : goal.loop-i-init
-loop-i-init c = found_none _ _
 
 pub loop-i-preserved : goal.loop-i-preserved
 loop-i-preserved c =

@@ -10,4 +10,4 @@ pub returns : goal.returns
 returns c =
     let a = c.args in
     let m = matrix_in a.n a.row_starts.now a.columns.now a.values.now in
-    decoded_matrix m _ (loaded_matrix m c.load_unsigned.ensures c.load_unsigned-2.ensures c.load_signed.ensures) (record { returns = c.word_of.ensures ∙ ap word c.write-answer.ensures.result_value; leaves = c.write-answer.ensures.text_after })
+    decoded_matrix m _ (loaded_matrix m c.decode.ensures c.decode-2.ensures c.decode-3.ensures) (record { returns = c.word_of.ensures ∙ ap word c.write.ensures.result_value; leaves = c.write.ensures.text_after })

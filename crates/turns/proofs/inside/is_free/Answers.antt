@@ -3,6 +3,7 @@ use mathlib.Core.Path.{sym, ap, ◌∙◌}
 use Prim.Native.Nat.{ℕ}
 use lib.Dec.{eqb}
 use borrow.Author.Tests.{ne_eqb}
+use Rattle.steps.proofs.TableSteps.{told_none}
 use Rattle.turns.proofs.CrewTurns.{always_away, never_away}
 use Rattle.turns.proofs.inside.is_free.Goals as goal
 
@@ -17,4 +18,4 @@ refusal-requires c = (c.requires.1, (_, c.requires.2.1.bounded))
 
 pub returns : goal.returns
 returns c =
-    rw (sym c.is_inside.ensures ∙ c.if-is_inside.false, never_away _) (ap (λ (k : ℕ). eqb k 0) c.refusal.ensures)
+    rw (sym c.is_inside.ensures ∙ c.if-is_inside.false, never_away _) (c.is_ok.ensures.value ∙ told_none _ ∙ ap (λ (k : ℕ). eqb k 0) c.refusal.ensures)

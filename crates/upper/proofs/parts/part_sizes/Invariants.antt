@@ -1,10 +1,6 @@
 -- `parts::part_sizes` meets its contract: the positions before p have their sizes.
-use Prim.Native.Nat.{◌-◌, ◌≤◌}
 use Rattle.upper.proofs.PartSizesNames.{Sized}
 use Rattle.upper.proofs.parts.part_sizes.Given as goal
 
 abbrev pub invariant-loop-p : goal.invariant-loop-p
-invariant-loop-p l = (l.p ≤ l.n) × Sized l.parts l.initial.ends l.p l.ends
-
-abbrev pub decreases-loop-p : goal.decreases-loop-p
-decreases-loop-p l = l.n - l.p
+invariant-loop-p l = Sized l.parts l.initial.ends l.p l.ends

@@ -14,12 +14,6 @@ use Rattle.writer.proofs.puts.integer_width.Goals as goal
 
 pub overflow_add-result : goal.overflow_add-result
 overflow_add-result c =
-    let whole : let v = c.args.v in c.width.result + bool_byte (lt_z v (pos 0)) ≡ length (integer v) = let e : c.magnitude.result ≡ nat_abs c.args.v = simp (to_z-of_z c.ranges.v) at c.magnitude.ensures in
+    let whole : let v = c.args.v in c.width.result + bool_byte (lt_z v (pos 0)) ≡ length (integer v) = let e : c.unsigned_abs.result ≡ nat_abs c.args.v = simp (to_z-of_z c.ranges.v) at c.unsigned_abs.ensures.value in
     omega (arith, c.width.ensures, ap (λ (k : ℕ). length (natural k)) e, length-integer c.args.v) in
     simp (to_z-of_z c.ranges.v) (omega (arith, whole, integer-few c.args.v))
-
-pub returns : goal.returns
-returns c =
-    let whole : let v = c.args.v in c.width.result + bool_byte (lt_z v (pos 0)) ≡ length (integer v) = let e : c.magnitude.result ≡ nat_abs c.args.v = simp (to_z-of_z c.ranges.v) at c.magnitude.ensures in
-    omega (arith, c.width.ensures, ap (λ (k : ℕ). length (natural k)) e, length-integer c.args.v) in
-    simp (to_z-of_z c.ranges.v) whole

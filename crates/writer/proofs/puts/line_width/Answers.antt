@@ -4,7 +4,7 @@ use native.Mathlib.Omega.{arith}
 use lib.ListN.{length}
 use mir.Facts.{to_z-of_z}
 use Rattle.market.specs.Text.{integer}
-use Rattle.writer.proofs.puts.Digits.{natural-few, integer-few, length-line}
+use Rattle.writer.proofs.puts.Digits.{natural-few, integer-few}
 use Rattle.writer.proofs.puts.line_width.Goals as goal
 
 pub overflow_add-result : goal.overflow_add-result
@@ -19,8 +19,3 @@ pub overflow_add-result-3 : goal.overflow_add-result-3
 overflow_add-result-3 c =
     let e : c.integer_width.result ≡ length (integer c.args.v) = simp (to_z-of_z c.ranges.v) at c.integer_width.ensures in
     omega (arith, c.width-2.ensures, c.width.ensures, natural-few c.args.r, natural-few c.args.c, integer-few c.args.v)
-
-pub returns : goal.returns
-returns c =
-    let e : c.integer_width.result ≡ length (integer c.args.v) = simp (to_z-of_z c.ranges.v) at c.integer_width.ensures in
-    omega (arith, c.width-2.ensures, c.width.ensures, length-line c.args.r c.args.c c.args.v)

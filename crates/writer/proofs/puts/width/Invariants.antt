@@ -1,10 +1,7 @@
 -- `width` meets its contract: each turn tests one power of ten.
-use Prim.Native.Nat.{◌-◌, ◌≤◌}
+use Prim.Native.Nat.{◌≤◌}
 use Rattle.writer.proofs.puts.Widths.{Reached}
 use Rattle.writer.proofs.puts.width.Given as goal
 
 abbrev pub invariant-loop-k : goal.invariant-loop-k
-invariant-loop-k l = Reached l.v l.k l.power l.digits × (l.k ≤ l.most)
-
-abbrev pub decreases-loop-k : goal.decreases-loop-k
-decreases-loop-k l = l.most - l.k
+invariant-loop-k l = Reached l.v l._k l.power l.digits × (l._k ≤ l.most)

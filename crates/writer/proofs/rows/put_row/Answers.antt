@@ -2,7 +2,6 @@ use borrow.Author.Rules.{sfits_of}
 use mathlib.Core.Path.{ap, ◌∙◌}
 use mathlib.Core.List.{List}
 use Prim.Native.Nat.{◌+◌}
-use native.Mathlib.Omega.{arith}
 use lib.IntN.{pos}
 use lib.ListN.{get_or, drop}
 use mir.Syntax.{w32}
@@ -10,12 +9,9 @@ use mir.Val.{SFits}
 use mir.Facts.{to_z-of_z}
 use Rattle.market.specs.Parse.{Triplet}
 use Rattle.writer.specs.Code.Puts.{from_diagonal, if_lower, lines_of}
-use Rattle.writer.proofs.puts.Putting.{Next, putting_start, putting_room, putting_more, putting_end}
+use Rattle.writer.proofs.puts.Putting.{Next, putting_room, putting_more, putting_end}
 use Rattle.writer.proofs.rows.Entries.{lines-append, diagonal_next, diagonal_end}
 use Rattle.writer.proofs.rows.put_row.Goals as goal
-
-pub loop-k-init : goal.loop-k-init
-loop-k-init c = (omega arith, putting_start (lines_of (from_diagonal c.args.j c.args.columns.now c.args.values.now)) c.args.at c.args.text.now c.requires.1)
 
 pub put_entry-p-requires : goal.put_entry-p-requires
 put_entry-p-requires c =
@@ -24,7 +20,7 @@ put_entry-p-requires c =
       is = ap (λ (es : List Triplet). lines_of es) (diagonal_next c.args.j c.args.columns.now c.args.values.now c.loop-k.k c.loop-k-test.true c.requires.0.beside)
           ∙ lines-append (if_lower c.args.j (get_or c.args.columns.now c.loop-k.k 0) (get_or c.args.values.now c.loop-k.k (pos 0))) (from_diagonal c.args.j (drop (c.loop-k.k + 1) c.args.columns.now) (drop (c.loop-k.k + 1) c.args.values.now));
     } in
-    (c.requires.0.low, c.requires.0.columns c.loop-k.k c.loop-k-test.true, simp (to_z-of_z in-range) (putting_room c.loop-k.invariant.1 next))
+    (c.requires.0.low, c.requires.0.columns c.loop-k.k c.loop-k-test.true, simp (to_z-of_z in-range) (putting_room c.loop-k.invariant next))
 
 pub loop-k-preserved : goal.loop-k-preserved
 loop-k-preserved c =
@@ -33,12 +29,9 @@ loop-k-preserved c =
       is = ap (λ (es : List Triplet). lines_of es) (diagonal_next c.args.j c.args.columns.now c.args.values.now c.loop-k.k c.loop-k-test.true c.requires.0.beside)
           ∙ lines-append (if_lower c.args.j (get_or c.args.columns.now c.loop-k.k 0) (get_or c.args.values.now c.loop-k.k (pos 0))) (from_diagonal c.args.j (drop (c.loop-k.k + 1) c.args.columns.now) (drop (c.loop-k.k + 1) c.args.values.now));
     } in
-    (omega arith, putting_more c.loop-k.invariant.1 next (simp (to_z-of_z in-range) at c.put_entry-p.ensures))
-
-pub shape_of-text : goal.shape_of-text
-shape_of-text c = c.loop-k.invariant.1.put.long
+    putting_more c.loop-k.invariant next (simp (to_z-of_z in-range) at c.put_entry-p.ensures)
 
 pub returns : goal.returns
 returns c =
     let a = c.args in
-    putting_end c.loop-k.invariant.1 (ap (λ (es : List Triplet). lines_of es) (diagonal_end a.j a.columns.now a.values.now c.loop-k.k c.loop-k-test.false))
+    putting_end c.loop-k.invariant (ap (λ (es : List Triplet). lines_of es) (diagonal_end a.j a.columns.now a.values.now c.loop-k.k c.loop-k-test.false))

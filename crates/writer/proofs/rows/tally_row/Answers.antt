@@ -8,19 +8,13 @@ use mir.Val.{SFits}
 use mir.Facts.{to_z-of_z}
 use Rattle.writer.specs.Code.Puts.{from_diagonal}
 use Rattle.writer.proofs.rows.Entries.{diagonal_next, diagonal_end, diagonal_few}
-use Rattle.writer.proofs.rows.Tallies.{Tallying, tallying_start, tallying_more, tallying_small, tallying_end}
+use Rattle.writer.proofs.rows.Tallies.{Tallying, tallying_more, tallying_small, tallying_end}
 use Rattle.writer.proofs.rows.tally_row.Goals as goal
-
-pub loop-k-init : goal.loop-k-init
-loop-k-init c = let a = c.args in (omega arith, tallying_start (from_diagonal a.j a.columns.now a.values.now))
-
-pub tally_entry-t-requires : goal.tally_entry-t-requires
-tally_entry-t-requires c = (c.requires.low, c.requires.columns c.loop-k.k c.loop-k-test.true)
 
 pub overflow_add-entries : goal.overflow_add-entries
 overflow_add-entries c =
     let in-range : SFits w32 (get_or c.args.values.now c.loop-k.k (pos 0)) = sfits_of c.tally_entry-arg-1.given in
-    let counted : let a = c.args in Tallying (from_diagonal a.j a.columns.now a.values.now) (from_diagonal a.j (drop (c.loop-k.k + 1) a.columns.now) (drop (c.loop-k.k + 1) a.values.now)) (c.loop-k.entries + c.tally_entry-t.result.entries) (c.loop-k.bytes + c.tally_entry-t.result.bytes) = tallying_more c.loop-k.invariant.1 (diagonal_next c.args.j c.args.columns.now c.args.values.now c.loop-k.k c.loop-k-test.true c.requires.beside)
+    let counted : let a = c.args in Tallying (from_diagonal a.j a.columns.now a.values.now) (from_diagonal a.j (drop (c.loop-k.k + 1) a.columns.now) (drop (c.loop-k.k + 1) a.values.now)) (c.loop-k.entries + c.tally_entry-t.result.entries) (c.loop-k.bytes + c.tally_entry-t.result.bytes) = tallying_more c.loop-k.invariant (diagonal_next c.args.j c.args.columns.now c.args.values.now c.loop-k.k c.loop-k-test.true c.requires.beside)
     (simp (to_z-of_z in-range) at c.tally_entry-t.ensures) in
     let small : (c.loop-k.entries + c.tally_entry-t.result.entries ≤ 4096) × (c.loop-k.bytes + c.tally_entry-t.result.bytes ≤ 34 * 4096) = let t = tallying_small counted in
     let few = diagonal_few c.args.j c.args.columns.now c.args.values.now in
@@ -30,7 +24,7 @@ overflow_add-entries c =
 pub overflow_add-bytes : goal.overflow_add-bytes
 overflow_add-bytes c =
     let in-range : SFits w32 (get_or c.args.values.now c.loop-k.k (pos 0)) = sfits_of c.tally_entry-arg-1.given in
-    let counted : let a = c.args in Tallying (from_diagonal a.j a.columns.now a.values.now) (from_diagonal a.j (drop (c.loop-k.k + 1) a.columns.now) (drop (c.loop-k.k + 1) a.values.now)) (c.loop-k.entries + c.tally_entry-t.result.entries) (c.loop-k.bytes + c.tally_entry-t.result.bytes) = tallying_more c.loop-k.invariant.1 (diagonal_next c.args.j c.args.columns.now c.args.values.now c.loop-k.k c.loop-k-test.true c.requires.beside)
+    let counted : let a = c.args in Tallying (from_diagonal a.j a.columns.now a.values.now) (from_diagonal a.j (drop (c.loop-k.k + 1) a.columns.now) (drop (c.loop-k.k + 1) a.values.now)) (c.loop-k.entries + c.tally_entry-t.result.entries) (c.loop-k.bytes + c.tally_entry-t.result.bytes) = tallying_more c.loop-k.invariant (diagonal_next c.args.j c.args.columns.now c.args.values.now c.loop-k.k c.loop-k-test.true c.requires.beside)
     (simp (to_z-of_z in-range) at c.tally_entry-t.ensures) in
     let small : (c.loop-k.entries + c.tally_entry-t.result.entries ≤ 4096) × (c.loop-k.bytes + c.tally_entry-t.result.bytes ≤ 34 * 4096) = let t = tallying_small counted in
     let few = diagonal_few c.args.j c.args.columns.now c.args.values.now in
@@ -40,11 +34,11 @@ overflow_add-bytes c =
 pub loop-k-preserved : goal.loop-k-preserved
 loop-k-preserved c =
     let in-range : SFits w32 (get_or c.args.values.now c.loop-k.k (pos 0)) = sfits_of c.tally_entry-arg-1.given in
-    let counted : let a = c.args in Tallying (from_diagonal a.j a.columns.now a.values.now) (from_diagonal a.j (drop (c.loop-k.k + 1) a.columns.now) (drop (c.loop-k.k + 1) a.values.now)) (c.loop-k.entries + c.tally_entry-t.result.entries) (c.loop-k.bytes + c.tally_entry-t.result.bytes) = tallying_more c.loop-k.invariant.1 (diagonal_next c.args.j c.args.columns.now c.args.values.now c.loop-k.k c.loop-k-test.true c.requires.beside)
+    let counted : let a = c.args in Tallying (from_diagonal a.j a.columns.now a.values.now) (from_diagonal a.j (drop (c.loop-k.k + 1) a.columns.now) (drop (c.loop-k.k + 1) a.values.now)) (c.loop-k.entries + c.tally_entry-t.result.entries) (c.loop-k.bytes + c.tally_entry-t.result.bytes) = tallying_more c.loop-k.invariant (diagonal_next c.args.j c.args.columns.now c.args.values.now c.loop-k.k c.loop-k-test.true c.requires.beside)
     (simp (to_z-of_z in-range) at c.tally_entry-t.ensures) in
-    (omega arith, counted)
+    counted
 
 pub returns : goal.returns
 returns c =
     let a = c.args in
-    tallying_end c.loop-k.invariant.1 (diagonal_end a.j a.columns.now a.values.now c.loop-k.k c.loop-k-test.false)
+    tallying_end c.loop-k.invariant (diagonal_end a.j a.columns.now a.values.now c.loop-k.k c.loop-k-test.false)

@@ -1,12 +1,8 @@
 -- `tally_row` meets its contract: each turn counts one entry.
-use Prim.Native.Nat.{◌≤◌, ◌-◌}
-use lib.ListN.{length, drop}
+use lib.ListN.{drop}
 use Rattle.writer.specs.Code.Puts.{from_diagonal}
 use Rattle.writer.proofs.rows.Tallies.{Tallying}
 use Rattle.writer.proofs.rows.tally_row.Given as goal
 
 abbrev pub invariant-loop-k : goal.invariant-loop-k
-invariant-loop-k l = (l.k ≤ length l.columns) × Tallying (from_diagonal l.j l.columns l.values) (from_diagonal l.j (drop l.k l.columns) (drop l.k l.values)) l.entries l.bytes
-
-abbrev pub decreases-loop-k : goal.decreases-loop-k
-decreases-loop-k l = length l.columns - l.k
+invariant-loop-k l = Tallying (from_diagonal l.j l.columns l.values) (from_diagonal l.j (drop l.k l.columns) (drop l.k l.values)) l.entries l.bytes

@@ -1,24 +1,22 @@
-use mathlib.Core.Path.{◌∙◌}
-use borrow.Author.Rules.{rules}
+use mathlib.Core.Path.{◌≡◌, sym, ap, ◌∙◌}
+use native.Mathlib.Omega.{arith}
 use borrow.Author.Tests.{le-leb, lt-leb}
-use Rattle.machine.specs.Code.Tests.{fine}
-use Rattle.machine.proofs.AllBelow.{below-pass, below_fail, below_none}
+use Rattle.machine.specs.Code.Tests.{all_below, fine}
+use Rattle.machine.proofs.AllBelow.{below_none, below_more, below_fail}
 use Rattle.machine.proofs.state.State.is_fine.Goals as goal
 
-pub accesses-requires : goal.accesses-requires
-accesses-requires c = (search rules, c.requires)
+pub loop-w-init : goal.loop-w-init
+loop-w-init c = below_none _
 
-pub returns-then-accesses-moves : goal.returns-then-accesses-moves
-returns-then-accesses-moves c =
-    let a = c.args in
-    below_fail (fine a.first a.self.made) c.loop-w.w (search rules) (lt-leb _ _ (rw (c.moves.ensures, c.accesses.ensures) at c.if-accesses-moves.true)) ∙ c.loop-w.invariant.1
+pub returns-then-accesses-self : goal.returns-then-accesses-self
+returns-then-accesses-self c =
+    sym (below_fail (fine c.args.first c.args.self.made) c.loop-w.w _ c.loop-w-test.true (lt-leb _ _ (rw c.accesses.ensures at c.if-accesses-self.true)))
 
 pub loop-w-preserved : goal.loop-w-preserved
 loop-w-preserved c =
-    let a = c.args in
-    (search rules, below-pass (fine a.first a.self.made) c.loop-w.w (search rules) (le-leb _ _ (rw (c.moves.ensures, c.accesses.ensures) at c.if-accesses-moves.false)) ∙ c.loop-w.invariant.1)
+    below_more (fine c.args.first c.args.self.made) c.loop-w.w (le-leb _ _ (rw c.accesses.ensures at c.if-accesses-self.false)) c.loop-w.invariant
 
 pub returns : goal.returns
 returns c =
-    let a = c.args in
-    below_none (fine a.first a.self.made) c.loop-w.w (search rules) ∙ c.loop-w.invariant.1
+    let all : c.loop-w.w ≡ 16 = omega arith in
+    sym c.loop-w.invariant ∙ ap (all_below (fine c.args.first c.args.self.made)) all

@@ -1,8 +1,7 @@
 -- `machine::state::State::walk` meets its contract: k picks are gone through.
 use mathlib.Core.Path.{◌≡◌}
-use Prim.Native.Nat.{◌-◌, ◌/◌, ◌≤◌}
+use Prim.Native.Nat.{◌-◌, ◌≤◌}
 use lib.ListN.{length}
-use Rattle.plan.specs.Groups.{width}
 use Rattle.steps.specs.Code.Steps.{state_with}
 use Rattle.machine.proofs.RunTurns.{Running}
 use Rattle.machine.proofs.state.State.walk.Given as goal
@@ -10,21 +9,8 @@ use Rattle.machine.proofs.state.State.walk.Given as goal
 abbrev pub invariant-loop-k : goal.invariant-loop-k
 invariant-loop-k l =
     (l.k ≤ length l.schedule) × (l.taken ≤ l.k) × (length l.sums ≡ length l.initial.sums)
-    × Running (record {
-      crew = l.whole.workers;
-      count = length l.groups / width;
-      groups = l.groups;
-      ends = l.ends;
-      first = l.first;
-      row = l.row;
-      begins = l.begins;
-      parts = l.parts;
-      leaves = l.leaves;
-      displaced = l.displaced;
-      at = l.at;
-      beside = l.beside;
-    }) l.rule (state_with l.initial.made l.initial.held l.initial.sums) l.schedule l.taken l.k (state_with l.made l.held l.sums) l.blocks l.stops l.targets l.adds
+    × Running (record { crew = l.workers; tables = l.tables; entries = l.entries; displaced = l.displaced })
+    l.rule (state_with l.initial.made l.initial.held l.initial.sums) l.schedule l.taken l.k (state_with l.made l.held l.sums) l.blocks l.stops l.targets l.adds
 
 abbrev pub decreases-loop-k : goal.decreases-loop-k
-decreases-loop-k l =
-    length l.schedule - l.k
+decreases-loop-k l = length l.schedule - l.k

@@ -1,0 +1,3 @@
+-- What the contracts of inner functions speak of: no promise rests on it.
+pub mod Fit
+pub mod Cells
