@@ -15,24 +15,24 @@ use Rattle.matrix.specs.Limits.{max_rows}
 use Rattle.matrix.specs.Matrix.{Matrix, matrix_of, is_matrix}
 use Rattle.matrix.proofs.Matrix.{matrix_facts}
 use Rattle.plan.specs.Sound.{max_workers}
-use Rattle.upper.specs.Code.Upper.{upper_of, UpperLaid}
+use Rattle.upper.specs.Code.Upper.{Lent, Sizes, upper_of, UpperLaid}
 use Rattle.upper.specs.Code.Row.{Part, Kept}
 use Rattle.upper.proofs.UpperRows.{upper_few}
 use Rattle.steps.specs.Code.Steps.{place_next}
-use Rattle.ahead.specs.Code.Ahead.{Indexed, PartBefore, PartsOf, With, PartsAhead}
+use Rattle.ahead.specs.Code.Ahead.{PartBefore, PartsOf, With, PartsAhead}
 
 -- ---- one row
 
-module _ {n : ℕ} {starts columns : List ℕ} {values : List ℤ} {order position sizes : List ℕ} (x : Indexed n starts columns values order position sizes) where
+module _ {n : ℕ} {starts columns : List ℕ} {values : List ℤ} {order : List ℕ} (x : Lent n starts columns values order) where
   abbrev m : Matrix
   m = matrix_of n starts columns values
 
   pub few-rows : n ≤ max_rows
-  few-rows = (matrix_facts m x.lent.ordered.matrix).few
+  few-rows = (matrix_facts m x.ordered.matrix).few
 
   -- a row has at most one entry for each
-  pub size_few : (p : ℕ) → p < n → get_or sizes p 0 ≤ max_rows
-  size_few p l = omega (arith, few-rows, x.sizes_are.is p l, upper_few m (take n order) p n)
+  pub size_few : {sizes : List ℕ} → Sizes m (take n order) n sizes → (p : ℕ) → p < n → get_or sizes p 0 ≤ max_rows
+  size_few t p l = omega (arith, few-rows, t.is p l, upper_few m (take n order) p n)
 
 -- a row gets its part, after those of a set
 module _ (m : Matrix) (order : List ℕ) {rows : ℕ → Bool} {p b e : ℕ} {parts at at' : List ℕ} {beside beside' : List ℤ} (h : PartsOf m order rows b parts at beside)

@@ -37,7 +37,7 @@ use Rattle.machine.specs.Record.{state_of}
 use Rattle.machine.specs.declared.state.State as code
 use Rattle.answers.specs.Runs.{state_bytes, count_bytes, state_in, answer_in}
 use Rattle.answers.specs.Code.Ran.{StateIs}
-use Rattle.lent.proofs.Loads.{loaded_fits, loaded_is, plan-of-cut}
+use Rattle.lent.proofs.Loads.{loaded_is, plan-of-cut}
 use Rattle.answers.proofs.CutJobs.{answer-same, after_same}
 
 -- ---- the lists of the job
@@ -166,9 +166,6 @@ module _ (m : Matrix) (x : List ℤ) (order groups : List ℕ) (count : ℕ) (c 
 -- the sums that are decoded into an array: those beside a state, as far as it reaches
 module _ (b : Bool) (sums bytes : List ℕ) (old : List ℤ) {count : ℕ} {array : List ℤ} (are : bytes ≡ cond b sums []) (long : length old ≡ max_starts)
     (e : count ≡ min (length bytes / 8) (length old)) (f : array ≡ stored (take count (signed 8 bytes)) old) where
-  pub sums_fit : count ≤ length array
-  sums_fit = loaded_fits (signed_number 8) 8 bytes old e f
-
   pub sums_decoded : take count array ≡ cond b (take max_starts (signed 8 sums)) []
   unfolding blocks
   sums_decoded = loaded_is (signed_number 8) 8 bytes old e f ∙ ap (λ (k : ℕ). take k (signed 8 bytes)) long ∙ ap (λ (l : List ℕ). take max_starts (signed 8 l)) are ∙ go b

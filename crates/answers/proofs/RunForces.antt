@@ -1,17 +1,16 @@
 -- Forces, which are made beside the lent list.
 use mathlib.Core.Path.{◌≡◌, refl, sym, ap, ◌∙◌}
-use mathlib.Core.Logic.{◌≢◌}
 use mathlib.Core.Bool.{Bool, true, false, cond}
 use mathlib.Core.List.{List, [], ◌∷◌, ◌++◌}
-use Prim.Native.Nat.{ℕ, zero, suc, ◌/◌, ◌≤◌, min}
+use Prim.Native.Nat.{ℕ, ◌/◌, ◌≤◌, min}
 use native.Mathlib.Omega.{arith}
 use lib.Dec.{leb}
 use lib.IntN.{ℤ, pos}
 use lib.ListN.{length, take, drop, get_or, replicate, length-append, length-take, length-drop}
-use lib.Seq.{take_all, take-append-le, length-take-le}
+use lib.Seq.{take-append-le, length-take-le}
 use borrow.Author.Tests.{leb-true}
 use Rattle.base.specs.declared.Refusal.{Refusal}
-use Rattle.base.specs.Replies.{Check, in_turn, lent}
+use Rattle.base.specs.Replies.{Check, in_turn}
 use Rattle.base.proofs.Fill.{length-made}
 use Rattle.matrix.specs.Limits.{max_rows}
 use Rattle.matrix.specs.Matrix.{Matrix}
@@ -20,15 +19,13 @@ use Rattle.run.specs.Machine.{over, original}
 use Rattle.base.specs.Lists.{position_of}
 use Rattle.run.specs.State.{State}
 use Rattle.run.specs.Calls.{picked_of, passed_of, ready_of, forces_of, answer_of, state_check, answer, job_checks, answer_lent}
-use Rattle.run.specs.Answers.{Answer, picked, previewed, forces, denied, shown}
-use Rattle.calls.specs.Performed.{as_call, as_answer, end_number, end_place, Performed}
+use Rattle.run.specs.Answers.{Answer, forces, denied, shown}
+use Rattle.calls.specs.Performed.{as_call, as_answer, Performed}
 use Rattle.calls.specs.declared.Call as asked
 use Rattle.calls.specs.declared.Call.TheVariants.{Picks, ReadySet, ForceList, Preview, Rounds}
 use Rattle.calls.specs.declared.Response.{Response}
 use Rattle.calls.specs.declared.Response.TheVariants.{Picked, Ready, Forces, Previewed}
 use Rattle.std.proofs.Common.{Result, Ok, Err}
-use Rattle.words.specs.LittleEndian.{signed_bytes, stored}
-use Rattle.answers.specs.Runs.{reply_to, force_bytes}
 use Rattle.answers.specs.Code.Ran.{ForcesFit}
 
 -- forces are n, and there is room for them
@@ -105,28 +102,3 @@ module _ (k room : ℕ) (e : k ≡ min room max_rows) where
   -- the array after the call
   pub array_long : (part : List ℤ) → length part ≡ length (take k zeros) → length (part ++ drop k zeros) ≡ max_rows
   array_long part l = omega (arith, zeros-long, lent_on, length-append part (drop k zeros), length-drop k zeros)
-
--- ---- the store
-
--- other answers leave the list
-pub forces-kept : (r : Result Response Refusal) → r ≢ Ok Forces → (zs : List ℤ) (bytes : List ℕ) → bytes ≡ lent (reply_to (as_answer r zs)) (force_bytes (as_answer r zs)) bytes
-unfolding reply_to force_bytes lent
-forces-kept (Ok (Picked k x)) h zs bytes = go (end_number x)
-  where
-    go : (q : ℕ) → bytes ≡ lent (reply_to (picked k q (end_place x))) (force_bytes (picked k q (end_place x))) bytes
-    go zero = refl
-    go (suc q) = refl
-forces-kept (Ok (Ready b k)) h zs bytes = refl
-forces-kept (Ok Forces) h zs bytes = absurd (h refl)
-forces-kept (Err e) h zs bytes = refl
-forces-kept (Ok (Previewed k x b n)) h zs bytes = go (end_number x)
-  where
-    go : (q : ℕ) → bytes ≡ lent (reply_to (previewed k q (end_place x) b n)) (force_bytes (previewed k q (end_place x) b n)) bytes
-    go zero = refl
-    go (suc q) = refl
-
--- forces for which there is room
-pub forces-stored : (zs : List ℤ) (bytes : List ℕ) {new : List ℕ} → length zs ≤ length bytes / 8 → new ≡ stored (signed_bytes 8 (take (length bytes / 8) zs)) bytes
-    → new ≡ lent (reply_to (forces zs)) (force_bytes (forces zs)) bytes
-unfolding reply_to force_bytes lent
-forces-stored zs bytes l e = e ∙ rw (take_all (length bytes / 8) zs l)

@@ -3,7 +3,7 @@ use mathlib.Core.Path.{◌≡◌, refl, sym, ap, ◌∙◌}
 use mathlib.Core.Logic.{◌⊎◌, inl, inr, ◌≢◌}
 use mathlib.Core.Bool.{Bool, true, false, cond}
 use mathlib.Core.List.{List, [], ◌∷◌, ◌++◌}
-use Prim.Native.Nat.{ℕ, zero, suc, ◌+◌, ◌*◌, ◌/◌, ◌%◌, ◌^◌, ◌≤◌, ◌<◌}
+use Prim.Native.Nat.{ℕ, zero, suc, ◌+◌, ◌/◌, ◌^◌, ◌≤◌, ◌<◌}
 use native.Mathlib.Omega.{arith}
 use lib.Dec.{eqb, leb}
 use lib.IntN.{ℤ}
@@ -31,13 +31,12 @@ use Rattle.machine.specs.declared.state.State as code
 use Rattle.calls.specs.Performed.{as_answer, end_number, end_place}
 use Rattle.calls.specs.declared.Response.{Response}
 use Rattle.calls.specs.declared.Response.TheVariants.{Picked, Ready, Forces, Previewed}
-use Rattle.calls.specs.declared.Stop.{Stop}
-use Rattle.std.proofs.Common.{Option, Result, Ok, Err}
+use Rattle.std.proofs.Common.{Result, Ok, Err}
 use Rattle.calls.proofs.JobChecked.{job-given}
 use Rattle.words.specs.LittleEndian.{number, signed_number, signed, signed_bytes, stored}
 use Rattle.words.proofs.Blocks.{length_decoded}
 use Rattle.lent.specs.Word.{word}
-use Rattle.answers.specs.Runs.{state_bytes, count_bytes, state_in, answer_in, reply_to, force_bytes, bytes_in, left_by, Moved, set_in, round_word}
+use Rattle.answers.specs.Runs.{state_bytes, count_bytes, state_in, answer_in, reply_to, force_bytes, bytes_in, left_by, Moved, set_in}
 use Rattle.answers.specs.Code.Ran.{StateIs, Called, Taken, Parts, Ran, RanLent, Took, Gave, Looks, LowPlace, LowMoves, Plain, PicksFit}
 use Rattle.answers.proofs.RunCalls.{decoded, always_refused}
 use Rattle.answers.proofs.TakenFew.{number_low, round-number-low, few-ready, ready-low, taken-few, moves-few}
@@ -269,47 +268,6 @@ ran m x order groups count c state sums r is lent {bytes} rest long h =
 
 -- ---- what is stored
 
--- the reply of picks that one ended
-pub ended : (k q p : ℕ) → q ≢ 0 → reply_to (picked k q p) ≡ replies.refused q p
-unfolding reply_to
-ended k zero p h = absurd (h refl)
-ended k (suc q) p h = refl
-
--- .. and of their preview
-pub same-reply : (k q p b n : ℕ) → reply_to (picked k q p) ≡ reply_to (previewed k q p b n)
-unfolding reply_to
-same-reply k zero p b n = refl
-same-reply k (suc q) p b n = refl
-
--- answers of other kinds
-pub no_picks : (y : Response) → ((k : ℕ) (e : Option Stop) → y ≢ Picked k e) → (k q p : ℕ) → as_answer (Ok y) [] ≢ picked k q p
-no_picks (Picked n e) h k q p x = h n e refl
-no_picks (Ready b n) h k q p x = absurd (let z : ◌≡◌ {A = ℕ} 0 1 = cc in omega arith)
-no_picks Forces h k q p x = absurd (let z : ◌≡◌ {A = ℕ} 0 1 = cc in omega arith)
-no_picks (Previewed t e b n) h k q p x = absurd (let z : ◌≡◌ {A = ℕ} 0 1 = cc in omega arith)
-
-pub no_preview : (y : Response) → ((t : ℕ) (e : Option Stop) (b k : ℕ) → y ≢ Previewed t e b k) → (t q p b k : ℕ) → as_answer (Ok y) [] ≢ previewed t q p b k
-no_preview (Picked n e) h t q p b k x = absurd (let z : ◌≡◌ {A = ℕ} 0 1 = cc in omega arith)
-no_preview (Ready c n) h t q p b k x = absurd (let z : ◌≡◌ {A = ℕ} 0 1 = cc in omega arith)
-no_preview Forces h t q p b k x = absurd (let z : ◌≡◌ {A = ℕ} 0 1 = cc in omega arith)
-no_preview (Previewed u e c n) h t q p b k x = h u e c n refl
-
-pub err-picked : {A : Type 0} (x : Refusal) {k q p : ℕ} → as_answer (Err x) [] ≡ picked k q p → A
-err-picked x e = absurd (let z : ◌≡◌ {A = ℕ} 0 1 = cc in omega arith)
-
-pub err-round : (x : Refusal) (zs : List ℤ) → word (reply_to (as_answer (Err x) zs)) ≡ round_word (as_answer (Err x) zs)
-unfolding round_word
-err-round x zs = refl
-
--- other answers have no set
-pub set-none : (r : Result Response Refusal) → ((t q p b k : ℕ) → as_answer r [] ≢ previewed t q p b k) → (zs : List ℤ) → 0 ≡ set_in (as_answer r zs)
-unfolding set_in
-set-none (Ok (Picked k e)) h zs = refl
-set-none (Ok (Ready b k)) h zs = refl
-set-none (Ok Forces) h zs = refl
-set-none (Ok (Previewed t e b k)) h zs = absurd (h t _ _ b k refl)
-set-none (Err e) h zs = refl
-
 -- a preview's set lies above its picks
 pub preview-fits : (r : Result Response Refusal) → Looks r → {w v : ℕ} → w ≡ word (reply_to (as_answer r [])) → v ≡ set_in (as_answer r []) → (v ≡ 0) ⊎ (w + v < 2 ^ 64)
 unfolding set_in reply_to word
@@ -322,30 +280,6 @@ preview-fits (Ok (Previewed t e b k)) h x f = go (end_number e) (h t _ _ b k ref
     go : (q : ℕ) → Parts t q (end_place e) b k → {w v : ℕ} → w ≡ word (reply_to (previewed t q (end_place e) b k)) → v ≡ set_in (previewed t q (end_place e) b k) → (v ≡ 0) ⊎ (w + v < 2 ^ 64)
     go zero g x f = inr (omega (arith, g.taken_low, g.count_low, g.bits_low))
     go (suc q) g x f = inr (omega (arith, g.number_low, g.place_low, g.count_low, g.bits_low))
-
--- an answer of another kind than picks has its own word in rounds
-pub round-other : (r : Result Response Refusal) → ((k q p : ℕ) → as_answer r [] ≢ picked k q p) → (zs : List ℤ) → word (reply_to (as_answer r zs)) ≡ round_word (as_answer r zs)
-unfolding round_word
-round-other (Ok (Picked k e)) h zs = absurd (h k _ _ refl)
-round-other (Ok (Ready b k)) h zs = refl
-round-other (Ok Forces) h zs = refl
-round-other (Ok (Previewed t e b k)) h zs = refl
-round-other (Err e) h zs = refl
-
--- the word of rounds that a pick ended
-pub round-ended : (t q p : ℕ) → q ≢ 0 → p % 2 ^ 32 + q * 2 ^ 32 + t * 2 ^ 40 ≡ round_word (picked t q p)
-unfolding round_word
-round-ended t zero p h = absurd (h refl)
-round-ended t (suc q) p h = refl
-
--- other answers leave both lists
-pub picks-kept : (r : Result Response Refusal) → ((k q p : ℕ) → as_answer r [] ≢ picked k q p) → (zs : List ℤ) (new old : List ℕ) → old ≡ left_by (as_answer r zs) new old
-unfolding left_by
-picks-kept (Ok (Picked k e)) h zs new old = absurd (h k _ _ refl)
-picks-kept (Ok (Ready b k)) h zs new old = refl
-picks-kept (Ok Forces) h zs new old = refl
-picks-kept (Ok (Previewed t e b k)) h zs new old = refl
-picks-kept (Err e) h zs new old = refl
 
 -- picks, and their preview, are the same whatever forces stand beside them
 pub picked-any : (r : Result Response Refusal) (zs : List ℤ) {k q p : ℕ} → as_answer r [] ≡ picked k q p → as_answer r zs ≡ picked k q p
@@ -361,10 +295,6 @@ previewed-any (Ok (Ready b k)) zs is = is
 previewed-any (Ok Forces) zs is = absurd (let z : ◌≡◌ {A = ℕ} 0 1 = cc in omega arith)
 previewed-any (Ok (Previewed t e b k)) zs is = is
 previewed-any (Err e) zs is = is
-
--- sums for which there is room
-pub sums-stored : (zs : List ℤ) (bytes : List ℕ) {new : List ℕ} → length zs ≤ length bytes / 8 → new ≡ stored (signed_bytes 8 (take (length bytes / 8) zs)) bytes → new ≡ stored (signed_bytes 8 zs) bytes
-sums-stored zs bytes l e = e ∙ rw (take_all (length bytes / 8) zs l)
 
 module _ {n : ℕ} {c : Call} {a : Answer} {s : State} {state sums old : List ℕ} {answer : Result Response Refusal} {after : code.State} {new : List ℤ} {left : List ℕ} (h : Ran n c a s state sums old answer after new left) where
   is-picked : {k q p : ℕ} → as_answer answer [] ≡ picked k q p → a ≡ picked k q p

@@ -1,10 +1,12 @@
 // A run's state in bytes.
-ghost use Rattle.std.specs.Prelude.{◌≡◌, cond, [], ◌++◌, eqb, length};
-ghost use Rattle.words.specs.LittleEndian.{unsigned_bytes, signed_bytes, stored};
+ghost use Rattle.std.specs.Prelude.{◌≡◌, cond, [], ◌++◌, ◌≤◌, eqb, length, take};
+ghost use Rattle.matrix.specs.Code.Room.{max_starts};
+ghost use Rattle.words.specs.LittleEndian.{signed, unsigned_bytes, signed_bytes, stored};
 ghost use Rattle.answers.specs.Runs.{state_bytes};
 ghost use Rattle.answers.specs.Code.Ran.{StateIs};
 
 use machine::state::State;
+use matrix::limits::MAX_STARTS;
 use plan::MAX_WORKERS;
 use words::lists::{load, store};
 
@@ -35,6 +37,14 @@ pub fn sums_of<'a>(state: &[u8], sums: &'a [u8]) -> &'a [u8]
         return &sums[..0];
     }
     sums
+}
+
+// .. loaded into an array, as far as any matrix reaches: how many they are.
+pub fn load_sums(state: &[u8], sums: &[u8], array: &mut [i64; MAX_STARTS]) -> usize
+    ensures fit { result ≤ length array.new }
+    ensures are { take result array.new ≡ cond (eqb (length state.now) state_bytes) (take max_starts (signed 8 sums.now)) [] }
+{
+    load(sums_of(state, sums), array)
 }
 
 pub fn store_state(state: State, bytes: &mut [u8])

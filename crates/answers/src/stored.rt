@@ -14,6 +14,7 @@ use machine::state::State;
 use words::lists::store;
 
 // State and sums as the picks that were taken left them. Any other answer leaves both.
+#[tactic(auto, unfolding(crate::specs::Runs::left_by))]
 pub fn store_picks(
     n: u32,
     answer: Result<Response, Refusal>,
@@ -38,6 +39,7 @@ pub fn store_picks(
 }
 
 // The forces of an answer that has them. Any other answer leaves the list.
+#[tactic(auto, unfolding(crate::specs::Runs::reply_to, crate::specs::Runs::force_bytes, base::specs::Replies::lent))]
 pub fn store_forces(n: u32, answer: Result<Response, Refusal>, made: &[i64], forces: &mut [u8])
     requires { ForcesFit n answer made.now forces.old }
     ensures { forces.new ≡ lent (reply_to (as_answer answer (take n made.now))) (force_bytes (as_answer answer (take n made.now))) forces.old }

@@ -15,6 +15,7 @@ const SET_COUNT: u64 = 1099511627776;
 const SET_BITS: u64 = 281474976710656;
 
 // The picks taken, or the number and place of the one that ended them.
+#[tactic(auto, unfolding(crate::specs::Runs::reply_to, lent::specs::Word::word))]
 fn word_of_end(taken: usize, stop: Option<Stop>) -> u64
     requires { end_place stop < 2 ^ 32 }
     ensures { result ≡ word (reply_to (picked taken (end_number stop) (end_place stop))) }
@@ -31,6 +32,7 @@ fn word_of_end(taken: usize, stop: Option<Stop>) -> u64
 
 // .. also of a preview; or the bits in the low sixteen, and above them the count of those set; 0 for forces; a
 // refusal's number and place.
+#[tactic(auto, unfolding(crate::specs::Runs::reply_to, lent::specs::Word::word))]
 pub fn word_of(answer: Result<Response, Refusal>) -> u64
     requires { LowPlace answer }
     ensures { (forces : List ℤ) → result ≡ word (reply_to (as_answer answer forces)) }
@@ -47,6 +49,7 @@ pub fn word_of(answer: Result<Response, Refusal>) -> u64
 }
 
 // The ready set of a preview: the count from bit 40 on, a bit for each worker from bit 48 on.
+#[tactic(auto, unfolding(crate::specs::Runs::set_in))]
 fn set_of(answer: Result<Response, Refusal>) -> u64
     requires { Looks answer }
     ensures { (forces : List ℤ) → result ≡ set_in (as_answer answer forces) }
@@ -69,6 +72,7 @@ pub fn word_of_preview(answer: Result<Response, Refusal>) -> u64
 }
 
 // The word of rounds: the moves made, or the number and place of what ended them, and above them the moves made.
+#[tactic(auto, unfolding(crate::specs::Runs::round_word))]
 pub fn word_of_round(answer: Result<Response, Refusal>) -> u64
     requires { LowMoves answer }
     ensures { (forces : List ℤ) → result ≡ round_word (as_answer answer forces) }

@@ -19,7 +19,7 @@ use Rattle.apart.specs.declared.net.Subject.{Subject}
 use Rattle.apart.specs.declared.marks.Marks.{Marks}
 use Rattle.plan.proofs.Nested.{children_at, children-over}
 use Rattle.shape.proofs.ChildTurns.{from_first_lem}
-use Rattle.matrix.proofs.Matrix.{graph}
+use Rattle.apart.proofs.RowsOf.{graph_of}
 use Rattle.apart.proofs.Overlap.{overlap}
 use Rattle.apart.proofs.LikeApart.{clear, clash_above, clear_none, left_apart, Overlaps, colour-stops, colour-next}
 
@@ -126,7 +126,7 @@ module _ (subject : Subject) (parent colour low : ℕ) where
           );
           same = c.same ∙ ap (left s.given) (next-is ∙ ap (λ (ks : List Group). g ∷ ks) next.same)
               ∙ colour-next far (take n order) stamped tested low mine (omega (arith, c.past)) colour g rest s.given s'.given
-              (each-of-get (Overlaps far (take n order) stamped tested g) rest g (λ j. overlap m (graph m subject.net.matrix) k (stretch_of (take n order) g) (stretch_of (take n order) (get_or rest j g))))
+              (each-of-get (Overlaps far (take n order) stamped tested g) rest g (λ j. overlap m (graph_of m subject.net.graph) k (stretch_of (take n order) g) (stretch_of (take n order) (get_or rest j g))))
               (free true t) m';
         }
       where

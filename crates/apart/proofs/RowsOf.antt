@@ -1,27 +1,47 @@
--- The rows of a matrix: where they lie, and what their columns are.
-use mathlib.Core.Path.{◌≡◌, sym}
+-- The rows of a matrix: where they lie, what their columns are, and that they are a graph, whatever its values are.
+use mathlib.Core.Path.{◌≡◌, refl, sym, subst}
 use mathlib.Core.Bool.{true}
-use Prim.Native.Nat.{ℕ, ◌+◌, ◌≤◌, ◌<◌}
+use mathlib.Core.List.{List}
+use Prim.Native.Nat.{ℕ, ◌+◌, ◌<◌}
+use lib.IntN.{ℤ}
 use lib.ListN.{length, get_or}
 use lib.Seq.{slice}
 use Rattle.base.proofs.Lists.{in_get}
-use Rattle.matrix.specs.Matrix.{Matrix, columns_of, is_matrix}
-use Rattle.matrix.specs.Code.Checks.{RowIn}
-use Rattle.matrix.specs.Limits.{max_rows}
-use Rattle.matrix.proofs.Matrix.{matrix_facts, column-low}
+use Rattle.base.proofs.Graph.{Graph}
+use Rattle.matrix.specs.Matrix.{Matrix, part_of, columns_of, neighbours, is_matrix, matrix_of}
+use Rattle.matrix.proofs.Matrix.{matrix_facts, column-low, graph}
 use Rattle.matrix.proofs.Checks.{matrix_tidy}
 use Rattle.matrix.proofs.Rows.{columns-in, columns-part}
+use Rattle.apart.specs.Code.Net.{IsGraph}
 
-module _ (m : Matrix) (of : is_matrix m ≡ true) where
-  pub rows_few : m.n ≤ max_rows
-  rows_few = (matrix_facts m of).few
+pub row_is : (m : Matrix) (u : ℕ) → u < m.n → slice (get_or m.starts u 0) (get_or m.starts (u + 1) 0) m.columns ≡ columns_of m u
+row_is m u l = sym (columns-part m u l)
 
-  module _ (u : ℕ) (l : u < m.n) where
-    pub row_in : RowIn m.starts (length m.columns) u
-    row_in = columns-in m (matrix_tidy m of).shape u l
+pub graph_of : (m : Matrix) → IsGraph m → Graph (neighbours m) m.n
+graph_of m g = record { below = g.below; both = g.both }
 
-    pub row_is : slice (get_or m.starts u 0) (get_or m.starts (u + 1) 0) m.columns ≡ columns_of m u
-    row_is = sym (columns-part m u l)
+-- the rows of a matrix are so beside other values too
+module _ (n : ℕ) (starts columns : List ℕ) (values : List ℤ) (is : is_matrix (matrix_of n starts columns values) ≡ true) (others : List ℤ) where
+  abbrev m : Matrix
+  m = matrix_of n starts columns values
 
-    pub row_low : (j : ℕ) → j < length (columns_of m u) → get_or (columns_of m u) j 0 < m.n
-    row_low j h = column-low m of u (get_or (columns_of m u) j 0) (in_get (columns_of m u) j h)
+  abbrev m' : Matrix
+  m' = matrix_of n starts columns others
+
+  same-columns : (u : ℕ) → columns_of m u ≡ columns_of m' u
+  unfolding columns_of part_of
+  same-columns u = refl
+
+  same-graph : Graph (neighbours m) n → Graph (neighbours m') n
+  unfolding neighbours columns_of part_of
+  same-graph g = g
+
+  pub is_graph : IsGraph m'
+  is_graph = record {
+    few = (matrix_facts m is).few;
+    rows = λ u l. columns-in m (matrix_tidy m is).shape u l;
+    low = λ u j l. subst (λ (zs : List ℕ). j < length zs → get_or zs j 0 < n) (same-columns u)
+        (λ h. column-low m is u (get_or (columns_of m u) j 0) (in_get (columns_of m u) j h));
+    below = (same-graph (graph m is)).below;
+    both = (same-graph (graph m is)).both;
+  }

@@ -88,6 +88,7 @@ pub fn apart_below(
 {
     let plan = &subject.plan;
     let mut next = next_child(plan, parent, parent + 1);
+    // A child is found from the one before it, so no range is gone through.
     while let Some(i) = next {
         let pen = Pen {
             low,

@@ -22,6 +22,7 @@ ghost use Rattle.calls.specs.Code.Made.{is_taken, Made};
 use base::{Kind, Refusal};
 use force_list::force_list;
 use layout::counts::first_updates;
+use layout::updates::SizedPlan;
 use machine::state::State;
 use matrix::limits::MAX_ROWS;
 use matrix::lists::Matrix;
@@ -33,6 +34,7 @@ use ready_set::ready_set;
 use sound::is_plan;
 use symmetric::is_matrix;
 use upper::sizes::sizes_of;
+use upper::triangle::OrderedMatrix;
 
 // A job by its lists: a matrix, the displacement of each row, and a plan.
 #[derive(Clone, Copy)]
@@ -43,7 +45,8 @@ pub struct Job<'a> {
 }
 
 // What is asked of a run: that it take the picks of a lent schedule, who is ready, its forces for a lent list, what
-// the picks of a lent schedule would do, that it take those of them whose workers can move.
+// the picks of a lent schedule would do, that it take those of them whose workers can move. A value that is handed down
+// and no closure: `Performed`, the clause of every call on a run, speaks of it as one, by `as_call`.
 #[derive(Clone, Copy)]
 pub enum Call {
     Picks,
@@ -70,7 +73,7 @@ pub enum Response {
     Previewed(usize, Option<Stop>, u16, u32),
 }
 
-// What ended picks after so many that were gone through.
+// What ended picks, if a pick did: the one after so many that were gone through.
 pub fn stop_of(stop: Option<Kind>, past: usize) -> Option<Stop>
     ensures { (end_number result ≡ stop_number stop) × (end_place result ≡ place_of (stop_number stop) past) }
 {
@@ -114,11 +117,18 @@ fn report(
         (state_of state sums.now) (as_call call schedule (length forces.old)) forces.old
         (as_answer result (take job.now.matrix.n forces.new)) (state_of state sums.now) forces.new }
 {
-    let groups = job.plan.groups;
-    let mut sizes = [0u32; MAX_ROWS];
+    let ordered = OrderedMatrix {
+        m: job.matrix,
+        order: job.plan.order,
+    };
     let mut position = [0u32; MAX_ROWS];
-    sizes_of(&job.matrix, job.plan.order, &mut sizes, &mut position);
-    let first = first_updates(groups, groups.len() / WIDTH, &sizes);
+    let mut sizes = [0u32; MAX_ROWS];
+    sizes_of(&ordered, &mut position, &mut sizes);
+    let plan = SizedPlan {
+        groups: job.plan.groups,
+        sizes: &sizes,
+    };
+    let first = first_updates(&plan);
     if !state.is_fine(first) {
         return Err(Refusal {
             kind: Kind::NotState,
@@ -126,9 +136,9 @@ fn report(
         });
     }
     let Call::ForceList = call else {
-        return Ok(ready_set(state, groups, &sizes, first));
+        return Ok(ready_set(state, &plan, first));
     };
-    let whole = get(groups, 0);
+    let whole = get(plan.groups, 0);
     let is_over = state.is_finished(first, whole.workers as usize);
     force_list(job.plan.order, is_over, sums, forces)
 }

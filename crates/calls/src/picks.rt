@@ -1,4 +1,5 @@
-// The picks of a schedule, by the tables of the job, and what they would do.
+// The picks of a schedule, by the tables of the job, and what they would do. Which call takes them is a `Call`, the
+// value that the clause `Taken` speaks of.
 ghost use Rattle.std.specs.Prelude.{◌≡◌, List, Ok, ℤ, length};
 ghost use Rattle.std.specs.Int.Count.{ones};
 ghost use Rattle.run.specs.Answers as calls;
@@ -14,6 +15,7 @@ use base::Refusal;
 use machine::state::{Rule, State};
 use matrix::limits::MAX_ROWS;
 use tables::MAX_UPDATES;
+use upper::triangle::Triangle;
 
 // Whether a call takes the picks that it names.
 pub(crate) fn is_taken(call: Call) -> bool
@@ -55,15 +57,21 @@ pub(crate) fn picks(
     ensures { (zs : List ℤ) → Taken (job_in job.now) (state_of state.old sums.old) call schedule.now (as_answer result zs) (state_of state.new sums.new) }
 {
     if is_short(&job.matrix, schedule.len()) {
-        let mut at = [0u16; MAX_ROWS];
-        let mut beside = [0i32; MAX_ROWS];
-        if let Some(answer) = laid_picks(job, state, sums, schedule, call, &mut at, &mut beside) {
+        let mut few = Triangle {
+            parts: [0u32; MAX_ROWS],
+            at: [0u16; MAX_ROWS],
+            beside: [0i32; MAX_ROWS],
+        };
+        if let Some(answer) = laid_picks(job, state, sums, schedule, call, &mut few) {
             return answer;
         }
     }
-    let mut at = [0u16; MAX_UPDATES];
-    let mut beside = [0i32; MAX_UPDATES];
-    laid_picks(job, state, sums, schedule, call, &mut at, &mut beside).unwrap()
+    let mut every = Triangle {
+        parts: [0u32; MAX_ROWS],
+        at: [0u16; MAX_UPDATES],
+        beside: [0i32; MAX_UPDATES],
+    };
+    laid_picks(job, state, sums, schedule, call, &mut every).unwrap()
 }
 
 // What the picks would do: they are taken on a copy of the sums.

@@ -1,5 +1,5 @@
 -- A group's planner: what it hands to the sort, to the loads and to the pair planner, and what the lists hold after it.
-use mathlib.Core.Path.{◌≡◌, ap, ◌∙◌}
+use mathlib.Core.Path.{◌≡◌, sym, ap, ◌∙◌, subst}
 use mathlib.Core.List.{List, map, ◌++◌}
 use Prim.Native.Nat.{ℕ, ◌+◌, ◌*◌, ◌-◌, ◌≤◌, ◌<◌, ◌^◌}
 use native.Mathlib.Omega.{arith}
@@ -21,16 +21,16 @@ use Rattle.extents.specs.Code.Scans.{policy_of}
 use Rattle.extents.specs.Extents.{Policy}
 use Rattle.race.specs.Loads.{load_of}
 use Rattle.race.specs.Planner.{plan_group}
-use Rattle.loads.specs.Code.Stretches.{levels_in, Levelled, Loaded}
+use Rattle.loads.specs.Code.Stretches.{levels_in, key_load, Weighed, Levelled, Loaded}
 use Rattle.cycle.specs.Code.Records.{Holds}
 use Rattle.cycle.specs.Code.Cycle.{GroupTask, PairsTask, pairs_plan}
 use Rattle.plan.specs.declared.fields.Group.{Group}
 use Rattle.cycle.specs.declared.setting.Setting.{Setting}
 use Rattle.cycle.specs.declared.Parent.{Parent}
 use Rattle.cycle.specs.declared.Left.{Left}
-use Rattle.loads.proofs.Weights.{load-concat, load-some, load-few}
+use Rattle.loads.proofs.Weights.{load-concat, load-some, load-few, loaded_keys, group_weighed}
 use Rattle.loads.proofs.Stretches.{ends_are, levels-in}
-use Rattle.cycle.proofs.GroupPlans.{own-few, own-some, groups-some, pairs_below, count-split, holds-split}
+use Rattle.cycle.proofs.GroupPlans.{own-few, own-some, groups-some, leaf_stages, leaf-workers, leaf-levels, pairs_below, count-split, holds_unsplit, holds-split}
 
 module _ {set : Setting} {stages index : ℕ} {T records : List ℕ} {g : Group} (task : GroupTask set stages index T records g) where
   abbrev n : ℕ
@@ -53,21 +53,36 @@ module _ {set : Setting} {stages index : ℕ} {T records : List ℕ} {g : Group}
   pub index_few : index + 1 < 2 ^ 32
   index_few = omega (arith, record_room, task.few)
 
+  -- its record is put, and it is not split
+  module _ {records' : List ℕ} (put : take (width * (index + 1)) records' ≡ take (width * index) records ++ fields_of (group_of g)) where
+    pub held-stages : stages ≡ 0 → Holds (plan_group adj n policy stages index (group_of g) T) index records T records' (index + 1)
+    held-stages e = holds_unsplit adj n policy stages index (group_of g) T records records' put (leaf_stages adj n policy stages index (group_of g) T e)
+
+    pub held-workers : g.workers < 2 → Holds (plan_group adj n policy stages index (group_of g) T) index records T records' (index + 1)
+    held-workers l = holds_unsplit adj n policy stages index (group_of g) T records records' put (leaf-workers adj n policy stages index (group_of g) T l)
+
+    pub held-levels : {m : ℕ} {stretch ends : List ℕ} → Sorted adj policy.reach n (2 * policy.reach) T m stretch ends → m < 2 * policy.reach
+        → Holds (plan_group adj n policy stages index (group_of g) T) index records stretch records' (index + 1)
+    held-levels {m} {stretch} s l =
+        let as-before : stretch ≡ T = s.order_is ∙ rw (lt-leb (2 * policy.reach) m l) in
+        subst (λ (xs : List ℕ). Holds (plan_group adj n policy stages index (group_of g) T) index records xs records' (index + 1)) (sym as-before)
+        (holds_unsplit adj n policy stages index (group_of g) T records records' put (leaf-levels adj n policy stages index (group_of g) T (omega (arith, s.levels_are))))
+
   -- ---- after the sort
 
   module _ {m : ℕ} {stretch ends : List ℕ} (s : Sorted adj policy.reach n (2 * policy.reach) T m stretch ends) where
     pub levels-few : m ≤ max_levels
     levels-few = omega (arith, s.levels_are, own-few adj policy.reach n T, set.ranked.graph.rows.small)
 
-    pub unsorted : m < 2 * policy.reach → stretch ≡ T
-    unsorted l = s.order_is ∙ rw (lt-leb (2 * policy.reach) m l)
+    pub ends_in : m ≤ length ends
+    ends_in = omega (arith, s.ends_long, levels-few)
+
+    pub ends-length : length (take m ends) ≡ m
+    ends-length = length-take-le m ends ends_in
 
     module _ (enough : 2 * policy.reach ≤ m) where
       stretch_is : stretch ≡ concat ls
       stretch_is = s.order_is ∙ rw (le-leb (2 * policy.reach) m enough)
-
-      ends-length : length (take m ends) ≡ m
-      ends-length = length-take-le m ends (omega (arith, s.ends_long, levels-few))
 
       -- the levels of its stretch
       levelled : Levelled 0 (take m ends) stretch ls
@@ -90,9 +105,18 @@ module _ {set : Setting} {stages index : ℕ} {T records : List ℕ} {g : Group}
       pub ends-few : length (take m ends) ≤ max_levels
       ends-few = omega (arith, ends-length, levels-few)
 
+      pub weighed : Weighed set.ranked.keys.now stretch
+      weighed = group_weighed n set.ranked.graph.m.starts.now set.ranked.graph.m.columns.now set.ranked.keys.now stretch set.ranked.graph.rows set.ranked.keyed stretch_proper
+
       -- ---- after the loads
 
-      module _ {all : ℕ} {loads : List ℕ} (loaded : Loaded (load_of adj) stretch (levels_in 0 (take m ends) stretch) all loads) where
+      module _ {all : ℕ} {loads : List ℕ} (by_keys : Loaded (key_load set.ranked.keys.now) stretch (levels_in 0 (take m ends) stretch) all loads) where
+        pub loads_in : m ≤ length loads
+        loads_in = omega (arith, by_keys.long, levels-few)
+
+        loaded : Loaded (load_of adj) stretch (levels_in 0 (take m ends) stretch) all loads
+        loaded = loaded_keys set.ranked.keyed stretch_proper levelled_in.rows_are by_keys
+
         -- the group that is split, and what is left of it: all
         abbrev pub parent_of : Parent
         parent_of = record { index = index; depth = g.depth; start = g.start; workers = g.workers; load = all }

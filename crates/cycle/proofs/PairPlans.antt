@@ -9,6 +9,8 @@ use lib.Seq.{length-take-le}
 use Rattle.base.specs.Lists.{concat}
 use Rattle.race.specs.Loads.{load_of}
 use Rattle.extents.specs.Extents.{Policy, Extent, extent, cut}
+use Rattle.extents.specs.Code.Scans.{policy_of}
+use Rattle.extents.specs.declared.policy.Policy as code
 use Rattle.race.specs.Planner.{pairs}
 use Rattle.extents.specs.PairLevels.{PairTakes}
 use Rattle.extents.proofs.Extents.{extent-taken, cut-levels}
@@ -36,6 +38,17 @@ pair_bounds w R policy free qs levels c some f l e d =
     let long : length (take levels qs) ≡ levels = length-take-le levels qs most in
     let b = cut-levels policy.reach (take levels qs) (omega (arith, t.long)) in
     record { some = omega (arith, t.long); most = most; reds = omega arith; blues = omega arith }
+
+-- what the code finds of the next pair
+module _ (w R free : ℕ) (qs : List ℕ) (policy : code.Policy) (long : 2 * policy.reach ≤ length qs) (free-some : 1 ≤ free) {levels : ℕ}
+    (e : levels ≡ (extent w R (policy_of policy) free qs).levels) where
+  pub levels-found : (2 * policy.reach ≤ levels) × (levels ≤ length qs)
+  levels-found =
+      let t = extent-taken w R (policy_of policy) free qs policy.some free-some long in
+      (omega (arith, t.long, e), omega (arith, taken-most t, e))
+
+  pub bounds_found : {c : ℕ} → c ≡ cut policy.reach (take levels qs) → Bounds policy.reach (length qs) levels c
+  bounds_found {c} d = pair_bounds w R (policy_of policy) free qs levels c policy.some free-some long e d
 
 module _ (adj : ℕ → List ℕ) (w R : ℕ) (policy : Policy) (some : 1 ≤ policy.reach) where
   -- the next pair's extent

@@ -1,6 +1,6 @@
 -- A pair's planner: what it hands to the planners of its red and its blue group and to itself, and what the lists hold
 -- after it.
-use mathlib.Core.Path.{◌≡◌, refl, sym, ap, ◌∙◌}
+use mathlib.Core.Path.{◌≡◌, refl, sym, ap, ◌∙◌, subst}
 use mathlib.Core.List.{List, [], ◌∷◌, ◌++◌, map}
 use Prim.Native.Nat.{ℕ, zero, suc, ◌+◌, ◌*◌, ◌-◌, ◌≤◌, ◌<◌}
 use native.Mathlib.Omega.{arith}
@@ -14,10 +14,11 @@ use Rattle.plan.specs.Groups.{Plan, group_of}
 use Rattle.race.specs.Loads.{load_of}
 use Rattle.race.specs.Planner.{pairs, plan_pairs, ◌then◌, plan_group}
 use Rattle.extents.specs.Extents.{Policy}
-use Rattle.extents.specs.Code.Scans.{policy_of, Scale}
+use Rattle.extents.specs.Code.Scans.{policy_of}
 use Rattle.loads.specs.Code.Stretches.{levels_in, ends_of, Levelled}
 use Rattle.cycle.specs.Code.Records.{Holds}
 use Rattle.cycle.specs.Code.Cycle.{red_group, blue_group, left_after, Fits, GroupTask, PairsTask, pairs_plan}
+use Rattle.plan.specs.declared.fields.Group.{Group}
 use Rattle.cycle.specs.declared.setting.Setting.{Setting}
 use Rattle.cycle.specs.declared.Parent.{Parent}
 use Rattle.cycle.specs.declared.Left.{Left}
@@ -46,10 +47,9 @@ module _ {set : Setting} {stages : ℕ} {stretch ends loads records : List ℕ} 
   loads-count = ap length task.loads_are ∙ length-map ls (load_of (adj_in set.ranked.graph))
 
   -- what the search for the next pair asks
-  pub next_asked : Scale up.workers up.load × (sum loads ≤ up.load) × (2 * set.policy.reach ≤ length loads) × (1 ≤ left.free) × (length ends ≡ length loads)
+  pub next_asked : (sum loads ≤ up.load) × (2 * set.policy.reach ≤ length loads) × (1 ≤ left.free) × (length ends ≡ length loads)
       × ((j : ℕ) → j < length ends → left.done ≤ get_or ends j 0)
   next_asked = (
-    task.scale,
     task.within,
     omega (arith, loads-count, task.levels),
     task.free,
@@ -117,10 +117,13 @@ module _ {set : Setting} {stages : ℕ} {stretch ends loads records : List ℕ} 
 
   -- ---- the blue group, once the red one is planned
 
-  module _ {xs records₁ : List ℕ} {i : ℕ} (red-held : Holds (plan_group adj n policy stages left.index (group_of (red_group up left pair)) (take a stretch)) left.index records xs records₁ i)
+  module _ {red : Group} (red_is : red ≡ red_group up left pair) {xs records₁ : List ℕ} {i : ℕ}
+      (red-held : Holds (plan_group adj n policy stages left.index (group_of red) (take a stretch)) left.index records xs records₁ i)
       (xs-long : length xs ≡ length (take a stretch)) (long₁ : length records₁ ≡ length records) where
     red_held' : Holds (red_plan task found) left.index records xs records₁ i
-    red_held' = rw red-part at red-held
+    red_held' =
+        rw red-part at
+        (subst (λ (g : Group). Holds (plan_group adj n policy stages left.index (group_of g) (take a stretch)) left.index records xs records₁ i) red_is red-held)
 
     xs_length : length xs ≡ a
     xs_length = xs-long ∙ ap length red-part ∙ reds-length task found
@@ -136,6 +139,9 @@ module _ {set : Setting} {stages : ℕ} {stretch ends loads records : List ℕ} 
 
     pub one-length : length one ≡ length stretch
     one-length = ap length one-is ∙ three_length xs (blues task found) (later task found) a b xs_length (rows-length task found) ∙ sym stretch_length
+
+    pub in-one : b ≤ length one
+    in-one = omega (arith, one-length, parts_in)
 
     i_is : i ≡ blue_index task found
     i_is = red_held'.count_is
@@ -153,10 +159,13 @@ module _ {set : Setting} {stages : ℕ} {stretch ends loads records : List ℕ} 
 
     -- ---- the pairs after it, once both are planned
 
-    module _ {ys records₂ : List ℕ} {j : ℕ} (blue-held : Holds (plan_group adj n policy stages i (group_of (blue_group up left pair)) (part one a b)) i records₁ ys records₂ j)
+    module _ {blue : Group} (blue_is : blue ≡ blue_group up left pair) {ys records₂ : List ℕ} {j : ℕ}
+        (blue-held : Holds (plan_group adj n policy stages i (group_of blue) (part one a b)) i records₁ ys records₂ j)
         (ys-long : length ys ≡ length (part one a b)) (long₂ : length records₂ ≡ length records₁) where
       blue_held' : Holds (blue_plan task found (blue_index task found)) (blue_index task found) records₁ ys records₂ j
-      blue_held' = rw (blue-part, i_is) at blue-held
+      blue_held' =
+          rw (blue-part, i_is) at
+          (subst (λ (g : Group). Holds (plan_group adj n policy stages i (group_of g) (part one a b)) i records₁ ys records₂ j) blue_is blue-held)
 
       rows_length' : a + length ys ≡ b
       rows_length' = omega (arith, ys-long, ap length blue-part, rows-length task found)
@@ -169,6 +178,9 @@ module _ {set : Setting} {stages : ℕ} {stretch ends loads records : List ℕ} 
 
       pub two-length : length two ≡ length stretch
       two-length = ap length two_is ∙ three_length xs ys (later task found) a b xs_length rows_length' ∙ sym stretch_length
+
+      pub in-two : b ≤ length two
+      in-two = omega (arith, two-length, parts_in)
 
       j_is : j ≡ rest_index task found
       j_is = blue_held'.count_is

@@ -1,25 +1,26 @@
-// The group planner and the pair planner, which call each other. own, roots and visits are what the sort works in, the
-// same for every group.
+// The group planner and the pair planner, which call each other.
 #![tactic(auto)]
 
+mod rest;
 pub mod setting;
+mod taken;
 
 ghost use Rattle.std.specs.Prelude.{◌≡◌, ℕ, ◌+◌, ◌-◌, ◌*◌, ◌<◌, ◌≤◌, length, take, get_or};
 ghost use Rattle.base.specs.Lists.{sum};
 ghost use Rattle.levels.specs.Code.Graph.{adj};
 ghost use Rattle.extents.specs.Extents.{extent, cut};
-ghost use Rattle.extents.specs.Code.Scans.{policy_of, Scale};
+ghost use Rattle.extents.specs.Code.Scans.{policy_of};
 ghost use Rattle.loads.specs.Code.Stretches.{levels_in};
 ghost use Rattle.cycle.specs.Code.Records.{Holds};
-ghost use Rattle.cycle.specs.Code.Cycle.{red_group, blue_group, left_after, Fits, GroupTask, PairsTask, group_plan, pairs_plan};
+ghost use Rattle.cycle.specs.Code.Cycle.{GroupTask, PairsTask, group_plan, pairs_plan};
 
-use extents::{Policy, cut, next_extent};
+use extents::{Policy, Share, cut, next_extent};
 use loads::level_loads;
-use matrix::limits::MAX_ROWS;
-use plan::fields::{Colour, Group, put};
-use search::visiting::Visits;
+use plan::fields::{Group, put};
+use rest::Rest;
 use setting::Setting;
-use sort::{MAX_LEVELS, level_sort};
+use sort::{MAX_LEVELS, Workspace, level_sort};
+use taken::Taken;
 
 // A group that is split: its record's index, its depth, where it starts, its workers and its load.
 #[derive(Clone, Copy)]
@@ -41,13 +42,6 @@ pub struct Left {
     pub index: u32,
 }
 
-// A group that is split, and what is left of it.
-#[derive(Clone, Copy)]
-pub struct Rest {
-    pub up: Parent,
-    pub left: Left,
-}
-
 // A pair: how many levels and workers it takes, how many of its rows are red, and how many it has.
 #[derive(Clone, Copy)]
 pub struct Pair {
@@ -57,94 +51,69 @@ pub struct Pair {
     pub rows: u32,
 }
 
+// A group that is to be planned, its record's index, and how often it may be split.
+#[derive(Clone, Copy)]
+pub struct Task {
+    pub group: Group,
+    pub index: u32,
+    pub stages: u32,
+}
+
+// The levels that are left: where each ends, and its load.
+#[derive(Clone, Copy)]
+pub struct Levels<'a> {
+    pub ends: &'a [u32],
+    pub loads: &'a [u32],
+}
+
 // The next pair.
-fn next_pair(ends: &[u32], loads: &[u32], policy: Policy, up: Parent, left: Left) -> Pair
-    requires { Scale up.workers up.load × (sum loads.now ≤ up.load) × (2 * policy.reach ≤ length loads.now) × (1 ≤ left.free) × (length ends.now ≡ length loads.now)
-        × ((j : ℕ) → j < length ends.now → left.done ≤ get_or ends.now j 0) }
-    ensures { (result.levels ≡ (extent up.workers up.load (policy_of policy) left.free loads.now).levels)
-        × (result.workers ≡ (extent up.workers up.load (policy_of policy) left.free loads.now).workers)
-        × (result.reds ≡ get_or ends.now (cut policy.reach (take result.levels loads.now) - 1) 0 - left.done)
-        × (result.rows ≡ get_or ends.now (result.levels - 1) 0 - left.done) }
+fn next_pair(levels: &Levels, policy: Policy, rest: Rest) -> Pair
+    requires { (sum levels.now.loads.now ≤ rest.up.load) × (2 * policy.reach ≤ length levels.now.loads.now) × (1 ≤ rest.left.free)
+        × (length levels.now.ends.now ≡ length levels.now.loads.now) × ((j : ℕ) → j < length levels.now.ends.now → rest.left.done ≤ get_or levels.now.ends.now j 0) }
+    ensures { (result.levels ≡ (extent rest.up.workers rest.up.load (policy_of policy) rest.left.free levels.now.loads.now).levels)
+        × (result.workers ≡ (extent rest.up.workers rest.up.load (policy_of policy) rest.left.free levels.now.loads.now).workers)
+        × (result.reds ≡ get_or levels.now.ends.now (cut policy.reach (take result.levels levels.now.loads.now) - 1) 0 - rest.left.done)
+        × (result.rows ≡ get_or levels.now.ends.now (result.levels - 1) 0 - rest.left.done) }
 {
-    let e = next_extent(loads, up.workers, up.load, policy, left.free);
-    let levels = e.levels;
-    let c = cut(&loads[..levels], policy.reach);
-    let red_end = ends[c - 1];
-    let end = ends[levels - 1];
+    let share = Share {
+        workers: rest.up.workers,
+        load: rest.up.load,
+    };
+    let e = next_extent(levels.loads, share, policy, rest.left.free);
+    let c = cut(&levels.loads[..e.levels], policy.reach);
+    let red_end = levels.ends[c - 1];
+    let end = levels.ends[e.levels - 1];
     Pair {
-        levels,
+        levels: e.levels,
         workers: e.workers,
-        reds: red_end - left.done,
-        rows: end - left.done,
+        reds: red_end - rest.left.done,
+        rows: end - rest.left.done,
     }
 }
 
-// The pair's red group.
-fn red_of(up: Parent, left: Left, pair: Pair) -> Group
-    requires { Fits up left pair }
-    ensures { result ≡ red_group up left pair }
-{
-    Group {
-        start: up.start + left.done,
-        length: pair.reds,
-        first: left.first,
-        workers: pair.workers,
-        colour: Colour::Red as u32,
-        parent: up.index,
-        depth: up.depth + 1,
-    }
-}
-
-// .. and its blue group.
-fn blue_of(up: Parent, left: Left, pair: Pair) -> Group
-    requires { Fits up left pair }
-    ensures { result ≡ blue_group up left pair }
-{
-    Group {
-        start: up.start + left.done + pair.reds,
-        length: pair.rows - pair.reds,
-        first: left.first,
-        workers: pair.workers,
-        colour: Colour::Blue as u32,
-        parent: up.index,
-        depth: up.depth + 1,
-    }
-}
-
-// What is left after the pair, with the next record's index.
-fn after(up: Parent, left: Left, pair: Pair, index: u32) -> Left
-    requires { Fits up left pair }
-    ensures { result ≡ left_after left pair index }
-{
-    Left {
-        done: left.done + pair.rows,
-        first: left.first + pair.workers,
-        free: left.free - pair.workers,
-        index,
-    }
-}
-
-// A group's record, then its pairs, if it is split; the answer is the index past its records.
+// A group's record, then its pairs, if it is split; the answer is the index past its records. The order is cut for each
+// group and the records never are: so they are no one struct, which every call would take apart and make anew.
 #[cycle(plan_group_plan_pairs)]
 pub fn plan_group(
     setting: &Setting,
     order: &mut [u32],
     records: &mut [u32],
-    own: &mut [u32; MAX_ROWS],
-    roots: &mut [u32; MAX_ROWS],
-    visits: &mut Visits,
-    stages: u32,
-    index: u32,
-    g: Group,
+    work: &mut Workspace,
+    task: Task,
 ) -> u32
-    requires { GroupTask setting.now stages index order.old records.old g }
-    ensures { Holds (group_plan setting.now stages index g order.old) index records.old order.new records.new result }
+    requires { GroupTask setting.now task.stages task.index order.old records.old task.group }
+    ensures { Holds (group_plan setting.now task.stages task.index task.group order.old) task.index records.old order.new records.new result }
 {
-    put(records, index as usize, g);
+    let Task {
+        group,
+        index,
+        stages,
+    } = task;
+    put(records, index as usize, group);
     if stages == 0 {
         return index + 1;
     }
-    if g.workers < 2 {
+    if group.workers < 2 {
         return index + 1;
     }
     let mut ends = [0u32; MAX_LEVELS];
@@ -153,9 +122,9 @@ pub fn plan_group(
         &setting.ranked,
         order,
         &mut ends,
-        own,
-        roots,
-        visits,
+        &mut work.own,
+        &mut work.roots,
+        &mut work.visits,
         reach,
         2 * reach,
     );
@@ -166,29 +135,27 @@ pub fn plan_group(
     let load = level_loads(setting.ranked.keys, order, &ends[..m], &mut loads);
     let up = Parent {
         index,
-        depth: g.depth,
-        start: g.start,
-        workers: g.workers,
+        depth: group.depth,
+        start: group.start,
+        workers: group.workers,
         load,
     };
     let left = Left {
         done: 0,
-        first: g.first,
-        free: g.workers,
+        first: group.first,
+        free: group.workers,
         index: index + 1,
     };
-    plan_pairs(
-        setting,
-        order,
-        &ends[..m],
-        &loads[..m],
-        records,
-        own,
-        roots,
-        visits,
-        stages - 1,
-        Rest { up, left },
-    )
+    let levels = Levels {
+        ends: &ends[..m],
+        loads: &loads[..m],
+    };
+    let rest = Rest {
+        up,
+        left,
+        stages: stages - 1,
+    };
+    plan_pairs(setting, order, &levels, records, work, rest)
 }
 
 // The pairs of a group in the levels that are left: the next pair's red group, its blue group, and the pairs after it.
@@ -196,62 +163,48 @@ pub fn plan_group(
 fn plan_pairs(
     setting: &Setting,
     order: &mut [u32],
-    ends: &[u32],
-    loads: &[u32],
+    levels: &Levels,
     records: &mut [u32],
-    own: &mut [u32; MAX_ROWS],
-    roots: &mut [u32; MAX_ROWS],
-    visits: &mut Visits,
-    stages: u32,
+    work: &mut Workspace,
     rest: Rest,
 ) -> u32
-    requires { PairsTask setting.now stages order.old ends.now loads.now records.old rest.up rest.left (levels_in rest.left.done ends.now order.old) }
-    ensures { Holds (pairs_plan (adj setting.now.ranked.graph) setting.now.ranked.graph.m.n (policy_of setting.now.policy) stages rest.up rest.left (levels_in rest.left.done ends.now order.old))
-        rest.left.index records.old order.new records.new result }
+    requires { PairsTask setting.now rest.stages order.old levels.now.ends.now levels.now.loads.now records.old rest.up rest.left
+        (levels_in rest.left.done levels.now.ends.now order.old) }
+    ensures { Holds (pairs_plan (adj setting.now.ranked.graph) setting.now.ranked.graph.m.n (policy_of setting.now.policy) rest.stages rest.up rest.left
+        (levels_in rest.left.done levels.now.ends.now order.old)) rest.left.index records.old order.new records.new result }
 {
-    let Rest { up, left } = rest;
-    let pair = next_pair(ends, loads, setting.policy, up, left);
-    let red = red_of(up, left, pair);
-    let blue = blue_of(up, left, pair);
-    let levels = pair.levels;
+    let pair = next_pair(levels, setting.policy, rest);
+    let taken = Taken {
+        up: rest.up,
+        left: rest.left,
+        pair,
+    };
+    let k = pair.levels;
     let a = pair.reds as usize;
     let b = pair.rows as usize;
-    let i = plan_group(
-        setting,
-        &mut order[..a],
-        records,
-        own,
-        roots,
-        visits,
-        stages,
-        left.index,
-        red,
-    );
-    let j = plan_group(
-        setting,
-        &mut order[a..b],
-        records,
-        own,
-        roots,
-        visits,
-        stages,
-        i,
-        blue,
-    );
-    if levels == ends.len() {
+    let red = Task {
+        group: taken.red(),
+        index: rest.left.index,
+        stages: rest.stages,
+    };
+    let i = plan_group(setting, &mut order[..a], records, work, red);
+    let blue = Task {
+        group: taken.blue(),
+        index: i,
+        stages: rest.stages,
+    };
+    let j = plan_group(setting, &mut order[a..b], records, work, blue);
+    if k == levels.ends.len() {
         return j;
     }
-    let next = after(up, left, pair, j);
-    plan_pairs(
-        setting,
-        &mut order[b..],
-        &ends[levels..],
-        &loads[levels..],
-        records,
-        own,
-        roots,
-        visits,
-        stages,
-        Rest { up, left: next },
-    )
+    let later = Levels {
+        ends: &levels.ends[k..],
+        loads: &levels.loads[k..],
+    };
+    let next = Rest {
+        up: rest.up,
+        left: taken.after(j),
+        stages: rest.stages,
+    };
+    plan_pairs(setting, &mut order[b..], &later, records, work, next)
 }

@@ -137,12 +137,12 @@ survey-cut m X t i {c} {x} {sums} {moves} {w} {new_sums} {new_moves} ec ex h = g
 -- ---- amounts and a shift beside the lent lists
 
 -- the reply of a call to which the first j and k numbers of two arrays are lent on
-pub same-reply : (m : Matrix) (x : List ℤ) (t i : ℕ) (us vs : List ℤ) (sums moves : List ℕ) {j k : ℕ} → (max_rows ≤ length us) × (max_rows ≤ length vs)
-    → j ≡ min (length sums / 8) (length us) → k ≡ min (length moves / 4) (length vs)
+pub same-reply : (m : Matrix) (x : List ℤ) (t i : ℕ) (us vs : List ℤ) (sums moves : List ℕ) {j k : ℕ} → (length us ≡ max_rows) × (length vs ≡ max_rows)
+    → j ≡ min (length sums / 8) max_rows → k ≡ min (length moves / 4) max_rows
     → survey_reply m x t i (length (take j us)) (length (take k vs)) ≡ survey_in m x t i sums moves
 same-reply m x t i us vs sums moves {j} {k} enough ej ek =
     rw (length-take-le j us (omega arith), length-take-le k vs (omega arith), ej, ek)
-    (rooms_cut m x t i (length sums / 8) (length moves / 4) (length us) (length vs) enough.0 enough.1)
+    (rooms_cut m x t i (length sums / 8) (length moves / 4) max_rows max_rows (omega arith) (omega arith))
 
 -- two arrays begin with the amounts and the shift of an accepted call
 pub record Held (m : Matrix) (x : List ℤ) (t i : ℕ) (sums moves : List ℕ) (count : ℕ) (us vs : List ℤ) : Type 0 where
@@ -151,6 +151,8 @@ pub record Held (m : Matrix) (x : List ℤ) (t i : ℕ) (sums moves : List ℕ) 
   pub shift_begin : Begins vs (written_shift m x t i) (size_of count m.n)
   pub amounts-room : m.n ≤ length sums / 8
   pub shift-room : size_of count m.n ≤ length moves / 4
+  pub few : m.n ≤ max_rows
+  pub shift-few : size_of count m.n ≤ max_rows
 
 module _ {m : Matrix} {x : List ℤ} {t i : ℕ} {sums moves : List ℕ} {r : Reply} (same : r ≡ survey_in m x t i sums moves) where
   -- a refused call leaves the lent lists
@@ -171,11 +173,13 @@ module _ {m : Matrix} {x : List ℤ} {t i : ℕ} {sums moves : List ℕ} {r : Re
         shift_begin = begins (sym e) _ _ ev more_vs long;
         amounts-room = made.long;
         shift-room = rw (← long) made.shift-long;
+        few = (matrix_facts m made.matrix).few;
+        shift-few = rw (← long) (omega (arith, written-few m x t i, (matrix_facts m made.matrix).few));
       }
 
 -- .. of a call to which the first j and k numbers of two arrays are lent on
 pub survey-holds : (us vs : List ℤ) {m : Matrix} {x : List ℤ} {t i : ℕ} {sums moves : List ℕ} {j k count : ℕ} {new_us new_vs : List ℤ}
-    → (max_rows ≤ length us) × (max_rows ≤ length vs) → j ≡ min (length sums / 8) (length us) → k ≡ min (length moves / 4) (length vs)
+    → (length us ≡ max_rows) × (length vs ≡ max_rows) → j ≡ min (length sums / 8) max_rows → k ≡ min (length moves / 4) max_rows
     → accepted count ≡ survey_reply m x t i (length (take j us)) (length (take k vs))
     → new_us ≡ lent (survey_reply m x t i (length (take j us)) (length (take k vs))) (amounts_of m t) (take j us)
     → new_vs ≡ lent (survey_reply m x t i (length (take j us)) (length (take k vs))) (written_shift m x t i) (take k vs)

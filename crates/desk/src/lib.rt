@@ -1,5 +1,5 @@
 // The survey's call on byte lists: numbers are decoded into arrays, the proved call is made, its answer is stored. The
-// lists come one by one, as C lends them, and the arrays have fixed sizes, since there is no heap.
+// arrays have fixed sizes, since there is no heap.
 #![tactic(auto)]
 
 pub mod reach;

@@ -2,14 +2,16 @@
 #![tactic(auto)]
 
 mod policy;
+mod share;
 
 ghost use Rattle.std.specs.Prelude.{◌≡◌, ◌+◌, ◌-◌, ◌*◌, ◌<◌, ◌≤◌, length};
 ghost use Rattle.base.specs.Lists.{sum, from_first};
 ghost use Rattle.plan.specs.Sound.{max_workers};
 ghost use Rattle.extents.specs.Extents.{nearest, serves, extent, cut};
-ghost use Rattle.extents.specs.Code.Scans.{max_load, policy_of, ends_on, nearest_end, Scale};
+ghost use Rattle.extents.specs.Code.Scans.{max_load, policy_of, ends_on, nearest_end};
 
 pub use policy::Policy;
+pub use share::Share;
 
 // How many levels and workers a pair takes.
 #[derive(Clone, Copy)]
@@ -18,7 +20,8 @@ pub struct Extent {
     pub workers: u32,
 }
 
-// The load of all these levels.
+// The load of all these levels. That it is small is asked here, by nearest_end and by cut, and is in no type: each takes
+// another part of the loads, and every part would have to be made a value of that type, with its proof.
 fn total(loads: &[u32]) -> u32
     requires { sum loads.now ≤ max_load }
     ensures { result ≡ sum loads.now }
@@ -30,32 +33,32 @@ fn total(loads: &[u32]) -> u32
     sum
 }
 
-// The whole number nearest to q × w / load, half going up, but at least 1.
-fn nearest(q: u32, w: u32, load: u32) -> u32
-    requires { Scale w load × (q ≤ load) }
-    ensures { result ≡ nearest q w load }
+// The whole number nearest to what levels of load q weigh, half going up, but at least 1.
+fn nearest(q: u32, share: Share) -> u32
+    requires { q ≤ share.load }
+    ensures { result ≡ nearest q share.workers share.load }
 {
-    ((2 * (q * w) + load) / (2 * load)).max(1)
+    ((2 * (q * share.workers) + share.load) / (2 * share.load)).max(1)
 }
 
 // Levels of load q are close enough to a whole number of workers.
-fn serves(q: u32, w: u32, load: u32, p: u32) -> bool
-    requires { Scale w load × (q ≤ load) × (p ≤ 100) }
-    ensures { result ≡ serves q w load p }
+fn serves(q: u32, share: Share, p: u32) -> bool
+    requires { (q ≤ share.load) × (p ≤ 100) }
+    ensures { result ≡ serves q share.workers share.load p }
 {
-    let b = nearest(q, w, load);
-    100 * (q * w).abs_diff(b * load) < (100 - p) * load
+    let b = nearest(q, share);
+    100 * (q * share.workers).abs_diff(b * share.load) < (100 - p) * share.load
 }
 
 // How many levels the first end has that serves, of those with at least so many; one more than there are, if none does.
-fn first_end(loads: &[u32], least: usize, w: u32, load: u32, p: u32) -> usize
-    requires { Scale w load × (sum loads.now ≤ load) × (1 ≤ least) × (least ≤ length loads.now) × (p ≤ 100) }
-    ensures { (from_first (λ e. serves e.load w load p) (ends_on least loads.now) ≡ ends_on result loads.now) × (least ≤ result) }
+fn first_end(loads: &[u32], least: usize, share: Share, p: u32) -> usize
+    requires { (sum loads.now ≤ share.load) × (1 ≤ least) × (least ≤ length loads.now) × (p ≤ 100) }
+    ensures { (from_first (λ e. serves e.load share.workers share.load p) (ends_on least loads.now) ≡ ends_on result loads.now) × (least ≤ result) }
 {
     let mut q = total(&loads[..least - 1]);
     for k in least - 1..loads.len() {
         q += loads[k];
-        if serves(q, w, load, p) {
+        if serves(q, share, p) {
             return k + 1;
         }
     }
@@ -85,10 +88,10 @@ fn nearest_end(loads: &[u32], k: usize, x: u32, y: u32) -> usize
 }
 
 // The next pair's levels and workers.
-pub fn next_extent(loads: &[u32], w: u32, load: u32, policy: Policy, free: u32) -> Extent
-    requires { Scale w load × (sum loads.now ≤ load) × (2 * policy.reach ≤ length loads.now) }
-    ensures { (result.levels ≡ (extent w load (policy_of policy) free loads.now).levels)
-        × (result.workers ≡ (extent w load (policy_of policy) free loads.now).workers) }
+pub fn next_extent(loads: &[u32], share: Share, policy: Policy, free: u32) -> Extent
+    requires { (sum loads.now ≤ share.load) × (2 * policy.reach ≤ length loads.now) }
+    ensures { (result.levels ≡ (extent share.workers share.load (policy_of policy) free loads.now).levels)
+        × (result.workers ≡ (extent share.workers share.load (policy_of policy) free loads.now).workers) }
 {
     let all = loads.len();
     let rest = Extent {
@@ -96,12 +99,12 @@ pub fn next_extent(loads: &[u32], w: u32, load: u32, policy: Policy, free: u32) 
         workers: free,
     };
     let least = 2 * policy.reach;
-    let k = first_end(loads, least, w, load, policy.p);
+    let k = first_end(loads, least, share, policy.p);
     if all < k {
         return rest;
     }
-    let b = nearest(total(&loads[..k]), w, load);
-    let e = nearest_end(loads, k, w, b * load);
+    let b = nearest(total(&loads[..k]), share);
+    let e = nearest_end(loads, k, share.workers, b * share.load);
     if all - e < least {
         return rest;
     }

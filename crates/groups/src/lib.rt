@@ -6,11 +6,11 @@ ghost use Rattle.std.specs.Prelude.{◌≡◌, map, ◌*◌, ◌≤◌, length};
 ghost use Rattle.base.specs.Replies.{lent};
 ghost use Rattle.base.specs.Verdicts.{reply_of, reply_of_check};
 ghost use Rattle.matrix.specs.Held.{held};
-ghost use Rattle.plan.specs.Groups.{width, flat, group_of};
+ghost use Rattle.plan.specs.Groups.{width, flat, records, group_of};
 ghost use Rattle.plan.specs.Sound.{max_groups, check_reply};
 ghost use Rattle.race.specs.Planner.{plan, plan_reply};
 ghost use Rattle.groups.specs.Structs.{of_group};
-ghost use Rattle.groups.specs.Code.Flattened.{Flattened, gathered};
+ghost use Rattle.groups.specs.Code.Flattened.{Flattened};
 
 use base::Refusal;
 use matrix::lists::Matrix;
@@ -29,18 +29,19 @@ fn flatten(groups: &[Group]) -> [u32; MAX_FIELDS]
     numbers
 }
 
-// Writes the first `count` groups of a flat list to the front of a slice.
-fn gather(numbers: &[u32; MAX_FIELDS], count: usize, groups: &mut [Group])
-    requires { (count ≤ max_groups) × (count ≤ length groups.old) }
-    ensures { groups.new ≡ gathered count numbers.now groups.old }
+// Writes the first groups of a flat list to a slice, as many as it has places.
+fn gather(numbers: &[u32; MAX_FIELDS], groups: &mut [Group])
+    requires { length groups.old ≤ max_groups }
+    ensures { groups.new ≡ map of_group (records (length groups.old) numbers.now) }
 {
-    for k in 0..count {
-        groups[k] = get(numbers, k);
+    for (k, group) in groups.iter_mut().enumerate() {
+        *group = get(numbers, k);
     }
 }
 
 // The check of a plan at the distance k: 5 if the lists are no matrix, 7 if k is no distance, 8 if the plan is not
-// sound at k.
+// sound at k. The two lists are no one struct, here and in the next call, which lends both for writing: they are their
+// caller's, and a struct of them would be made for this one call.
 pub fn check(m: &Matrix, order: &[u32], groups: &[Group], k: u32) -> Result<(), Refusal>
     ensures { reply_of_check result ≡ check_reply (held m.now) order.now (flat (map group_of groups.now)) (length groups.now) k }
 {
@@ -71,6 +72,6 @@ pub fn plan(
     let mut numbers = [0u32; MAX_FIELDS];
     let size = WIDTH * groups.len().min(MAX_GROUPS);
     let count = planner::plan(m, workers, p, k, order, &mut numbers[..size])?;
-    gather(&numbers, count as usize, groups);
+    gather(&numbers, &mut groups[..count as usize]);
     Ok(count)
 }

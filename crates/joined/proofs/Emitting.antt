@@ -1,45 +1,22 @@
--- Entries put into arrays, one after the other.
+-- Entries put into a list, one after the other.
 use Rattle.std.proofs.Common.{Option, Some, None}
 use mathlib.Core.Path.{◌≡◌, refl, sym, ap, ◌∙◌}
-use mathlib.Core.Logic.{◌⊎◌, inl, inr}
+use mathlib.Core.Logic.{inl, inr}
 use mathlib.Core.Bool.{Bool, true, false, ◌&&◌}
 use mathlib.Core.List.{List, [], ◌∷◌, ◌++◌, append_assoc, append-nil}
-use Prim.Native.Nat.{ℕ, zero, suc, ◌+◌, ◌≤◌, ◌<◌}
-use native.Mathlib.Numerals.{add-one}
+use Prim.Native.Nat.{◌+◌, ◌≤◌}
 use native.Mathlib.Omega.{arith}
-use lib.IntN.{ℤ, pos}
-use lib.ListN.{length, set, length-set, length-append}
-use lib.Seq.{get_or-set_same, get_or-set_other}
+use lib.ListN.{length, length-append}
 use Rattle.base.specs.Integers.{within}
 use Rattle.base.proofs.Booleans.{and_false}
 use Rattle.base.proofs.Lists.{all_append}
 use Rattle.matrix.specs.Limits.{max_entries, max_value}
-use Rattle.market.specs.Parse.{Triplet, triplet}
-use Rattle.compress.specs.Code.Arrays.{Arrays, triplets_of}
-use Rattle.joined.specs.Code.Rows.{are_small, Emitted, Told}
-
--- ---- arrays
-
-module _ (m i j : ℕ) (v : ℤ) (rs cs : List ℕ) (vs : List ℤ) where
-  triplets_below : (k : ℕ) → k ≤ m → triplets_of k (set rs m i) (set cs m j) (set vs m v) ≡ triplets_of k rs cs vs
-  unfolding triplets_of
-  triplets_below zero l = refl
-  triplets_below (suc k) l =
-      rw (triplets_below k (omega arith), get_or-set_other rs m k i 0 (λ e. omega (arith, e)), get_or-set_other cs m k j 0 (λ e. omega (arith, e)), get_or-set_other vs m k v (pos 0) (λ e. omega (arith, e)))
-
-  triplets_more : m < length rs → m < length cs → m < length vs → triplets_of (m + 1) (set rs m i) (set cs m j) (set vs m v) ≡ triplets_of m rs cs vs ++ triplet i j v ∷ []
-  unfolding triplets_of
-  triplets_more lr lc lv =
-      rw (add-one m) (rw (triplets_below m (omega arith), get_or-set_same rs m i 0 lr, get_or-set_same cs m j 0 lc, get_or-set_same vs m v (pos 0) lv))
-
-pub length_triplets : (m : ℕ) (rs cs : List ℕ) (vs : List ℤ) → length (triplets_of m rs cs vs) ≡ m
-unfolding triplets_of
-length_triplets zero rs cs vs = refl
-length_triplets (suc m) rs cs vs = length-append (triplets_of m rs cs vs) _ ∙ (let e = length_triplets m rs cs vs in omega (arith, e))
+use Rattle.market.specs.Parse.{Triplet}
+use Rattle.joined.specs.Code.Rows.{are_small, Added, Broken, Told}
 
 -- ---- values within their limit
 
-small-append : (xs ys : List Triplet) → are_small (xs ++ ys) ≡ are_small xs && are_small ys
+pub small-append : (xs ys : List Triplet) → are_small (xs ++ ys) ≡ are_small xs && are_small ys
 unfolding are_small
 small-append xs ys = all_append (λ (t : Triplet). within max_value t.value) xs ys
 
@@ -48,70 +25,53 @@ false_and a b e = rw e
 
 -- ---- entries
 
-module _ {m : ℕ} {rs cs : List ℕ} {vs : List ℤ} where
-  -- none
-  pub emitted_none : Arrays rs cs vs → m ≤ max_entries → Emitted [] m rs cs vs m rs cs vs
-  unfolding are_small
-  emitted_none t l = record { arrays = t; size = λ h. omega arith; is = λ h. sym (append-nil (triplets_of m rs cs vs)); small = λ h. refl; past = λ h. absurd (omega arith) }
+-- none
+pub added_none : (es : List Triplet) → Added [] es es
+unfolding are_small
+added_none es = record { small = refl; is = sym (append-nil es) }
 
-  -- one
-  pub emitted_one : Arrays rs cs vs → m < max_entries → (i j : ℕ) (v : ℤ) → within max_value v ≡ true → Emitted (triplet i j v ∷ []) m rs cs vs (m + 1) (set rs m i) (set cs m j) (set vs m v)
-  unfolding are_small
-  emitted_one t l i j v s = record {
-    arrays = record { rows = length-set rs m i ∙ t.rows; columns = length-set cs m j ∙ t.columns; values = length-set vs m v ∙ t.values };
-    size = λ h. refl;
-    is = λ h. triplets_more m i j v rs cs vs (omega (arith, t.rows)) (omega (arith, t.columns)) (omega (arith, t.values));
-    small = λ h. rw s;
-    past = λ h. absurd (omega arith);
+-- one
+pub added_one : (es : List Triplet) (t : Triplet) → within max_value t.value ≡ true → Added (t ∷ []) es (es ++ t ∷ [])
+unfolding are_small
+added_one es t s = record { small = rw s; is = refl }
+
+-- one whose value passes its limit, or for which there is no room
+pub broken_large : (es : List Triplet) (t : Triplet) → within max_value t.value ≡ false → Broken (t ∷ []) es
+unfolding are_small
+broken_large es t s = inl (rw s)
+
+pub broken_many : (es : List Triplet) (t : Triplet) → max_entries ≤ length es → Broken (t ∷ []) es
+broken_many es t l = inr (omega arith)
+
+-- more after them
+module _ {xs es es₁ : List Triplet} (e : Added xs es es₁) (ys : List Triplet) where
+  pub added_then : {es₂ : List Triplet} → Added ys es₁ es₂ → Added (xs ++ ys) es es₂
+  added_then f = record {
+    small = small-append xs ys ∙ rw (e.small, f.small);
+    is = f.is ∙ ap (λ (ts : List Triplet). ts ++ ys) e.is ∙ append_assoc es xs ys;
   }
 
-  -- one whose value passes its limit, or for which there is no room
-  pub emitted_large : Arrays rs cs vs → (i j : ℕ) (v : ℤ) → within max_value v ≡ false → Emitted (triplet i j v ∷ []) m rs cs vs (max_entries + 1) rs cs vs
-  unfolding are_small
-  emitted_large t i j v s = record { arrays = t; size = λ h. absurd (omega arith); is = λ h. absurd (omega arith); small = λ h. absurd (omega arith); past = λ h. inl (rw s) }
+  pub broken_then : Broken ys es₁ → Broken (xs ++ ys) es
+  broken_then (inl s) = inl (small-append xs ys ∙ rw s (and_false (are_small xs)))
+  broken_then (inr k) = inr (let l : length es₁ ≡ length es + length xs = ap length e.is ∙ length-append es xs in omega (arith, k, l, length-append xs ys))
 
-  pub emitted_many : Arrays rs cs vs → max_entries ≤ m → (t : Triplet) → Emitted (t ∷ []) m rs cs vs (max_entries + 1) rs cs vs
-  emitted_many t l e = record { arrays = t; size = λ h. absurd (omega arith); is = λ h. absurd (omega arith); small = λ h. absurd (omega arith); past = λ h. inr (omega arith) }
-
-  module _ {xs : List Triplet} {r : ℕ} {rs₁ cs₁ : List ℕ} {vs₁ : List ℤ} (e : Emitted xs m rs cs vs r rs₁ cs₁ vs₁) where
-    -- more after them
-    pub emitted_then : r ≤ max_entries → {ys : List Triplet} {q : ℕ} {rs₂ cs₂ : List ℕ} {vs₂ : List ℤ} → Emitted ys r rs₁ cs₁ vs₁ q rs₂ cs₂ vs₂ → Emitted (xs ++ ys) m rs cs vs q rs₂ cs₂ vs₂
-    emitted_then l {ys} f = record {
-      arrays = f.arrays;
-      size = λ h. omega (arith, f.size h, e.size l, length-append xs ys);
-      is = λ h. f.is h ∙ ap (λ (ts : List Triplet). ts ++ ys) (e.is l) ∙ append_assoc (triplets_of m rs cs vs) xs ys;
-      small = λ h. small-append xs ys ∙ rw (e.small l, f.small h);
-      past = λ h. later (f.past h);
-    }
-      where
-        later : (are_small ys ≡ false) ⊎ (max_entries < r + length ys) → (are_small (xs ++ ys) ≡ false) ⊎ (max_entries < m + length (xs ++ ys))
-        later (inl s) = inl (small-append xs ys ∙ rw s (and_false (are_small xs)))
-        later (inr k) = inr (omega (arith, e.size l, length-append xs ys))
-
-    -- a limit is broken already
-    pub emitted_stop : max_entries < r → (ys : List Triplet) → Emitted (xs ++ ys) m rs cs vs r rs₁ cs₁ vs₁
-    emitted_stop l ys = record {
-      arrays = e.arrays;
-      size = λ h. absurd (omega arith);
-      is = λ h. absurd (omega arith);
-      small = λ h. absurd (omega arith);
-      past = λ h. later (e.past h);
-    }
-      where
-        later : (are_small xs ≡ false) ⊎ (max_entries < m + length xs) → (are_small (xs ++ ys) ≡ false) ⊎ (max_entries < m + length (xs ++ ys))
-        later (inl s) = inl (small-append xs ys ∙ false_and (are_small xs) (are_small ys) s)
-        later (inr k) = inr (omega (arith, length-append xs ys))
+-- a limit is broken already
+pub broken_stop : (xs es : List Triplet) → Broken xs es → (ys : List Triplet) → Broken (xs ++ ys) es
+broken_stop xs es (inl s) ys = inl (small-append xs ys ∙ false_and (are_small xs) (are_small ys) s)
+broken_stop xs es (inr k) ys = inr (omega (arith, k, length-append xs ys))
 
 -- the same entries by another name
-pub emitted_same : {xs ys : List Triplet} → xs ≡ ys → {m : ℕ} {rs cs : List ℕ} {vs : List ℤ} {r : ℕ} {rs' cs' : List ℕ} {vs' : List ℤ} → Emitted xs m rs cs vs r rs' cs' vs' → Emitted ys m rs cs vs r rs' cs' vs'
-emitted_same e h = rw e at h
+pub added_same : {xs ys : List Triplet} → xs ≡ ys → {es es' : List Triplet} → Added xs es es' → Added ys es es'
+added_same e h = rw e at h
+
+pub broken_same : {xs ys : List Triplet} → xs ≡ ys → (es : List Triplet) → Broken xs es → Broken ys es
+broken_same e es h = rw e at h
 
 -- .. as the code tells them
-pub told_same : {xs ys : List Triplet} → xs ≡ ys → (m : ℕ) (rs cs : List ℕ) (vs : List ℤ) (r : Option ℕ) (rs' cs' : List ℕ) (vs' : List ℤ) → Told xs m rs cs vs r rs' cs' vs' → Told ys m rs cs vs r rs' cs' vs'
-told_same e m rs cs vs (Some k) rs' cs' vs' h = (h.0, emitted_same e h.1)
-told_same e m rs cs vs None rs' cs' vs' h = emitted_same e h
+pub told_same : {xs ys : List Triplet} → xs ≡ ys → (es : List Triplet) (r : Option (Unit {0})) (es' : List Triplet) → Told xs es r es' → Told ys es r es'
+told_same e es (Some u) es' h = added_same e h
+told_same e es None es' h = broken_same e es h
 
-pub told_then : {xs : List Triplet} {m : ℕ} {rs cs : List ℕ} {vs : List ℤ} {k : ℕ} {rs₁ cs₁ : List ℕ} {vs₁ : List ℤ} → Emitted xs m rs cs vs k rs₁ cs₁ vs₁ → k ≤ max_entries
-    → (ys : List Triplet) (r : Option ℕ) (rs₂ cs₂ : List ℕ) (vs₂ : List ℤ) → Told ys k rs₁ cs₁ vs₁ r rs₂ cs₂ vs₂ → Told (xs ++ ys) m rs cs vs r rs₂ cs₂ vs₂
-told_then e l ys (Some q) rs₂ cs₂ vs₂ h = (h.0, emitted_then e l h.1)
-told_then e l ys None rs₂ cs₂ vs₂ h = emitted_then e l h
+pub told_then : {xs es es₁ : List Triplet} → Added xs es es₁ → (ys : List Triplet) (r : Option (Unit {0})) (es₂ : List Triplet) → Told ys es₁ r es₂ → Told (xs ++ ys) es r es₂
+told_then e ys (Some u) es₂ h = added_then e ys h
+told_then e ys None es₂ h = broken_then e ys h

@@ -3,19 +3,20 @@ use mathlib.Core.Path.{◌≡◌, refl, sym, ap, ap₂, ◌∙◌}
 use Rattle.std.proofs.Common.{Result}
 use mathlib.Core.Bool.{Bool, true, false, ◌||◌, ◌&&◌, cond, and-true}
 use mathlib.Core.List.{List, [], ◌∷◌, map}
-use Prim.Native.Nat.{ℕ, zero, suc, ◌+◌, ◌≤◌, ◌<◌}
+use Prim.Native.Nat.{ℕ, ◌+◌, ◌≤◌, ◌<◌}
 use native.Mathlib.Omega.{arith}
 use lib.Dec.{eqb, ltb, leb}
-use lib.IntN.{ℤ, pos}
-use lib.ListN.{length, get_or}
-use borrow.Author.Tests.{leb-true, leb-false, le-leb, eq-eqb, ne_eqb}
+use lib.IntN.{ℤ}
+use lib.ListN.{length}
+use borrow.Author.Tests.{leb-true, leb-false, le-leb, ltb-true, lt-ltb, eq-eqb, ne_eqb}
+use Rattle.base.proofs.Booleans.{and_left, and_right}
 use Rattle.base.specs.Verdicts.{reply_of}
 use Rattle.base.specs.Lists.{filter, all, concat, is_in, range, bit, distinct}
 use Rattle.base.specs.Integers.{within}
 use Rattle.base.specs.Refusals as why
 use Rattle.base.specs.Replies.{Reply, refused, in_turn, lent}
 use Rattle.base.specs.declared.Refusal.{Refusal}
-use Rattle.base.proofs.Each.{Each, each_append}
+use Rattle.base.proofs.Each.{each_all, all-each}
 use Rattle.base.proofs.Lists.{all_append, all_map, of-all, filter_in, filter_passes, range_in}
 use Rattle.base.proofs.Replies.{lent-refused}
 use Rattle.matrix.specs.Limits.{max_rows, max_entries, max_value}
@@ -24,14 +25,12 @@ use Rattle.matrix.specs.Tabulated.{columns_in, tabulated}
 use Rattle.market.specs.Parse.{Triplet, matrix_text, triplet}
 use Rattle.market.proofs.Accepted.{Inner}
 use Rattle.market.proofs.Cells.{Low}
-use Rattle.compress.specs.Code.Arrays.{Arrays, triplets_of}
-use Rattle.compress.specs.Code.Rows.{Entries, Placed}
+use Rattle.compress.specs.Code.Rows.{InRows, Placed}
 use Rattle.joined.specs.Joined.{past_first, joined_rows, are_places, stored_in, stiffness, joined, in_limits, join_reply}
-use Rattle.joined.specs.Code.Rows.{Collected, Sewing}
+use Rattle.joined.specs.Code.Rows.{is_inside, Collected, Sewing}
 use Rattle.joined.proofs.Entries.{stored-both, values-both}
 use Rattle.joined.proofs.Gathering.{Gathered, places_test, gathered-count}
 use Rattle.joined.proofs.Replied.{joined-read, joined-reply}
-use Rattle.joined.proofs.Emitting.{length_triplets}
 
 -- the reply and the three lists after the call
 abbrev pub Answers : (a b : Matrix) (places starts₀ columns₀ : List ℕ) (values₀ : List ℤ) → Reply → (starts' columns' : List ℕ) (values' : List ℤ) → Type 0
@@ -41,15 +40,10 @@ Answers a b places starts₀ columns₀ values₀ r starts' columns' values' =
 
 -- ---- what was collected is the net
 
-each_triplets : (P : Triplet → Type 0) (m : ℕ) (rs cs : List ℕ) (vs : List ℤ) → ((k : ℕ) → k < m → P (triplet (get_or rs k 0) (get_or cs k 0) (get_or vs k (pos 0)))) → Each P (triplets_of m rs cs vs)
-unfolding triplets_of
-each_triplets P zero rs cs vs h = tt
-each_triplets P (suc m) rs cs vs h = each_append P (triplets_of m rs cs vs) _ (each_triplets P m rs cs vs (λ k l. h k (omega arith))) (h m (omega arith), tt)
-
-pub collected : {n : ℕ} {stored : ℕ → ℕ → Bool} {value : ℕ → ℕ → ℤ} {m : ℕ} {rs cs : List ℕ} {vs : List ℤ} → Collected n stored value m rs cs vs → Gathered n stored value (triplets_of m rs cs vs)
-collected {n} {stored} {value} {m} {rs} {cs} {vs} c = record {
-  low = each_triplets Low m rs cs vs (λ k l. (c.inside k l).0);
-  inner = each_triplets (Inner n) m rs cs vs (λ k l. ((c.inside k l).1, omega (arith, (c.inside k l).0, (c.inside k l).1)));
+pub collected : {n : ℕ} {stored : ℕ → ℕ → Bool} {value : ℕ → ℕ → ℤ} {es : List Triplet} → Collected n stored value es → Gathered n stored value es
+collected {n} {stored} {value} {es} c = record {
+  low = all-each Low (is_inside n) (λ t h. leb-true t.column t.row (and_left (leb t.column t.row) (ltb t.row n) h)) es c.inside;
+  inner = all-each (Inner n) (is_inside n) (λ t h. let r = ltb-true t.row n (and_right (leb t.column t.row) (ltb t.row n) h) in (r, omega (arith, r, leb-true t.column t.row (and_left (leb t.column t.row) (ltb t.row n) h)))) es c.inside;
   cells = λ i j l k. c.cells i j k ∙ ap (λ (t : Bool). cond t (triplet i j (value i j) ∷ []) []) (low i j l);
 }
   where
@@ -72,7 +66,7 @@ pieces_all p f (x ∷ xs) h = all_append p (f x) (concat (map f xs)) ∙ rw (h x
         go true = refl
         go false = m
 
-module _ (a b : Matrix) (places : List ℕ) (n : ℕ) (w : Sewing a b places n) {m : ℕ} {rs cs : List ℕ} {vs : List ℤ} (c : Collected n (stored_in a b places) (stiffness a b places) m rs cs vs) where
+module _ (a b : Matrix) (places : List ℕ) (n : ℕ) (w : Sewing a b places n) {es : List Triplet} (c : Collected n (stored_in a b places) (stiffness a b places) es) where
   -- every stored value, on either side of the diagonal
   small : (i j : ℕ) → i < n → j < n → stored_in a b places i j ≡ true → within max_value (stiffness a b places i j) ≡ true
   small i j li lj s = go (leb j i) refl
@@ -92,11 +86,11 @@ module _ (a b : Matrix) (places : List ℕ) (n : ℕ) (w : Sewing a b places n) 
       ∙ of-all (λ j. within max_value (stiffness a b places i j)) (filter (stored_in a b places i) (range 0 n))
       (λ j mj. small i j (omega (arith, (range_in i 0 n mi).1)) (omega (arith, (range_in j 0 n (filter_in (stored_in a b places i) (range 0 n) j mj)).1)) (filter_passes (stored_in a b places i) (range 0 n) j mj))))
 
-  counted : lower_entries (joined a b places) ≡ m
+  counted : lower_entries (joined a b places) ≡ length es
   unfolding joined
   counted =
       rw (← w.rows)
-      (sym (gathered-count n (stored_in a b places) (stiffness a b places) (triplets_of m rs cs vs) (collected c).inner (λ i j li lj. rw (c.cells i j li) (one i j (stored_in a b places i j && leb j i)))) ∙ length_triplets m rs cs vs)
+      (sym (gathered-count n (stored_in a b places) (stiffness a b places) es (collected c).inner (λ i j li lj. rw (c.cells i j li) (one i j (stored_in a b places i j && leb j i)))))
     where
       one : (i j : ℕ) (t : Bool) → length (cond t (triplet i j (stiffness a b places i j) ∷ []) []) ≡ bit t
       one i j true = refl
@@ -106,18 +100,15 @@ module _ (a b : Matrix) (places : List ℕ) (n : ℕ) (w : Sewing a b places n) 
   unfolding joined tabulated
   joined-rows = refl
 
-  pub in-limits : m ≤ max_entries → in_limits (joined a b places) ≡ true
+  pub in-limits : length es ≤ max_entries → in_limits (joined a b places) ≡ true
   unfolding in_limits
-  in-limits h = rw (counted, values-small, joined-rows, ← w.rows, le-leb n max_rows w.few, le-leb m max_entries h)
+  in-limits h = rw (counted, values-small, joined-rows, ← w.rows, le-leb n max_rows w.few, le-leb (length es) max_entries h)
 
   -- what the sort into full rows is handed
-  pub entries : m ≤ max_entries → Arrays rs cs vs → Entries rs cs vs m n
-  entries h t = record {
-    places = record { rows = w.few; count = h; long_rows = omega (arith, t.rows); long_columns = omega (arith, t.columns); inside = λ k l. ((c.inside k l).1, omega (arith, (c.inside k l).0, (c.inside k l).1)) };
-    long_values = omega (arith, t.values);
-  }
+  pub in-rows : InRows n es
+  in-rows = record { rows = w.few; inside = each_all (Inner n) (λ (t : Triplet). ltb t.row n && ltb t.column n) (λ t h. rw (lt-ltb t.row n h.0, lt-ltb t.column n h.1)) es (collected c).inner }
 
-  module _ (h : m ≤ max_entries) {starts₀ columns₀ : List ℕ} {values₀ : List ℤ} {r : Result ℕ Refusal} {starts' columns' : List ℕ} {values' : List ℤ} (p : Placed (matrix_text n (triplets_of m rs cs vs)) starts₀ columns₀ values₀ r starts' columns' values') where
+  module _ (h : length es ≤ max_entries) {starts₀ columns₀ : List ℕ} {values₀ : List ℤ} {r : Result ℕ Refusal} {starts' columns' : List ℕ} {values' : List ℤ} (p : Placed (matrix_text n es) starts₀ columns₀ values₀ r starts' columns' values') where
     pub placed_joins : Answers a b places starts₀ columns₀ values₀ (reply_of r) starts' columns' values'
     placed_joins =
         let g = rw w.rows at (collected c) in

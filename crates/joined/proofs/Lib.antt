@@ -10,7 +10,7 @@ pub mod Part
 pub mod Emitting
 pub mod Cells
 pub mod Rows
-pub mod Tables
+pub mod Marked
 pub mod Settled
 pub mod Turns
 pub mod Joining

@@ -1,14 +1,13 @@
 -- The joined net's entries on and below the diagonal, row by row.
-use Rattle.std.proofs.Common.{Some}
 use mathlib.Core.Path.{◌≡◌, refl, sym, ap, ◌∙◌}
-use mathlib.Core.Logic.{◌⊎◌, inl, inr, ⊎_elim, ◌≢◌}
+use mathlib.Core.Logic.{inl, inr, ⊎_elim, ◌≢◌}
 use mathlib.Core.Bool.{Bool, true, false, not, ◌||◌, ◌&&◌, cond}
 use mathlib.Core.List.{List, [], ◌∷◌, ◌++◌}
-use Prim.Native.Nat.{ℕ, zero, suc, ◌+◌, ◌≤◌, ◌<◌}
+use Prim.Native.Nat.{ℕ, suc, ◌+◌, ◌≤◌, ◌<◌}
 use native.Mathlib.Omega.{arith}
 use lib.Dec.{eqb, ltb, leb}
 use lib.IntN.{ℤ, pos, ◌+ℤ◌, +ℤ_idl}
-use lib.ListN.{length, get_or, replicate, length-append, length-replicate}
+use lib.ListN.{length, get_or, replicate, length-append}
 use borrow.Author.Tests.{leb-true, ltb-true, ltb-false, lt-ltb, le-ltb, le-leb, eq-eqb, ne_eqb, not-true}
 use Rattle.base.specs.Lists.{filter, keep, all, is_in, position_of}
 use Rattle.base.specs.Integers.{within}
@@ -25,14 +24,13 @@ use Rattle.matrix.proofs.Symmetry.{row_lengths}
 use Rattle.market.specs.Parse.{Triplet, triplet, is_at}
 use Rattle.market.proofs.Accepted.{Inner}
 use Rattle.market.proofs.Cells.{Low}
-use Rattle.compress.specs.Code.Arrays.{Arrays, triplets_of}
 use Rattle.joined.specs.Joined.{are_places, stored_in, stiffness, joined, in_limits}
-use Rattle.joined.specs.Code.Rows.{from_first, from_second, row_entries, tenant_of, are_small, Before, FirstRow, SecondRow, Emitted, Sewing, Gathers}
+use Rattle.joined.specs.Code.Rows.{from_first, from_second, row_entries, tenant_of, are_small, is_inside, Before, FirstRow, SecondRow, Added, Broken, Sewing, Collected}
 use Rattle.joined.proofs.Entries.{small-values}
 use Rattle.joined.proofs.Gathering.{many-entries}
 use Rattle.joined.proofs.Part.{Part, part_none, part_same, part-append, part-few}
 use Rattle.joined.proofs.Places.{long, apart, at_low, from_at, at_from, from-none}
-use Rattle.joined.proofs.Emitting.{length_triplets}
+use Rattle.joined.proofs.Emitting.{small-append}
 use Rattle.joined.proofs.Cells.{cells-each, cells-small, cells_free, cells-one}
 
 -- ---- a row of a matrix, past the last one too
@@ -231,19 +229,9 @@ tenant_row a b places h i {tenant} {r} e none some = go (is_in places i) refl e
 
 -- a table in which nothing is marked
 pub zeros-before : Before 1 (replicate max_rows 0)
-zeros-before = record { long = length-replicate {A = ℕ} max_rows 0; early = λ c. omega (arith, get_d_zeros max_rows c) }
+zeros-before c = omega (arith, get_d_zeros max_rows c)
 
 -- ---- the rows before row i
-
--- a property of all entries, and of the one at place k
-each_at : (P : Triplet → Type 0) (m : ℕ) (rs cs : List ℕ) (vs : List ℤ) → Each P (triplets_of m rs cs vs) → (k : ℕ) → k < m → P (triplet (get_or rs k 0) (get_or cs k 0) (get_or vs k (pos 0)))
-unfolding triplets_of
-each_at P zero rs cs vs h k l = absurd (omega arith)
-each_at P (suc m) rs cs vs h k l = ⊎_elim (λ e. rw e (each_last P (triplets_of m rs cs vs) _ h).1) (λ d. each_at P m rs cs vs (each_last P (triplets_of m rs cs vs) _ h).0 k (omega (arith, d))) (same_or k m)
-  where
-    each_last : (P : Triplet → Type 0) (xs : List Triplet) (t : Triplet) → Each P (xs ++ t ∷ []) → Each P xs × P t
-    each_last P [] t h = (tt, h.0)
-    each_last P (x ∷ xs) t h = let r = each_last P xs t h.1 in ((h.0, r.0), r.1)
 
 -- of entries that are small, those of a cell are
 small-filter : (q : Triplet → Bool) (ts : List Triplet) → are_small ts ≡ true → are_small (filter q ts) ≡ true
@@ -260,18 +248,16 @@ module _ (a b : Matrix) (places : List ℕ) (n : ℕ) where
   abbrev before : ℕ → ℕ → ℕ → Bool
   before i r c = ltb r i && (stored_in a b places r c && leb c r)
 
-  -- they are the first m entries
-  pub record Going (i m : ℕ) (rs cs : List ℕ) (vs : List ℤ) : Type 0 where
-    pub part : Part n (stiffness a b places) (before i) (triplets_of m rs cs vs)
-    pub few : m ≤ max_entries
-    pub arrays : Arrays rs cs vs
-    pub small : are_small (triplets_of m rs cs vs) ≡ true
+  -- they are the entries so far
+  pub record Going (i : ℕ) (es : List Triplet) : Type 0 where
+    pub part : Part n (stiffness a b places) (before i) es
+    pub small : are_small es ≡ true
 
-  pub going_start : {rs cs : List ℕ} {vs : List ℤ} → Arrays rs cs vs → Going 0 0 rs cs vs
-  unfolding triplets_of are_small
-  going_start t = record { part = part_same n (stiffness a b places) (λ r c. sym (rw (le-ltb r 0 (omega arith)))) (part_none n (stiffness a b places)); few = omega arith; arrays = t; small = refl }
+  pub going_start : Going 0 []
+  unfolding are_small
+  going_start = record { part = part_same n (stiffness a b places) (λ r c. sym (rw (le-ltb r 0 (omega arith)))) (part_none n (stiffness a b places)); small = refl }
 
-  module _ (w : Sewing a b places n) {i m : ℕ} {rs cs : List ℕ} {vs : List ℤ} (g : Going i m rs cs vs) (l : i < n) where
+  module _ (w : Sewing a b places n) {i : ℕ} {es : List Triplet} (g : Going i es) (l : i < n) where
     abbrev row : List Triplet
     row = new a b places n w i l
 
@@ -281,52 +267,45 @@ module _ (a b : Matrix) (places : List ℕ) (n : ℕ) where
         ltb_next : r ≢ i → ltb r (i + 1) ≡ ltb r i
         ltb_next d = both_ways (ltb r (i + 1)) (ltb r i) (λ e. lt-ltb r i (omega (arith, ltb-true r (i + 1) e, d))) (λ e. lt-ltb r (i + 1) (omega (arith, ltb-true r i e)))
 
-    longer : Part n (stiffness a b places) (before (i + 1)) (triplets_of m rs cs vs ++ row)
+    longer : Part n (stiffness a b places) (before (i + 1)) (es ++ row)
     longer = part_same n (stiffness a b places) next (part-append n (stiffness a b places) g.part (row-part a b places n w i l) apart)
       where
         apart : (r c : ℕ) → before i r c ≡ true → eqb r i && (stored_in a b places r c && leb c r) ≡ false
         apart r c e = rw (ne_eqb r i (λ q. omega (arith, ltb-true r i (and_left (ltb r i) (stored_in a b places r c && leb c r) e))))
 
-    module _ {r : ℕ} {rs' cs' : List ℕ} {vs' : List ℤ} (e : Emitted row m rs cs vs r rs' cs' vs') where
-      -- one row more
-      pub going_row : r ≤ max_entries → Going (i + 1) r rs' cs' vs'
-      unfolding are_small
-      going_row h = record {
-        part = rw (e.is h) longer;
-        few = h;
-        arrays = e.arrays;
-        small = rw (e.is h) (all_append (λ (t : Triplet). within max_value t.value) (triplets_of m rs cs vs) row ∙ rw (g.small, e.small h));
-      }
+    -- one row more
+    pub going_row : {es' : List Triplet} → Added row es es' → Going (i + 1) es'
+    going_row e = record {
+      part = rw e.is longer;
+      small = rw e.is (small-append es row ∙ rw (g.small, e.small));
+    }
 
-      -- or the joined net breaks a limit
-      pub going_past : max_entries < r → in_limits (joined a b places) ≡ false
-      going_past h = broken (e.past h)
-        where
-          many : max_entries < m + length row → max_entries < lower_entries (joined a b places)
-          many k = unfold joined in
-              rw (← w.rows)
-              (omega (arith, k, length-append (triplets_of m rs cs vs) row, length_triplets m rs cs vs, part-few n (stiffness a b places) (stored_in a b places) longer (λ r c e. and_right (ltb r (i + 1)) (stored_in a b places r c && leb c r) e)))
-
-          broken : (are_small row ≡ false) ⊎ (max_entries < m + length row) → in_limits (joined a b places) ≡ false
-          broken (inl s) = is_false (λ fit. clash (row_small a b places n w i l fit) s)
-          broken (inr k) = many-entries a b places w.first w.second w.placed (many k)
+    -- or the joined net breaks a limit
+    pub going_past : Broken row es → in_limits (joined a b places) ≡ false
+    going_past (inl s) = is_false (λ fit. clash (row_small a b places n w i l fit) s)
+    going_past (inr k) = many-entries a b places w.first w.second w.placed many
+      where
+        many : max_entries < lower_entries (joined a b places)
+        many = unfold joined in
+            rw (← w.rows)
+            (omega (arith, k, length-append es row, part-few n (stiffness a b places) (stored_in a b places) longer (λ r c e. and_right (ltb r (i + 1)) (stored_in a b places r c && leb c r) e)))
 
   -- all rows
-  pub going_end : {i m : ℕ} {rs cs : List ℕ} {vs : List ℤ} → Going i m rs cs vs → i ≡ n → Gathers a b places n (Some m) rs cs vs
-  going_end {i} {m} {rs} {cs} {vs} g e = (
-    g.few,
-    record {
-      inside = λ k l. (each_at Low m rs cs vs g.part.low k l, (each_at (Inner n) m rs cs vs g.part.inner k l).0);
-      small = small;
-      cells = λ r c k. g.part.cells r c ∙ ap (λ (t : Bool). cond t (triplet r c (stiffness a b places r c) ∷ []) []) (done r c k);
-    },
-    g.arrays,
-  )
+  inside_all : (es : List Triplet) → Each Low es → Each (Inner n) es → all (is_inside n) es ≡ true
+  inside_all [] h q = refl
+  inside_all (t ∷ ts) h q = rw (le-leb t.column t.row h.0, lt-ltb t.row n q.0.0) (inside_all ts h.1 q.1)
+
+  pub going_end : {i : ℕ} {es : List Triplet} → Going i es → i ≡ n → Collected n (stored_in a b places) (stiffness a b places) es
+  going_end {i} {es} g e = record {
+    inside = inside_all es g.part.low g.part.inner;
+    small = small;
+    cells = λ r c k. g.part.cells r c ∙ ap (λ (t : Bool). cond t (triplet r c (stiffness a b places r c) ∷ []) []) (done r c k);
+  }
     where
       done : (r c : ℕ) → r < n → before i r c ≡ stored_in a b places r c && leb c r
       done r c k = rw (lt-ltb r i (omega (arith, e)))
 
       small : (r c : ℕ) → c ≤ r → r < n → stored_in a b places r c ≡ true → within max_value (stiffness a b places r c) ≡ true
       small r c l k s = unfold are_small in
-          let one : filter (is_at r c) (triplets_of m rs cs vs) ≡ triplet r c (stiffness a b places r c) ∷ [] = g.part.cells r c ∙ rw (done r c k, s, le-leb c r l) in
-          and_left (within max_value (stiffness a b places r c)) true (rw one at (small-filter (is_at r c) (triplets_of m rs cs vs) g.small))
+          let one : filter (is_at r c) es ≡ triplet r c (stiffness a b places r c) ∷ [] = g.part.cells r c ∙ rw (done r c k, s, le-leb c r l) in
+          and_left (within max_value (stiffness a b places r c)) true (rw one at (small-filter (is_at r c) es g.small))

@@ -2,25 +2,22 @@
 use mathlib.Core.Path.{◌≡◌, sym, ap}
 use mathlib.Core.Bool.{Bool, cond}
 use mathlib.Core.List.{List, [], ◌∷◌}
-use Prim.Native.Nat.{ℕ, ◌+◌, ◌≤◌, ◌<◌}
+use Prim.Native.Nat.{ℕ, ◌+◌, ◌≤◌}
 use lib.IntN.{ℤ}
-use Rattle.matrix.specs.Limits.{max_entries}
-use Rattle.market.specs.Parse.{triplet}
-use Rattle.joined.specs.Code.Rows.{cells_of, Emitted}
-use Rattle.joined.proofs.Emitting.{emitted_then, emitted_stop, emitted_same}
+use Rattle.market.specs.Parse.{Triplet, triplet}
+use Rattle.joined.specs.Code.Rows.{cells_of, Added, Broken}
+use Rattle.joined.proofs.Emitting.{added_then, added_same, broken_then, broken_stop, broken_same}
 use Rattle.joined.proofs.Cells.{cells-next, cells-split}
 
-module _ (i : ℕ) (passes : ℕ → Bool) (column : ℕ → ℕ) (value : ℕ → ℤ) {m : ℕ} {rs cs : List ℕ} {vs : List ℤ} {count : ℕ} {rs₁ cs₁ : List ℕ} {vs₁ : List ℤ} (k : ℕ) (e : Emitted (cells_of i passes column value k) m rs cs vs count rs₁ cs₁ vs₁) where
+module _ (i : ℕ) (passes : ℕ → Bool) (column : ℕ → ℕ) (value : ℕ → ℤ) {es es₁ : List Triplet} (k : ℕ) (e : Added (cells_of i passes column value k) es es₁) {z : ℤ} (v : z ≡ value k) where
   -- one more
-  pub turn-next : count ≤ max_entries → {z : ℤ} → z ≡ value k → {r : ℕ} {rs₂ cs₂ : List ℕ} {vs₂ : List ℤ}
-      → Emitted (cond (passes (column k)) (triplet i (column k) z ∷ []) []) count rs₁ cs₁ vs₁ r rs₂ cs₂ vs₂ → Emitted (cells_of i passes column value (k + 1)) m rs cs vs r rs₂ cs₂ vs₂
-  turn-next l v f =
-      emitted_same (sym (cells-next i passes column value k))
-      (emitted_then e l (emitted_same (ap (λ (z : ℤ). cond (passes (column k)) (triplet i (column k) z ∷ []) []) v) f))
+  pub turn-next : {es₂ : List Triplet} → Added (cond (passes (column k)) (triplet i (column k) z ∷ []) []) es₁ es₂ → Added (cells_of i passes column value (k + 1)) es es₂
+  turn-next f =
+      added_same (sym (cells-next i passes column value k))
+      (added_then e _ (added_same (ap (λ (z : ℤ). cond (passes (column k)) (triplet i (column k) z ∷ []) []) v) f))
 
   -- a limit is broken: so it is of all
-  pub turn_stop : max_entries < count → (n : ℕ) → k ≤ n → Emitted (cells_of i passes column value n) m rs cs vs count rs₁ cs₁ vs₁
-  turn_stop h n l = emitted_same (sym (cells-split i passes column value k n l)) (emitted_stop e h _)
-
-  pub turn-all : (n : ℕ) → k ≡ n → Emitted (cells_of i passes column value n) m rs cs vs count rs₁ cs₁ vs₁
-  turn-all n q = rw (← q) e
+  pub turn_stop : Broken (cond (passes (column k)) (triplet i (column k) z ∷ []) []) es₁ → (n : ℕ) → k + 1 ≤ n → Broken (cells_of i passes column value n) es
+  turn_stop f n l =
+      broken_same (sym (cells-split i passes column value (k + 1) n l)) es
+      (broken_stop (cells_of i passes column value (k + 1)) es (broken_same (sym (cells-next i passes column value k)) es (broken_then e _ (broken_same (ap (λ (z : ℤ). cond (passes (column k)) (triplet i (column k) z ∷ []) []) v) es₁ f))) _)

@@ -2,8 +2,10 @@
 #![tactic(auto)]
 
 mod gather;
+mod lines;
 mod puts;
 mod row;
+mod tables;
 mod tenants;
 
 ghost use Rattle.std.specs.Prelude.{◌≡◌, length};
@@ -13,15 +15,16 @@ ghost use Rattle.matrix.specs.Held.{held};
 ghost use Rattle.joined.specs.Joined.{joined, join_reply};
 
 use base::{Kind, Refusal};
-use compress::entries::Entries;
+use compress::entries::EntryList;
 use compress::rows::place_rows;
 use gather::gather;
-use matrix::limits::{MAX_ENTRIES, MAX_ROWS};
+use matrix::limits::MAX_ROWS;
 use matrix::lists::Matrix;
 use symmetric::is_matrix;
 use tenants::{count_from, put_tenants};
 
-// The joined net's row starts, columns and values, into three lists.
+// The joined net's row starts, columns and values, into three lists, which are apart as C lends them: each has a room
+// of its own.
 pub fn join(
     first: &Matrix,
     second: &Matrix,
@@ -67,22 +70,12 @@ pub fn join(
             place: 0,
         });
     }
-    let mut rs = [0u32; MAX_ENTRIES];
-    let mut cs = [0u32; MAX_ENTRIES];
-    let mut vs = [0i32; MAX_ENTRIES];
-    let Some(m) = gather(
-        first, second, places, n, &tenants, &mut rs, &mut cs, &mut vs,
-    ) else {
+    let mut list = EntryList::new();
+    let Some(()) = gather(first, second, places, n, &tenants, &mut list) else {
         return Err(Refusal {
             kind: Kind::PastLimits,
             place: 0,
         });
     };
-    let sewn = Entries {
-        n,
-        rows: &rs[..m],
-        columns: &cs[..m],
-        values: &vs[..m],
-    };
-    place_rows(&sewn, starts, columns, values)
+    place_rows(&list.lend(n), starts, columns, values)
 }

@@ -1,56 +1,13 @@
 // The entries of one row of the joined net, on and below the diagonal.
-ghost use Rattle.std.specs.Prelude.{◌≡◌, ℕ, ◌+◌, ◌≤◌, ◌<◌, ◌+ℤ◌, length, get_or};
-ghost use Rattle.base.specs.Lists.{is_in, position_of};
-ghost use Rattle.matrix.specs.Limits.{max_rows, max_entries};
-ghost use Rattle.matrix.specs.Matrix.{lookup};
-ghost use Rattle.compress.specs.Code.Arrays.{Arrays};
-ghost use Rattle.joined.specs.Code.Rows.{from_first, from_second, row_entries, marked, held_at, Before, Held, Seen, FirstRow, SecondRow, Told};
+ghost use Rattle.std.specs.Prelude.{◌≡◌, ◌+◌, ◌<◌, ◌+ℤ◌, length};
+ghost use Rattle.matrix.specs.Limits.{max_rows};
+ghost use Rattle.compress.specs.Code.Entries.{listed};
+ghost use Rattle.joined.specs.Code.Rows.{from_first, from_second, row_entries, marked, held_at, Before, Told};
 
+use crate::lines::{PlacedRow, Row};
 use crate::puts::{put_low, put_new};
-use matrix::limits::{MAX_ENTRIES, MAX_ROWS};
-
-// The second net's row: each value at its place.
-fn hold(
-    columns: &[u32],
-    values: &[i32],
-    places: &[u32],
-    turn: u32,
-    marks: &mut [u32; MAX_ROWS],
-    held: &mut [i32; MAX_ROWS],
-)
-    requires { SecondRow places.now columns.now values.now × Before turn marks.old × (length held.old ≡ max_rows) }
-    ensures { Held turn (λ c. lookup (position_of places.now c) columns.now values.now) marks.new held.new }
-{
-    for k in 0..columns.len() {
-        let c = columns[k] as usize;
-        let p = places[c] as usize;
-        marks[p] = turn;
-        held[p] = values[k];
-    }
-}
-
-// The first net's row: its columns.
-fn mark(columns: &[u32], turn: u32, seen: &mut [u32; MAX_ROWS])
-    requires { ((k : ℕ) → k < length columns.now → get_or columns.now k 0 < max_rows) × Before turn seen.old }
-    ensures { Seen turn (is_in columns.now) seen.new }
-{
-    for k in 0..columns.len() {
-        let c = columns[k] as usize;
-        seen[c] = turn;
-    }
-}
-
-// What is held for column j in this turn.
-fn held_at(marks: &[u32; MAX_ROWS], held: &[i32; MAX_ROWS], turn: u32, j: u32) -> i32
-    requires { (length marks.now ≡ max_rows) × (length held.now ≡ max_rows) × (j < max_rows) }
-    ensures { result ≡ held_at turn marks.now held.now j }
-{
-    let c = j as usize;
-    if marks[c] == turn {
-        return held[c];
-    }
-    0
-}
+use crate::tables::Tables;
+use compress::entries::EntryList;
 
 // The sum of two values.
 fn plus(a: i32, b: i32) -> i64
@@ -60,76 +17,45 @@ fn plus(a: i32, b: i32) -> i64
 }
 
 // The first net's entries of row i, with what is held for their columns.
-fn put_first(
-    columns: &[u32],
-    values: &[i32],
-    i: u32,
-    marks: &[u32; MAX_ROWS],
-    held: &[i32; MAX_ROWS],
-    m: usize,
-    rs: &mut [u32; MAX_ENTRIES],
-    cs: &mut [u32; MAX_ENTRIES],
-    vs: &mut [i32; MAX_ENTRIES],
-) -> Option<usize>
-    requires { FirstRow columns.now values.now × (length marks.now ≡ max_rows) × (length held.now ≡ max_rows) × (i < max_rows) × (m ≤ max_entries) × Arrays rs.old cs.old vs.old }
-    ensures { Told (from_first i columns.now values.now (held_at (i + 1) marks.now held.now) (length columns.now)) m rs.old cs.old vs.old result rs.new cs.new vs.new }
+fn put_first(row: &Row, i: u32, tables: &Tables, list: &mut EntryList) -> Option<()>
+    ensures { Told (from_first i row.now.columns.now row.now.values.now (held_at tables.now.turn tables.now.marks tables.now.held) (length row.now.columns.now)) (listed list.old) result (listed list.new) }
 {
-    let mut count = m;
-    for k in 0..columns.len() {
-        let j = columns[k];
-        let v = plus(values[k], held_at(marks, held, i + 1, j));
-        count = put_low(i, j, v, count, rs, cs, vs)?;
+    for k in 0..row.columns.len() {
+        let j = row.columns[k];
+        let v = plus(row.values[k], tables.held_at(j));
+        put_low(i, j, v, list)?;
     }
-    Some(count)
+    Some(())
 }
 
 // The second net's entries of row i at their places, where the first net has none.
-fn put_second(
-    columns: &[u32],
-    values: &[i32],
-    places: &[u32],
-    i: u32,
-    seen: &[u32; MAX_ROWS],
-    m: usize,
-    rs: &mut [u32; MAX_ENTRIES],
-    cs: &mut [u32; MAX_ENTRIES],
-    vs: &mut [i32; MAX_ENTRIES],
-) -> Option<usize>
-    requires { SecondRow places.now columns.now values.now × (length seen.now ≡ max_rows) × (i < max_rows) × (m ≤ max_entries) × Arrays rs.old cs.old vs.old }
-    ensures { Told (from_second i places.now columns.now values.now (marked (i + 1) seen.now) (length columns.now)) m rs.old cs.old vs.old result rs.new cs.new vs.new }
+fn put_second(row: &PlacedRow, i: u32, tables: &Tables, list: &mut EntryList) -> Option<()>
+    ensures { Told (from_second i row.now.places.now row.now.columns.now row.now.values.now (marked tables.now.turn tables.now.seen) (length row.now.columns.now)) (listed list.old) result (listed list.new) }
 {
-    let mut count = m;
-    for k in 0..columns.len() {
-        let c = columns[k] as usize;
-        let j = places[c];
-        count = put_new(i, j, values[k], seen, count, rs, cs, vs)?;
+    for k in 0..row.columns.len() {
+        let c = row.columns[k] as usize;
+        let j = row.places[c];
+        put_new(i, j, row.values[k], tables, list)?;
     }
-    Some(count)
+    Some(())
 }
 
-// The entries of row i after m others, of the rows of both nets: how many there are then; none if the joined
-// net breaks a limit. The tables are those of the rows before it.
+// The entries of row i, of the rows of both nets; none if the joined net breaks a limit. The tables are those of the
+// rows before it.
 pub(crate) fn put_row(
-    columns1: &[u32],
-    values1: &[i32],
-    columns2: &[u32],
-    values2: &[i32],
-    places: &[u32],
+    first: &Row,
+    second: &PlacedRow,
     i: u32,
-    marks: &mut [u32; MAX_ROWS],
-    held: &mut [i32; MAX_ROWS],
-    seen: &mut [u32; MAX_ROWS],
-    m: usize,
-    rs: &mut [u32; MAX_ENTRIES],
-    cs: &mut [u32; MAX_ENTRIES],
-    vs: &mut [i32; MAX_ENTRIES],
-) -> Option<usize>
-    requires { FirstRow columns1.now values1.now × SecondRow places.now columns2.now values2.now × (i < max_rows) × Before (i + 1) marks.old × (length held.old ≡ max_rows) × Before (i + 1) seen.old × (m ≤ max_entries) × Arrays rs.old cs.old vs.old }
-    ensures { Told (row_entries i places.now columns1.now values1.now columns2.now values2.now) m rs.old cs.old vs.old result rs.new cs.new vs.new
-        × Before (i + 1 + 1) marks.new × (length held.new ≡ max_rows) × Before (i + 1 + 1) seen.new }
+    tables: &mut Tables,
+    list: &mut EntryList,
+) -> Option<()>
+    requires { (i < max_rows) × Before (i + 1) tables.old.marks × Before (i + 1) tables.old.seen }
+    ensures told { Told (row_entries i second.now.places.now first.now.columns.now first.now.values.now second.now.columns.now second.now.values.now) (listed list.old) result (listed list.new) }
+    ensures marks { Before (i + 1 + 1) tables.new.marks }
+    ensures seen { Before (i + 1 + 1) tables.new.seen }
 {
-    hold(columns2, values2, places, i + 1, marks, held);
-    mark(columns1, i + 1, seen);
-    let count = put_first(columns1, values1, i, marks, held, m, rs, cs, vs)?;
-    put_second(columns2, values2, places, i, seen, count, rs, cs, vs)
+    tables.hold(second, i + 1);
+    tables.see(first);
+    put_first(first, i, tables, list)?;
+    put_second(second, i, tables, list)
 }

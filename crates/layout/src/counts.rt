@@ -6,12 +6,14 @@ ghost use Rattle.plan.specs.Sound.{max_workers};
 ghost use Rattle.run.specs.Job.{Job};
 ghost use Rattle.run.specs.Updates.{up_to};
 ghost use Rattle.tables.specs.Code.Laid.{max_updates, Counted};
-ghost use Rattle.layout.specs.Code.UpdateTable.{Sized, Planned, Stretch, Numbers};
+ghost use Rattle.layout.specs.Code.UpdateTable.{Sized, Stretch, Numbers};
+ghost use Rattle.layout.specs.Code.SizedPlan.{PlannedBy};
 
 use crate::leaf::is_leaf;
+use crate::updates::SizedPlan;
 use matrix::limits::MAX_ROWS;
 use plan::MAX_WORKERS;
-use plan::fields::get;
+use plan::fields::{WIDTH, get};
 use tables::FIRSTS;
 
 // How many updates the rows of a leaf make: one each for the diagonal, two for each other entry in the upper triangle.
@@ -27,19 +29,19 @@ fn leaf_updates(sizes: &[u32; MAX_ROWS], start: usize, end: usize) -> usize
 }
 
 // How many each worker has, at the place after its own.
-fn count_updates(groups: &[u32], count: usize, sizes: &[u32; MAX_ROWS]) -> [u32; FIRSTS]
-    requires { (j : Job) × Planned j groups.now count sizes.now }
-    ensures { (j : Job) → Planned j groups.now count sizes.now → Numbers j j.matrix.n result }
+fn count_updates(plan: &SizedPlan) -> [u32; FIRSTS]
+    requires { (j : Job) × PlannedBy j plan.now }
+    ensures { (j : Job) → PlannedBy j plan.now → Numbers j j.matrix.n result }
 {
     let mut first = [0u32; FIRSTS];
-    for i in 0..count {
-        if !is_leaf(groups, count, i) {
+    for i in 0..plan.groups.len() / WIDTH {
+        if !is_leaf(plan.groups, i) {
             continue;
         }
-        let g = get(groups, i);
+        let g = get(plan.groups, i);
         let start = g.start as usize;
         let end = start + g.length as usize;
-        first[g.first as usize + 1] += leaf_updates(sizes, start, end) as u32;
+        first[g.first as usize + 1] += leaf_updates(plan.sizes, start, end) as u32;
     }
     first
 }
@@ -56,9 +58,9 @@ fn cumulate(mut first: [u32; FIRSTS]) -> [u32; FIRSTS]
 }
 
 // Where each worker's updates begin, and where the last one's end.
-pub fn first_updates(groups: &[u32], count: usize, sizes: &[u32; MAX_ROWS]) -> [u32; FIRSTS]
-    requires { (j : Job) × Planned j groups.now count sizes.now }
-    ensures { (j : Job) → Planned j groups.now count sizes.now → Counted j result }
+pub fn first_updates(plan: &SizedPlan) -> [u32; FIRSTS]
+    requires { (j : Job) × PlannedBy j plan.now }
+    ensures { (j : Job) → PlannedBy j plan.now → Counted j result }
 {
-    cumulate(count_updates(groups, count, sizes))
+    cumulate(count_updates(plan))
 }

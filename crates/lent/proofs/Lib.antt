@@ -1,3 +1,2 @@
 pub mod Loads
 pub mod Answers
-pub mod Whole

@@ -4,11 +4,9 @@ use mathlib.Core.Bool.{true}
 use mathlib.Core.List.{List, append-nil}
 use Prim.Native.Nat.{ℕ, ◌/◌, ◌≤◌, min}
 use native.Mathlib.Omega.{arith}
-use lib.IntN.{ℤ}
 use lib.ListN.{length, take, drop, length-append, length-drop}
 use lib.Seq.{take_at, take_all, length-take-le, drop-length}
-use Rattle.matrix.specs.Code.Room.{max_starts, max_cells}
-use Rattle.matrix.specs.Matrix.{Matrix, is_matrix, matrix_of}
+use Rattle.matrix.specs.Matrix.{Matrix, is_matrix}
 use Rattle.matrix.proofs.Cut.{cut}
 use Rattle.plan.specs.Groups.{plan_of}
 use Rattle.plan.specs.Sound.{is_plan}
@@ -44,11 +42,6 @@ module _ {A : Type 0} (f : List ℕ → A) (width : ℕ) (bytes : List ℕ) (old
   loaded_whole many =
       let same : length list ≡ length old = length_decoded f width bytes ∙ many in
       h ∙ rw (take_all count list (omega arith), same, drop-length, append-nil)
-
--- the matrix of loaded lists: that of the whole lists, cut
-pub loaded_matrix : (m : Matrix) {starts columns : List ℕ} {values : List ℤ} → starts ≡ take max_starts m.starts → columns ≡ take max_cells m.columns → values ≡ take max_cells m.values
-    → matrix_of m.n starts columns values ≡ cut m
-loaded_matrix m es ec ev = rw (es, ec, ev)
 
 -- a plan of a matrix whose lists are cut
 pub plan-of-cut : (m : Matrix) (order groups : List ℕ) (count : ℕ) → is_matrix m ≡ true → is_plan (cut m) order groups count ≡ is_plan m order groups count

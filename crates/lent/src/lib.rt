@@ -3,4 +3,6 @@
 
 pub mod few;
 pub mod lists;
+pub mod nets;
+pub mod plans;
 pub mod word;

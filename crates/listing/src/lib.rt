@@ -19,6 +19,7 @@ use matrix::limits::{MAX_CELLS, MAX_ROWS, MAX_STARTS};
 use matrix::lists::Matrix;
 use plan::MAX_GROUPS;
 use plan::fields::{MAX_FIELDS, WIDTH};
+use plan::lists::Plan;
 use planner::plan;
 use reader::read;
 
@@ -47,7 +48,14 @@ fn put_planned(output: &mut [u8], m: &Matrix, workers: u32, p: u32) -> usize
     let mut groups = [0u32; MAX_FIELDS];
     match plan(m, workers, p, DISTANCE, &mut order, &mut groups) {
         Err(refusal) => put_refusal(output, refusal),
-        Ok(count) => put_plan(output, m.n, &order, &groups, count),
+        Ok(count) => {
+            let made = Plan {
+                order: &order,
+                groups: &groups,
+                count: count as usize,
+            };
+            put_plan(output, m.n, &made)
+        }
     }
 }
 

@@ -1,15 +1,17 @@
 // The lines that netplan writes, put into a lent output.
 
-ghost use Rattle.std.specs.Prelude.{[], ◌∷◌, ◌++◌, ◌+◌, ◌*◌, ◌≤◌, length};
+ghost use Rattle.std.specs.Prelude.{[], ◌∷◌, ◌++◌, ◌+◌, ◌*◌, ◌^◌, ◌≤◌, ◌<◌, length};
 ghost use Rattle.base.specs.Verdicts.{number_of};
 ghost use Rattle.market.specs.Bytes.{line_feed};
 ghost use Rattle.writer.specs.Code.Puts.{Put};
-ghost use Rattle.plan.specs.Groups.{width, records, plan_of};
+ghost use Rattle.plan.specs.Groups.{width, records};
+ghost use Rattle.plan.specs.Code.Held.{held};
 ghost use Rattle.listing.specs.Listing.{spaced, refused_line, order_line, title_line, group_lines, plan_listing};
 ghost use Rattle.listing.specs.Code.Room.{max_number, max_refusal, max_line, titles};
 
 use base::Refusal;
 use plan::fields::WIDTH;
+use plan::lists::Plan;
 use writer::puts::{put_byte, put_number};
 
 // Bytes, and the place after them.
@@ -58,31 +60,26 @@ fn put_order(output: &mut [u8], order: &[u32]) -> usize
     )
 }
 
-// The lines of the first records of a flat list, and the place after them.
-fn put_groups(output: &mut [u8], at: usize, groups: &[u32], count: u32) -> usize
-    requires { (width * count ≤ length groups.now) × (at + max_line * count ≤ length output.old) }
-    ensures { Put (group_lines 0 (records count groups.now)) at result output.old output.new }
+// The lines of a plan's records, and the place after them.
+fn put_groups(output: &mut [u8], at: usize, plan: &Plan) -> usize
+    requires { (plan.now.count < 2 ^ 32) × (width * plan.now.count ≤ length plan.now.groups.now) × (at + max_line * plan.now.count ≤ length output.old) }
+    ensures { Put (group_lines 0 (records plan.now.count plan.now.groups.now)) at result output.old output.new }
 {
     let mut p = at;
-    for i in 0..count {
-        let index = put_number(output, p, i);
-        let from = WIDTH * i as usize;
-        p = put_fields(output, index, &groups[from..from + WIDTH]);
+    for i in 0..plan.count {
+        let index = put_number(output, p, i as u32);
+        let from = WIDTH * i;
+        p = put_fields(output, index, &plan.groups[from..from + WIDTH]);
     }
     p
 }
 
-// The plan of n rows in two lists, and the place after it.
-pub(crate) fn put_plan(
-    output: &mut [u8],
-    n: usize,
-    order: &[u32],
-    groups: &[u32],
-    count: u32,
-) -> usize
-    requires { (n ≤ length order.now) × (width * count ≤ length groups.now) × (titles + max_number * n + max_line * count ≤ length output.old) }
-    ensures { Put (plan_listing (plan_of n order.now groups.now count)) 0 result output.old output.new }
+// The plan of n rows, and the place after it.
+pub(crate) fn put_plan(output: &mut [u8], n: usize, plan: &Plan) -> usize
+    requires { (n ≤ length plan.now.order.now) × (plan.now.count < 2 ^ 32) × (width * plan.now.count ≤ length plan.now.groups.now)
+        × (titles + max_number * n + max_line * plan.now.count ≤ length output.old) }
+    ensures { Put (plan_listing (held n plan.now)) 0 result output.old output.new }
 {
-    let rows = put_order(output, &order[..n]);
-    put_groups(output, rows, groups, count)
+    let rows = put_order(output, &plan.order[..n]);
+    put_groups(output, rows, plan)
 }

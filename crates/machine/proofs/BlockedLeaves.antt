@@ -8,7 +8,7 @@ use native.Mathlib.Numerals.{add-one}
 use lib.Dec.{eqb, leb}
 use lib.ListN.{length, get_or, drop, length-drop}
 use lib.Seq.{get_or-drop}
-use Rattle.base.specs.Lists.{bit, is_empty}
+use Rattle.base.specs.Lists.{is_empty}
 use Rattle.matrix.specs.Matrix.{neighbours}
 use Rattle.plan.specs.Groups.{Group, blue, width, of_fields, records}
 use Rattle.plan.specs.Sound.{apart, max_groups, is_sound, sound}
@@ -60,14 +60,6 @@ whole-crew j count groups l is = first-crew count groups l ∙ ap workers_of (sy
 
 -- ---- a job with these groups
 
--- a test as a number, and back
-pub eqb-bit : (b : Bool) → eqb (bit b) 1 ≡ b
-eqb-bit true = refl
-eqb-bit false = refl
-
-is-bit : (v : ℕ) (b : Bool) → v ≡ bit b → v ≡ bit (eqb v 1)
-is-bit v b e = subst (λ (y : ℕ). y ≡ bit (eqb y 1)) (sym e) (ap bit (sym (eqb-bit b)))
-
 module _ (j : Job) (ok : Accepted j) (count : ℕ) (groups : List ℕ) (is : j.plan.groups ≡ records count groups) where
   ok_records : sound (apart (neighbours j.matrix)) j.matrix.n j.plan.order (records count groups) ≡ true
   unfolding is_sound
@@ -102,7 +94,7 @@ module _ (j : Job) (ok : Accepted j) (count : ℕ) (groups : List ℕ) (is : j.p
     ended_of i l h = subst (λ (g : Group). leb (2 * length (up_to j g.first (g.start + g.length))) (get_or made g.first 0) ≡ leb (get_or ends i 0) (get_or made g.first 0)) (group_at_lem i l)
         (ap (λ (e : ℕ). leb e (get_or made (group_at j i).first 0)) (sym (laid.ended i (leaf-of i l h))))
 
-    module _ (blocks : List ℕ) (b : Blocks count groups ends made blocks) where
+    module _ (blocks : List Bool) (b : Blocks count groups ends made blocks) where
       fin : Group → Bool
       fin = finished j made
 
@@ -110,46 +102,36 @@ module _ (j : Job) (ok : Accepted j) (count : ℕ) (groups : List ℕ) (is : j.p
       opened up = open_reds fin up 1 (below_whole count groups)
 
       is_blocked : ℕ → Bool
-      is_blocked i = eqb (get_or blocks i 0) 1
+      is_blocked i = get_or blocks i false
 
-      red-open : (up : ℕ) → up < max_groups → eqb (get_or b.reds up 0) 1 ≡ opened up
+      red-open : (up : ℕ) → up < max_groups → get_or b.reds up false ≡ opened up
       unfolding opened fin
-      red-open up l = ap (λ (v : ℕ). eqb v 1) (b.opened.is fin ended_of up l ∙ ap bit (red-flat fin up 1 (below_whole count groups))) ∙ eqb-bit (open_reds fin up 1 (below_whole count groups))
-
-      abbrev test : ℕ → Bool
-      test i = eqb (get_or blocks (record_at groups i).parent 0) 1 || (eqb (record_at groups i).colour blue && eqb (get_or b.reds (record_at groups i).parent 0) 1)
-
-      -- every entry is 1 or 0
-      entry : (i : ℕ) → i < count → get_or blocks i 0 ≡ bit (is_blocked i)
-      unfolding is_blocked
-      entry zero l = is-bit (get_or blocks 0 0) false b.passed.root
-      entry (suc i) l = is-bit (get_or blocks (suc i) 0) (test (suc i)) (b.passed.is (suc i) (omega arith) l)
+      red-open up l = b.opened.is fin ended_of up l ∙ red-flat fin up 1 (below_whole count groups)
 
       start : is_blocked 0 ≡ false
       unfolding is_blocked
-      start = ap (λ (v : ℕ). eqb v 1) b.passed.root
+      start = b.passed.root
 
       pass : Recorded count groups → Forward opened is_blocked 1 (below_whole count groups)
       unfolding is_blocked
       pass R = forward_from opened is_blocked (of_fields []) 1 (below_whole count groups) one
         where
           Entry : ℕ → Group → Type 0
-          Entry k g = eqb (get_or blocks (1 + k) 0) 1 ≡ eqb (get_or blocks g.parent 0) 1 || (eqb g.colour blue && opened g.parent)
+          Entry k g = get_or blocks (1 + k) false ≡ get_or blocks g.parent false || (eqb g.colour blue && opened g.parent)
 
           one : (k : ℕ) → k < length (below_whole count groups) → Entry k (get_or (below_whole count groups) k (of_fields []))
           one k l =
               let low : 1 + k < count = omega (arith, length-drop 1 (records count groups), length-records count groups) in
               let g : Group = record_at groups (1 + k) in
               subst (Entry k) (sym (get_or-drop 1 (records count groups) k (of_fields []) ∙ record_get count groups (1 + k) (of_fields []) low))
-              (ap (λ (v : ℕ). eqb v 1) (b.passed.is (1 + k) (omega arith) low) ∙ eqb-bit (test (1 + k))
-              ∙ ap (λ (t : Bool). eqb (get_or blocks g.parent 0) 1 || (eqb g.colour blue && t)) (red-open g.parent (omega (arith, R.parents (1 + k) (omega arith) low, R.few))))
+              (b.passed.is (1 + k) (omega arith) low
+              ∙ ap (λ (t : Bool). get_or blocks g.parent false || (eqb g.colour blue && t)) (red-open g.parent (omega (arith, R.parents (1 + k) (omega arith) low, R.few))))
 
       -- the entry of a leaf says whether its rows are blocked
       pub waits-of : Recorded count groups → Waits j made blocks
-      unfolding fin opened
+      unfolding fin opened is_blocked
       waits-of R = record {
         long = b.passed.long;
-        is = λ i q l low h. entry i (omega (arith, l.inside, ap (λ (gs : List Group). length gs) is, length-records count groups))
-            ∙ ap bit (sym (leaf-blocked j ok.plan (of_fields []) fin q i l low h is_blocked start
-            (subst (λ (gs : List Group). Forward (λ up. open_reds fin up 1 (drop 1 gs)) is_blocked 1 (drop 1 gs)) (sym is) (pass R))));
+        is = λ i q l low h. sym (leaf-blocked j ok.plan (of_fields []) fin q i l low h is_blocked start
+            (subst (λ (gs : List Group). Forward (λ up. open_reds fin up 1 (drop 1 gs)) is_blocked 1 (drop 1 gs)) (sym is) (pass R)));
       }

@@ -6,9 +6,8 @@ use mathlib.Core.List.{List}
 use Prim.Native.Nat.{ℕ, zero, suc, ◌*◌, ◌/◌, ◌≤◌, ◌<◌}
 use native.Mathlib.Omega.{arith}
 use lib.ListN.{length, get_or}
-use lib.Dec.{eqb, leb, ltb}
+use lib.Dec.{leb, ltb}
 use borrow.Author.Tests.{eq-eqb, leb-false, ltb-true}
-use Rattle.base.specs.Lists.{bit}
 use Rattle.plan.specs.Sound.{max_workers}
 use Rattle.run.specs.Job.{Job, workers}
 use Rattle.run.specs.Updates.{count, accesses, next, waits}
@@ -19,7 +18,6 @@ use Rattle.tables.specs.Code.Laid.{updates_in, Counted, Laid, Waits}
 use Rattle.steps.specs.Code.Steps.{row_next, reason_at}
 use Rattle.steps.proofs.TableUpdates.{updates-are, row-is-update}
 use Rattle.run.proofs.Next.{next-at, next_row}
-use Rattle.machine.proofs.BlockedLeaves.{eqb-bit}
 
 module _ (j : Job) {first : List ℕ} (c : Counted j first) where
   -- a worker has two accesses for each update
@@ -51,8 +49,8 @@ module _ (j : Job) {first : List ℕ} (c : Counted j first) where
 
 module _ (j : Job) {first row begins leaves ends : List ℕ} (laid : Laid j first row begins leaves ends) where
   -- the entry of the leaf of a worker's next access says whether the worker waits
-  table-waits : (made blocks : List ℕ) → Waits j made blocks → (w : ℕ) → w < max_workers → count made w < accesses j w
-      → get_or blocks (get_or leaves (row_next first row made w) 0) 0 ≡ bit (waits j made w)
+  table-waits : (made : List ℕ) (blocks : List Bool) → Waits j made blocks → (w : ℕ) → w < max_workers → count made w < accesses j w
+      → get_or blocks (get_or leaves (row_next first row made w) 0) false ≡ waits j made w
   unfolding waits next accesses
   table-waits made blocks waiting w l left =
       let low : (next j made w).row < j.matrix.n = rw (next_row j made w left) (next-at j made w left).below in
@@ -60,7 +58,7 @@ module _ (j : Job) {first row begins leaves ends : List ℕ} (laid : Laid j firs
       rw (row-is-update j laid w l (count made w / 2) (omega arith)) (waiting.is (get_or leaves (next j made w).row 0) (next j made w).row h.leaf low h.held)
 
   -- why a worker's step is refused
-  pub table-reason : (made blocks : List ℕ) → Waits j made blocks → (crew : ℕ) → crew ≡ workers j → crew ≤ max_workers → (w : ℕ)
+  pub table-reason : (made : List ℕ) (blocks : List Bool) → Waits j made blocks → (crew : ℕ) → crew ≡ workers j → crew ≤ max_workers → (w : ℕ)
       → reason_at crew first row leaves blocks made w ≡ refusal j made w
   unfolding refusal reason
   table-reason made blocks waiting crew e few w = rw e (go (ltb w (workers j)) refl (leb (accesses j w) (count made w)) refl)
@@ -69,7 +67,7 @@ module _ (j : Job) {first row begins leaves ends : List ℕ} (laid : Laid j firs
       go false x b y = rw x
       go true x b y = rw (x, table-accesses j laid.counted w (omega (arith, ltb-true w (workers j) x)), y) (last b y)
         where
-          last : (b : Bool) → leb (accesses j w) (count made w) ≡ b → reason true b (eqb (get_or blocks (get_or leaves (row_next first row made w) 0) 0) 1) ≡ reason true b (waits j made w)
+          last : (b : Bool) → leb (accesses j w) (count made w) ≡ b → reason true b (get_or blocks (get_or leaves (row_next first row made w) 0) false) ≡ reason true b (waits j made w)
           last true y = refl
           last false y =
-              rw (table-waits made blocks waiting w (omega (arith, ltb-true w (workers j) x)) (leb-false (accesses j w) (count made w) y), eqb-bit (waits j made w))
+              rw (table-waits made blocks waiting w (omega (arith, ltb-true w (workers j) x)) (leb-false (accesses j w) (count made w) y))

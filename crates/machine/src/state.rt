@@ -10,16 +10,15 @@ ghost use Rattle.machine.specs.Record.{state_of};
 ghost use Rattle.machine.specs.Code.Tests.{all_below, fine, done};
 ghost use Rattle.tables.specs.Code.Laid.{Rising, LaidIn};
 ghost use Rattle.waits.specs.Code.Waits.{Recorded};
-ghost use Rattle.steps.specs.Code.Steps.{StepsBy, AheadBy};
+ghost use Rattle.steps.specs.Code.Steps.{AheadBy};
 ghost use Rattle.machine.specs.Code.Stepped.{walk, walked_of};
 
 use base::Kind;
-use matrix::limits::MAX_ROWS;
-use plan::fields::get;
-use plan::{MAX_GROUPS, MAX_WORKERS};
-use steps::{NONE, access, accesses, enter};
-use tables::{Entries, FIRSTS, Tables};
-use waits::{find, renew};
+use plan::MAX_WORKERS;
+use steps::course::{Hands, Work};
+use steps::{access, accesses, enter};
+use tables::FIRSTS;
+use waits::blocked::Blocked;
 
 // Accesses made, and the number held, of each of 16 workers.
 #[derive(Clone, Copy)]
@@ -29,7 +28,8 @@ pub struct State {
 }
 
 // What becomes of a schedule at a pick that its worker cannot make, for it is done or waits: it ends there, or passes
-// over it. Any other refusal ends it.
+// over it. Any other refusal ends it. An enum of two and no closure: the clauses of both walks speak of it as a value,
+// `walk rule j` and `passes_over rule`, where a closure would need a fact on what it answers beside it in each.
 #[derive(Clone, Copy)]
 pub enum Rule {
     Stop,
@@ -73,59 +73,33 @@ impl State {
     }
 
     // Takes the picks of a schedule one by one by the tables, up to the first that is refused and that the rule does
-    // not pass over.
-    pub fn walk(
-        self,
-        sums: &mut [i64],
-        schedule: &[u8],
-        rule: Rule,
-        tables: &Tables,
-        entries: &Entries,
-        displaced: &[i32; MAX_ROWS],
-    ) -> Walked
-        requires { ((record_at tables.now.groups.now 0).workers ≤ max_workers) × Recorded (length tables.now.groups.now / width) tables.now.groups.now
-            × StepsBy (length sums.old) tables.now entries.now }
-        ensures { (j : Job) → Accepted j → j.plan.groups ≡ records (length tables.now.groups.now / width) tables.now.groups.now
-            → LaidIn j tables.now → AheadBy j self.made (length schedule.now) tables.now entries.now displaced.now
+    // not pass over. There is a sum for each row.
+    pub fn walk(self, sums: &mut [i64], schedule: &[u8], rule: Rule, work: &Work) -> Walked
+        requires { (length sums.old ≡ work.now.course.rows) × (work.now.course.workers ≡ (record_at work.now.course.tables.groups.now 0).workers)
+            × Recorded (length work.now.course.tables.groups.now / width) work.now.course.tables.groups.now }
+        ensures { (j : Job) → Accepted j
+            → j.plan.groups ≡ records (length work.now.course.tables.groups.now / width) work.now.course.tables.groups.now
+            → LaidIn j work.now.course.tables → AheadBy j self.made (length schedule.now) work.now.course.tables work.now.entries work.now.displaced.now
             → walked_of result sums.new ≡ walk rule j (state_of self sums.old) schedule.now }
     {
         let mut made = self.made;
         let mut held = self.held;
-        let workers = get(tables.groups, 0).workers as usize;
-        let mut blocks = [0u8; MAX_GROUPS];
-        let mut stops = [0u32; MAX_WORKERS];
-        find(tables.groups, tables.ends, &made, &mut blocks, &mut stops);
-        let mut targets = [NONE; MAX_WORKERS];
-        let mut adds = [0i64; MAX_WORKERS];
+        let records = work.course.records();
+        let mut blocked = Blocked::none();
+        blocked.find(&records, &made);
+        let mut hands = Hands::empty();
         let mut taken = 0;
         for (k, pick) in schedule.iter().enumerate() {
             let w = *pick as usize;
-            let step = match enter(
-                tables,
-                entries,
-                displaced,
-                &made,
-                w,
-                workers,
-                &blocks,
-                &mut targets,
-                &mut adds,
-            ) {
-                Ok(()) => access(&mut made, &mut held, sums, w, &mut targets, &adds),
+            let step = match enter(work, &made, w, &blocked.blocks, &mut hands) {
+                Ok(()) => access(&mut made, &mut held, sums, w, &mut hands),
                 Err(kind) => Err(kind),
             };
             match step {
                 Ok(()) => {
                     taken += 1;
-                    if renew(
-                        tables.groups,
-                        tables.ends,
-                        &made,
-                        w,
-                        &mut blocks,
-                        &mut stops,
-                    ) {
-                        targets = [NONE; MAX_WORKERS];
+                    if blocked.renew(&records, &made, w) {
+                        hands.clear();
                     }
                 }
                 Err(kind) => {

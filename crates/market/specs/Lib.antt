@@ -6,3 +6,4 @@ pub mod Text
 pub mod WriteThenRead
 pub mod AcceptedText
 pub mod Texts
+pub mod Code

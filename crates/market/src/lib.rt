@@ -2,6 +2,8 @@
 // their own.
 #![tactic(auto)]
 
+pub mod digits;
+
 ghost use Rattle.std.specs.Prelude.{◌≡◌};
 ghost use Rattle.base.specs.Integers.{within};
 ghost use Rattle.matrix.specs.Limits.{max_value};

@@ -1,4 +1,5 @@
 // The calls for two crews on one set of cores.
+// Each list and its count comes by itself, as the C interface has it.
 ghost use Rattle.std.specs.Prelude.{◌≡◌};
 ghost use Rattle.crews.specs.Calls.{picks_both, ready_sets, after_both_lent};
 ghost use Rattle.words.specs.LittleEndian.{unsigned, signed};
@@ -6,8 +7,10 @@ ghost use Rattle.lent.specs.Bytes.{matrix_in};
 ghost use Rattle.lent.specs.Word.{word};
 ghost use Rattle.quarters.specs.Both.{states_in, answer_both_in, reply_to_both, PicksBothAnswered};
 
-use answers::state::sums_of;
-use quarters::bytes::load_crews;
+use answers::bytes::RunBytes;
+use lent::nets::NetBytes;
+use lent::plans::PlanBytes;
+use quarters::bytes::RoofBytes;
 use quarters::{picks_both_in, ready_both_in};
 
 // A list of picks for both, made one load or store at a time.
@@ -35,22 +38,22 @@ pub fn mzk_picks_both(
         (record { of0 = record { state = state0.old; sums = sums0.old }; of1 = record { state = state1.old; sums = sums1.old } }) result
         (record { of0 = record { state = state0.new; sums = sums0.new }; of1 = record { state = state1.new; sums = sums1.new } }) }
 {
-    picks_both_in(
-        n,
-        row_starts,
-        columns,
-        values,
+    let roof = RoofBytes {
+        net: NetBytes {
+            n,
+            row_starts,
+            columns,
+            values,
+        },
         movements0,
         movements1,
-        order,
-        groups,
-        group_count,
-        state0,
-        sums0,
-        state1,
-        sums1,
-        picks,
-    )
+        plan: PlanBytes {
+            order,
+            groups,
+            count: group_count,
+        },
+    };
+    picks_both_in(&roof, state0, sums0, state1, sums1, picks)
 }
 
 // The workers of each whose next pick would be taken.
@@ -72,18 +75,28 @@ pub fn mzk_ready_both(
     ensures { result ≡ word (reply_to_both (answer_both_in (matrix_in n row_starts.now columns.now values.now) (record { of0 = signed 4 movements0.now; of1 = signed 4 movements1.now }) (unsigned 4 order.now) (unsigned 4 groups.now) group_count
         (record { of0 = record { state = state0.now; sums = sums0.now }; of1 = record { state = state1.now; sums = sums1.now } }) ready_sets)) }
 {
-    ready_both_in(
-        n,
-        row_starts,
-        columns,
-        values,
+    let roof = RoofBytes {
+        net: NetBytes {
+            n,
+            row_starts,
+            columns,
+            values,
+        },
         movements0,
         movements1,
-        order,
-        groups,
-        group_count,
-        load_crews(state0, state1),
-        sums_of(state0, sums0),
-        sums_of(state1, sums1),
-    )
+        plan: PlanBytes {
+            order,
+            groups,
+            count: group_count,
+        },
+    };
+    let run0 = RunBytes {
+        state: state0,
+        sums: sums0,
+    };
+    let run1 = RunBytes {
+        state: state1,
+        sums: sums1,
+    };
+    ready_both_in(&roof, &run0, &run1)
 }

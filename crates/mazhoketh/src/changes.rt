@@ -1,10 +1,12 @@
 // Forces kept current while joints creep.
+// Each list and its count comes by itself, as the C interface has it.
 ghost use Rattle.lent.specs.Bytes.{matrix_in};
 ghost use Rattle.upkeep.specs.Upkeep.{new_displacement, new_value};
 ghost use Rattle.site.specs.Lent.{MovementAnswered, EntryAnswered};
 
-use site::entry::set_entry_in;
-use site::movement::set_movement_in;
+use lent::nets::NetBytes;
+use site::entry::{Entry, PatternBytes, set_entry_in};
+use site::movement::{Movement, set_movement_in};
 
 // A new displacement for one row.
 pub fn mzk_set_movement(
@@ -19,9 +21,13 @@ pub fn mzk_set_movement(
 ) -> u64
     ensures { MovementAnswered (matrix_in n row_starts.now columns.now values.now) (new_displacement row value) movements.old forces.old result movements.new forces.new }
 {
-    set_movement_in(
-        n, row_starts, columns, values, movements, forces, row, value,
-    )
+    let net = NetBytes {
+        n,
+        row_starts,
+        columns,
+        values,
+    };
+    set_movement_in(&net, movements, forces, Movement { row, value })
 }
 
 // A new value for a stored entry and its mirror.
@@ -38,7 +44,16 @@ pub fn mzk_set_entry(
 ) -> u64
     ensures { EntryAnswered (matrix_in n row_starts.now columns.now values.old) (new_value row column value) values.old movements.now forces.old result values.new forces.new }
 {
+    let pattern = PatternBytes {
+        n,
+        row_starts,
+        columns,
+    };
     set_entry_in(
-        n, row_starts, columns, values, movements, forces, row, column, value,
+        &pattern,
+        values,
+        movements,
+        forces,
+        Entry { row, column, value },
     )
 }

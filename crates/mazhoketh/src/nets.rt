@@ -1,4 +1,5 @@
 // The calls that make or check a matrix, a plan or a product.
+// Each list and its count comes by itself, as the C interface has it.
 ghost use Rattle.std.specs.Prelude.{◌≡◌, ◌/◌, length};
 ghost use Rattle.matrix.specs.Product.{product, product_reply};
 ghost use Rattle.market.specs.Text.{written, write_reply};
@@ -9,8 +10,10 @@ ghost use Rattle.lent.specs.Word.{word, Answered};
 ghost use Rattle.texts.specs.Lent.{ReadAnswered};
 ghost use Rattle.office.specs.Lent.{PlanAnswered};
 
+use lent::nets::NetBytes;
+use lent::plans::PlanBytes;
 use office::check::check_in;
-use office::planning::plan_in;
+use office::planning::{Wish, plan_in};
 use office::product::product_in;
 use texts::read::read_in;
 use texts::write::write_in;
@@ -26,7 +29,13 @@ pub fn mzk_read(text: &[u8], row_starts: &mut [u8], columns: &mut [u8], values: 
 pub fn mzk_write(n: u32, row_starts: &[u8], columns: &[u8], values: &[u8], text: &mut [u8]) -> u64
     ensures { Answered (write_reply (matrix_in n row_starts.now columns.now values.now) (length text.old)) (written (matrix_in n row_starts.now columns.now values.now)) text.old result text.new }
 {
-    write_in(n, row_starts, columns, values, text)
+    let net = NetBytes {
+        n,
+        row_starts,
+        columns,
+        values,
+    };
+    write_in(&net, text)
 }
 
 // The forces of a matrix and movements.
@@ -40,7 +49,13 @@ pub fn mzk_product(
 ) -> u64
     ensures { Answered (product_reply (matrix_in n row_starts.now columns.now values.now) (signed 4 movements.now) (length forces.old / 8)) (signed_bytes 8 (product (matrix_in n row_starts.now columns.now values.now) (signed 4 movements.now))) forces.old result forces.new }
 {
-    product_in(n, row_starts, columns, values, movements, forces)
+    let net = NetBytes {
+        n,
+        row_starts,
+        columns,
+        values,
+    };
+    product_in(&net, movements, forces)
 }
 
 // The plan of a matrix at a distance.
@@ -57,7 +72,13 @@ pub fn mzk_plan(
 ) -> u64
     ensures { PlanAnswered (matrix_in n row_starts.now columns.now values.now) workers p k order.old groups.old result order.new groups.new }
 {
-    plan_in(n, row_starts, columns, values, workers, p, k, order, groups)
+    let net = NetBytes {
+        n,
+        row_starts,
+        columns,
+        values,
+    };
+    plan_in(&net, Wish { workers, p, k }, order, groups)
 }
 
 // Whether a plan is sound at a distance for a matrix.
@@ -73,14 +94,16 @@ pub fn mzk_check(
 ) -> u64
     ensures { result ≡ word (check_reply (matrix_in n row_starts.now columns.now values.now) (unsigned 4 order.now) (unsigned 4 groups.now) group_count k) }
 {
-    check_in(
+    let net = NetBytes {
         n,
         row_starts,
         columns,
         values,
+    };
+    let plan = PlanBytes {
         order,
         groups,
-        group_count,
-        k,
-    )
+        count: group_count,
+    };
+    check_in(&net, &plan, k)
 }

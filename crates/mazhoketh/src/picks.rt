@@ -1,13 +1,17 @@
 // Lists of picks: what they would do, and what they do.
+// Each list and its count comes by itself, as the C interface has it.
 ghost use Rattle.std.specs.Prelude.{◌≡◌};
 ghost use Rattle.run.specs.Answers as calls;
 ghost use Rattle.words.specs.LittleEndian.{unsigned, signed};
 ghost use Rattle.lent.specs.Bytes.{matrix_in};
 ghost use Rattle.answers.specs.Runs.{answer_in, preview_word, LentPicks, LentRounds};
 
+use answers::bytes::{JobBytes, RunBytes};
 use answers::word::{word_of, word_of_preview, word_of_round};
 use cabinet::{look_in, take_in};
 use calls::Call;
+use lent::nets::NetBytes;
+use lent::plans::PlanBytes;
 
 // The picks that would be taken, what would end them, and who would be ready then.
 pub fn mzk_preview(
@@ -25,22 +29,23 @@ pub fn mzk_preview(
 ) -> u64
     ensures { result ≡ preview_word (answer_in (matrix_in n row_starts.now columns.now values.now) (signed 4 movements.now) (unsigned 4 order.now) (unsigned 4 groups.now) group_count state.now sums.now (calls.preview picks.now)) }
 {
-    let mut none = [0u8; 0];
-    let answer = look_in(
-        n,
-        row_starts,
-        columns,
-        values,
+    let job = JobBytes {
+        net: NetBytes {
+            n,
+            row_starts,
+            columns,
+            values,
+        },
         movements,
-        order,
-        groups,
-        group_count,
-        picks,
-        &mut none,
-        state,
-        sums,
-        Call::Preview,
-    );
+        plan: PlanBytes {
+            order,
+            groups,
+            count: group_count,
+        },
+    };
+    let run = RunBytes { state, sums };
+    let mut none = [0u8; 0];
+    let answer = look_in(&job, &run, picks, &mut none, Call::Preview);
     word_of_preview(answer)
 }
 
@@ -61,20 +66,21 @@ pub fn mzk_picks(
     ensures { LentPicks (matrix_in n row_starts.now columns.now values.now) (signed 4 movements.now) (unsigned 4 order.now) (unsigned 4 groups.now) group_count
         state.old sums.old (calls.picks picks.now) result state.new sums.new }
 {
-    let answer = take_in(
-        n,
-        row_starts,
-        columns,
-        values,
+    let job = JobBytes {
+        net: NetBytes {
+            n,
+            row_starts,
+            columns,
+            values,
+        },
         movements,
-        order,
-        groups,
-        group_count,
-        state,
-        sums,
-        picks,
-        Call::Picks,
-    );
+        plan: PlanBytes {
+            order,
+            groups,
+            count: group_count,
+        },
+    };
+    let answer = take_in(&job, state, sums, picks, Call::Picks);
     word_of(answer)
 }
 
@@ -95,19 +101,20 @@ pub fn mzk_rounds(
     ensures { LentRounds (matrix_in n row_starts.now columns.now values.now) (signed 4 movements.now) (unsigned 4 order.now) (unsigned 4 groups.now) group_count
         state.old sums.old (calls.rounds picks.now) result state.new sums.new }
 {
-    let answer = take_in(
-        n,
-        row_starts,
-        columns,
-        values,
+    let job = JobBytes {
+        net: NetBytes {
+            n,
+            row_starts,
+            columns,
+            values,
+        },
         movements,
-        order,
-        groups,
-        group_count,
-        state,
-        sums,
-        picks,
-        Call::Rounds,
-    );
+        plan: PlanBytes {
+            order,
+            groups,
+            count: group_count,
+        },
+    };
+    let answer = take_in(&job, state, sums, picks, Call::Rounds);
     word_of_round(answer)
 }

@@ -1,4 +1,5 @@
 // A job prepared once, and the calls on its list.
+// Each list and its count comes by itself, as the C interface has it.
 ghost use Rattle.std.specs.Prelude.{◌≡◌, ◌/◌, length};
 ghost use Rattle.run.specs.Answers.{ready_set, force_list, rounds};
 ghost use Rattle.run.specs.Answers as calls;
@@ -8,7 +9,10 @@ ghost use Rattle.lent.specs.Word.{word};
 ghost use Rattle.answers.specs.Runs.{reply_to, ForcesAnswered};
 ghost use Rattle.rack.specs.Kept.{PrepareAnswered, answer_kept, KeptPicks, KeptRounds};
 
+use answers::bytes::{JobBytes, RunBytes};
 use answers::word::{word_of, word_of_round};
+use lent::nets::NetBytes;
+use lent::plans::PlanBytes;
 use machine::state::Rule;
 use rack::prepare::prepare_in;
 use rack::{ready, take};
@@ -28,17 +32,21 @@ pub fn mzk_prepare(
     ensures { PrepareAnswered (matrix_in n row_starts.now columns.now values.now) (signed 4 movements.now) (unsigned 4 order.now) (unsigned 4 groups.now) group_count
         prepared.old result prepared.new }
 {
-    prepare_in(
-        n,
-        row_starts,
-        columns,
-        values,
+    let job = JobBytes {
+        net: NetBytes {
+            n,
+            row_starts,
+            columns,
+            values,
+        },
         movements,
-        order,
-        groups,
-        group_count,
-        prepared,
-    )
+        plan: PlanBytes {
+            order,
+            groups,
+            count: group_count,
+        },
+    };
+    prepare_in(&job, prepared)
 }
 
 // A list of picks, made one load or store at a time.
@@ -61,7 +69,7 @@ pub fn mzk_prepared_rounds(prepared: &[u8], state: &mut [u8], sums: &mut [u8], p
 pub fn mzk_prepared_ready(prepared: &[u8], state: &[u8], sums: &[u8]) -> u64
     ensures { result ≡ word (reply_to (answer_kept prepared.now state.now sums.now ready_set)) }
 {
-    let answer = ready(prepared, state, sums);
+    let answer = ready(prepared, &RunBytes { state, sums });
     word_of(answer)
 }
 
@@ -69,6 +77,6 @@ pub fn mzk_prepared_ready(prepared: &[u8], state: &[u8], sums: &[u8]) -> u64
 pub fn mzk_prepared_forces(prepared: &[u8], state: &[u8], sums: &[u8], forces: &mut [u8]) -> u64
     ensures { ForcesAnswered (answer_kept prepared.now state.now sums.now (force_list (length forces.old / 8))) forces.old result forces.new }
 {
-    let answer = rack::forces(prepared, state, sums, forces);
+    let answer = rack::forces(prepared, &RunBytes { state, sums }, forces);
     word_of(answer)
 }

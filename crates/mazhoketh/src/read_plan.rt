@@ -1,4 +1,5 @@
 // mzk_read_plan: the plan in a file.
+// Each list and its count comes by itself, as the C interface has it.
 ghost use Rattle.lent.specs.Word.{Answered};
 ghost use Rattle.plan.specs.Groups.{flat};
 ghost use Rattle.planfile.specs.Calls.{read_plan_reply};

@@ -1,9 +1,11 @@
 // How far a survey error reaches.
+// Each list and its count comes by itself, as the C interface has it.
 ghost use Rattle.words.specs.LittleEndian.{signed};
 ghost use Rattle.lent.specs.Bytes.{matrix_in};
 ghost use Rattle.desk.specs.Lent.{SurveyAnswered};
 
-use desk::reach::survey_in;
+use desk::reach::{Question, survey_in};
+use lent::nets::NetBytes;
 
 // The amount of each row, and the shift that reaches one row's.
 pub fn mzk_survey(
@@ -19,7 +21,11 @@ pub fn mzk_survey(
 ) -> u64
     ensures { SurveyAnswered (matrix_in n row_starts.now columns.now values.now) (signed 4 movements.now) t row amounts.old shift.old result amounts.new shift.new }
 {
-    survey_in(
-        n, row_starts, columns, values, movements, t, row, amounts, shift,
-    )
+    let net = NetBytes {
+        n,
+        row_starts,
+        columns,
+        values,
+    };
+    survey_in(&net, movements, Question { t, row }, amounts, shift)
 }

@@ -1,4 +1,5 @@
 // The calls for two crews on one set of cores.
+// Each list and its count comes by itself, as the C interface has it.
 ghost use Rattle.std.specs.Prelude.{◌≡◌};
 ghost use Rattle.crews.specs.Calls.{picks_both, ready_sets, after_both_lent};
 ghost use Rattle.words.specs.LittleEndian.{unsigned, signed};

@@ -1,4 +1,5 @@
 // Forces kept current while joints creep.
+// Each list and its count comes by itself, as the C interface has it.
 ghost use Rattle.lent.specs.Bytes.{matrix_in};
 ghost use Rattle.upkeep.specs.Upkeep.{new_displacement, new_value};
 ghost use Rattle.site.specs.Lent.{MovementAnswered, EntryAnswered};

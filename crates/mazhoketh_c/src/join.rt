@@ -1,4 +1,5 @@
 // Two nets sewn together.
+// Each list and its count comes by itself, as the C interface has it.
 ghost use Rattle.words.specs.LittleEndian.{unsigned};
 ghost use Rattle.lent.specs.Bytes.{matrix_in};
 ghost use Rattle.shop.specs.Lent.{JoinAnswered};

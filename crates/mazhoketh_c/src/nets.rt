@@ -1,4 +1,5 @@
 // The calls that make or check a matrix, a plan or a product.
+// Each list and its count comes by itself, as the C interface has it.
 ghost use Rattle.std.specs.Prelude.{◌≡◌, ◌/◌, length};
 ghost use Rattle.matrix.specs.Product.{product, product_reply};
 ghost use Rattle.market.specs.Text.{written, write_reply};

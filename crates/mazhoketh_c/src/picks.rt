@@ -1,4 +1,5 @@
 // Lists of picks: what they would do, and what they do.
+// Each list and its count comes by itself, as the C interface has it.
 ghost use Rattle.std.specs.Prelude.{◌≡◌};
 ghost use Rattle.run.specs.Answers as calls;
 ghost use Rattle.words.specs.LittleEndian.{unsigned, signed};

@@ -1,4 +1,5 @@
 // A job prepared once, and the calls on its list.
+// Each list and its count comes by itself, as the C interface has it.
 ghost use Rattle.std.specs.Prelude.{◌≡◌, ◌/◌, length};
 ghost use Rattle.run.specs.Answers.{ready_set, force_list, rounds};
 ghost use Rattle.run.specs.Answers as calls;

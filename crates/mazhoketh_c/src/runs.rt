@@ -1,4 +1,5 @@
 // What a run tells: who is ready, its forces.
+// Each list and its count comes by itself, as the C interface has it.
 ghost use Rattle.std.specs.Prelude.{◌≡◌, ◌/◌, length};
 ghost use Rattle.run.specs.Answers.{ready_set, force_list};
 ghost use Rattle.words.specs.LittleEndian.{unsigned, signed};

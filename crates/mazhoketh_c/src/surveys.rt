@@ -1,4 +1,5 @@
 // How far a survey error reaches.
+// Each list and its count comes by itself, as the C interface has it.
 ghost use Rattle.words.specs.LittleEndian.{signed};
 ghost use Rattle.lent.specs.Bytes.{matrix_in};
 ghost use Rattle.desk.specs.Lent.{SurveyAnswered};

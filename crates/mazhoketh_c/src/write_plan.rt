@@ -1,4 +1,5 @@
 // mzk_write_plan: a plan as a file.
+// Each list and its count comes by itself, as the C interface has it.
 ghost use Rattle.std.specs.Prelude.{length};
 ghost use Rattle.lent.specs.Word.{Answered};
 ghost use Rattle.planfile.specs.Calls.{lent_plan, write_plan_reply};

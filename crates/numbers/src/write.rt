@@ -41,7 +41,8 @@ fn measure(numbers: &[u8], room: usize) -> Result<usize, Refusal>
     Ok(room - left)
 }
 
-// The text of so many bytes, from the last number to the first.
+// The text of so many bytes, from the last number to the first. It ends at `size`, and the room, which C lends, may be
+// longer.
 fn fill(numbers: &[u8], text: &mut [u8], size: usize)
     requires { (size ≡ length (numbers_text (signed 8 numbers.now))) × (size ≤ length text.old) }
     ensures { text.new ≡ stored (numbers_text (signed 8 numbers.now)) text.old }

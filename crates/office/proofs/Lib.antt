@@ -1,4 +1,3 @@
-pub mod Cells
 pub mod Products
 pub mod Plans
 pub mod PlanChecks

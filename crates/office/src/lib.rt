@@ -2,7 +2,6 @@
 // call is made, its answer is stored.
 #![tactic(auto)]
 
-mod bytes;
 pub mod check;
 pub mod planning;
 pub mod product;

@@ -1,14 +1,13 @@
 // plan: the plan of a matrix.
 ghost use Rattle.base.specs.Verdicts.{reply_of};
 ghost use Rattle.matrix.specs.Held.{held};
-ghost use Rattle.lent.specs.Bytes.{matrix_in};
 ghost use Rattle.lent.specs.Word.{word};
+ghost use Rattle.lent.specs.Code.Nets.{net_of};
 ghost use Rattle.office.specs.Lent.{PlanAnswered};
-ghost use Rattle.office.specs.Code.Cells.{given};
 
-use crate::bytes::MatrixBytes;
 use base::Refusal;
 use lent::few::{FEW_CELLS, are_few};
+use lent::nets::{NetBytes, SizedNet};
 use lent::word::word_of;
 use matrix::limits::{MAX_CELLS, MAX_ROWS, MAX_STARTS};
 use matrix::lists::Matrix;
@@ -17,13 +16,15 @@ use words::lists::store;
 
 // What a plan is made for: how many workers, a share and a distance.
 #[derive(Clone, Copy)]
-struct Wish {
-    workers: u32,
-    p: u32,
-    k: u32,
+pub struct Wish {
+    pub workers: u32,
+    pub p: u32,
+    pub k: u32,
 }
 
-// The plan is made in arrays, as far as the lent lists have room; then it is stored.
+// The plan is made in arrays, as far as the lent lists have room; then it is stored. (The order and the groups stay two
+// lists, here and below: C lends both to be written, and in a struct they would be no plainer, since each clause would
+// still say of both what they were and what they are.)
 fn plan_of(
     m: &Matrix,
     wish: Wish,
@@ -47,12 +48,12 @@ fn plan_of(
 // With arrays of so many columns and values, in a frame of their own: it is short for a net with few.
 #[inline(never)]
 fn plan_with<const CELLS: usize>(
-    bytes: &MatrixBytes<CELLS>,
+    bytes: &SizedNet<CELLS>,
     wish: Wish,
     order: &mut [u8],
     groups: &mut [u8],
 ) -> Result<u32, Refusal>
-    ensures { PlanAnswered (given bytes.now) wish.workers wish.p wish.k order.old groups.old (word (reply_of result)) order.new groups.new }
+    ensures { PlanAnswered (net_of bytes.now.net) wish.workers wish.p wish.k order.old groups.old (word (reply_of result)) order.new groups.new }
 {
     let mut starts = [0u32; MAX_STARTS];
     let mut columns = [0u32; CELLS];
@@ -63,42 +64,12 @@ fn plan_with<const CELLS: usize>(
     plan_of(&m, wish, &mut order_list, &mut group_list, order, groups)
 }
 
-pub fn plan_in(
-    n: u32,
-    row_starts: &[u8],
-    columns: &[u8],
-    values: &[u8],
-    workers: u32,
-    p: u32,
-    k: u32,
-    order: &mut [u8],
-    groups: &mut [u8],
-) -> u64
-    ensures { PlanAnswered (matrix_in n row_starts.now columns.now values.now) workers p k order.old groups.old result order.new groups.new }
+pub fn plan_in(net: &NetBytes, wish: Wish, order: &mut [u8], groups: &mut [u8]) -> u64
+    ensures { PlanAnswered (net_of net.now) wish.workers wish.p wish.k order.old groups.old result order.new groups.new }
 {
-    let wish = Wish { workers, p, k };
-    if are_few(columns, values) {
-        return word_of(plan_with::<FEW_CELLS>(
-            &MatrixBytes {
-                n,
-                row_starts,
-                columns,
-                values,
-            },
-            wish,
-            order,
-            groups,
-        ));
+    if are_few(net.columns, net.values) {
+        word_of(plan_with(&SizedNet::<FEW_CELLS> { net: *net }, wish, order, groups))
+    } else {
+        word_of(plan_with(&SizedNet::<MAX_CELLS> { net: *net }, wish, order, groups))
     }
-    word_of(plan_with::<MAX_CELLS>(
-        &MatrixBytes {
-            n,
-            row_starts,
-            columns,
-            values,
-        },
-        wish,
-        order,
-        groups,
-    ))
 }

@@ -5,14 +5,13 @@ ghost use Rattle.matrix.specs.Held.{held};
 ghost use Rattle.matrix.specs.Limits.{max_rows};
 ghost use Rattle.matrix.specs.Product.{product, product_reply};
 ghost use Rattle.words.specs.LittleEndian.{signed, signed_bytes};
-ghost use Rattle.lent.specs.Bytes.{matrix_in};
 ghost use Rattle.lent.specs.Word.{word, Answered};
-ghost use Rattle.office.specs.Code.Cells.{given};
+ghost use Rattle.lent.specs.Code.Nets.{net_of};
 
-use crate::bytes::MatrixBytes;
 use base::Refusal;
 use lent::few::{FEW_CELLS, are_few};
 use lent::lists::decode;
+use lent::nets::{NetBytes, SizedNet};
 use lent::word::word_of;
 use matrix::limits::{MAX_CELLS, MAX_ROWS, MAX_STARTS};
 use matrix::lists::Matrix;
@@ -36,11 +35,11 @@ fn product_of(
 // With arrays of so many columns and values, in a frame of their own: it is short for a net with few.
 #[inline(never)]
 fn product_with<const CELLS: usize>(
-    bytes: &MatrixBytes<CELLS>,
+    bytes: &SizedNet<CELLS>,
     movements: &[u8],
     forces: &mut [u8],
 ) -> Result<u32, Refusal>
-    ensures { Answered (product_reply (given bytes.now) (signed 4 movements.now) (length forces.old / 8)) (signed_bytes 8 (product (given bytes.now) (signed 4 movements.now))) forces.old (word (reply_of result)) forces.new }
+    ensures { Answered (product_reply (net_of bytes.now.net) (signed 4 movements.now) (length forces.old / 8)) (signed_bytes 8 (product (net_of bytes.now.net) (signed 4 movements.now))) forces.old (word (reply_of result)) forces.new }
 {
     let mut starts = [0u32; MAX_STARTS];
     let mut columns = [0u32; CELLS];
@@ -51,36 +50,12 @@ fn product_with<const CELLS: usize>(
     product_of(&m, decode(movements, &mut displacements), &mut sums, forces)
 }
 
-pub fn product_in(
-    n: u32,
-    row_starts: &[u8],
-    columns: &[u8],
-    values: &[u8],
-    movements: &[u8],
-    forces: &mut [u8],
-) -> u64
-    ensures { Answered (product_reply (matrix_in n row_starts.now columns.now values.now) (signed 4 movements.now) (length forces.old / 8)) (signed_bytes 8 (product (matrix_in n row_starts.now columns.now values.now) (signed 4 movements.now))) forces.old result forces.new }
+pub fn product_in(net: &NetBytes, movements: &[u8], forces: &mut [u8]) -> u64
+    ensures { Answered (product_reply (net_of net.now) (signed 4 movements.now) (length forces.old / 8)) (signed_bytes 8 (product (net_of net.now) (signed 4 movements.now))) forces.old result forces.new }
 {
-    if are_few(columns, values) {
-        return word_of(product_with::<FEW_CELLS>(
-            &MatrixBytes {
-                n,
-                row_starts,
-                columns,
-                values,
-            },
-            movements,
-            forces,
-        ));
+    if are_few(net.columns, net.values) {
+        word_of(product_with(&SizedNet::<FEW_CELLS> { net: *net }, movements, forces))
+    } else {
+        word_of(product_with(&SizedNet::<MAX_CELLS> { net: *net }, movements, forces))
     }
-    word_of(product_with::<MAX_CELLS>(
-        &MatrixBytes {
-            n,
-            row_starts,
-            columns,
-            values,
-        },
-        movements,
-        forces,
-    ))
 }

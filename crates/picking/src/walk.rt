@@ -16,8 +16,8 @@ use plan::MAX_WORKERS;
 // No row: it has no gate.
 const NOWHERE: usize = 4294967295;
 
-// Takes the picks of a schedule one by one, up to the first that is refused and that the rule does not pass over. There
-// is a sum for each row.
+// Takes the picks of a schedule one by one, up to the first that is refused and that the rule does not pass over: a
+// value, as its clause has it, `passes_over rule`. There is a sum for each row.
 pub fn walk(
     list: &[u8],
     sizes: Sizes,

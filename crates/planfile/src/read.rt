@@ -14,7 +14,7 @@ use base::{Kind, Refusal};
 use plan::fields::WIDTH;
 use words::copy::copy;
 
-// The counts of a file that there is room for.
+// The counts of a file that there is room for in both lists.
 #[tactic(auto, using(std::proofs::lemmas::Bool::Decides::nat_tests), unfolding(base::specs::Replies::in_turn, crate::specs::Calls::read_plan_reply))]
 fn counts_in(file: &[u8], order: &[u8], groups: &[u8]) -> Result<Counts, Refusal>
     ensures { IsReadable file.now order.now groups.now result }
@@ -40,7 +40,7 @@ fn counts_in(file: &[u8], order: &[u8], groups: &[u8]) -> Result<Counts, Refusal
     Ok(counts)
 }
 
-// Both bodies are copied as they are.
+// Both bodies are copied as they are. README's table names this call: its two lists come one by one, as C lends them.
 #[tactic(auto, unfolding(base::specs::Replies::lent))]
 pub fn read(file: &[u8], order: &mut [u8], groups: &mut [u8]) -> Result<u32, Refusal>
     ensures replies { reply_of result ≡ read_plan_reply file.now order.old groups.old }

@@ -14,7 +14,7 @@ use plan::fields::WIDTH;
 use words::copy::copy;
 use words::lists::store;
 
-// The counts of a plan that there is room for.
+// The counts of a plan that there is room for. It takes what `write` is lent: a struct for two functions is no plainer.
 #[tactic(auto, using(std::proofs::lemmas::Bool::Decides::nat_tests), unfolding(base::specs::Replies::in_turn, crate::specs::Calls::write_plan_reply))]
 fn counts_in(
     n: u32,
@@ -63,6 +63,7 @@ fn fill(order: &[u8], groups: &[u8], counts: Counts, file: &mut [u8])
     );
 }
 
+// The file of a plan of n rows. README's table names this call: its lists come one by one, as C lends them.
 #[tactic(auto, unfolding(base::specs::Replies::lent))]
 pub fn write(
     n: u32,

@@ -31,7 +31,8 @@ fn are_parameters(workers: u32, p: u32, k: u32) -> bool
     1 <= workers && workers <= MOST_WORKERS && 50 <= p && p <= 99 && is_distance(k)
 }
 
-// The plan of a matrix at the distance k: its order, and its groups in a flat list.
+// The plan of a matrix at the distance k: its order, and its groups in a flat list. Both are lent for writing as two
+// lists, as a caller in C has them, and the count is the answer: a struct would be made for this one call.
 #[tactic(auto, unfolding(base::specs::Replies::in_turn, base::specs::Replies::lent, race::specs::Planner::plan_reply, matrix::specs::Matrix::matrix_check))]
 pub fn plan(
     m: &Matrix,

@@ -9,8 +9,8 @@ ghost use Rattle.race.specs.Planner.{plan_rows};
 ghost use Rattle.cycle.specs.Code.Records.{Holds};
 ghost use Rattle.matrix.specs.Limits.{max_rows};
 
-use cycle::plan_group;
 use cycle::setting::Setting;
+use cycle::{Task, plan_group};
 use extents::Policy;
 use levels::graph::Graph;
 use matrix::limits::MAX_ROWS;
@@ -18,7 +18,7 @@ use plan::MAX_DEPTH;
 use plan::fields::{Colour, Group, MAX_FIELDS};
 use search::visiting::Visits;
 use sort::degrees::{Ranked, put_degrees};
-use sort::{MAX_LEVELS, level_sort};
+use sort::{MAX_LEVELS, Workspace, level_sort};
 
 // A group at depth 0 may be split so often.
 const STAGES: u32 = MAX_DEPTH as u32;
@@ -35,28 +35,21 @@ fn number(order: &mut [u32])
 
 // The rows by their levels. In a frame of its own: its array of ends lies beside none of the groups'.
 #[inline(never)]
-fn sort_rows(
-    ranked: &Ranked,
-    order: &mut [u32],
-    own: &mut [u32; MAX_ROWS],
-    roots: &mut [u32; MAX_ROWS],
-    visits: &mut Visits,
-    reach: usize,
-)
-    requires { (order.old ≡ range 0 ranked.now.graph.m.n) × (1 ≤ reach) }
-    ensures { order.new ≡ concat (own_levels (adj ranked.now.graph) reach ranked.now.graph.m.n (range 0 ranked.now.graph.m.n)) }
+fn sort_rows(ranked: &Ranked, order: &mut [u32], work: &mut Workspace, policy: Policy)
+    requires { order.old ≡ range 0 ranked.now.graph.m.n }
+    ensures { order.new ≡ concat (own_levels (adj ranked.now.graph) policy.reach ranked.now.graph.m.n (range 0 ranked.now.graph.m.n)) }
 {
     let mut ends = [0u32; MAX_LEVELS];
-    level_sort(ranked, order, &mut ends, own, roots, visits, reach, 0);
-}
-
-// No row is marked. In a frame of its own: the arrays are made there before they are moved.
-#[inline(never)]
-fn blank() -> Visits {
-    Visits {
-        marks: [0; MAX_ROWS],
-        queue: [0; MAX_ROWS],
-    }
+    level_sort(
+        ranked,
+        order,
+        &mut ends,
+        &mut work.own,
+        &mut work.roots,
+        &mut work.visits,
+        policy.reach,
+        0,
+    );
 }
 
 // The plan of all rows; the answer is how many groups it has. If it is one, the whole is a leaf, and its rows are still
@@ -79,7 +72,7 @@ pub fn plan_rows(
         keys: &keys,
     };
     let setting = Setting { ranked, policy };
-    let whole = Group {
+    let group = Group {
         start: 0,
         length: graph.m.n as u32,
         first: 0,
@@ -88,14 +81,22 @@ pub fn plan_rows(
         parent: 0,
         depth: 0,
     };
-    let mut own = [0u32; MAX_ROWS];
-    let mut roots = [0u32; MAX_ROWS];
-    let visits = &mut blank();
-    let count = plan_group(
-        &setting, order, records, &mut own, &mut roots, visits, STAGES, 0, whole,
-    );
+    let whole = Task {
+        group,
+        index: 0,
+        stages: STAGES,
+    };
+    let mut work = Workspace {
+        own: [0; MAX_ROWS],
+        roots: [0; MAX_ROWS],
+        visits: Visits {
+            marks: [0; MAX_ROWS],
+            queue: [0; MAX_ROWS],
+        },
+    };
+    let count = plan_group(&setting, order, records, &mut work, whole);
     if count == 1 {
-        sort_rows(&ranked, order, &mut own, &mut roots, visits, policy.reach);
+        sort_rows(&ranked, order, &mut work, policy);
     }
     count
 }

@@ -1,4 +1,4 @@
--- The positions of rows and the numbers of a head, one more.
+-- The numbers of a head, one more.
 use mathlib.Core.Path.{◌≡◌, sym, ap, ◌∙◌}
 use mathlib.Core.Logic.{◌⊎◌, inl, inr, ◌≢◌}
 use mathlib.Core.List.{List, map}

@@ -55,7 +55,8 @@ pub fn store_gates(
     }
 }
 
-// The updates of all workers, by the tables of a job.
+// The updates of all workers, by the tables of a job. The tables have room for those of every job, as memory is fixed:
+// `count` says how many there are.
 pub fn store_updates(
     out: &mut [u8],
     from: usize,

@@ -6,19 +6,18 @@ pub mod gates;
 pub mod rows;
 pub mod table;
 
-ghost use Rattle.std.specs.Prelude.{◌≡◌, true, map, ◌++◌, ◌+◌, ◌*◌, ◌/◌, ◌^◌, ◌≤◌, ◌<◌, length, take};
+ghost use Rattle.std.specs.Prelude.{◌≡◌, true, map, ◌++◌, ◌+◌, ◌*◌, ◌^◌, ◌≤◌, ◌<◌, length, take};
 ghost use Rattle.std.proofs.lemmas.List.Edits.{sets};
 ghost use Rattle.base.specs.Lists.{concat, range, position_of};
 ghost use Rattle.base.specs.Verdicts.{reply_of};
 ghost use Rattle.matrix.specs.Limits.{max_rows};
 ghost use Rattle.matrix.specs.Held.{held};
-ghost use Rattle.plan.specs.Groups.{width};
 ghost use Rattle.plan.specs.Sound.{max_workers, each_once};
 ghost use Rattle.run.specs.Job as run;
 ghost use Rattle.calls.specs.Code.Held.{job_in, GivenIn};
 ghost use Rattle.tables.specs.Code.Laid.{max_updates, first_of, Counted, Rising};
-ghost use Rattle.layout.specs.Code.UpdateTable.{Planned};
-ghost use Rattle.steps.specs.Code.Updates.{Triangle};
+ghost use Rattle.layout.specs.Code.SizedPlan.{PlannedBy};
+ghost use Rattle.steps.specs.Code.Updates as job_updates;
 ghost use Rattle.words.specs.LittleEndian.{unsigned_bytes};
 ghost use Rattle.prepared.specs.Format.{head_bytes, gates_from, gate_bytes, row_bytes, bytes_of_update, head_of, lists_of};
 ghost use Rattle.prepared.specs.Prepare.{PreparedFrom};
@@ -29,6 +28,7 @@ use calls::{Job, check_job};
 use fill::{store_gates, store_numbers, store_updates};
 use layout::counts::first_updates;
 use layout::lay;
+use layout::updates::{SizedPlan, Updates};
 use matrix::limits::MAX_ROWS;
 use plan::fields::{WIDTH, get};
 use plan::lists::Plan;
@@ -36,8 +36,9 @@ use plan::{MAX_GROUPS, MAX_WORKERS};
 use prepared::{HEAD, ROW, UPDATE};
 use rows::head_numbers;
 use table::all_gates;
-use tables::{Entries, FIRSTS, MAX_UPDATES, Tables};
+use tables::{Entries, FIRSTS, MAX_UPDATES};
 use upper::order::{displace, positions};
+use upper::triangle::{OrderedMatrix, Triangle};
 use upper::upper;
 
 // Writes the head, by where each worker's updates begin.
@@ -63,46 +64,29 @@ fn store_places(out: &mut [u8], from: usize, n: usize, order: &[u32])
 fn store_tables(
     out: &mut [u8],
     n: usize,
-    groups: &[u32],
-    sizes: &[u32; MAX_ROWS],
+    plan: &SizedPlan,
     first: [u32; FIRSTS],
     entries: &Entries,
     displaced: &[i32; MAX_ROWS],
 )
-    requires { (j : run.Job) × Planned j groups.now (length groups.now / width) sizes.now × Counted j first
-        × Triangle j entries.now.parts.now displaced.now entries.now.at.now entries.now.beside.now
+    requires { (j : run.Job) × PlannedBy j plan.now × Counted j first
+        × job_updates.Triangle j entries.now.parts.now displaced.now entries.now.at.now entries.now.beside.now
         × (n ≡ j.matrix.n) × (gates_from (first_of j max_workers) + n * gate_bytes ≤ length out.old) }
-    ensures { (j : run.Job) → Planned j groups.now (length groups.now / width) sizes.now → Counted j first
-        → Triangle j entries.now.parts.now displaced.now entries.now.at.now entries.now.beside.now → n ≡ j.matrix.n
+    ensures { (j : run.Job) → PlannedBy j plan.now → Counted j first
+        → job_updates.Triangle j entries.now.parts.now displaced.now entries.now.at.now entries.now.beside.now → n ≡ j.matrix.n
         → out.new ≡ sets out.old head_bytes (concat (map bytes_of_update (lists_of j).updates) ++ unsigned_bytes 4 (lists_of j).gates) }
 {
-    let mut row = [0u16; MAX_UPDATES];
-    let mut begins = [0u32; MAX_ROWS];
-    let mut leaves = [0u16; MAX_ROWS];
-    let mut ends = [0u32; MAX_GROUPS];
-    let records = groups.len() / WIDTH;
-    lay(
-        groups,
-        records,
-        sizes,
-        first,
-        &mut row,
-        &mut begins,
-        &mut leaves,
-        &mut ends,
-    );
-    let tables = Tables {
-        groups,
-        ends: &ends,
-        first: &first,
-        row: &row,
-        begins: &begins,
-        leaves: &leaves,
+    let mut updates = Updates {
+        row: [0u16; MAX_UPDATES],
+        begins: [0u32; MAX_ROWS],
+        leaves: [0u16; MAX_ROWS],
+        ends: [0u32; MAX_GROUPS],
     };
-    let table = all_gates(groups, records, &ends);
+    let tables = lay(plan.groups, plan.sizes, &first, &mut updates);
+    let table = all_gates(tables.groups, tables.ends);
     let count = first[MAX_WORKERS] as usize;
     store_updates(out, HEAD, count, &tables, entries, displaced);
-    store_gates(out, HEAD + count * UPDATE, n, &leaves, &table);
+    store_gates(out, HEAD + count * UPDATE, n, tables.leaves, &table);
 }
 
 // The bytes of a list with so many rows and updates.
@@ -122,20 +106,22 @@ fn store_job(job: &Job, out: &mut [u8]) -> Result<u32, Refusal>
 {
     let rows = job.matrix.n;
     let order = job.plan.order;
-    let groups = job.plan.groups;
-    let mut parts = [0u32; MAX_ROWS];
-    let mut at = [0u16; MAX_UPDATES];
-    let mut beside = [0i32; MAX_UPDATES];
-    let mut sizes = [0u32; MAX_ROWS];
-    upper(
-        &job.matrix,
+    let ordered = OrderedMatrix {
+        m: job.matrix,
         order,
-        &mut parts,
-        &mut sizes,
-        &mut at,
-        &mut beside,
-    );
-    let first = first_updates(groups, groups.len() / WIDTH, &sizes);
+    };
+    let mut triangle = Triangle {
+        parts: [0u32; MAX_ROWS],
+        at: [0u16; MAX_UPDATES],
+        beside: [0i32; MAX_UPDATES],
+    };
+    let mut sizes = [0u32; MAX_ROWS];
+    upper(&ordered, &mut sizes, &mut triangle);
+    let plan = SizedPlan {
+        groups: job.plan.groups,
+        sizes: &sizes,
+    };
+    let first = first_updates(&plan);
     let size = size_of(rows, first[MAX_WORKERS]);
     if out.len() < size {
         return Err(Refusal {
@@ -145,14 +131,14 @@ fn store_job(job: &Job, out: &mut [u8]) -> Result<u32, Refusal>
     }
     let mut displaced = [0i32; MAX_ROWS];
     displace(job.displacements, order, &mut displaced);
-    let whole = get(groups, 0);
+    let whole = get(plan.groups, 0);
     store_head(out, rows as u32, whole.workers, first);
     let entries = Entries {
-        parts: &parts,
-        at: &at,
-        beside: &beside,
+        parts: &triangle.parts,
+        at: &triangle.at,
+        beside: &triangle.beside,
     };
-    store_tables(out, rows, groups, &sizes, first, &entries, &displaced);
+    store_tables(out, rows, &plan, first, &entries, &displaced);
     store_places(out, size - 4 * rows, rows, order);
     Ok(size as u32)
 }

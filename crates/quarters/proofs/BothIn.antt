@@ -6,8 +6,8 @@ use mathlib.Core.List.{List, [], ◌++◌}
 use Prim.Native.Nat.{ℕ, ◌/◌, ◌^◌, ◌≤◌, ◌<◌}
 use native.Mathlib.Omega.{arith}
 use lib.Dec.{eqb, leb}
-use lib.IntN.{ℤ, pos}
-use lib.ListN.{length, take, drop, replicate, length-append, length-drop}
+use lib.IntN.{ℤ}
+use lib.ListN.{length, take, length-append}
 use lib.Seq.{take_at, take_all, length-take-le}
 use borrow.Author.Tests.{eqb-true, eq-eqb, leb-true, leb-false}
 use Rattle.base.specs.Refusals as why
@@ -29,7 +29,7 @@ use Rattle.machine.specs.declared.state.State as code
 use Rattle.words.specs.LittleEndian.{number, signed, signed_number, signed_bytes}
 use Rattle.words.proofs.Blocks.{length_decoded}
 use Rattle.answers.specs.Runs.{state_bytes, count_bytes, Bytes, state_in, bytes_in, left_by}
-use Rattle.answers.specs.Code.Ran.{StateIs}
+use Rattle.answers.specs.Code.Ran.{StateIs, LowPlace, PicksFit}
 use Rattle.answers.proofs.RunPicks.{place_low}
 use Rattle.calls.specs.Performed.{as_answer, end_number, end_place}
 use Rattle.calls.specs.declared.Response.{Response}
@@ -48,7 +48,7 @@ use Rattle.shared.specs.Performed.{PicksMade}
 use Rattle.shared.proofs.RoofChecked.{roof_given}
 use Rattle.shared.proofs.Sharing.{are_states, states_fine, states_short0, states_short1, picks-refused, roof_reply, lent-refused, lent-answered, sets-refused}
 use Rattle.quarters.specs.Both.{states_in, are_whole, if_whole, answer_both_in, reply_to_both, bytes_left, PicksBothAnswered}
-use Rattle.quarters.specs.Code.Loaded.{CrewsAre, BothFit}
+use Rattle.quarters.specs.Code.Loaded.{CrewsAre}
 use Rattle.quarters.proofs.TurnsFew.{Sixteen, turns-few}
 
 -- ---- picks for both are no preview
@@ -136,6 +136,12 @@ module _ (q : Roof) (S : Two State) (b : Two Bytes) (first : Read q.matrix.n S.o
         go (other d h) = sym (refused S d) ∙ by (are_whole b) refl h
 
 -- ---- on lent lists
+
+-- picks have states and sums to be stored over, and the place of their ending fits a word's low half
+pub record BothFit (n : ℕ) (answer : Result Response Refusal) (new0 new1 : List ℤ) (old : Two Bytes) : Type 0 where
+  pub fit0 : PicksFit n answer new0 old.of0.state old.of0.sums
+  pub fit1 : PicksFit n answer new1 old.of1.state old.of1.sums
+  pub low : LowPlace answer
 
 module _ (m : Matrix) (x : Two (List ℤ)) (order groups : List ℕ) (count : ℕ) (b : Two Bytes) (r : Crews) {zs0 zs1 : List ℤ} (are : CrewsAre r b.of0.state b.of1.state)
     (lent0 : zs0 ≡ cond (eqb (length b.of0.state) state_bytes) (take max_starts (signed 8 b.of0.sums)) [])
@@ -312,11 +318,3 @@ stored-left r zs s old e f = rw (e, f) (go r)
     go (Ok Forces) = refl
     go (Ok (Previewed t x v k)) = refl
     go (Err x) = refl
-
--- the array that they are decoded into
-abbrev pub zeros : List ℤ
-zeros = replicate max_starts (pos 0)
-
--- an array of which the first numbers were lent on keeps its length
-pub array_length : (part array : List ℤ) (k : ℕ) → k ≤ length array → length part ≡ length (take k array) → length (part ++ drop k array) ≡ length array
-array_length part array k l e = omega (arith, length-take-le k array l, length-append part (drop k array), length-drop k array)

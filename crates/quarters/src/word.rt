@@ -16,6 +16,7 @@ const COUNT0: u64 = 1099511627776;
 const COUNT1: u64 = 281474976710656;
 
 // Each crew's bits, then each crew's count of those set; or a refusal's number and place.
+#[tactic(auto, unfolding(lent::specs::Word::word, answers::specs::Runs::reply_to, crate::specs::Both::reply_to_both))]
 pub(crate) fn word_of_sets(sets: Result<Sets, Refusal>) -> u64
     requires { FewReady sets }
     ensures { result ≡ word (reply_to_both (as_sets sets)) }

@@ -16,10 +16,8 @@ use Rattle.words.specs.LittleEndian.{signed, signed_bytes, stored}
 use Rattle.machine.specs.declared.state.State as code
 use Rattle.std.proofs.Common.{Ok, Err}
 use Rattle.base.specs.Verdicts.{number_of}
-use Rattle.base.specs.declared.Kind.{Kind}
 use Rattle.base.specs.declared.Kind.TheVariants as kind
 use Rattle.base.specs.declared.Refusal.{Refusal}
-use Rattle.steps.proofs.TableSteps.{not_told}
 use Rattle.calls.specs.declared.Response.TheVariants.{Ready, Forces}
 use Rattle.answers.specs.Runs.{state_in, reply_to, force_bytes}
 use Rattle.answers.specs.Code.Ran.{StateIs, LowPlace}
@@ -29,8 +27,9 @@ use Rattle.picking.specs.Code.Picks.{tables_in}
 use Rattle.picking.specs.Code.Reads.{Head}
 use Rattle.picking.proofs.Ready.{ready-bits}
 use Rattle.rack.specs.Kept.{answer_kept}
-use Rattle.rack.specs.Code.Taken.{refusal_in, GaveKept}
-use Rattle.rack.proofs.Refused.{Fine, refused_all}
+use Rattle.rack.specs.Code.Taken.{GaveKept}
+use Rattle.rack.specs.Code.Admitted.{IsAdmitted}
+use Rattle.rack.proofs.Refused.{Fine, refused-so}
 
 -- ---- answers that name no pick
 
@@ -57,8 +56,8 @@ module _ (list state sums old : List ℕ) where
     place_low = λ plain. refused-low r;
   }
 
-  pub gave_none : {why : Kind} → number_of why ≡ refusal_in list state sums → GaveKept list state sums old (Err (record { kind = why; place = 0 })) old
-  gave_none {why} e = gave_refused (record { kind = why; place = 0 }) (ap (λ (k : ℕ). denied k 0) e ∙ refused_all list state sums (λ q. not_told why (e ∙ q)) c)
+  pub gave_none : (r : Refusal) → IsAdmitted list state sums (Err r) → GaveKept list state sums old (Err r) old
+  gave_none r h = gave_refused r (refused-so list state sums r h c)
 
 module _ {list state sums : List ℕ} (f : Fine list state sums) {rows crew n : ℕ} (h : Head list rows crew n) {before : code.State} (is : StateIs before state) where
   abbrev T : Tables

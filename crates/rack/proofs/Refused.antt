@@ -9,18 +9,23 @@ use lib.Dec.{eqb}
 use lib.ListN.{length, take}
 use borrow.Author.Tests.{eqb-true, eq-eqb, ne_eqb}
 use Rattle.base.specs.Replies.{in_turn}
+use Rattle.base.specs.Verdicts.{number_of}
+use Rattle.base.specs.declared.Refusal.{Refusal}
 use Rattle.base.proofs.Booleans.{and_left}
 use Rattle.plan.specs.Sound.{max_workers}
 use Rattle.run.specs.Answers.{Call, denied}
 use Rattle.words.specs.LittleEndian.{signed_number, unsigned}
 use Rattle.words.proofs.Blocks.{length_decoded}
 use Rattle.answers.specs.Runs.{count_bytes, state_bytes, state_in}
+use Rattle.std.proofs.Common.{Err}
+use Rattle.steps.proofs.TableSteps.{not_told}
 use Rattle.prepared.specs.Format.{tables_of, lists_in, is_prepared}
 use Rattle.prepared.specs.Tables.{is_state_by, counts_fine_by, state_check_by, answer_of_by, after_of_by, answer_by, after_by}
 use Rattle.prepared.specs.PreparedRuns.{prepared_check, answer_prepared, after_prepared}
 use Rattle.picking.specs.Code.Picks.{tables_in}
 use Rattle.rack.specs.Kept.{answer_kept}
 use Rattle.rack.specs.Code.Taken.{refusal_in}
+use Rattle.rack.specs.Code.Admitted.{IsAdmitted}
 
 module _ (list state sums : List ℕ) where
   abbrev is_whole : Bool
@@ -55,7 +60,7 @@ module _ (list state sums : List ℕ) where
           sym (by_state ∙ rw (eq-eqb (length sums / 8) (lists_in list).rows e) (ap (λ (t : Bool). cond t 0 11) (ap (λ (l : List ℕ). counts_fine_by (tables_in list) l max_workers) (sym m) ∙ sym f)))
 
   -- a refused call
-  pub refused_all : refusal_in list state sums ≢ 0 → (c : Call) → denied (refusal_in list state sums) 0 ≡ answer_kept list state sums c
+  refused_all : refusal_in list state sums ≢ 0 → (c : Call) → denied (refusal_in list state sums) 0 ≡ answer_kept list state sums c
   unfolding refusal_in answer_kept answer_prepared prepared_check answer_by state_check_by in_turn
   refused_all d c = go (is_prepared list) refl is_whole refl is_state refl
     where
@@ -65,6 +70,10 @@ module _ (list state sums : List ℕ) where
       go true x false y t z = rw (x, y) refl
       go true x true y false z = rw (x, y, z) refl
       go true x true y true z = absurd (d (rw (x, y, z) refl))
+
+  -- .. by the code
+  pub refused-so : (r : Refusal) → IsAdmitted list state sums (Err r) → (c : Call) → denied (number_of r.kind) r.place ≡ answer_kept list state sums c
+  refused-so r h c = rw h.1 (ap (λ (k : ℕ). denied k 0) h.0 ∙ refused_all (λ q. not_told r.kind (h.0 ∙ q)) c)
 
   many : is_state ≡ true → (lists_in list).rows ≡ length sums / 8
   unfolding is_state_by tables_of

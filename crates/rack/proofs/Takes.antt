@@ -25,7 +25,6 @@ use Rattle.base.specs.Verdicts.{number_of}
 use Rattle.base.specs.declared.Kind.{Kind}
 use Rattle.base.specs.declared.Kind.TheVariants as kind
 use Rattle.base.specs.declared.Refusal.{Refusal}
-use Rattle.steps.proofs.TableSteps.{not_told}
 use Rattle.calls.specs.Performed.{as_answer}
 use Rattle.calls.specs.declared.Response.{Response}
 use Rattle.answers.specs.Runs.{state_in, bytes_in, left_by}
@@ -34,8 +33,9 @@ use Rattle.prepared.specs.PreparedRuns.{after_prepared}
 use Rattle.prepared.specs.Tables.{Tables, pass_by, step_by, answer_of_by, after_of_by}
 use Rattle.picking.specs.Code.Picks.{tables_in, SumsKept}
 use Rattle.rack.specs.Kept.{answer_kept, fitting}
-use Rattle.rack.specs.Code.Taken.{refusal_in, takes, TookKept}
-use Rattle.rack.proofs.Refused.{Fine, refused_all}
+use Rattle.rack.specs.Code.Taken.{takes, TookKept}
+use Rattle.rack.specs.Code.Admitted.{IsAdmitted}
+use Rattle.rack.proofs.Refused.{Fine, refused-so}
 
 -- ---- a refused call
 
@@ -47,10 +47,10 @@ module _ (r : Refusal) where
   refused_looks t q p b k e = absurd (let z : ◌≡◌ {A = ℕ} 0 1 = cc in omega arith)
 
 module _ (list state sums : List ℕ) (c : Call) where
-  pub took_refused : {why : Kind} → number_of why ≡ refusal_in list state sums → TookKept list state sums c (Err (record { kind = why; place = 0 })) state sums
+  pub took_refused : (r : Refusal) → IsAdmitted list state sums (Err r) → TookKept list state sums c (Err r) state sums
   unfolding fitting left_by
-  took_refused {why} e =
-      let told : denied (number_of why) 0 ≡ answer_kept list state sums c = ap (λ (k : ℕ). denied k 0) e ∙ refused_all list state sums (λ q. not_told why (e ∙ q)) c in
+  took_refused r h =
+      let told : denied (number_of r.kind) r.place ≡ answer_kept list state sums c = refused-so list state sums r h c in
       record {
         made = [];
         answers = ap fitting told;

@@ -11,37 +11,54 @@ ghost use Rattle.machine.specs.Code.Stepped.{stop_number};
 ghost use Rattle.calls.specs.Performed.{as_answer};
 ghost use Rattle.answers.specs.Code.Ran.{LowPlace};
 ghost use Rattle.rack.specs.Kept.{answer_kept};
-ghost use Rattle.rack.specs.Code.Taken.{refusal_in, takes, TookKept, GaveKept};
+ghost use Rattle.rack.specs.Code.Taken.{takes, TookKept, GaveKept};
+ghost use Rattle.rack.specs.Code.Admitted.{IsAdmitted};
 
+use answers::bytes::RunBytes;
 use answers::state::{STATE_BYTES, load_state, store_state};
 use base::{Kind, Refusal};
 use calls::{Response, stop_of};
-use machine::state::{Rule, Walked};
+use machine::state::{Rule, State, Walked};
 use picking::forces::store_forces;
-use picking::head::{is_fine, is_over, is_prepared, sizes_of};
+use picking::head::{Sizes, is_fine, is_over, is_prepared, sizes_of};
 use picking::walk::{ready_bits, walk};
 
-// Why every call is refused, if it is.
-fn refusal_of(list: &[u8], state: &[u8], sums: &[u8]) -> Option<Kind>
-    ensures { stop_number result ≡ refusal_in list.now state.now sums.now }
+// What a prepared list's head says, and the state of a run that fits it.
+#[derive(Clone, Copy)]
+struct Admitted {
+    sizes: Sizes,
+    before: State,
+}
+
+const NOT_PREPARED: Refusal = Refusal {
+    kind: Kind::NotPrepared,
+    place: 0,
+};
+
+const NOT_STATE: Refusal = Refusal {
+    kind: Kind::NotState,
+    place: 0,
+};
+
+// 26 and 11: what every call is refused for.
+fn admit(list: &[u8], run: &RunBytes) -> Result<Admitted, Refusal>
+    ensures { IsAdmitted list.now run.now.state.now run.now.sums.now result }
 {
     if !is_prepared(list) {
-        return Some(Kind::NotPrepared);
+        return Err(NOT_PREPARED);
     }
-    if state.len() != STATE_BYTES {
-        return Some(Kind::NotState);
+    if run.state.len() != STATE_BYTES {
+        return Err(NOT_STATE);
     }
     let sizes = sizes_of(list);
-    if sums.len() / 8 != sizes.rows {
-        return Some(Kind::NotState);
+    if run.sums.len() / 8 != sizes.rows {
+        return Err(NOT_STATE);
     }
-    let before = load_state(state);
-    let made = before.made;
-    if is_fine(list, &made) {
-        None
-    } else {
-        Some(Kind::NotState)
+    let before = load_state(run.state);
+    if !is_fine(list, &before.made) {
+        return Err(NOT_STATE);
     }
+    Ok(Admitted { sizes, before })
 }
 
 // 2 ^ 24 and 2 ^ 32: past these a word has no room for moves and for an index.
@@ -57,7 +74,9 @@ fn told(walked: Walked) -> Response
     Response::Picked(walked.taken % MOVES, stop)
 }
 
-// Takes the picks of a schedule.
+// Takes the picks of a schedule. The rule is a value, since `takes` of the clause and `passes_over` of `walk` read it.
+// State and sums are written, so they come by themselves: of a struct of two `&mut` each clause would have to say
+// besides that it still holds the same lists.
 pub fn take(
     list: &[u8],
     state: &mut [u8],
@@ -67,11 +86,7 @@ pub fn take(
 ) -> Result<Response, Refusal>
     ensures { TookKept list.now state.old sums.old (takes rule schedule.now) result state.new sums.new }
 {
-    if let Some(kind) = refusal_of(list, state, sums) {
-        return Err(Refusal { kind, place: 0 });
-    }
-    let sizes = sizes_of(list);
-    let before = load_state(state);
+    let Admitted { sizes, before } = admit(list, &RunBytes { state, sums })?;
     let walked = walk(list, sizes, before, sums, schedule, rule);
     let after = walked.state;
     store_state(after, state);
@@ -79,35 +94,20 @@ pub fn take(
 }
 
 // Who is ready.
-pub fn ready(list: &[u8], state: &[u8], sums: &[u8]) -> Result<Response, Refusal>
-    ensures { ((zs : List ℤ) → as_answer result zs ≡ answer_kept list.now state.now sums.now ready_set) × LowPlace result }
+pub fn ready(list: &[u8], run: &RunBytes) -> Result<Response, Refusal>
+    ensures { ((zs : List ℤ) → as_answer result zs ≡ answer_kept list.now run.now.state.now run.now.sums.now ready_set) × LowPlace result }
 {
-    if let Some(kind) = refusal_of(list, state, sums) {
-        return Err(Refusal { kind, place: 0 });
-    }
-    let sizes = sizes_of(list);
-    let before = load_state(state);
-    let made = before.made;
-    let bits = ready_bits(list, sizes, &made);
+    let Admitted { sizes, before } = admit(list, run)?;
+    let bits = ready_bits(list, sizes, &before.made);
     Ok(Response::Ready(bits, u32::count_ones(bits as u32)))
 }
 
 // The forces of a finished run.
-pub fn forces(
-    list: &[u8],
-    state: &[u8],
-    sums: &[u8],
-    forces: &mut [u8],
-) -> Result<Response, Refusal>
-    ensures { GaveKept list.now state.now sums.now forces.old result forces.new }
+pub fn forces(list: &[u8], run: &RunBytes, forces: &mut [u8]) -> Result<Response, Refusal>
+    ensures { GaveKept list.now run.now.state.now run.now.sums.now forces.old result forces.new }
 {
-    if let Some(kind) = refusal_of(list, state, sums) {
-        return Err(Refusal { kind, place: 0 });
-    }
-    let sizes = sizes_of(list);
-    let before = load_state(state);
-    let made = before.made;
-    if !is_over(list, sizes.crew, &made) {
+    let Admitted { sizes, before } = admit(list, run)?;
+    if !is_over(list, sizes.crew, &before.made) {
         return Err(Refusal {
             kind: Kind::TooEarly,
             place: 0,
@@ -120,6 +120,6 @@ pub fn forces(
             place: rows as u32,
         });
     }
-    store_forces(list, sizes, sums, forces);
+    store_forces(list, sizes, run.sums, forces);
     Ok(Response::Forces)
 }

@@ -1,4 +1,3 @@
-pub mod Triplets
 pub mod Turns
 pub mod Rising
 pub mod Marking

@@ -6,6 +6,7 @@ mod entry;
 mod marks;
 mod opening;
 mod parse;
+mod size;
 
 ghost use Rattle.std.specs.Prelude.{◌≡◌, length};
 ghost use Rattle.base.specs.Verdicts.{reply_of};
@@ -14,12 +15,11 @@ ghost use Rattle.market.specs.Parse.{parse};
 ghost use Rattle.market.specs.FullRows.{read_matrix, read_reply};
 
 use base::Refusal;
-use compress::entries::Entries;
+use compress::entries::EntryList;
 use compress::rows::place_rows;
-use matrix::limits::MAX_ENTRIES;
 
 // The matrix of a text in full rows, into three lists: 1, 2, 3 or 4 line by line, then 9. Nothing is written on a
-// refusal.
+// refusal. The lists are apart, as C lends them: each has a room of its own.
 pub fn read(
     text: &[u8],
     starts: &mut [u32],
@@ -31,16 +31,7 @@ pub fn read(
     ensures columns_after { columns.new ≡ lent (read_reply (parse text.now) (length starts.old) (length columns.old) (length values.old)) (read_matrix (parse text.now)).columns columns.old }
     ensures values_after { values.new ≡ lent (read_reply (parse text.now) (length starts.old) (length columns.old) (length values.old)) (read_matrix (parse text.now)).values values.old }
 {
-    let mut rs = [0u32; MAX_ENTRIES];
-    let mut cs = [0u32; MAX_ENTRIES];
-    let mut vs = [0i32; MAX_ENTRIES];
-    let size = parse::parse_text(text, &mut rs, &mut cs, &mut vs)?;
-    let m = size.entries;
-    let read = Entries {
-        n: size.rows,
-        rows: &rs[..m],
-        columns: &cs[..m],
-        values: &vs[..m],
-    };
-    place_rows(&read, starts, columns, values)
+    let mut list = EntryList::new();
+    let n = parse::parse_text(text, &mut list)?;
+    place_rows(&list.lend(n), starts, columns, values)
 }

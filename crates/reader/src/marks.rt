@@ -1,12 +1,13 @@
 // One bit for each place of the lower triangle: which places an earlier line has named.
 
-ghost use Rattle.std.specs.Prelude.{◌≡◌, List, [], ◌≤◌, ◌<◌, ℤ, length};
-ghost use Rattle.compress.specs.Code.Arrays.{triplets_of};
-ghost use Rattle.reader.specs.Code.Entries.{Lower};
+ghost use Rattle.std.specs.Prelude.{◌≡◌, true, [], ◌≤◌, ◌<◌, length};
+ghost use Rattle.base.specs.Lists.{all};
+ghost use Rattle.compress.specs.Code.Entries.{listed};
+ghost use Rattle.reader.specs.Code.Entries.{is_lower};
 ghost use Rattle.reader.specs.Code.Marks.{is_marked, marked, bit_of, Marks};
-ghost use Rattle.matrix.specs.Limits.{max_entries, max_rows};
+ghost use Rattle.matrix.specs.Limits.{max_rows};
 
-use matrix::limits::MAX_ENTRIES;
+use compress::entries::EntryList;
 
 // The bit of row r and column c.
 pub(crate) fn bit_of(r: u32, c: u32) -> usize
@@ -28,17 +29,12 @@ pub(crate) fn mark(marks: &mut [u64; 131104], q: usize) -> bool
     (x >> k) % 2 == 1
 }
 
-// Sets the bits of the first entries of two arrays.
-pub(crate) fn mark_all(
-    rows: &[u32; MAX_ENTRIES],
-    columns: &[u32; MAX_ENTRIES],
-    count: usize,
-    marks: &mut [u64; 131104],
-)
-    requires { (count ≤ max_entries) × (length rows.now ≡ max_entries) × (length columns.now ≡ max_entries) × Lower rows.now columns.now count × Marks marks.old [] }
-    ensures { (vs : List ℤ) → Marks marks.new (triplets_of count rows.now columns.now vs) }
+// Sets the bits of the entries in a list.
+pub(crate) fn mark_all(list: &EntryList, marks: &mut [u64; 131104])
+    requires { (all is_lower (listed list.now) ≡ true) × Marks marks.old [] }
+    ensures { Marks marks.new (listed list.now) }
 {
-    for k in 0..count {
-        mark(marks, bit_of(rows[k], columns[k]));
+    for k in 0..list.count {
+        mark(marks, bit_of(list.rows[k], list.columns[k]));
     }
 }

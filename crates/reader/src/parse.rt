@@ -3,12 +3,14 @@
 ghost use Rattle.std.specs.Prelude.{◌≡◌, ◌&&◌, ◌≤◌, eqb, leb, drop};
 ghost use Rattle.matrix.specs.Limits.{max_rows, max_entries};
 ghost use Rattle.market.specs.Parse.{size_line, parse};
-ghost use Rattle.compress.specs.Code.Arrays.{Arrays};
+ghost use Rattle.compress.specs.Code.Entries.{listed};
 ghost use Rattle.reader.specs.Code.Scanned.{parsed};
 
-use crate::entries::{Size, read_entries};
+use crate::entries::read_entries;
 use crate::opening::{has_header, skip_comments};
+use crate::size::Size;
 use base::{Kind, Refusal};
+use compress::entries::EntryList;
 use matrix::limits::{MAX_ENTRIES, MAX_ROWS, MAX_TEXT};
 use scan::lines::read_line;
 
@@ -25,16 +27,9 @@ fn is_size(rows: u64, columns: u64, count: u64) -> bool
 }
 
 // The size line, at a position and with its number, and all after it.
-fn parse_size(
-    s: &[u8],
-    pos: usize,
-    line: u32,
-    rows: &mut [u32; MAX_ENTRIES],
-    columns: &mut [u32; MAX_ENTRIES],
-    values: &mut [i32; MAX_ENTRIES],
-) -> Result<Size, Refusal>
-    requires { (line ≤ 1048577) × Arrays rows.old columns.old values.old }
-    ensures { (size_line line (drop pos s.now) ≡ parsed result rows.new columns.new values.new) × Arrays rows.new columns.new values.new }
+fn parse_size(s: &[u8], pos: usize, line: u32, list: &mut EntryList) -> Result<usize, Refusal>
+    requires { line ≤ 1048577 }
+    ensures { size_line line (drop pos s.now) ≡ parsed result (listed list.new) }
 {
     let form = Refusal {
         kind: Kind::BadForm,
@@ -53,27 +48,17 @@ fn parse_size(
             place: line,
         });
     }
-    read_entries(
-        s,
-        size.next,
-        size.row as usize,
-        m as usize,
-        line + 1,
-        rows,
-        columns,
-        values,
-    )
+    let told = Size {
+        rows: size.row as usize,
+        entries: m as usize,
+        line: line + 1,
+    };
+    read_entries(s, size.next, &told, list)
 }
 
-// The text: n and the count of entries, which are in the arrays; or the refusal.
-pub(crate) fn parse_text(
-    s: &[u8],
-    rows: &mut [u32; MAX_ENTRIES],
-    columns: &mut [u32; MAX_ENTRIES],
-    values: &mut [i32; MAX_ENTRIES],
-) -> Result<Size, Refusal>
-    requires { Arrays rows.old columns.old values.old }
-    ensures { (parse s.now ≡ parsed result rows.new columns.new values.new) × Arrays rows.new columns.new values.new }
+// The text: its count of rows, and its entries in the list; or the refusal.
+pub(crate) fn parse_text(s: &[u8], list: &mut EntryList) -> Result<usize, Refusal>
+    ensures { parse s.now ≡ parsed result (listed list.new) }
 {
     if MAX_TEXT < s.len() {
         return Err(Refusal {
@@ -88,5 +73,5 @@ pub(crate) fn parse_text(
         });
     }
     let start = skip_comments(s, 51, 2);
-    parse_size(s, start.pos, start.line, rows, columns, values)
+    parse_size(s, start.pos, start.line, list)
 }

@@ -27,7 +27,8 @@ fn read_value(s: &[u8], at: usize) -> Option<(i64, usize)>
     Some((w as i64, q))
 }
 
-// One or more spaces and a value at a position, and the position after it.
+// One or more spaces and a value at a position, and the position after it. One function for this and `read_field` would
+// take what is read as a closure, with what it promises, which is no plainer than these two lines.
 fn read_value_field(s: &[u8], at: usize) -> Option<(i64, usize)>
     ensures { result ≡ value_at at (value_field (drop at s.now)) }
 {

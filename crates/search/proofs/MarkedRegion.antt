@@ -13,7 +13,7 @@ use Rattle.base.specs.Lists.{any, is_in, concat, range, bit}
 use Rattle.base.specs.Near.{near}
 use Rattle.base.proofs.Booleans.{both_ways, or_cases, or_true, and_right}
 use Rattle.base.proofs.Graph.{Graph}
-use Rattle.base.proofs.Lists.{any_of, any-get, any_ext, is_in-concat-map, filter_ext, length-split, length-range}
+use Rattle.base.proofs.Lists.{get_in, any_of, any-get, any_ext, is_in-concat-map, filter_ext, length-split, length-range}
 use Rattle.base.proofs.Near.{near-stay, near_step, near_cases, near_le, near-below}
 use Rattle.matrix.specs.Limits.{max_rows}
 use Rattle.levels.specs.Levels.{region}
@@ -26,6 +26,10 @@ use Rattle.search.proofs.Waves.{Grown, some_left}
 bit-one : (b : Bool) → eqb (bit b) 1 ≡ b
 bit-one true = refl
 bit-one false = refl
+
+-- who is in a list of rows is a row
+pub all-below : {n : ℕ} (T : List ℕ) → ((i : ℕ) → i < length T → get_or T i 0 < n) → (v : ℕ) → is_in T v ≡ true → v < n
+all-below T below v h = let (i, l, e) = get_in T v h in omega (arith, below i l)
 
 -- rows with mark 1 and rows with mark 0 are all
 pub two-marks : (n : ℕ) (marks : List ℕ) (p : ℕ → Bool) → ((v : ℕ) → get_or marks v 0 ≡ bit (p v)) → unreached n marks + how_many n marks 0 ≡ n

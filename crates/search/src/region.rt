@@ -8,7 +8,8 @@ ghost use Rattle.levels.specs.Code.Graph.{pattern_of, adj};
 ghost use Rattle.search.specs.Code.Marks.{unreached, Marked};
 
 use crate::marking::{OUTSIDE, UNREACHED, mark};
-use crate::visiting::Visits;
+use crate::scope::Scope;
+use crate::visiting::{Change, Visits};
 use levels::graph::Graph;
 
 impl Visits {
@@ -25,22 +26,27 @@ impl Visits {
     // The region of the group own, whose rows have mark 1 and no others: what is within reach - 1 joins of it gets mark
     // 1. The last ring needs no queue, so its rows are marked whether they are new or not. Of a group of all rows there
     // is none.
-    pub(crate) fn mark_region(&mut self, graph: &Graph, own: &[u32], reach: usize)
-        requires { ((i : ℕ) → i < length own.now → get_or own.now i 0 < graph.now.m.n)
-            × ((v : ℕ) → get_or self.old.marks v 0 ≡ bit (is_in own.now v)) × (length own.now ≡ unreached graph.now.m.n self.old.marks) × (1 ≤ reach) }
-        ensures { (v : ℕ) → get_or self.new.marks v 0 ≡ bit (near (adj graph.now) (reach - 1) own.now v) }
+    pub(crate) fn mark_region(&mut self, scope: &Scope, own: &[u32])
+        requires { ((i : ℕ) → i < length own.now → get_or own.now i 0 < scope.now.graph.m.n)
+            × ((v : ℕ) → get_or self.old.marks v 0 ≡ bit (is_in own.now v)) × (length own.now ≡ unreached scope.now.graph.m.n self.old.marks) }
+        ensures { (v : ℕ) → get_or self.new.marks v 0 ≡ bit (near (adj scope.now.graph) (scope.now.reach - 1) own.now v) }
     {
-        if reach < 2 {
+        if scope.reach < 2 {
             return;
         }
         let mut hi = own.len();
+        let graph = &scope.graph;
         if hi == graph.m.n {
             return;
         }
         self.queue[..hi].copy_from_slice(own);
+        let found = Change {
+            from: OUTSIDE,
+            to: UNREACHED,
+        };
         let mut lo = 0;
-        for j in 2..reach {
-            let tail = self.next_level(graph, lo, hi, OUTSIDE, UNREACHED);
+        for j in 2..scope.reach {
+            let tail = self.next_level(graph, lo, hi, found);
             lo = hi;
             hi = tail;
         }

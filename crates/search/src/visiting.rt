@@ -8,6 +8,14 @@ ghost use Rattle.search.specs.Code.Search.{wave, visited, visited_all, Ready, Af
 use levels::graph::Graph;
 use matrix::limits::MAX_ROWS;
 
+// A mark, and the other one that takes its place.
+#[derive(Clone, Copy)]
+pub(crate) struct Change {
+    pub from: u32,
+    pub to: u32,
+    ghost other: { to ≢ from },
+}
+
 // The marks of the rows, and a queue of those found.
 #[derive(Drop)]
 pub struct Visits {
@@ -16,35 +24,37 @@ pub struct Visits {
 }
 
 impl Visits {
-    // Row v of n is visited: if it has mark c, it gets mark m and joins the queue. The answer is where the queue ends.
-    pub(crate) fn visit(&mut self, n: usize, v: usize, c: u32, m: u32, tail: usize) -> usize
-        requires { Ready n c self.old.marks self.old.queue tail × (v < n) × (m ≢ c) }
-        ensures { After n c self.new.marks self.new.queue result
-            (visited c m (wave self.old.marks (take tail self.old.queue)) v) }
+    // Row v is visited: if it has the mark that changes, it gets the other and joins the queue. The answer is where the
+    // queue ends.
+    pub(crate) fn visit(&mut self, graph: &Graph, v: usize, change: Change, tail: usize) -> usize
+        requires { Ready graph.now.m.n change.from self.old.marks self.old.queue tail × (v < graph.now.m.n) }
+        ensures { After graph.now.m.n change.from self.new.marks self.new.queue result
+            (visited change.from change.to (wave self.old.marks (take tail self.old.queue)) v) }
     {
-        if self.marks[v] != c {
+        if self.marks[v] != change.from {
             return tail;
         }
-        self.marks[v] = m;
+        self.marks[v] = change.to;
         self.queue[tail] = v as u32;
         tail + 1
     }
 
     // The rows are visited, one after the other. Two a turn take less time, wherever the linker puts the loop.
-    fn visit_all(&mut self, rows: &[u32], n: usize, c: u32, m: u32, start: usize) -> usize
-        requires { Ready n c self.old.marks self.old.queue start × ((i : ℕ) → i < length rows.now → get_or rows.now i 0 < n) × (m ≢ c) }
-        ensures { After n c self.new.marks self.new.queue result
-            (visited_all c m (wave self.old.marks (take start self.old.queue)) rows.now) }
+    fn visit_all(&mut self, graph: &Graph, rows: &[u32], change: Change, start: usize) -> usize
+        requires { Ready graph.now.m.n change.from self.old.marks self.old.queue start
+            × ((i : ℕ) → i < length rows.now → get_or rows.now i 0 < graph.now.m.n) }
+        ensures { After graph.now.m.n change.from self.new.marks self.new.queue result
+            (visited_all change.from change.to (wave self.old.marks (take start self.old.queue)) rows.now) }
     {
         let mut tail = start;
         let mut i = 0;
         while i + 1 < rows.len() {
-            tail = self.visit(n, rows[i] as usize, c, m, tail);
-            tail = self.visit(n, rows[i + 1] as usize, c, m, tail);
+            tail = self.visit(graph, rows[i] as usize, change, tail);
+            tail = self.visit(graph, rows[i + 1] as usize, change, tail);
             i += 2;
         }
         if i < rows.len() {
-            return self.visit(n, rows[i] as usize, c, m, tail);
+            return self.visit(graph, rows[i] as usize, change, tail);
         }
         tail
     }
@@ -56,18 +66,18 @@ impl Visits {
         graph: &Graph,
         lo: usize,
         hi: usize,
-        c: u32,
-        m: u32,
+        change: Change,
     ) -> usize
-        requires { Ready graph.now.m.n c self.old.marks self.old.queue hi × (lo ≤ hi) × (m ≢ c) × Front graph.now.m.n c self.old.marks (slice lo hi self.old.queue) }
-        ensures { After graph.now.m.n c self.new.marks self.new.queue result
-            (visited_all c m (wave self.old.marks (take hi self.old.queue))
+        requires { Ready graph.now.m.n change.from self.old.marks self.old.queue hi × (lo ≤ hi)
+            × Front graph.now.m.n change.from self.old.marks (slice lo hi self.old.queue) }
+        ensures { After graph.now.m.n change.from self.new.marks self.new.queue result
+            (visited_all change.from change.to (wave self.old.marks (take hi self.old.queue))
             (concat (map (adj graph.now) (slice lo hi self.old.queue)))) }
     {
         let mut tail = hi;
         for i in lo..hi {
             let u = self.queue[i] as usize;
-            tail = self.visit_all(graph.columns_of(u), graph.m.n, c, m, tail);
+            tail = self.visit_all(graph, graph.columns_of(u), change, tail);
         }
         tail
     }

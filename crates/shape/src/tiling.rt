@@ -73,6 +73,7 @@ pub fn tiled_below(plan: &Plan, k: usize) -> bool
     let mut s = g.start as usize;
     let mut f = g.first as usize;
     let mut w = 0;
+    // A child is found from the one before it, so no range is gone through.
     while let Some(i) = next {
         let h = plan.record(i);
         if !fits(h, s, f, w) {

@@ -17,6 +17,7 @@ use base::{Kind, Refusal};
 use calls::{Response, stop_of};
 use checks::{are_fine, check_roof};
 use layout::counts::first_updates;
+use layout::updates::SizedPlan;
 use matrix::limits::MAX_ROWS;
 use matrix::lists::Matrix;
 use plan::fields::WIDTH;
@@ -26,6 +27,7 @@ use tables::{Entries, MAX_UPDATES};
 use turns::{CREWS, Crews};
 use upper::order::displace;
 use upper::sizes::sizes_of;
+use upper::triangle::{OrderedMatrix, Triangle};
 use upper::upper;
 
 // What both crews work under, by its lists: a matrix, the displacement of each row for each crew, and a plan.
@@ -58,20 +60,22 @@ fn take_picks(
     ensures { Made (roof_in roof.now) (states_of crews.old sums0.old sums1.old) schedule.now result (states_of crews.new sums0.new sums1.new) }
 {
     let order = roof.plan.order;
-    let groups = roof.plan.groups;
-    let mut parts = [0u32; MAX_ROWS];
-    let mut at = [0u16; MAX_UPDATES];
-    let mut beside = [0i32; MAX_UPDATES];
-    let mut sizes = [0u32; MAX_ROWS];
-    upper(
-        &roof.matrix,
+    let ordered = OrderedMatrix {
+        m: roof.matrix,
         order,
-        &mut parts,
-        &mut sizes,
-        &mut at,
-        &mut beside,
-    );
-    let first = first_updates(groups, groups.len() / WIDTH, &sizes);
+    };
+    let mut triangle = Triangle {
+        parts: [0u32; MAX_ROWS],
+        at: [0u16; MAX_UPDATES],
+        beside: [0i32; MAX_UPDATES],
+    };
+    let mut sizes = [0u32; MAX_ROWS];
+    upper(&ordered, &mut sizes, &mut triangle);
+    let plan = SizedPlan {
+        groups: roof.plan.groups,
+        sizes: &sizes,
+    };
+    let first = first_updates(&plan);
     if !are_fine(*crews, first) {
         return Err(Refusal {
             kind: Kind::NotState,
@@ -82,13 +86,11 @@ fn take_picks(
     displace(roof.displacements0, order, &mut displaced[0]);
     displace(roof.displacements1, order, &mut displaced[1]);
     let entries = Entries {
-        parts: &parts,
-        at: &at,
-        beside: &beside,
+        parts: &triangle.parts,
+        at: &triangle.at,
+        beside: &triangle.beside,
     };
-    let turned = crews.take(
-        sums0, sums1, schedule, groups, &sizes, first, &entries, &displaced,
-    );
+    let turned = crews.take(sums0, sums1, schedule, &plan, first, &entries, &displaced);
     *crews = turned.crews;
     let stop = stop_of(turned.stop, turned.taken);
     Ok(Response::Picked(turned.taken, stop))
@@ -139,19 +141,25 @@ fn look(roof: &Roof, crews: Crews) -> Result<Sets, Refusal>
     ensures { (sums0 sums1 : List ℤ) → length sums0 ≡ roof.now.matrix.n → length sums1 ≡ roof.now.matrix.n
         → as_sets result ≡ answer_both (roof_in roof.now) (states_of crews sums0 sums1) asked.ready_sets }
 {
-    let groups = roof.plan.groups;
-    let count = groups.len() / WIDTH;
-    let mut sizes = [0u32; MAX_ROWS];
+    let ordered = OrderedMatrix {
+        m: roof.matrix,
+        order: roof.plan.order,
+    };
     let mut position = [0u32; MAX_ROWS];
-    sizes_of(&roof.matrix, roof.plan.order, &mut sizes, &mut position);
-    let first = first_updates(groups, count, &sizes);
+    let mut sizes = [0u32; MAX_ROWS];
+    sizes_of(&ordered, &mut position, &mut sizes);
+    let plan = SizedPlan {
+        groups: roof.plan.groups,
+        sizes: &sizes,
+    };
+    let first = first_updates(&plan);
     if !are_fine(crews, first) {
         return Err(Refusal {
             kind: Kind::NotState,
             place: 0,
         });
     }
-    Ok(ready_sets(crews, groups, count, &sizes, first))
+    Ok(ready_sets(crews, &plan, first))
 }
 
 // One call for the ready sets of both. It takes no displacement, but judges them.

@@ -2,12 +2,12 @@
 use mathlib.Core.Path.{◌≡◌, refl, sym, ap, ◌∙◌}
 use mathlib.Core.Bool.{Bool, true, false, ◌||◌}
 use mathlib.Core.List.{List, [], ◌∷◌, ◌++◌, append_assoc}
-use Prim.Native.Nat.{ℕ, suc, ◌+◌, ◌/◌, ◌≤◌, ◌<◌, min}
+use Prim.Native.Nat.{ℕ, suc, ◌+◌, ◌/◌, ◌≤◌, min}
 use native.Mathlib.Nat.{min_comm}
 use native.Mathlib.Omega.{arith}
 use lib.Dec.{leb}
 use lib.IntN.{ℤ, ◌+ℤ◌}
-use lib.ListN.{length, get_or, take, length-take, get_or-append}
+use lib.ListN.{length, get_or, take, drop, length-take, get_or-append}
 use lib.Seq.{take_all, length-take-le}
 use borrow.Author.Tests.{leb-true, leb-false, ne_eqb}
 use Rattle.base.specs.Lists.{is_in, position_of}
@@ -16,24 +16,23 @@ use Rattle.base.specs.Replies.{Reply, accepted, refused, Check, check, room_for,
 use Rattle.base.proofs.Booleans.{leb-min}
 use Rattle.base.proofs.Replies.{in_turn-same, accepted-all, accepted-count, lent-refused, lent-accepted}
 use Rattle.matrix.specs.Limits.{max_rows}
-use Rattle.matrix.specs.Matrix.{Matrix, columns_of, entry, is_matrix, matrix_check, matrix_of}
+use Rattle.matrix.specs.Matrix.{Matrix, columns_of, entry, is_matrix, matrix_check}
 use Rattle.matrix.specs.Tabulated.{tabulated}
 use Rattle.matrix.proofs.Matrix.{matrix_facts}
-use Rattle.matrix.specs.Code.Room.{max_starts, max_cells}
+use Rattle.matrix.specs.Code.Room.{max_starts, max_cells, Reaches}
 use Rattle.matrix.proofs.Cut.{cut, cut-matrix, cut-columns, cut-entry}
 use Rattle.words.proofs.Blocks.{length_decoded}
-use native.Mathlib.Nat.{eq-or-lt_of_le}
-use mathlib.Core.Logic.{⊎_elim}
-use Rattle.words.specs.LittleEndian.{decoded, unsigned, signed, bytes_of, signed_bytes_of, unsigned_bytes, signed_bytes, stored}
+use Rattle.words.specs.LittleEndian.{number, unsigned, bytes_of, signed_bytes_of, unsigned_bytes, signed_bytes, stored}
 use Rattle.lent.specs.Word.{word}
+use Rattle.lent.specs.declared.nets.NetBytes.{NetBytes}
+use Rattle.lent.specs.Code.Nets.{net_of, first_cells}
 use Rattle.lent.proofs.Answers.{answered-same, Begins, begins, begins_at, begins-stored}
 use Rattle.joined.specs.Joined.{past_first, joined_rows, are_places, stored_in, stiffness, joined, in_limits, join_reply}
 use Rattle.joined.proofs.Entries.{joined-matrix}
 use Rattle.joined.proofs.Sizes.{net_rows, net_starts, net_last, net_values, net_few, net_sum}
 use Rattle.joined.proofs.Places.{long}
 use Rattle.shop.specs.Lent.{join_in, JoinAnswered}
-use Rattle.shop.specs.declared.sew.Net as code
-use Rattle.shop.specs.Code.Reach.{reached, Ample}
+use Rattle.shop.specs.Code.Reach.{Ample}
 
 -- ---- rooms
 
@@ -71,17 +70,17 @@ module _ (a b : Matrix) (places : List ℕ) where
 -- ---- cut lists
 
 -- a joined net by columns and entries
-abbrev net_of : (rows : ℕ) (places : List ℕ) (ca cb : ℕ → List ℕ) (ea eb : ℕ → ℕ → ℤ) → Matrix
-net_of rows places ca cb ea eb = tabulated rows (λ i j. is_in (ca i) j || is_in (cb (position_of places i)) (position_of places j)) (λ i j. ea i j +ℤ eb (position_of places i) (position_of places j))
+abbrev sewn : (rows : ℕ) (places : List ℕ) (ca cb : ℕ → List ℕ) (ea eb : ℕ → ℕ → ℤ) → Matrix
+sewn rows places ca cb ea eb = tabulated rows (λ i j. is_in (ca i) j || is_in (cb (position_of places i)) (position_of places j)) (λ i j. ea i j +ℤ eb (position_of places i) (position_of places j))
 
 net_cut : (a b : Matrix) (places : List ℕ) → is_matrix a ≡ true → is_matrix b ≡ true → joined (cut a) (cut b) places ≡ joined a b places
 unfolding joined joined_rows past_first stored_in stiffness
 net_cut a b places ha hb =
     let rows = joined_rows a places in
-    ap (λ (f : ℕ → List ℕ). net_of rows places f (columns_of (cut b)) (entry (cut a)) (entry (cut b))) (cut-columns a ha)
-    ∙ ap (λ (f : ℕ → List ℕ). net_of rows places (columns_of a) f (entry (cut a)) (entry (cut b))) (cut-columns b hb)
-    ∙ ap (λ (f : ℕ → ℕ → ℤ). net_of rows places (columns_of a) (columns_of b) f (entry (cut b))) (cut-entry a ha)
-    ∙ ap (λ (f : ℕ → ℕ → ℤ). net_of rows places (columns_of a) (columns_of b) (entry a) f) (cut-entry b hb)
+    ap (λ (f : ℕ → List ℕ). sewn rows places f (columns_of (cut b)) (entry (cut a)) (entry (cut b))) (cut-columns a ha)
+    ∙ ap (λ (f : ℕ → List ℕ). sewn rows places (columns_of a) f (entry (cut a)) (entry (cut b))) (cut-columns b hb)
+    ∙ ap (λ (f : ℕ → ℕ → ℤ). sewn rows places (columns_of a) (columns_of b) f (entry (cut b))) (cut-entry a ha)
+    ∙ ap (λ (f : ℕ → ℕ → ℤ). sewn rows places (columns_of a) (columns_of b) (entry a) f) (cut-entry b hb)
 
 places-cut : (a b : Matrix) (places : List ℕ) → b.n ≤ max_rows → are_places a b (take max_starts places) ≡ are_places a b places
 unfolding are_places
@@ -162,23 +161,11 @@ places_decoded a b P {p} {ss} {cs} {vs} e g =
 pub nets_decoded : (a b : Matrix) (P : List ℕ) {c d : Matrix} {ss cs vs : List ℕ} {w : ℕ} {ss' cs' vs' : List ℕ} → c ≡ cut a → d ≡ cut b → JoinAnswered c d P ss cs vs w ss' cs' vs' → JoinAnswered a b P ss cs vs w ss' cs' vs'
 nets_decoded a b P e f g = join-same (nets_reply a b P _ _ _) (λ k q. let m = join-made a b P _ _ _ k q in net_cut a b P m.first m.second) (rw (e, f) at g)
 
--- one pair of nets for another, of columns and values that are decoded
-pub cells_decoded : {a b c d : Matrix} {places ss cs vs : List ℕ} {w : ℕ} {ss' cs' vs' : List ℕ} → a ≡ c → b ≡ d → JoinAnswered a b places ss cs vs w ss' cs' vs' → JoinAnswered c d places ss cs vs w ss' cs' vs'
-cells_decoded e f g = rw (e, f) at g
-
-pub reached-is : (m : code.Net) {cs : List ℕ} {vs : List ℤ} → cs ≡ take max_cells (unsigned 4 m.columns.now) → vs ≡ take max_cells (signed 4 m.values.now) → matrix_of m.n m.starts.now cs vs ≡ reached m
-reached-is m e f = rw (e, f)
-
--- numbers decoded into an array of so many, which is as long as a matrix or the list can need: no more than it holds, and
--- as many as into the largest
-pub within-taken : {A : Type 0} (f : List ℕ → A) (bytes : List ℕ) {cells : ℕ} {list : List A} → list ≡ take cells (decoded f 4 bytes) → length list ≤ cells
-within-taken f bytes {cells} e = rw (e, length-take cells (decoded f 4 bytes)) (omega arith)
-
-pub within-whole : {A : Type 0} (f : List ℕ → A) (bytes : List ℕ) {cells : ℕ} {list : List A} → cells ≤ max_cells → min (length bytes / 4) max_cells ≤ cells → list ≡ take cells (decoded f 4 bytes) → list ≡ take max_cells (decoded f 4 bytes)
-within-whole f bytes {cells} h l e = e ∙ ⊎_elim
-    (λ (q : cells ≡ max_cells). ap (λ (k : ℕ). take k (decoded f 4 bytes)) q)
-    (λ (q : cells < max_cells). let size = length_decoded f 4 bytes in take_all cells (decoded f 4 bytes) (omega (arith, size)) ∙ sym (take_all max_cells (decoded f 4 bytes) (omega (arith, size))))
-    (eq-or-lt_of_le h)
+-- no more columns than the arrays that a net is decoded into have cells
+pub cells-few : (bytes : NetBytes) (cells : ℕ) {m : Matrix} → Reaches cells (length bytes.columns.now / 4) → m ≡ first_cells (net_of bytes) → length m.columns ≤ cells
+cells-few bytes cells {m} fit e =
+    let size : length m.columns ≡ length (take max_cells (unsigned 4 bytes.columns.now)) = ap (λ (q : Matrix). length q.columns) e in
+    omega (arith, size, length-take max_cells (unsigned 4 bytes.columns.now), length_decoded number 4 bytes.columns.now)
 
 -- ---- lists made beside the lent ones
 
@@ -222,6 +209,18 @@ module _ {a b : Matrix} {places start_bytes column_bytes value_bytes : List ℕ}
         columns-room = rw last made.columns-room;
         values-room = rw last (omega (arith, made.values-room, net_values a b places));
       }
+
+-- the same for the arrays of a call, of which the first i, j and k numbers are lent on
+pub join-into : (starts columns : List ℕ) (values : List ℤ) {a b : Matrix} {places start_bytes column_bytes value_bytes : List ℕ} {i j k : ℕ} → length starts ≡ max_starts
+    → Ample (length a.columns) (length b.columns) (length columns) × Ample (length a.columns) (length b.columns) (length values)
+    → i ≡ min (length start_bytes / 4) max_starts → j ≡ min (length column_bytes / 4) (length columns) → k ≡ min (length value_bytes / 4) (length values)
+    → {n : ℕ} → accepted n ≡ join_reply a b places (length (take i starts)) (length (take j columns)) (length (take k values))
+    → {ss cs : List ℕ} {vs : List ℤ} → ss ≡ lent (join_reply a b places (length (take i starts)) (length (take j columns)) (length (take k values))) (joined a b places).starts (take i starts)
+    → cs ≡ lent (join_reply a b places (length (take i starts)) (length (take j columns)) (length (take k values))) (joined a b places).columns (take j columns)
+    → vs ≡ lent (join_reply a b places (length (take i starts)) (length (take j columns)) (length (take k values))) (joined a b places).values (take k values)
+    → Held a b places start_bytes column_bytes value_bytes n (ss ++ drop i starts) (cs ++ drop j columns) (vs ++ drop k values)
+join-into starts columns values {a} {b} {places} {start_bytes} {column_bytes} {value_bytes} {i} {j} {k} long enough ei ej ek e es ec ev =
+    join-held (same-reply a b places starts columns values start_bytes column_bytes value_bytes long enough.0 enough.1 ei ej ek) e (take i starts) (take j columns) (take k values) es ec ev (drop i starts) (drop j columns) (drop k values)
 
 pub join-stored : {a b : Matrix} {places start_bytes column_bytes value_bytes : List ℕ} {n : ℕ} {starts columns : List ℕ} {values : List ℤ} → Held a b places start_bytes column_bytes value_bytes n starts columns values
     → {entries w : ℕ} {new_starts new_columns new_values : List ℕ} → entries ≡ get_or starts n 0 → w ≡ word (accepted n)

@@ -1,6 +1,5 @@
 // The calls for a kept force list on byte lists: numbers are decoded into arrays, the proved call is made, and what it
-// changed is stored. The lists come one by one, as C lends them, and the arrays have fixed sizes, since there is no
-// heap.
+// changed is stored. The arrays have fixed sizes, since there is no heap.
 #![tactic(auto)]
 
 pub mod entry;

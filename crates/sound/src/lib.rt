@@ -3,12 +3,13 @@
 
 mod below;
 
-ghost use Rattle.std.specs.Prelude.{◌≡◌, true, ◌≤◌};
+ghost use Rattle.std.specs.Prelude.{◌≡◌, true, List, ◌≤◌, ℤ};
 ghost use Rattle.base.specs.Verdicts.{reply_of_check};
-ghost use Rattle.matrix.specs.Matrix.{is_matrix};
+ghost use Rattle.matrix.specs.Matrix.{is_matrix, matrix_of};
 ghost use Rattle.matrix.specs.Held.{held};
 ghost use Rattle.plan.specs.Groups.{group_of};
 ghost use Rattle.plan.specs.Sound.{max_distance, is_plan, is_plan_at, check_reply};
+ghost use Rattle.apart.specs.Code.Net.{IsGraph};
 ghost use Rattle.sound.specs.Code.Whole.{is_whole};
 
 use apart::net::{Net, Subject};
@@ -41,7 +42,7 @@ fn is_whole(g: Group, n: usize) -> bool
 
 // Whether the lists hold a plan that is sound at the distance k for the matrix.
 fn is_plan_at(m: &Matrix, plan: &Plan, k: usize) -> bool
-    requires { (is_matrix (held m.now) ≡ true) × (k ≤ max_distance) }
+    requires { IsGraph (held m.now) × (k ≤ max_distance) }
     ensures { result ≡ is_plan_at k (held m.now) plan.now.order.now plan.now.groups.now plan.now.count }
 {
     if plan.order.len() < m.n || plan.count < 1 || MAX_GROUPS < plan.count {
@@ -69,10 +70,11 @@ fn is_plan_at(m: &Matrix, plan: &Plan, k: usize) -> bool
 // "The force run still checks at 2"
 const RUN_DISTANCE: usize = 2;
 
-// Whether they hold a plan that is sound, as a run asks.
+// Whether they hold a plan that is sound, as a run asks, whatever the values: the rows are those of some matrix.
 pub fn is_plan(m: &Matrix, plan: &Plan) -> bool
-    requires { is_matrix (held m.now) ≡ true }
-    ensures { result ≡ is_plan (held m.now) plan.now.order.now plan.now.groups.now plan.now.count }
+    requires { (values : List ℤ) × (is_matrix (matrix_of m.now.n m.now.starts.now m.now.columns.now values) ≡ true) }
+    ensures { (values : List ℤ) → result ≡ is_plan (matrix_of m.now.n m.now.starts.now m.now.columns.now values)
+        plan.now.order.now plan.now.groups.now plan.now.count }
 {
     is_plan_at(m, plan, RUN_DISTANCE)
 }

@@ -6,6 +6,7 @@ use native.Mathlib.Omega.{arith}
 use lib.IntN.{ℤ, pos}
 use lib.ListN.{length, get_or, take}
 use lib.Seq.{get_or-take}
+use Rattle.matrix.specs.Limits.{max_rows}
 use Rattle.matrix.specs.Matrix.{displacement, matrix_of}
 use Rattle.plan.specs.Groups.{plan_of}
 use Rattle.run.specs.Job.{Job, job_of, row_at}
@@ -15,7 +16,7 @@ use Rattle.upper.specs.Code.Upper.{upper_to, Displaced, UpperLaid}
 use Rattle.upper.proofs.UpperRows.{upper_whole}
 use Rattle.upper.proofs.PlacedRows.{placed_same}
 use Rattle.steps.specs.Code.Updates.{Triangle}
-use Rattle.steps.specs.Code.Steps.{StepTables, UpdatesAhead}
+use Rattle.steps.specs.Code.Steps.{RowTables, StepTables, UpdatesAhead}
 use Rattle.steps.proofs.TableUpdates.{updates-are, row_below, begun-before, triangle-row, table-update, entry-inside}
 
 -- the displacements in plan order are the job's
@@ -38,7 +39,18 @@ triangle-of {n} {starts} {columns} {values} {x} {order} groups count {parts} d t
       room = λ p l. omega (arith, t.parts.room p l, ap length (upper_whole j p l));
     }
 
--- the tables as the picks need them
+-- what a step needs of the tables to know its row
+pub row_tables : (j : Job) {first row begins leaves ends : List ℕ} → Laid j first row begins leaves ends → Bounded j.matrix.n first row leaves → RowTables j.matrix.n first row begins leaves
+row_tables j laid b = record { bounded = b; begun = λ w k l h. begun-before j laid w l k (omega (arith, updates-are j laid.counted w l)) }
+
+-- .. of as many rows as a matrix may have, if nobody asks for fewer
+pub row_tables-most : (j : Job) {first row begins leaves ends : List ℕ} → Laid j first row begins leaves ends → Bounded j.matrix.n first row leaves → RowTables max_rows first row begins leaves
+row_tables-most j laid b = record {
+  bounded = record { rising = b.rising; rows_few = omega arith; row_low = λ k. omega (arith, b.row_low k, b.rows_few); leaf_low = b.leaf_low };
+  begun = (row_tables j laid b).begun;
+}
+
+-- .. and its update
 pub step_tables : (j : Job) {first row begins parts leaves ends at : List ℕ} {displaced beside : List ℤ} → Laid j first row begins leaves ends → Bounded j.matrix.n first row leaves
     → Triangle j parts displaced at beside → StepTables j.matrix.n first row begins parts leaves at beside
 step_tables j {first} {row} {begins} {parts} laid b t = record {

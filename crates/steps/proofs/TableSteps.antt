@@ -79,7 +79,7 @@ moved_none s w u zero t e = refl
 moved_none s w u (suc k) t e = absurd (let q : ◌≡◌ {A = ℕ} 0 1 = cc in omega arith)
 
 -- a pick that is taken is of one of sixteen workers
-pub pick_worker : {crew : ℕ} (first row leaves blocks : List ℕ) → crew ≤ max_workers → {s t : State} {w number : ℕ} {u : Update}
+pub pick_worker : {crew : ℕ} (first row leaves : List ℕ) (blocks : List Bool) → crew ≤ max_workers → {s t : State} {w number : ℕ} {u : Update}
     → PickMade (reason_at crew first row leaves blocks s.made w) s w u number t → number ≡ 0 → w < 16
 unfolding outcome_of
 pick_worker {crew} first row leaves blocks few {s} {t} {w} {number} {u} h q =

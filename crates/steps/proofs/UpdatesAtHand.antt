@@ -1,6 +1,7 @@
 -- Updates at hand: looked up, kept by accesses of other workers and by a load, gone with a store.
 use mathlib.Core.Path.{◌≡◌, refl, ap, ◌∙◌}
 use mathlib.Core.Logic.{◌⊎◌, inl, inr, ◌≢◌}
+use mathlib.Core.Bool.{Bool}
 use mathlib.Core.List.{List}
 use Prim.Native.Nat.{ℕ, suc, ◌+◌, ◌*◌, ◌/◌, ◌%◌, ◌<◌}
 use native.Mathlib.Omega.{arith}
@@ -133,7 +134,7 @@ module _ {cause : (made : List ℕ) → ℕ → ℕ} {update : (made : List ℕ)
         go (inl q) (inr e) = rw e (hand-stored w l h steady (picked.counted q))
 
 -- by the tables
-module _ (workers : ℕ) (first row begins parts leaves blocks : List ℕ) (displaced : List ℤ) (at : List ℕ) (beside : List ℤ) where
+module _ (workers : ℕ) (first row begins parts leaves : List ℕ) (blocks : List Bool) (displaced : List ℤ) (at : List ℕ) (beside : List ℤ) where
   -- the position of a next update's sum is one of n
   pub target-low : {n : ℕ} → StepTables n first row begins parts leaves at beside → (made : List ℕ) (w : ℕ) → (update_next first row begins parts displaced at beside made w).target < n
   target-low t made w = by_low (number_next first row begins made w) _ (row_next first row made w) (t.at_low _) (t.bounded.row_low _)
@@ -155,6 +156,6 @@ module _ (workers : ℕ) (first row begins parts leaves blocks : List ℕ) (disp
     same_update = λ made new w e. rw e;
     loaded_cause = λ made new w even e free.
         let l = (reason-none w workers (count made w) (2 * updates_in first w) _ free).1 in
-        rw (e, half (count made w) even, lt-leb (2 * updates_in first w) (suc (count made w)) (omega arith), ← lt-leb (2 * updates_in first w) (count made w) l) free;
+        rw (e, half (count made w) even, lt-leb (2 * updates_in first w) (suc (count made w)) (omega arith)) (rw (lt-leb (2 * updates_in first w) (count made w) l) at free);
     loaded_update = λ made new w even e. rw (e, half (count made w) even);
   }

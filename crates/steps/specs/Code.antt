@@ -3,3 +3,4 @@ pub mod AtHand
 pub mod Steps
 pub mod Sum
 pub mod Updates
+pub mod Work

@@ -1,24 +1,22 @@
 // Steps: one load or store each.
 #![tactic(auto)]
 
+pub mod course;
 pub mod updates;
 
 ghost use Rattle.std.specs.Prelude.{◌≡◌, List, ℕ, ◌*◌, ◌≤◌, ◌<◌, length, get_or, set};
 ghost use Rattle.plan.specs.Sound.{max_workers};
 ghost use Rattle.run.specs.Updates.{count};
-ghost use Rattle.tables.specs.Code.Laid.{max_updates, updates_in, Rising, BoundedIn};
-ghost use Rattle.steps.specs.Code.Steps.{state_with, told, place_next, reason_by, update_by, StepTables, StepsBy};
-ghost use Rattle.steps.specs.Code.AtHand.{AtHand, AccessMade, Entered};
+ghost use Rattle.tables.specs.Code.Laid.{max_updates, updates_in, Rising};
+ghost use Rattle.steps.specs.Code.Steps.{state_with, told, place_next};
+ghost use Rattle.steps.specs.Code.Work.{reason_in, cause_in, update_in_work, HandsBy, EnteredBy};
+ghost use Rattle.steps.specs.Code.AtHand.{AccessMade};
 
 use base::Kind;
-use matrix::limits::MAX_ROWS;
+use course::{Course, Hands, NONE, Work};
 use plan::{MAX_GROUPS, MAX_WORKERS};
-use tables::{Entries, FIRSTS, Tables};
+use tables::FIRSTS;
 use updates::{amount_of, target_of};
-
-// In the list of the positions of sums: no update of the worker is at hand. A number past all rows and no Option, since
-// an access takes the position as it stands.
-pub const NONE: usize = MAX_ROWS;
 
 // How many accesses worker w makes: two for each of its updates.
 pub fn accesses(first: &[u32; FIRSTS], w: usize) -> u32
@@ -36,52 +34,55 @@ fn next_place(made: &[u32; MAX_WORKERS], w: usize, first: &[u32; FIRSTS]) -> usi
     (first[w] + made[w] / 2) as usize
 }
 
-// Why a step of worker w is refused by the counts, if it is.
-pub fn refusal(
-    tables: &Tables,
+// Why a step of one of sixteen workers is refused by the counts, if it is.
+pub fn standstill(
+    course: &Course,
     made: &[u32; MAX_WORKERS],
     w: usize,
-    workers: usize,
-    blocks: &[u8; MAX_GROUPS],
+    blocks: &[bool; MAX_GROUPS],
 ) -> Result<(), Kind>
-    requires { (workers ≤ max_workers) × ((n : ℕ) × BoundedIn n tables.now) }
-    ensures { told result ≡ reason_by workers tables.now blocks.now made.now w }
+    requires { w < max_workers }
+    ensures { told result ≡ reason_in max_workers course.now blocks.now made.now w }
 {
-    if workers <= w {
-        return Err(Kind::NoWorker);
-    }
+    let tables = &course.tables;
     if accesses(tables.first, w) <= made[w] {
         return Err(Kind::AllDone);
     }
     let p = tables.row[next_place(made, w, tables.first)] as usize;
     let i = tables.leaves[p] as usize;
-    if blocks[i] == 1 {
+    if blocks[i] {
         return Err(Kind::MustWait);
     }
     Ok(())
 }
 
-// Puts worker w's next update at hand: the position of its sum, and what it adds.
-pub fn look_up(
-    tables: &Tables,
-    entries: &Entries,
-    displaced: &[i32; MAX_ROWS],
+// Why a step of worker w is refused by the counts, if it is.
+pub fn refusal(
+    course: &Course,
     made: &[u32; MAX_WORKERS],
     w: usize,
-    targets: &mut [usize; MAX_WORKERS],
-    adds: &mut [i64; MAX_WORKERS],
-)
-    requires { (w < max_workers) × (count made.now w < 2 * updates_in tables.now.first.now w)
-        × ((n : ℕ) × (leaves : List ℕ) × StepTables n tables.now.first.now tables.now.row.now tables.now.begins.now
-        entries.now.parts.now leaves entries.now.at.now entries.now.beside.now) }
-    ensures targets { targets.new ≡ set targets.old w (update_by tables.now entries.now displaced.now made.now w).target }
-    ensures adds { adds.new ≡ set adds.old w (update_by tables.now entries.now displaced.now made.now w).amount }
+    blocks: &[bool; MAX_GROUPS],
+) -> Result<(), Kind>
+    ensures { told result ≡ cause_in course.now blocks.now made.now w }
 {
+    if course.workers <= w {
+        return Err(Kind::NoWorker);
+    }
+    standstill(course, made, w, blocks)
+}
+
+// Puts worker w's next update at hand.
+pub fn look_up(work: &Work, made: &[u32; MAX_WORKERS], w: usize, hands: &mut Hands)
+    requires { (w < max_workers) × (count made.now w < 2 * updates_in work.now.course.tables.first.now w) }
+    ensures targets { hands.new.targets ≡ set hands.old.targets w (update_in_work work.now made.now w).target }
+    ensures adds { hands.new.adds ≡ set hands.old.adds w (update_in_work work.now made.now w).amount }
+{
+    let tables = &work.course.tables;
     let place = next_place(made, w, tables.first);
     let p = tables.row[place] as usize;
     let k = place - tables.begins[p] as usize;
-    targets[w] = target_of(entries, p, k);
-    adds[w] = amount_of(entries, displaced, p, k);
+    hands.targets[w] = target_of(&work.entries, p, k);
+    hands.adds[w] = amount_of(&work.entries, work.displaced, p, k);
 }
 
 // Worker w loads or stores the sum of the update at hand, which a store ends. A sum to store that would pass 64 bits is
@@ -91,52 +92,46 @@ pub fn access(
     held: &mut [i64; MAX_WORKERS],
     sums: &mut [i64],
     w: usize,
-    targets: &mut [usize; MAX_WORKERS],
-    adds: &[i64; MAX_WORKERS],
+    hands: &mut Hands,
 ) -> Result<(), Kind>
-    requires { (w < max_workers) × (count made.old w < 2 * max_updates) × (get_or targets.old w 0 < length sums.old) }
-    ensures { AccessMade (state_with made.old held.old sums.old) w targets.old adds.now (told result)
-        (state_with made.new held.new sums.new) targets.new }
+    requires { (w < max_workers) × (count made.old w < 2 * max_updates) × (get_or hands.old.targets w 0 < length sums.old) }
+    ensures made { AccessMade (state_with made.old held.old sums.old) w hands.old.targets hands.old.adds (told result)
+        (state_with made.new held.new sums.new) hands.new.targets }
+    ensures adds { hands.new.adds ≡ hands.old.adds }
 {
-    let t = targets[w];
+    let t = hands.targets[w];
     if made[w] % 2 == 0 {
         held[w] = sums[t];
         made[w] += 1;
         return Ok(());
     }
-    let Some(sum) = held[w].checked_add(adds[w]) else {
+    let Some(sum) = held[w].checked_add(hands.adds[w]) else {
         return Err(Kind::Overflow);
     };
     sums[t] = sum;
     made[w] += 1;
-    targets[w] = NONE;
+    hands.targets[w] = NONE;
     Ok(())
 }
 
 // Has worker w's next update at hand, unless its step is refused. From its load to its store an update is at hand.
 pub fn enter(
-    tables: &Tables,
-    entries: &Entries,
-    displaced: &[i32; MAX_ROWS],
+    work: &Work,
     made: &[u32; MAX_WORKERS],
     w: usize,
-    workers: usize,
-    blocks: &[u8; MAX_GROUPS],
-    targets: &mut [usize; MAX_WORKERS],
-    adds: &mut [i64; MAX_WORKERS],
+    blocks: &[bool; MAX_GROUPS],
+    hands: &mut Hands,
 ) -> Result<(), Kind>
-    requires { (workers ≤ max_workers) × ((n : ℕ) × StepsBy n tables.now entries.now)
-        × AtHand (reason_by workers tables.now blocks.now) (update_by tables.now entries.now displaced.now) made.now targets.old adds.old }
-    ensures { Entered (reason_by workers tables.now blocks.now) (update_by tables.now entries.now displaced.now)
-        made.now w (told result) targets.new adds.new }
+    requires { HandsBy work.now blocks.now made.now hands.old.targets hands.old.adds }
+    ensures { EnteredBy work.now blocks.now made.now w (told result) hands.new.targets hands.new.adds }
 {
-    if workers <= w {
+    if work.course.workers <= w {
         return Err(Kind::NoWorker);
     }
-    if targets[w] < NONE {
+    if hands.targets[w] < NONE {
         return Ok(());
     }
-    refusal(tables, made, w, workers, blocks)?;
-    look_up(tables, entries, displaced, made, w, targets, adds);
+    refusal(&work.course, made, w, blocks)?;
+    look_up(work, made, w, hands);
     Ok(())
 }

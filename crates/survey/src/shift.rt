@@ -20,28 +20,37 @@ fn with_sign(t: u32, v: i32) -> i32
     }
 }
 
-// Whether column j is one of the columns; k of them stand before it.
-fn stands(columns: &[u32], k: usize, j: u32) -> bool
-    requires { Passed columns.now k j }
-    ensures { result ≡ is_in columns.now j }
-{
-    k < columns.len() && columns[k] == j
+// A row's columns and a column j: k of them stand before it.
+#[derive(Clone, Copy)]
+struct Cursor<'a> {
+    columns: &'a [u32],
+    k: usize,
+    j: u32,
+    ghost passed: { Passed columns.now k j },
 }
 
-// The value in column j, 0 where there is none.
-fn value_at(columns: &[u32], values: &[i32], k: usize, j: u32) -> i32
-    requires { Passed columns.now k j × (length columns.now ≡ length values.now) }
-    ensures { result ≡ lookup j columns.now values.now }
-{
-    if stands(columns, k, j) { values[k] } else { 0 }
-}
+impl Cursor<'_> {
+    // Whether column j is one of the columns.
+    fn stands(&self) -> bool
+        ensures { result ≡ is_in self.now.columns.now self.now.j }
+    {
+        self.k < self.columns.len() && self.columns[self.k] == self.j
+    }
 
-// How many columns stand before the column after j.
-fn past(columns: &[u32], k: usize, j: u32) -> usize
-    requires { Passed columns.now k j }
-    ensures { Passed columns.now result (j + 1) }
-{
-    if stands(columns, k, j) { k + 1 } else { k }
+    // The value in column j, 0 where there is none.
+    fn value(&self, values: &[i32]) -> i32
+        requires { length self.now.columns.now ≡ length values.now }
+        ensures { result ≡ lookup self.now.j self.now.columns.now values.now }
+    {
+        if self.stands() { values[self.k] } else { 0 }
+    }
+
+    // How many columns stand before the column after j.
+    fn past(&self) -> usize
+        ensures { Passed self.now.columns.now result (self.now.j + 1) }
+    {
+        if self.stands() { self.k + 1 } else { self.k }
+    }
 }
 
 // t with the sign of the row's value in each column, in the first n places.
@@ -51,8 +60,12 @@ pub(crate) fn put_shift(columns: &[u32], values: &[i32], t: u32, n: usize, out: 
 {
     let mut k = 0;
     for j in 0..n {
-        let column = j as u32;
-        out[j] = with_sign(t, value_at(columns, values, k, column));
-        k = past(columns, k, column);
+        let cursor = Cursor {
+            columns,
+            k,
+            j: j as u32,
+        };
+        out[j] = with_sign(t, cursor.value(values));
+        k = cursor.past();
     }
 }

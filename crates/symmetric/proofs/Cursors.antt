@@ -20,7 +20,7 @@ use Rattle.base.proofs.Integers.{same_true, same_refl}
 use Rattle.matrix.specs.Limits.{max_rows}
 use Rattle.matrix.specs.Matrix.{Matrix, columns_of, values_of, lookup, entry}
 use Rattle.matrix.specs.Code.Checks.{shaped, place_in}
-use Rattle.symmetric.specs.Code.Cursors.{regular, Mirror, Met, Cursors, MeetOk}
+use Rattle.symmetric.specs.Code.Cursors.{regular, Mirror, Met, Cursors}
 use Rattle.matrix.proofs.Checks.{shape}
 use Rattle.matrix.proofs.Ascending.{ascending_less, before-place, is_in-place, is_in-get, lookup-get, place-past, place-before, place-missing, place_more, take-place}
 use Rattle.matrix.proofs.Rows.{length-columns, columns-in, values_in}
@@ -252,8 +252,8 @@ module _ (m : Matrix) (h : shaped m ≡ true) {i : ℕ} (l : i < m.n) {p least :
 
 -- row i is met up to its first column that is not below i, and its cursor goes past its diagonal
 -- the turn at p, by what the code's test of it answered
-pub turn-now : {m : Matrix} {i p least : ℕ} {first cursors : List ℕ} {b : Bool} → MeetOk m i first → Turns m i p least cursors → b ≡ is_lower m i p → b ≡ true → Turn m p cursors
-turn-now {m} ok t e f = turn m ok.shape ok.below t (sym e ∙ f)
+pub turn-now : {m : Matrix} {i p least : ℕ} {cursors : List ℕ} {b : Bool} → shaped m ≡ true → i < m.n → Turns m i p least cursors → b ≡ is_lower m i p → b ≡ true → Turn m p cursors
+turn-now {m} h l t e f = turn m h l t (sym e ∙ f)
 
 module _ (m : Matrix) (h : shaped m ≡ true) {i : ℕ} (l : i < m.n) {p least : ℕ} {cursors : List ℕ} (t : Turns m i p least cursors)
     (stop : is_lower m i p ≡ false) where

@@ -9,10 +9,15 @@ ghost use Rattle.matrix.specs.Matrix.{is_matrix};
 ghost use Rattle.matrix.specs.Held.{held};
 
 use matrix::lists::Matrix;
+use passes::{Shaped, is_shaped};
 
 // Whether the lists hold a matrix of n rows.
 pub fn is_matrix(m: &Matrix) -> bool
     ensures { result ≡ is_matrix (held m.now) }
 {
-    passes::is_shaped(m) && passes::is_small(m) && passes::is_regular(m)
+    if !is_shaped(m) {
+        return false;
+    }
+    let lists = Shaped { m: *m };
+    lists.is_small() && lists.is_regular()
 }

@@ -4,9 +4,9 @@ use mathlib.Core.List.{List, [], ◌∷◌, ◌++◌, append-nil, append_assoc}
 use Prim.Native.Nat.{ℕ, ◌+◌, ◌/◌, ◌≤◌, min}
 use native.Mathlib.Nat.{min_comm}
 use native.Mathlib.Omega.{arith}
-use lib.IntN.{ℤ}
+use lib.IntN.{ℤ, pos}
 use lib.Dec.{leb}
-use lib.ListN.{length, get_or, take, drop, length-map}
+use lib.ListN.{length, get_or, take, drop, replicate, length-map, length-replicate}
 use lib.Seq.{length-take-le}
 use borrow.Author.Tests.{leb-true, le-leb}
 use Rattle.base.specs.Replies.{Reply, accepted, refused, Check, room_for, in_turn, lent}
@@ -62,6 +62,8 @@ module _ (text : List ℕ) (a b c x y z : ℕ) (hx : max_starts ≤ x) (hy : min
 -- the lists of an accepted call, of k rows: how long they are, how many entries
 -- the last row start tells, and that there is room
 pub record Read (t : Parsed) (a b c k : ℕ) : Type 0 where
+  pub few : k + 1 ≤ max_starts
+  pub cells-few : length (read_matrix t).columns ≤ max_cells
   pub starts-size : length (read_matrix t).starts ≡ k + 1
   pub values-size : length (read_matrix t).values ≡ length (read_matrix t).columns
   pub last : (rest : List ℕ) → get_or ((read_matrix t).starts ++ rest) k 0 ≡ length (read_matrix t).columns
@@ -81,6 +83,8 @@ module _ (text : List ℕ) (a b c k : ℕ) where
       let cs : length (columns n es) ≡ length (rows_of n es) = length-map (rows_of n es) _ in
       let vs : length (values n es) ≡ length (rows_of n es) = length-map (rows_of n es) _ in
       rw (← same) (record {
+        few = omega (arith, (parse-accepted text n es t).rows);
+        cells-few = omega (arith, full-few text n es t);
         starts-size = length-row-starts n es;
         values-size = vs ∙ sym cs;
         last = λ rest. rows_end n es rest ∙ sym cs;
@@ -97,18 +101,32 @@ module _ (text : List ℕ) (a b c k : ℕ) where
       go (matrix_text n es) t e = matrix-read n es t e
       go (rejected q p) t e = (let z : ◌≡◌ {A = ℕ} 0 1 = cc in absurd (omega arith))
 
--- the reply of a call to which the first i, j and k numbers of three arrays are lent on
-pub same-reply : (text starts columns : List ℕ) (values : List ℤ) (start_bytes column_bytes value_bytes : List ℕ) {i j k : ℕ}
-    → (max_starts ≤ length starts) × Ample column_bytes (length columns) × Ample value_bytes (length values)
-    → i ≡ min (length start_bytes / 4) (length starts) → j ≡ min (length column_bytes / 4) (length columns) → k ≡ min (length value_bytes / 4) (length values)
-    → read_reply (parse text) (length (take i starts)) (length (take j columns)) (length (take k values)) ≡ read_in text start_bytes column_bytes value_bytes
-same-reply text starts columns values start_bytes column_bytes value_bytes {i} {j} {k} enough ei ej ek =
-    rw (length-take-le i starts (omega arith), length-take-le j columns (omega arith), length-take-le k values (omega arith), ei, ej, ek)
-    (rooms_cut text (length start_bytes / 4) (length column_bytes / 4) (length value_bytes / 4) (length starts) (length columns) (length values) enough.0 enough.1 enough.2)
+-- the arrays of a call, before it
+abbrev pub no_starts : List ℕ
+no_starts = replicate max_starts 0
+
+abbrev pub no_columns : ℕ → List ℕ
+no_columns cells = replicate cells 0
+
+abbrev pub no_values : ℕ → List ℤ
+no_values cells = replicate cells (pos 0)
+
+-- the reply of a call to which the first i, j and k numbers of such arrays are lent on
+pub same-reply : (text : List ℕ) (cells : ℕ) (start_bytes column_bytes value_bytes : List ℕ) {i j k : ℕ} → Ample cells column_bytes × Ample cells value_bytes
+    → i ≡ min (length start_bytes / 4) max_starts → j ≡ min (length column_bytes / 4) cells → k ≡ min (length value_bytes / 4) cells
+    → read_reply (parse text) (length (take i no_starts)) (length (take j (no_columns cells))) (length (take k (no_values cells))) ≡ read_in text start_bytes column_bytes value_bytes
+same-reply text cells start_bytes column_bytes value_bytes {i} {j} {k} enough ei ej ek =
+    let starts = length-replicate {A = ℕ} max_starts 0 in
+    let columns = length-replicate {A = ℕ} cells 0 in
+    let values = length-replicate {A = ℤ} cells (pos 0) in
+    rw (length-take-le i no_starts (omega arith), length-take-le j (no_columns cells) (omega arith), length-take-le k (no_values cells) (omega arith), ei, ej, ek)
+    (rooms_cut text (length start_bytes / 4) (length column_bytes / 4) (length value_bytes / 4) max_starts cells cells (omega arith) enough.0.1 enough.1.1)
 
 -- three arrays begin with the matrix of n rows that an accepted call gives
 pub record Held (text start_bytes column_bytes value_bytes : List ℕ) (n : ℕ) (starts columns : List ℕ) (values : List ℤ) : Type 0 where
   pub reply : accepted n ≡ read_in text start_bytes column_bytes value_bytes
+  pub few : n + 1 ≤ max_starts
+  pub cells-few : get_or starts n 0 ≤ max_cells
   pub starts_begin : Begins starts (read_matrix (parse text)).starts (n + 1)
   pub columns_begin : Begins columns (read_matrix (parse text)).columns (get_or starts n 0)
   pub values_begin : Begins values (read_matrix (parse text)).values (get_or starts n 0)
@@ -138,6 +156,8 @@ module _ {text start_bytes column_bytes value_bytes : List ℕ} {r : Reply} (sam
       rw (es, lent-accepted (read_matrix (parse text)).starts old_starts r n (sym e), append_assoc) (made.last _) in
       record {
         reply = e ∙ same;
+        few = made.few;
+        cells-few = rw last made.cells-few;
         starts_begin = begins (sym e) _ _ es more_starts made.starts-size;
         columns_begin = begins (sym e) _ _ ec more_columns (sym last);
         values_begin = begins (sym e) _ _ ev more_values (made.values-size ∙ sym last);
@@ -147,16 +167,15 @@ module _ {text start_bytes column_bytes value_bytes : List ℕ} {r : Reply} (sam
       }
 
 -- the same for the arrays of a call, of which the first i, j and k numbers are lent on
-pub read_into : {text start_bytes column_bytes value_bytes : List ℕ} (starts columns : List ℕ) (values : List ℤ) {i j k : ℕ}
-    → (max_starts ≤ length starts) × Ample column_bytes (length columns) × Ample value_bytes (length values)
-    → i ≡ min (length start_bytes / 4) (length starts) → j ≡ min (length column_bytes / 4) (length columns) → k ≡ min (length value_bytes / 4) (length values)
-    → {n : ℕ} → accepted n ≡ read_reply (parse text) (length (take i starts)) (length (take j columns)) (length (take k values))
-    → {ss cs : List ℕ} {vs : List ℤ} → ss ≡ lent (read_reply (parse text) (length (take i starts)) (length (take j columns)) (length (take k values))) (read_matrix (parse text)).starts (take i starts)
-    → cs ≡ lent (read_reply (parse text) (length (take i starts)) (length (take j columns)) (length (take k values))) (read_matrix (parse text)).columns (take j columns)
-    → vs ≡ lent (read_reply (parse text) (length (take i starts)) (length (take j columns)) (length (take k values))) (read_matrix (parse text)).values (take k values)
-    → Held text start_bytes column_bytes value_bytes n (ss ++ drop i starts) (cs ++ drop j columns) (vs ++ drop k values)
-read_into {text} {start_bytes} {column_bytes} {value_bytes} starts columns values {i} {j} {k} enough ei ej ek e es ec ev =
-    read_held (same-reply text starts columns values start_bytes column_bytes value_bytes enough ei ej ek) e (take i starts) (take j columns) (take k values) es ec ev (drop i starts) (drop j columns) (drop k values)
+pub read_into : {text start_bytes column_bytes value_bytes : List ℕ} (cells : ℕ) {i j k : ℕ} → Ample cells column_bytes × Ample cells value_bytes
+    → i ≡ min (length start_bytes / 4) max_starts → j ≡ min (length column_bytes / 4) cells → k ≡ min (length value_bytes / 4) cells
+    → {n : ℕ} → accepted n ≡ read_reply (parse text) (length (take i no_starts)) (length (take j (no_columns cells))) (length (take k (no_values cells)))
+    → {ss cs : List ℕ} {vs : List ℤ} → ss ≡ lent (read_reply (parse text) (length (take i no_starts)) (length (take j (no_columns cells))) (length (take k (no_values cells)))) (read_matrix (parse text)).starts (take i no_starts)
+    → cs ≡ lent (read_reply (parse text) (length (take i no_starts)) (length (take j (no_columns cells))) (length (take k (no_values cells)))) (read_matrix (parse text)).columns (take j (no_columns cells))
+    → vs ≡ lent (read_reply (parse text) (length (take i no_starts)) (length (take j (no_columns cells))) (length (take k (no_values cells)))) (read_matrix (parse text)).values (take k (no_values cells))
+    → Held text start_bytes column_bytes value_bytes n (ss ++ drop i no_starts) (cs ++ drop j (no_columns cells)) (vs ++ drop k (no_values cells))
+read_into {text} {start_bytes} {column_bytes} {value_bytes} cells {i} {j} {k} enough ei ej ek e es ec ev =
+    read_held (same-reply text cells start_bytes column_bytes value_bytes enough ei ej ek) e (take i no_starts) (take j (no_columns cells)) (take k (no_values cells)) es ec ev (drop i no_starts) (drop j (no_columns cells)) (drop k (no_values cells))
 
 -- .. and stores it
 pub read-stored : {text start_bytes column_bytes value_bytes : List ℕ} {n : ℕ} {starts columns : List ℕ} {values : List ℤ} → Held text start_bytes column_bytes value_bytes n starts columns values

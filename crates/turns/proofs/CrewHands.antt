@@ -1,6 +1,7 @@
 -- The updates at hand of a crew, beside the counts of the other.
 use mathlib.Core.Path.{◌≡◌, ap, ◌∙◌}
 use mathlib.Core.Logic.{◌⊎◌, inl, inr, ◌≢◌}
+use mathlib.Core.Bool.{Bool}
 use mathlib.Core.List.{List}
 use Prim.Native.Nat.{ℕ, suc, ◌<◌}
 use native.Mathlib.Omega.{arith}
@@ -20,7 +21,7 @@ use Rattle.crews.proofs.Turns.{not_away}
 use Rattle.turns.specs.Code.Inside.{inside_at, cause_at}
 use Rattle.turns.proofs.CrewTurns.{never_away}
 
-module _ (first row begins parts leaves blocks : List ℕ) (displaced : List ℤ) (at : List ℕ) (beside : List ℤ) where
+module _ (first row begins parts leaves : List ℕ) (blocks : List Bool) (displaced : List ℤ) (at : List ℕ) (beside : List ℤ) where
   -- a crew's causes and updates depend on its workers' counts alone, while the other's counts stay
   pub crew_steady : (other : List ℕ) → Steady (cause_at first row begins leaves blocks other) (update_next first row begins parts displaced at beside)
   crew_steady other =
@@ -35,7 +36,7 @@ module _ (first row begins parts leaves blocks : List ℕ) (displaced : List ℤ
       }
 
 -- the other crew makes an access with worker w, of whom nothing is at hand then
-pub other-moved : (first row begins leaves blocks : List ℕ) {update : (made : List ℕ) → ℕ → Update} (other : List ℕ) {new made targets : List ℕ} {adds : List ℤ} (w : ℕ) → w < max_workers → new ≡ onward other w
+pub other-moved : (first row begins leaves : List ℕ) (blocks : List Bool) {update : (made : List ℕ) → ℕ → Update} (other : List ℕ) {new made targets : List ℕ} {adds : List ℤ} (w : ℕ) → w < max_workers → new ≡ onward other w
     → AtHand (cause_at first row begins leaves blocks other) update made targets adds → AtHand (cause_at first row begins leaves blocks new) update made (set targets w max_rows) adds
 unfolding onward
 other-moved first row begins leaves blocks {update} other {new} {made} {targets} {adds} w l is h =

@@ -5,7 +5,7 @@ use mathlib.Core.Bool.{Bool, true, false, ◌&&◌}
 use mathlib.Core.List.{List}
 use Prim.Native.Nat.{ℕ, zero, suc, ◌+◌, ◌*◌, ◌/◌, ◌%◌, ◌≤◌, ◌<◌}
 use native.Mathlib.Omega.{arith}
-use lib.Dec.{eqb, leb, ltb}
+use lib.Dec.{leb, ltb}
 use lib.IntN.{ℤ}
 use lib.ListN.{length, get_or}
 use borrow.Author.Tests.{ltb-true, lt-ltb, leb-true, leb-false}
@@ -17,15 +17,15 @@ use Rattle.run.specs.Updates.{Update, count, up_to, updates, accesses, next}
 use Rattle.run.specs.State.{State}
 use Rattle.run.specs.Machine.{reason, refusal, moved, halted, step_if}
 use Rattle.run.proofs.Able.{able, in_order_lem}
-use Rattle.tables.specs.Code.Laid.{updates_in, Bounded, Laid, Waits}
+use Rattle.tables.specs.Code.Laid.{updates_in, Laid, Waits}
 use Rattle.steps.specs.Code.Updates.{update_in, Triangle}
 use Rattle.steps.specs.Code.Steps.{row_next, number_next, reason_at, outcome_of, PickMade}
-use Rattle.steps.proofs.TableUpdates.{updates-are, begun-before, begins-is, row_is, row-is-update}
+use Rattle.steps.proofs.TableUpdates.{updates-are, begins-is, row_is, row-is-update}
 use Rattle.steps.proofs.GivenTables.{triangle-ahead}
 use Rattle.machine.proofs.TableWaits.{table-reason}
 use Rattle.crews.specs.Crews.{Crew, other, crew_number, Two, own_of, put_for, Roof, job_for, in_row, is_away, unless_away, crew_refusal, crew_step, for_both, turn}
 use Rattle.crews.proofs.Turns.{not_away, crew_end, who, turn-for, turn-none}
-use Rattle.turns.specs.Code.Inside.{inside_at, RowTables}
+use Rattle.turns.specs.Code.Inside.{inside_at}
 use Rattle.turns.specs.Code.Turned.{misnamed}
 
 -- ---- away or not
@@ -85,7 +85,7 @@ module _ (j : Job) {first row begins leaves ends : List ℕ} (laid : Laid j firs
 
 module _ (q : Roof) (S : Two State) (c : Crew) {first row begins leaves ends : List ℕ} (laid : (d : Crew) → Laid (job_for q d) first row begins leaves ends)
     {parts : List ℕ} {displaced : List ℤ} {at : List ℕ} {beside : List ℤ} (t : Triangle (job_for q c) parts displaced at beside)
-    (few : workers (job_for q c) ≤ max_workers) {blocks : List ℕ} (waiting : Waits (job_for q c) (own_of S c).made blocks) (w : ℕ) (low : w < workers (job_for q c)) where
+    (few : workers (job_for q c) ≤ max_workers) {blocks : List Bool} (waiting : Waits (job_for q c) (own_of S c).made blocks) (w : ℕ) (low : w < workers (job_for q c)) where
   abbrev j : Job
   j = job_for q c
 
@@ -104,7 +104,7 @@ module _ (q : Roof) (S : Two State) (c : Crew) {first row begins leaves ends : L
   unfolding crew_refusal is_away
   reason-is =
       ap₂ unless_away
-      (ap (λ (b : Bool). reason b (leb (2 * updates_in first w) (count made w)) (eqb (get_or blocks (get_or leaves (row_next first row made w) 0) 0) 1)) (lt-ltb w max_workers (omega arith) ∙ sym (lt-ltb w (workers j) low)) ∙ table-reason j (laid c) made blocks waiting (workers j) refl few w)
+      (ap (λ (b : Bool). reason b (leb (2 * updates_in first w) (count made w)) (get_or blocks (get_or leaves (row_next first row made w) 0) false)) (lt-ltb w max_workers (omega arith) ∙ sym (lt-ltb w (workers j) low)) ∙ table-reason j (laid c) made blocks waiting (workers j) refl few w)
       (inside-table (job_for q (other c)) (laid (other c)) (own_of S (other c)).made w (omega arith))
 
   step_is : step_if reason_for (own_of S c) w update ≡ crew_step q S c w
@@ -168,13 +168,9 @@ named-low byte crew e = go (leb (2 * max_workers) byte) refl (leb crew (byte % m
 
 -- ---- who is ready
 
--- what a step needs of the tables
-pub row_tables : (j : Job) {first row begins leaves ends : List ℕ} → Laid j first row begins leaves ends → Bounded j.matrix.n first row leaves → RowTables j.matrix.n first row begins leaves
-row_tables j laid b = record { bounded = b; begun = λ w k l h. begun-before j laid w l k (omega (arith, updates-are j laid.counted w l)) }
-
 -- a worker whose next pick for a crew would be taken, by the tables
 pub free-is : (q : Roof) (S : Two State) (c : Crew) {first row begins leaves ends : List ℕ} → ((d : Crew) → Laid (job_for q d) first row begins leaves ends) → (crew : ℕ) → crew ≡ workers (job_for q c) → crew ≤ max_workers
-    → (blocks : List ℕ) → Waits (job_for q c) (own_of S c).made blocks → (w : ℕ) → w < max_workers
+    → (blocks : List Bool) → Waits (job_for q c) (own_of S c).made blocks → (w : ℕ) → w < max_workers
     → unless_away (reason_at crew first row leaves blocks (own_of S c).made w) (inside_at first row begins (own_of S (other c)).made w) ≡ crew_refusal q S c w
 unfolding crew_refusal is_away
 free-is q S c laid crew e few blocks waiting w l =

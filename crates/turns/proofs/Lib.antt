@@ -1,4 +1,4 @@
-pub mod BothLists
+pub mod CrewBytes
 pub mod CrewTurns
 pub mod CrewHands
 pub mod SharedLoop

@@ -8,11 +8,11 @@ use Prim.Native.Nat.{ℕ, ◌+◌, ◌*◌, ◌/◌, ◌%◌, ◌≤◌, ◌<◌
 use native.Mathlib.Numerals.{add-one}
 use native.Mathlib.Omega.{arith}
 use lib.IntN.{ℤ}
-use lib.ListN.{length, get_or, replicate, length-set}
+use lib.ListN.{length, get_or, replicate}
 use Rattle.base.proofs.Booleans.{same_or}
 use Rattle.matrix.specs.Limits.{max_rows}
 use Rattle.plan.specs.Sound.{max_workers}
-use Rattle.plan.specs.Groups.{records}
+use Rattle.plan.specs.Groups.{width, records}
 use Rattle.plan.specs.Code.Checks.{record_at}
 use Rattle.run.specs.Job.{workers}
 use Rattle.run.specs.Updates.{Update, count}
@@ -22,7 +22,7 @@ use Rattle.run.proofs.Passes.{Left, left-start, left_step, left_halt, left-none}
 use Rattle.tables.specs.Code.Laid.{max_updates, Laid}
 use Rattle.waits.specs.Code.Waits.{Recorded, Blocks, Ahead, Current}
 use Rattle.steps.specs.Code.Updates.{Triangle}
-use Rattle.steps.specs.Code.Steps.{reason_at, update_next, outcome_of, StepTables, PickMade}
+use Rattle.steps.specs.Code.Steps.{reason_at, update_next, update_by, outcome_of, StepTables, PickMade}
 use Rattle.steps.specs.Code.AtHand.{AtHand, Entered}
 use Rattle.steps.proofs.TableSteps.{pick_refused}
 use Rattle.steps.proofs.UpdatesAtHand.{Steady, none_at_hand, access-ready, access-picks, access-keeps}
@@ -30,10 +30,14 @@ use Rattle.crews.proofs.Turns.{not_away}
 use Rattle.machine.proofs.BlockedLeaves.{whole-crew, waits-of}
 use Rattle.crews.specs.Crews.{Crew, crew0, crew1, other, crew_number, Two, own_of, put_for, Roof, job_for, crew_step, turn, turns}
 use Rattle.crews.specs.TwoCrews.{AcceptedRoof}
-use Rattle.turns.specs.Code.Inside.{inside_at, cause_at}
-use Rattle.turns.specs.Code.Both.{Begun, AccessFor, RenewedFor}
+use Rattle.turns.specs.Code.Inside.{inside_at, cause_at, cause_in}
+use Rattle.steps.specs.Code.Work.{update_in_work}
+use Rattle.steps.specs.declared.course.Course.{Course}
+use Rattle.steps.specs.declared.course.Work.{Work}
+use Rattle.tables.specs.declared.Entries.{Entries}
+use Rattle.turns.specs.Code.Both.{work_for, both_moves, Begun, AccessFor, RenewedFor}
 use Rattle.turns.specs.Code.Turned.{misnamed}
-use Rattle.turns.proofs.BothLists.{crew-of}
+use Rattle.turns.proofs.CrewBytes.{crew-of}
 use Rattle.turns.proofs.CrewHands.{crew_steady, other-moved}
 use Rattle.turns.proofs.CrewTurns.{turn-answer, turn_halts, turn-moves, name_halts, named-low}
 
@@ -51,6 +55,25 @@ pub record Tables : Type 0 where
   pub displaced : Two (List ℤ)
   pub at : List ℕ
   pub beside : List ℤ
+
+-- .. that the code holds
+abbrev pub tables_in : (work0 work1 : Work) → Tables
+tables_in work0 work1 =
+    let t = work0.course.tables in
+    record {
+      workers = work0.course.workers;
+      count = length t.groups.now / width;
+      groups = t.groups.now;
+      ends = t.ends.now;
+      first = t.first.now;
+      row = t.row.now;
+      begins = t.begins.now;
+      parts = work0.entries.parts.now;
+      leaves = t.leaves.now;
+      displaced = both_moves work0 work1;
+      at = work0.entries.at.now;
+      beside = work0.entries.beside.now;
+    }
 
 -- both crews' counts
 abbrev counts_of : Two State → Two (List ℕ)
@@ -75,39 +98,66 @@ module _ (T : Tables) where
       (q : Roof) → AcceptedRoof q → q.plan.groups ≡ records T.count T.groups → ((c : Crew) → Laid (job_for q c) T.first T.row T.begins T.leaves T.ends)
       → ((c : Crew) → Triangle (job_for q c) T.parts (own_of T.displaced c) T.at T.beside) → P q
 
-  abbrev CurrentOf : (made blocks stops : List ℕ) → Type 0
+  abbrev CurrentOf : (made : List ℕ) (blocks : List Bool) (stops : List ℕ) → Type 0
   CurrentOf made blocks stops = Current T.count T.groups T.ends made blocks stops
 
   -- why a pick of a worker of the plan is refused, for a crew beside the other's counts, and its update
-  abbrev cause_of : (blocks other made : List ℕ) → ℕ → ℕ
+  abbrev cause_of : (blocks : List Bool) (other made : List ℕ) → ℕ → ℕ
   cause_of blocks other = cause_at T.first T.row T.begins T.leaves blocks other
 
   abbrev update_of : Crew → (made : List ℕ) → ℕ → Update
   update_of c = update_next T.first T.row T.begins T.parts (own_of T.displaced c) T.at T.beside
 
   -- these updates of crew c are at hand
-  abbrev Hand : Two State → Crew → (blocks targets : List ℕ) (adds : List ℤ) → Type 0
+  abbrev Hand : Two State → Crew → (blocks : List Bool) (targets : List ℕ) (adds : List ℤ) → Type 0
   Hand S c blocks targets adds = AtHand (cause_of blocks (own_of S (other c)).made) (update_of c) (own_of S c).made targets adds
 
   -- k picks of the schedule, all taken, led from S₀ to S
-  pub record Sharing (S₀ : Two State) (schedule : List ℕ) (k : ℕ) (S : Two State) (blocks stops targets : Two (List ℕ)) (adds : Two (List ℤ)) : Type 0 where
+  pub record Sharing (S₀ : Two State) (schedule : List ℕ) (k : ℕ) (S : Two State) (blocks : Two (List Bool)) (stops targets : Two (List ℕ)) (adds : Two (List ℤ)) : Type 0 where
     pub crew : T.workers ≡ (record_at T.groups 0).workers
     pub hand : (c : Crew) → Hand S c (own_of blocks c) (own_of targets c) (own_of adds c)
     pub current : (c : Crew) → CurrentOf (own_of S c).made (own_of blocks c) (own_of stops c)
     pub left : EachRoof (λ q. Left skips_none (turn q) S₀ schedule k k S)
 
   -- a pick of worker w for crew c by the tables, with this answer, that leaves this state
-  abbrev Made : Two State → Crew → (blocks : List ℕ) (w number : ℕ) → State → Type 0
+  abbrev Made : Two State → Crew → (blocks : List Bool) (w number : ℕ) → State → Type 0
   Made S c blocks w number new = PickMade (cause_of blocks (own_of S (other c)).made (own_of S c).made w) (own_of S c) w (update_of c (own_of S c).made w) number new
 
-  none_for : {S : Two State} {blocks stops : Two (List ℕ)} {adds : Two (List ℤ)} → ((c : Crew) → CurrentOf (own_of S c).made (own_of blocks c) (own_of stops c)) → ((c : Crew) → length (own_of adds c) ≡ max_workers)
+  none_for : {S : Two State} {blocks : Two (List Bool)} {stops : Two (List ℕ)} {adds : Two (List ℤ)} → ((c : Crew) → CurrentOf (own_of S c).made (own_of blocks c) (own_of stops c)) → ((c : Crew) → length (own_of adds c) ≡ max_workers)
       → (c : Crew) → Hand S c (own_of blocks c) (own_of nobody c) (own_of adds c)
   none_for h f crew0 = none_at_hand (h crew0).long (f crew0)
   none_for h f crew1 = none_at_hand (h crew1).long (f crew1)
 
+-- crew c's steps are taken by these, if the tables and entries are those of both
+module _ (work0 work1 : Work) (course : work1.course ≡ work0.course) (entries : work1.entries ≡ work0.entries) where
+  module _ (blocks : List Bool) (other : List ℕ) {made targets : List ℕ} {adds : List ℤ} where
+    pub hand-same : (c : Crew) → AtHand (cause_of (tables_in work0 work1) blocks other) (update_of (tables_in work0 work1) c) made targets adds
+        → AtHand (cause_in (work_for work0 work1 c).course blocks other) (update_in_work (work_for work0 work1 c)) made targets adds
+    hand-same crew0 h = h
+    hand-same crew1 h =
+        subst (λ (k : Course). AtHand (cause_in k blocks other) (update_by k.tables work1.entries work1.displaced.now) made targets adds) (sym course)
+        (subst (λ (e : Entries). AtHand (cause_in work0.course blocks other) (update_by work0.course.tables e work1.displaced.now) made targets adds) (sym entries) h)
+
+    entered-same : (c : Crew) {w number : ℕ} → Entered (cause_in (work_for work0 work1 c).course blocks other) (update_in_work (work_for work0 work1 c)) made w number targets adds
+        → Entered (cause_of (tables_in work0 work1) blocks other) (update_of (tables_in work0 work1) c) made w number targets adds
+    entered-same crew0 e = e
+    entered-same crew1 {w} {number} e =
+        subst (λ (x : Entries). Entered (cause_in work0.course blocks other) (update_by work0.course.tables x work1.displaced.now) made w number targets adds) entries
+        (subst (λ (k : Course). Entered (cause_in k blocks other) (update_by k.tables work1.entries work1.displaced.now) made w number targets adds) course e)
+
+  pub begun-same : (blocks : Two (List Bool)) {made : Two (List ℕ)} {byte workers number : ℕ} {targets : Two (List ℕ)} {adds : Two (List ℤ)} {targets' : Two (List ℕ)} {adds' : Two (List ℤ)}
+      → Begun (λ c. cause_in (work_for work0 work1 c).course (own_of blocks c) (own_of made (other c))) (λ c. update_in_work (work_for work0 work1 c)) made byte workers number targets adds targets' adds'
+      → Begun (λ c. cause_of (tables_in work0 work1) (own_of blocks c) (own_of made (other c))) (update_of (tables_in work0 work1)) made byte workers number targets adds targets' adds'
+  begun-same blocks {made} b = record { halted = b.halted; entered = λ z c n. entered-same (own_of blocks c) (own_of made (other c)) c (b.entered z c n); gone = b.gone; adds_kept = b.adds_kept }
+
+-- of crew 0, and of crew 1
+pub of_both : (P : Crew → Type 0) → P crew0 → P crew1 → (c : Crew) → P c
+of_both P x y crew0 = x
+of_both P x y crew1 = y
+
 module _ {T : Tables} {S₀ : Two State} {schedule : List ℕ} where
   -- at first
-  pub sharing_start : {blocks stops : Two (List ℕ)} {adds : Two (List ℤ)} → T.workers ≡ (record_at T.groups 0).workers → length S₀.of0.made ≡ max_workers → length S₀.of1.made ≡ max_workers
+  pub sharing_start : {blocks : Two (List Bool)} {stops : Two (List ℕ)} {adds : Two (List ℤ)} → T.workers ≡ (record_at T.groups 0).workers → length S₀.of0.made ≡ max_workers → length S₀.of1.made ≡ max_workers
       → ((c : Crew) → Blocks T.count T.groups T.ends (own_of (counts_of S₀) c) (own_of blocks c)) → ((c : Crew) → Ahead T.count T.groups T.ends (own_of (counts_of S₀) c) (own_of stops c))
       → length adds.of0 ≡ max_workers → length adds.of1 ≡ max_workers → Sharing T S₀ schedule 0 S₀ blocks stops nobody adds
   sharing_start {blocks} {stops} {adds} e f g b a x y = record { crew = e; current = current; hand = none_for T current long; left = λ q ok is laid t. left-start skips_none (turn q) S₀ schedule }
@@ -120,7 +170,7 @@ module _ {T : Tables} {S₀ : Two State} {schedule : List ℕ} where
       long crew0 = x
       long crew1 = y
 
-  module _ {k : ℕ} {S : Two State} {blocks stops targets : Two (List ℕ)} {adds : Two (List ℤ)} (r : Sharing T S₀ schedule k S blocks stops targets adds) where
+  module _ {k : ℕ} {S : Two State} {blocks : Two (List Bool)} {stops targets : Two (List ℕ)} {adds : Two (List ℤ)} (r : Sharing T S₀ schedule k S blocks stops targets adds) where
     -- all picks are taken
     pub sharing_none : k ≡ length schedule → EachRoof T (λ q. record { state = S; taken = length schedule; met = length schedule; number = 0 } ≡ turns q S₀ schedule)
     sharing_none l q ok is laid t = ap (λ (y : ℕ). record { state = S; taken = y; met = y; number = 0 }) (sym l) ∙ left-none skips_none (turn q) S₀ schedule k k S (r.left q ok is laid t) l
@@ -190,13 +240,6 @@ module _ {T : Tables} {S₀ : Two State} {schedule : List ℕ} where
           low : w < T.workers
           low = (named-low byte T.workers names).1
 
-          pub sharing_two : 0 < length targets'.of1
-          sharing_two = by (its names).0 (its names).1
-            where
-              by : (c : Crew) → byte / max_workers ≡ crew_number c → 0 < length targets'.of1
-              by crew0 n = rw (b.gone names crew0 n, length-set) (omega (arith, (r.hand crew1).targets_long))
-              by crew1 n = omega (arith, (own names crew1 n).hand.targets_long)
-
           -- what an access needs
           pub sharing_ready : {n : ℕ} → StepTables n T.first T.row T.begins T.parts T.leaves T.at T.beside → ((c : Crew) → length (own_of S c).sums ≡ n)
               → (c : Crew) → byte / max_workers ≡ crew_number c → (count (own_of S c).made w < 2 * max_updates) × (get_or (own_of targets' c) w 0 < length (own_of S c).sums)
@@ -229,7 +272,7 @@ module _ {T : Tables} {S₀ : Two State} {schedule : List ℕ} where
                 ∙ halts c x.1 low h d q ok is laid t
 
             -- it is taken
-            module _ (z' : number' ≡ 0) {renewed : Bool} {blocks' stops' : Two (List ℕ)} (m : RenewedFor T.count T.groups T.ends (counts_of S') byte renewed blocks stops blocks' stops') where
+            module _ (z' : number' ≡ 0) {renewed : Bool} {blocks' : Two (List Bool)} {stops' : Two (List ℕ)} (m : RenewedFor T.count T.groups T.ends (counts_of S') byte renewed blocks stops blocks' stops') where
               next-left : EachRoof T (λ q. Left skips_none (turn q) S₀ schedule (k + 1) (k + 1) S')
               next-left q ok is laid t =
                   let x = its names in

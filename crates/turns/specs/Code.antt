@@ -2,3 +2,4 @@
 pub mod Both
 pub mod Inside
 pub mod Turned
+pub mod Lists

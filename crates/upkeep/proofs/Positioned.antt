@@ -45,6 +45,10 @@ position_missing xs v e = go (is_in xs v) refl (rw (position_is xs v) at e)
 pub mirror-named : (m : Matrix) → is_matrix m ≡ true → (i j : ℕ) → is_in (columns_of m i) j ≡ true → is_in (columns_of m j) i ≡ true
 mirror-named m ok i j named = (((matrix_facts m ok).row i (column-row m i j named)).mirror j named).0
 
+-- a difference, as the code has it
+pub stepped : {to old r : ℤ} → SFits w32 to → SFits w32 old → r ≡ to_z w32 (of_z w32 to) -ℤ to_z w32 (of_z w32 old) → r ≡ to -ℤ old
+stepped f g e = simp (to_z-of_z f, to_z-of_z g) at e
+
 -- what is known of a kept force list, a stored entry's two places p and q, the value there and its new value
 pub record Known (m : Matrix) (x fs : List ℤ) (i j : ℕ) (to : ℤ) (p q : ℕ) : Type 0 where
   pub current : Current (record { matrix = m; displacements = x; forces = fs })

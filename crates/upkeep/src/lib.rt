@@ -50,7 +50,9 @@ pub fn set_displacement(
     Ok(0)
 }
 
-// A new value for a stored entry and its mirror. (The lists come one by one, since the values are written.)
+// A new value for a stored entry and its mirror. (README's table names this call. Its lists come one by one, since the
+// values are written and a `Matrix` lends its own to be read: a type with the values to be written would be this
+// call's alone, and be taken apart at once.)
 pub fn set_entry(
     n: usize,
     starts: &[u32],

@@ -25,7 +25,8 @@ fn place(m: &Matrix, i: usize, j: u32) -> Option<usize>
     Some(m.starts[i] as usize + k)
 }
 
-// The places of entry (i, j) and of its mirror, if they are stored.
+// The places of entry (i, j) and of its mirror, if they are stored. (One function here asks for a matrix and one for
+// its shape: a type with that fact would be made at one call and taken apart in it.)
 pub(crate) fn places(m: &Matrix, i: u32, j: u32) -> Option<(usize, usize)>
     requires { is_matrix (held m.now) ≡ true }
     ensures { MatchOption result (is_in (columns_of (held m.now) i) j ≡ false) (λ at. Placed (held m.now) i j at.0 at.1) }

@@ -6,6 +6,7 @@ use mathlib.Core.List.{List, [], ◌∷◌}
 use Prim.Native.Nat.{ℕ, ◌+◌, ◌≤◌, ◌<◌}
 use native.Mathlib.Omega.{arith}
 use lib.Dec.{eqb, ltb}
+use lib.IntN.{ℤ}
 use lib.ListN.{length, get_or, take, set, length-append, length-take}
 use lib.Seq.{take-suc}
 use native.Mathlib.Numerals.{add-one}
@@ -16,12 +17,12 @@ use Rattle.base.specs.Lists.{filter, keep, is_in, sum_below, bit}
 use Rattle.base.proofs.Booleans.{and_false, or_true}
 use Rattle.matrix.specs.Limits.{max_rows}
 use Rattle.base.proofs.Sums.{sum-below-same, sum-below_bound, sum-below_more}
-use Rattle.matrix.specs.Matrix.{Matrix, columns_of, ascending, adjacent}
+use Rattle.matrix.specs.Matrix.{Matrix, matrix_of, part_of, columns_of, ascending, neighbours, adjacent}
 use Rattle.matrix.proofs.Matrix.{matrix_facts, neighbours-is}
 use Rattle.matrix.proofs.Ascending.{ascending_tail, first-once}
 use Rattle.plan.proofs.Once.{Once, once, injective}
 use Rattle.run.proofs.OrderSums.{sum-below-order}
-use Rattle.upper.specs.Code.Upper.{Positions, Ordered, upper_of, later_in, Sizes}
+use Rattle.upper.specs.Code.Upper.{Positions, Ordered, upper_to, upper_of, later_in, Sizes}
 use Rattle.upper.proofs.UpperRows.{beyond, upper_sum}
 use Rattle.upper.proofs.PlacedRows.{row_low}
 use Rattle.upper.proofs.PositionTable.{table-next}
@@ -105,3 +106,9 @@ pub sizes_next : (m : Matrix) (order : List ℕ) (k : ℕ) → k < max_rows → 
 sizes_next m order k l {v} e {sizes} t =
     let r = table-next 0 (λ p. length (upper_of m order p)) k l sizes t.long t.is v e in
     record { long = r.0; is = r.1 }
+
+-- the numbers are those of every matrix with these rows, whatever its values
+pub sizes-any : {n : ℕ} {starts columns : List ℕ} {values values' : List ℤ} {order : List ℕ} {k : ℕ} {sizes : List ℕ} → Sizes (matrix_of n starts columns values) order k sizes
+    → Sizes (matrix_of n starts columns values') order k sizes
+unfolding upper_to adjacent neighbours columns_of part_of
+sizes-any s = record { long = s.long; is = s.is }

@@ -5,95 +5,104 @@ pub mod order;
 mod parts;
 pub mod row;
 pub mod sizes;
+pub mod triangle;
 
-ghost use Rattle.std.specs.Prelude.{◌≡◌, List, ℕ, ◌+◌, ◌<◌, length, get_or, take};
-ghost use Rattle.matrix.specs.Limits.{max_rows};
+ghost use Rattle.std.specs.Prelude.{◌≡◌, List, ℕ, ◌+◌, ◌<◌, get_or};
 ghost use Rattle.matrix.specs.Held.{held};
 ghost use Rattle.tables.specs.Code.Laid.{max_updates};
-ghost use Rattle.upper.specs.Code.Upper.{Positions, Lent, Sizes, Parts, Begun, Upper, UpperLaid};
+ghost use Rattle.upper.specs.Code.Upper.{Positions, Sizes, Parts, Begun, Upper, UpperLaid};
+ghost use Rattle.upper.specs.Code.Triangle.{order_of};
 
 use matrix::limits::MAX_ROWS;
-use matrix::lists::Matrix;
 use order::positions;
 use parts::{begin_parts, part_sizes};
+use triangle::{OrderedMatrix, Triangle};
 
 // Position q begins its own part, and joins the part of each row before it that is adjacent to its row. The next place
 // of a column's row is written: it counts once the place after it is the next, which that of q's own is in the end.
-fn join(
-    m: &Matrix,
-    order: &[u32],
+fn join<const N: usize>(
+    ordered: &OrderedMatrix,
     position: &[u32; MAX_ROWS],
     q: usize,
     next: &mut [u32; MAX_ROWS],
-    at: &mut [u16],
-    beside: &mut [i32],
+    triangle: &mut Triangle<N>,
 )
-    requires { Lent m.now.n m.now.starts.now m.now.columns.now m.now.values.now order.now × Positions m.now.n (take m.now.n order.now) position.now × (q < m.now.n)
-        × ((begins : List ℕ) × Parts (held m.now) (take m.now.n order.now) begins
-        × Upper (held m.now) (take m.now.n order.now) begins q next.old at.old beside.old) }
-    ensures { (begins : List ℕ) → Parts (held m.now) (take m.now.n order.now) begins
-        → Upper (held m.now) (take m.now.n order.now) begins q
-        next.old at.old beside.old
-        → Upper (held m.now) (take m.now.n order.now) begins (q + 1)
-        next.new at.new beside.new }
+    requires { Positions ordered.now.m.n (order_of ordered.now) position.now × (q < ordered.now.m.n)
+        × ((begins : List ℕ) × Parts (held ordered.now.m) (order_of ordered.now) begins
+        × Upper (held ordered.now.m) (order_of ordered.now) begins q next.old triangle.old.at triangle.old.beside) }
+    ensures { ((begins : List ℕ) → Parts (held ordered.now.m) (order_of ordered.now) begins
+        → Upper (held ordered.now.m) (order_of ordered.now) begins q next.old triangle.old.at triangle.old.beside
+        → Upper (held ordered.now.m) (order_of ordered.now) begins (q + 1) next.new triangle.new.at triangle.new.beside)
+        × (triangle.new.parts ≡ triangle.old.parts) }
 {
-    let row = order[q] as usize;
+    let row = ordered.order[q] as usize;
     let own = next[q] as usize;
-    at[own] = q as u16;
-    beside[own] = 0;
-    let row_columns = m.columns_of(row);
-    let row_values = m.values_of(row);
+    triangle.at[own] = q as u16;
+    triangle.beside[own] = 0;
+    let row_columns = ordered.m.columns_of(row);
+    let row_values = ordered.m.values_of(row);
     for (k, column) in row_columns.iter().enumerate() {
         let p = position[*column as usize] as usize;
         if q < p {
             continue;
         }
         let place = next[p] as usize;
-        at[place] = q as u16;
-        beside[place] = row_values[k];
+        triangle.at[place] = q as u16;
+        triangle.beside[place] = row_values[k];
         next[p] = place as u32 + (p < q) as u32;
     }
     next[q] = own as u32 + 1;
 }
 
 // Every position joins, in turn. Each row's next place is where its part begins, then where it ends.
-fn join_all(
-    m: &Matrix,
-    order: &[u32],
+fn join_all<const N: usize>(
+    ordered: &OrderedMatrix,
+    position: &[u32; MAX_ROWS],
     next: &mut [u32; MAX_ROWS],
-    at: &mut [u16],
-    beside: &mut [i32],
+    triangle: &mut Triangle<N>,
 )
-    requires { Lent m.now.n m.now.starts.now m.now.columns.now m.now.values.now order.now × Begun m.now.n m.now.starts.now (take m.now.n order.now) next.old
-        × Upper (held m.now) (take m.now.n order.now) next.old 0 next.old at.old beside.old }
-    ensures { Parts (held m.now) (take m.now.n order.now) next.old
-        × Upper (held m.now) (take m.now.n order.now) next.old m.now.n
-        next.new at.new beside.new }
+    requires { Positions ordered.now.m.n (order_of ordered.now) position.now
+        × Begun ordered.now.m.n ordered.now.m.starts.now (order_of ordered.now) next.old
+        × Upper (held ordered.now.m) (order_of ordered.now) next.old 0 next.old triangle.old.at triangle.old.beside }
+    ensures { Parts (held ordered.now.m) (order_of ordered.now) next.old
+        × Upper (held ordered.now.m) (order_of ordered.now) next.old ordered.now.m.n next.new triangle.new.at triangle.new.beside
+        × (triangle.new.parts ≡ triangle.old.parts) }
 {
-    let mut position = [0u32; MAX_ROWS];
-    positions(order, m.n, &mut position);
-    for q in 0..m.n {
-        join(m, order, &position, q, next, at, beside);
+    for q in 0..ordered.m.n {
+        join(ordered, position, q, next, triangle);
     }
 }
 
-// The upper triangle: for each row its own position and the later adjacent ones, beside their entries, from where its
-// part begins. How many entries each row has.
-pub fn upper(
-    m: &Matrix,
-    order: &[u32],
-    parts: &mut [u32; MAX_ROWS],
+// The position of each row, how many entries each has, and the upper triangle: for each row its own position and the
+// later adjacent ones, beside their entries, from where its part begins. There is room for that of every matrix.
+pub fn lay_upper<const N: usize>(
+    ordered: &OrderedMatrix,
+    position: &mut [u32; MAX_ROWS],
     sizes: &mut [u32; MAX_ROWS],
-    at: &mut [u16],
-    beside: &mut [i32],
+    triangle: &mut Triangle<N>,
 )
-    requires { Lent m.now.n m.now.starts.now m.now.columns.now m.now.values.now order.now × (length parts.old ≡ max_rows)
-        × (length at.old ≡ max_updates) × ((k : ℕ) → get_or at.old k 0 ≡ 0) × (length beside.old ≡ max_updates) }
-    ensures { Sizes (held m.now) (take m.now.n order.now) m.now.n sizes.new
-        × UpperLaid (held m.now) (take m.now.n order.now) parts.new at.new beside.new }
+    requires { (N ≡ max_updates) × ((k : ℕ) → get_or triangle.old.at k 0 ≡ 0) }
+    ensures { Positions ordered.now.m.n (order_of ordered.now) position.new
+        × Sizes (held ordered.now.m) (order_of ordered.now) ordered.now.m.n sizes.new
+        × UpperLaid (held ordered.now.m) (order_of ordered.now) triangle.new.parts triangle.new.at triangle.new.beside }
 {
-    begin_parts(m, order, parts);
-    *sizes = *parts;
-    join_all(m, order, sizes, at, beside);
-    part_sizes(m.n, parts, sizes);
+    positions(ordered.order, ordered.m.n, position);
+    begin_parts(ordered, &mut triangle.parts);
+    sizes.copy_from_slice(&triangle.parts);
+    join_all(ordered, position, sizes, triangle);
+    part_sizes(ordered.m.n, &triangle.parts, sizes);
+}
+
+// .. where the positions are not asked for.
+pub fn upper<const N: usize>(
+    ordered: &OrderedMatrix,
+    sizes: &mut [u32; MAX_ROWS],
+    triangle: &mut Triangle<N>,
+)
+    requires { (N ≡ max_updates) × ((k : ℕ) → get_or triangle.old.at k 0 ≡ 0) }
+    ensures { Sizes (held ordered.now.m) (order_of ordered.now) ordered.now.m.n sizes.new
+        × UpperLaid (held ordered.now.m) (order_of ordered.now) triangle.new.parts triangle.new.at triangle.new.beside }
+{
+    let mut position = [0u32; MAX_ROWS];
+    lay_upper(ordered, &mut position, sizes, triangle);
 }

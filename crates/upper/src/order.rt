@@ -8,7 +8,7 @@ use matrix::limits::MAX_ROWS;
 
 // The position of each row.
 pub fn positions(order: &[u32], n: usize, position: &mut [u32; MAX_ROWS])
-    requires { (n ≤ length order.now) × (n ≤ max_rows) × (each_once n (take n order.now) ≡ true) × (length position.old ≡ max_rows) }
+    requires { (n ≤ length order.now) × (n ≤ max_rows) × (each_once n (take n order.now) ≡ true) }
     ensures { Positions n (take n order.now) position.new }
 {
     for p in 0..n {
@@ -19,7 +19,7 @@ pub fn positions(order: &[u32], n: usize, position: &mut [u32; MAX_ROWS])
 // The displacement of the row at each position.
 pub fn displace(displacements: &[i32], order: &[u32], displaced: &mut [i32; MAX_ROWS])
     requires { (length displacements.now ≤ length order.now) × (length displacements.now ≤ max_rows)
-        × ((p : ℕ) → p < length displacements.now → get_or order.now p 0 < length displacements.now) × (length displaced.old ≡ max_rows) }
+        × ((p : ℕ) → p < length displacements.now → get_or order.now p 0 < length displacements.now) }
     ensures { Displaced (length displacements.now) displacements.now order.now displaced.new }
 {
     for p in 0..displacements.len() {

@@ -1,6 +1,7 @@
 -- Who is blocked stays so while a worker's count is below its stop.
 use mathlib.Core.Path.{◌≡◌, sym, ap, ◌∙◌, subst}
 use mathlib.Core.Logic.{◌⊎◌, inl, inr, ◌≢◌}
+use mathlib.Core.Bool.{Bool}
 use mathlib.Core.List.{List}
 use Prim.Native.Nat.{ℕ, ◌≤◌, ◌<◌}
 use native.Mathlib.Omega.{arith}
@@ -14,7 +15,7 @@ use Rattle.run.specs.Machine.{onward}
 use Rattle.run.proofs.Onward.{onward-length, onward-other, onward_grows}
 use Rattle.waits.specs.Code.Waits.{Current}
 
-module _ {count : ℕ} {groups ends made blocks stops : List ℕ} (w : ℕ) (l : w < max_workers) (below : get_or (onward made w) w 0 < get_or stops w 0) (h : Current count groups ends made blocks stops) where
+module _ {count : ℕ} {groups ends made : List ℕ} {blocks : List Bool} {stops : List ℕ} (w : ℕ) (l : w < max_workers) (below : get_or (onward made w) w 0 < get_or stops w 0) (h : Current count groups ends made blocks stops) where
   grown : (v : ℕ) → get_or made v 0 ≤ get_or (onward made w) v 0
   grown v = onward_grows made w (omega (arith, h.long)) v
 

@@ -3,17 +3,14 @@ use mathlib.Core.Path.{◌≡◌, refl, sym, ap, ◌∙◌, subst}
 use mathlib.Core.Logic.{◌⊎◌, inl, inr, ◌≢◌}
 use mathlib.Core.Bool.{Bool, true, false, not, ◌&&◌, ◌||◌, cond}
 use mathlib.Core.List.{List, [], ◌∷◌}
-use Prim.Native.Nat.{ℕ, suc, ◌+◌, ◌-◌, ◌≤◌, ◌<◌}
+use Prim.Native.Nat.{ℕ, zero, suc, ◌+◌, ◌-◌, ◌≤◌, ◌<◌}
 use native.Mathlib.Omega.{arith}
-use lib.Bits.{bit_or}
 use lib.Dec.{eqb, ltb, leb}
 use lib.ListN.{length, get_or, set, drop, replicate, length-set, length-replicate}
 use lib.Seq.{get_or-set_same, get_or-set_other}
 use borrow.Author.Tests.{eq-eqb, ne_eqb, ltb-true, ltb-false, leb-true, leb-false, lt-ltb, le-ltb}
-use Rattle.base.specs.Lists.{bit}
 use Rattle.base.proofs.Booleans.{same_or}
-use Rattle.base.proofs.Lists.{get_d_zeros}
-use Rattle.plan.specs.Groups.{Group, red, records}
+use Rattle.plan.specs.Groups.{Group, records}
 use Rattle.plan.specs.Sound.{max_workers, max_groups}
 use Rattle.plan.specs.Code.Checks.{record_at, below_whole}
 use Rattle.plan.proofs.FlatRecords.{records_at, records-none}
@@ -22,20 +19,7 @@ use Rattle.waits.specs.Code.Waits.{Recorded, Ended, open_if, open_red, blocked_i
 use Rattle.tables.proofs.FlatOpen.{open_children, open_at, open_reds, red-flat}
 use Rattle.waits.proofs.Passes.{child-start, open_start, red-start, child-turn, open_turn, red-turn}
 
--- ---- one record's numbers are tests
-
-or-bits : (a b : Bool) → bit_or (bit a) (bit b) ≡ bit (b || a)
-or-bits true true = refl
-or-bits true false = refl
-or-bits false true = refl
-or-bits false false = refl
-
-red-bit : (colour : ℕ) (b : Bool) → open_red colour (bit b) ≡ bit (eqb colour red && b)
-red-bit colour b = go (eqb colour red)
-  where
-    go : (t : Bool) → cond t (bit b) 0 ≡ bit (t && b)
-    go true = refl
-    go false = refl
+-- ---- one record
 
 not-reached : (end made : ℕ) → not (leb end made) ≡ ltb made end
 not-reached end made = go (leb end made) refl
@@ -46,32 +30,61 @@ not-reached end made = go (leb end made) refl
 
 -- ---- backwards
 
+-- nobody is marked
+unmarked : (n k : ℕ) → get_or (replicate n false) k false ≡ false
+unmarked zero k = refl
+unmarked (suc n) zero = refl
+unmarked (suc n) (suc k) = unmarked n k
+
+-- one is: the others stay as they are
+module _ (xs : List Bool) (p k : ℕ) (l : p < length xs) where
+  marked : get_or (set xs p true) k false ≡ eqb p k || get_or xs k false
+  marked = go (same_or k p)
+    where
+      go : (k ≡ p) ⊎ (k ≢ p) → get_or (set xs p true) k false ≡ eqb p k || get_or xs k false
+      go (inl e) = rw (e, eq-eqb p p refl) (get_or-set_same xs p true false l)
+      go (inr d) = rw (ne_eqb p k (λ q. d (sym q))) (get_or-set_other xs p k true false d)
+
+  -- .. if v
+  marked-if : (v : Bool) → get_or (set xs p (get_or xs p false || v)) k false ≡ (eqb p k && v) || get_or xs k false
+  marked-if v = go (same_or k p)
+    where
+      turned : (a b : Bool) → a || b ≡ b || a
+      turned true true = refl
+      turned true false = refl
+      turned false true = refl
+      turned false false = refl
+
+      go : (k ≡ p) ⊎ (k ≢ p) → get_or (set xs p (get_or xs p false || v)) k false ≡ (eqb p k && v) || get_or xs k false
+      go (inl e) = rw (e, eq-eqb p p refl) (get_or-set_same xs p (get_or xs p false || v) false l ∙ turned (get_or xs p false) v)
+      go (inr d) = rw (ne_eqb p k (λ q. d (sym q))) (get_or-set_other xs p k (get_or xs p false || v) false d)
+
 module _ (count : ℕ) (groups ends made : List ℕ) where
   abbrev gs : List Group
   gs = records count groups
 
   -- what the tables have for the group at index up, of the records from index i on
-  pub record Found (fin : Group → Bool) (i : ℕ) (parents opens reds : List ℕ) (up : ℕ) : Type 0 where
-    pub is_parent : get_or parents up 0 ≡ bit (has_child up (drop i gs))
-    pub is_open : get_or opens up 0 ≡ bit (open_children fin up i (drop i gs))
-    pub has_red : get_or reds up 0 ≡ bit (open_reds fin up i (drop i gs))
+  pub record Found (fin : Group → Bool) (i : ℕ) (parents opens reds : List Bool) (up : ℕ) : Type 0 where
+    pub is_parent : get_or parents up false ≡ has_child up (drop i gs)
+    pub is_open : get_or opens up false ≡ open_children fin up i (drop i gs)
+    pub has_red : get_or reds up false ≡ open_reds fin up i (drop i gs)
 
-  pub record Backward (i : ℕ) (parents opens reds : List ℕ) : Type 0 where
+  pub record Backward (i : ℕ) (parents opens reds : List Bool) : Type 0 where
     pub parents-long : length parents ≡ max_groups
     pub opens_long : length opens ≡ max_groups
     pub reds-long : length reds ≡ max_groups
     pub found : (fin : Group → Bool) → Ended count groups ends made fin → (up : ℕ) → up < max_groups → Found fin i parents opens reds up
 
   -- no record is treated
-  pub backward_none : Backward count (replicate max_groups 0) (replicate max_groups 0) (replicate max_groups 0)
+  pub backward_none : Backward count (replicate max_groups false) (replicate max_groups false) (replicate max_groups false)
   backward_none = record {
-    parents-long = length-replicate {A = ℕ} max_groups 0;
-    opens_long = length-replicate {A = ℕ} max_groups 0;
-    reds-long = length-replicate {A = ℕ} max_groups 0;
+    parents-long = length-replicate {A = Bool} max_groups false;
+    opens_long = length-replicate {A = Bool} max_groups false;
+    reds-long = length-replicate {A = Bool} max_groups false;
     found = λ fin e up l. (record {
-      is_parent = get_d_zeros max_groups up ∙ sym (ap (λ (hs : List Group). bit (has_child up hs)) none ∙ ap bit (child-start fin up count));
-      is_open = get_d_zeros max_groups up ∙ sym (ap (λ (hs : List Group). bit (open_children fin up count hs)) none ∙ ap bit (open_start fin up count));
-      has_red = get_d_zeros max_groups up ∙ sym (ap (λ (hs : List Group). bit (open_reds fin up count hs)) none ∙ ap bit (red-start fin up count));
+      is_parent = unmarked max_groups up ∙ sym (ap (has_child up) none ∙ child-start fin up count);
+      is_open = unmarked max_groups up ∙ sym (ap (open_children fin up count) none ∙ open_start fin up count);
+      has_red = unmarked max_groups up ∙ sym (ap (open_reds fin up count) none ∙ red-start fin up count);
     });
   }
     where
@@ -89,25 +102,31 @@ module _ (count : ℕ) (groups ends made : List ℕ) where
     split : drop k gs ≡ g ∷ rest
     split = records_at count k groups (omega arith) ∙ ap (λ (h : Group). h ∷ rest) (sym is)
 
-    -- it is open or not, by the numbers that the tables have
-    opened : (fin : Group → Bool) → Ended count groups ends made fin → (parents opens reds : List ℕ) → Found fin (suc k) parents opens reds k
-        → open_if (get_or parents k 0) (get_or opens k 0) (get_or made g.first 0) (get_or ends k 0) ≡ bit (open_at fin k g rest)
+    -- it is open or not, by what the tables have
+    opened : (fin : Group → Bool) → Ended count groups ends made fin → (parents opens reds : List Bool) → Found fin (suc k) parents opens reds k
+        → open_if (get_or parents k false) (get_or opens k false) (get_or made g.first 0) (get_or ends k 0) ≡ open_at fin k g rest
     opened fin e parents opens reds f = rw (f.is_parent, f.is_open) (go (has_child k rest) refl)
       where
         go : (b : Bool) → has_child k rest ≡ b
-            → cond (eqb (bit b) 0) (bit (ltb (get_or made g.first 0) (get_or ends k 0))) (bit (open_children fin k (suc k) rest)) ≡ bit (cond b (open_children fin k (suc k) rest) (not (fin g)))
+            → cond b (open_children fin k (suc k) rest) (ltb (get_or made g.first 0) (get_or ends k 0)) ≡ cond b (open_children fin k (suc k) rest) (not (fin g))
         go true h = refl
-        go false h = ap bit (sym (ap not (subst (λ (y : Group). fin y ≡ leb (get_or ends k 0) (get_or made y.first 0)) (sym is) (e k (omega arith) h)) ∙ not-reached (get_or ends k 0) (get_or made g.first 0)))
+        go false h = sym (ap not (subst (λ (y : Group). fin y ≡ leb (get_or ends k 0) (get_or made y.first 0)) (sym is) (e k (omega arith) h)) ∙ not-reached (get_or ends k 0) (get_or made g.first 0))
 
     -- the tables of its parent take it up
-    pub backward_next : (parents opens reds : List ℕ) (o r : ℕ) → o ≡ open_if (get_or parents k 0) (get_or opens k 0) (get_or made g.first 0) (get_or ends k 0) → r ≡ open_red g.colour o
+    pub backward_next : (parents opens reds : List Bool) (o r : Bool) → o ≡ open_if (get_or parents k false) (get_or opens k false) (get_or made g.first 0) (get_or ends k 0) → r ≡ open_red g.colour o
         → Backward i parents opens reds
-        → Backward k (set parents g.parent 1) (set opens g.parent (bit_or (get_or opens g.parent 0) o)) (set reds g.parent (bit_or (get_or reds g.parent 0) r))
+        → Backward k (set parents g.parent true) (set opens g.parent (get_or opens g.parent false || o)) (set reds g.parent (get_or reds g.parent false || r))
     backward_next parents opens reds o r eo er b = record {
-      parents-long = length-set parents g.parent 1 ∙ b.parents-long;
-      opens_long = length-set opens g.parent (bit_or (get_or opens g.parent 0) o) ∙ b.opens_long;
-      reds-long = length-set reds g.parent (bit_or (get_or reds g.parent 0) r) ∙ b.reds-long;
-      found = λ fin e up l. at fin e up l (same_or up g.parent);
+      parents-long = length-set parents g.parent true ∙ b.parents-long;
+      opens_long = length-set opens g.parent (get_or opens g.parent false || o) ∙ b.opens_long;
+      reds-long = length-set reds g.parent (get_or reds g.parent false || r) ∙ b.reds-long;
+      found = λ fin e up l.
+          let f = before fin e up l in
+          let here : o ≡ open_at fin k g rest = eo ∙ opened fin e parents opens reds (before fin e k (omega (arith, R.few))) in record {
+            is_parent = marked parents g.parent up (omega (arith, low, b.parents-long)) ∙ rw f.is_parent (sym (ap (has_child up) split ∙ child-turn fin up k g rest));
+            is_open = marked-if opens g.parent up (omega (arith, low, b.opens_long)) o ∙ rw (f.is_open, here) (sym (ap (open_children fin up k) split ∙ open_turn fin up k g rest));
+            has_red = marked-if reds g.parent up (omega (arith, low, b.reds-long)) r ∙ rw (f.has_red, er, here) (sym (ap (open_reds fin up k) split ∙ red-turn fin up k g rest));
+          };
     }
       where
         low : g.parent < max_groups
@@ -116,47 +135,18 @@ module _ (count : ℕ) (groups ends made : List ℕ) where
         before : (fin : Group → Bool) → Ended count groups ends made fin → (up : ℕ) → up < max_groups → Found fin (suc k) parents opens reds up
         before fin e up l = let s : i ≡ suc k = omega arith in subst (λ (y : ℕ). Found fin y parents opens reds up) s (b.found fin e up l)
 
-        here : (fin : Group → Bool) → Ended count groups ends made fin → o ≡ bit (open_at fin k g rest)
-        here fin e = eo ∙ opened fin e parents opens reds (before fin e k (omega (arith, R.few)))
-
-        at : (fin : Group → Bool) → Ended count groups ends made fin → (up : ℕ) → up < max_groups → (up ≡ g.parent) ⊎ (up ≢ g.parent)
-            → Found fin k (set parents g.parent 1) (set opens g.parent (bit_or (get_or opens g.parent 0) o)) (set reds g.parent (bit_or (get_or reds g.parent 0) r)) up
-        at fin e up l (inl q) =
-            let f = before fin e up l in
-            let t : eqb g.parent up ≡ true = eq-eqb g.parent up (sym q) in
-            let O : Bool = open_at fin k g rest in
-            let x : bit_or (get_or opens up 0) o ≡ bit (O || open_children fin up (suc k) rest) = rw (f.is_open, here fin e) (or-bits (open_children fin up (suc k) rest) O) in
-            let y : bit_or (get_or reds up 0) r ≡ bit ((eqb g.colour red && O) || open_reds fin up (suc k) rest) =
-            rw (f.has_red, er, here fin e, red-bit g.colour O) (or-bits (open_reds fin up (suc k) rest) (eqb g.colour red && O)) in record {
-              is_parent = subst (λ (y : ℕ). get_or (set parents y 1) up 0 ≡ 1) q (get_or-set_same parents up 1 0 (omega (arith, b.parents-long)))
-                  ∙ sym (ap (λ (hs : List Group). bit (has_child up hs)) split ∙ ap bit (child-turn fin up k g rest) ∙ rw t);
-              is_open = subst (λ (y : ℕ). get_or (set opens y (bit_or (get_or opens y 0) o)) up 0 ≡ bit_or (get_or opens up 0) o) q (get_or-set_same opens up (bit_or (get_or opens up 0) o) 0 (omega (arith, b.opens_long)))
-                  ∙ x ∙ sym (ap (λ (hs : List Group). bit (open_children fin up k hs)) split ∙ ap bit (open_turn fin up k g rest) ∙ rw t);
-              has_red = subst (λ (y : ℕ). get_or (set reds y (bit_or (get_or reds y 0) r)) up 0 ≡ bit_or (get_or reds up 0) r) q (get_or-set_same reds up (bit_or (get_or reds up 0) r) 0 (omega (arith, b.reds-long)))
-                  ∙ y ∙ sym (ap (λ (hs : List Group). bit (open_reds fin up k hs)) split ∙ ap bit (red-turn fin up k g rest) ∙ rw t);
-            }
-        at fin e up l (inr d) =
-            let f = before fin e up l in
-            let t : eqb g.parent up ≡ false = ne_eqb g.parent up (λ q. d (sym q)) in record {
-              is_parent = get_or-set_other parents g.parent up 1 0 d ∙ f.is_parent ∙ sym (ap (λ (hs : List Group). bit (has_child up hs)) split ∙ ap bit (child-turn fin up k g rest) ∙ rw t);
-              is_open = get_or-set_other opens g.parent up (bit_or (get_or opens g.parent 0) o) 0 d ∙ f.is_open
-                  ∙ sym (ap (λ (hs : List Group). bit (open_children fin up k hs)) split ∙ ap bit (open_turn fin up k g rest) ∙ rw t);
-              has_red = get_or-set_other reds g.parent up (bit_or (get_or reds g.parent 0) r) 0 d ∙ f.has_red
-                  ∙ sym (ap (λ (hs : List Group). bit (open_reds fin up k hs)) split ∙ ap bit (red-turn fin up k g rest) ∙ rw t);
-            }
-
   -- all are
-  pub backward_all : (i : ℕ) → i ≡ 1 → (parents opens reds : List ℕ) → Backward i parents opens reds → OpenReds count groups ends made reds
+  pub backward_all : (i : ℕ) → i ≡ 1 → (parents opens reds : List Bool) → Backward i parents opens reds → OpenReds count groups ends made reds
   backward_all i e parents opens reds b = record {
     long = b.reds-long;
-    is = λ fin f up l. subst (λ (k : ℕ). get_or reds up 0 ≡ bit (open_reds fin up k (drop k gs))) e (b.found fin f up l).has_red ∙ ap bit (sym (red-flat fin up 1 (below_whole count groups)));
+    is = λ fin f up l. subst (λ (k : ℕ). get_or reds up false ≡ open_reds fin up k (drop k gs)) e (b.found fin f up l).has_red ∙ sym (red-flat fin up 1 (below_whole count groups));
   }
 
 -- ---- forwards
 
 -- only the whole is treated
-pub passed_none : (groups reds : List ℕ) → Passed 1 groups reds (replicate max_groups 0)
-passed_none groups reds = record { long = length-replicate {A = ℕ} max_groups 0; root = get_d_zeros max_groups 0; is = λ i a b. absurd (omega arith) }
+pub passed_none : (groups : List ℕ) (reds : List Bool) → Passed 1 groups reds (replicate max_groups false)
+passed_none groups reds = record { long = length-replicate {A = Bool} max_groups false; root = unmarked max_groups 0; is = λ i a b. absurd (omega arith) }
 
 -- no record is
 pub ahead_none : (groups ends made : List ℕ) (v : ℕ) → Ahead 0 groups ends made (replicate max_workers v)
@@ -167,7 +157,7 @@ module _ (count : ℕ) (groups : List ℕ) (R : Recorded count groups) (i : ℕ)
   own = record_at groups i
 
   -- one record more: its entry is made of its parent's, which stands before it
-  pub passed-next : 1 ≤ i → i < count → (reds blocks : List ℕ) (v : ℕ) → v ≡ blocked_if (get_or blocks g.parent 0) g.colour (get_or reds g.parent 0)
+  pub passed-next : 1 ≤ i → i < count → (reds blocks : List Bool) (v : Bool) → v ≡ blocked_if (get_or blocks g.parent false) g.colour (get_or reds g.parent false)
       → Passed i groups reds blocks → Passed (i + 1) groups reds (set blocks i v)
   passed-next some within reds blocks v e p = record {
     long = length-set blocks i v ∙ p.long;
@@ -175,26 +165,26 @@ module _ (count : ℕ) (groups : List ℕ) (R : Recorded count groups) (i : ℕ)
     is = λ k a b. at k a b (same_or k i);
   }
     where
-      new : List ℕ
+      new : List Bool
       new = set blocks i v
 
-      same : (k : ℕ) → k ≢ i → get_or new k 0 ≡ get_or blocks k 0
-      same k d = get_or-set_other blocks i k v 0 d
+      same : (k : ℕ) → k ≢ i → get_or new k false ≡ get_or blocks k false
+      same k d = get_or-set_other blocks i k v false d
 
-      parent : (k : ℕ) → 1 ≤ k → k < i + 1 → get_or new (record_at groups k).parent 0 ≡ get_or blocks (record_at groups k).parent 0
+      parent : (k : ℕ) → 1 ≤ k → k < i + 1 → get_or new (record_at groups k).parent false ≡ get_or blocks (record_at groups k).parent false
       parent k a b = same (record_at groups k).parent (λ q. omega (arith, R.parents k a (omega arith)))
 
-      value : ℕ → ℕ → ℕ
-      value k above = blocked_if above (record_at groups k).colour (get_or reds (record_at groups k).parent 0)
+      value : ℕ → Bool → Bool
+      value k above = blocked_if above (record_at groups k).colour (get_or reds (record_at groups k).parent false)
 
-      here : v ≡ value i (get_or blocks own.parent 0)
-      here = subst (λ (h : Group). v ≡ blocked_if (get_or blocks h.parent 0) h.colour (get_or reds h.parent 0)) is e
+      here : v ≡ value i (get_or blocks own.parent false)
+      here = subst (λ (h : Group). v ≡ blocked_if (get_or blocks h.parent false) h.colour (get_or reds h.parent false)) is e
 
-      at : (k : ℕ) → 1 ≤ k → k < i + 1 → (k ≡ i) ⊎ (k ≢ i) → get_or new k 0 ≡ value k (get_or new (record_at groups k).parent 0)
-      at k a b (inl q) = (at_i ∙ here ∙ subst (λ (y : ℕ). value i (get_or blocks own.parent 0) ≡ value y (get_or blocks (record_at groups y).parent 0)) (sym q) refl) ∙ ap (value k) (sym (parent k a b))
+      at : (k : ℕ) → 1 ≤ k → k < i + 1 → (k ≡ i) ⊎ (k ≢ i) → get_or new k false ≡ value k (get_or new (record_at groups k).parent false)
+      at k a b (inl q) = (at_i ∙ here ∙ subst (λ (y : ℕ). value i (get_or blocks own.parent false) ≡ value y (get_or blocks (record_at groups y).parent false)) (sym q) refl) ∙ ap (value k) (sym (parent k a b))
         where
-          at_i : get_or new k 0 ≡ v
-          at_i = ap (λ (y : ℕ). get_or new y 0) q ∙ get_or-set_same blocks i v 0 (omega (arith, p.long, R.few))
+          at_i : get_or new k false ≡ v
+          at_i = ap (λ (y : ℕ). get_or new y false) q ∙ get_or-set_same blocks i v false (omega (arith, p.long, R.few))
       at k a b (inr d) = same k d ∙ p.is k a (omega arith) ∙ ap (value k) (sym (parent k a b))
 
   -- .. its worker's stop comes before its end, if the count does

@@ -1,2 +1,3 @@
 -- What the contracts of inner functions speak of: no promise rests on it.
 pub mod Waits
+pub mod Recorded

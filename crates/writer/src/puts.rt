@@ -7,6 +7,7 @@ ghost use Rattle.market.specs.Text.{natural, integer, line_of};
 ghost use Rattle.writer.specs.Code.Puts.{Put, digit_at};
 
 use market::HEADER;
+use market::digits::put_digits;
 
 // How many digits a number of at most `most` digits has: one, and one for each power of ten from 10 on that it has
 // reached.
@@ -55,22 +56,13 @@ fn put_index(text: &mut [u8], at: usize, v: u32) -> usize
     put_byte(text, ones, (48 + v % 10) as u8)
 }
 
-// A number's digits from the last to the first, and the place after them.
+// A number's digits, and the place after them.
 pub fn put_number(text: &mut [u8], at: usize, v: u32) -> usize
     requires { at + length (natural v) ≤ length text.old }
     ensures { Put (natural v) at result text.old text.new }
 {
     let end = at + width(v, 10);
-    let mut x = v;
-    let mut i = end;
-    // A turn takes a digit away: a number, and no range, is gone through.
-    while 10 <= x {
-        i -= 1;
-        text[i] = (48 + x % 10) as u8;
-        x /= 10;
-    }
-    i -= 1;
-    text[i] = (48 + x) as u8;
+    put_digits(text, end, v as u64);
     end
 }
 

@@ -5,17 +5,18 @@ use borrow.Author.Rules.{rules}
 use Rattle.ahead.proofs.lay_ahead.Goals as goal
 
 -- the whole upper triangle is there
-pub returns-then-at-eq-MAX_UPDATES : goal.returns-then-at-eq-MAX_UPDATES
-returns-then-at-eq-MAX_UPDATES c = (λ r. upper_ahead c.requires.2.1.row_low (c.requires.1.whole c.if-at-eq-MAX_UPDATES.true), λ e. refl)
+pub returns-then-this-eq-MAX_UPDATES : goal.returns-then-this-eq-MAX_UPDATES
+returns-then-this-eq-MAX_UPDATES g c =
+    let long = c.args.triangle.now.lengths.1 in
+    (λ r. upper_ahead c.requires.1.1.row_low (c.requires.0.whole (omega arith)), λ e. refl)
 
 pub loop-w-init : goal.loop-w-init
-loop-w-init c = (search rules, λ h. serving_start h)
+loop-w-init g c = (search rules, λ h. serving_start h)
 
 pub loop-w-preserved : goal.loop-w-preserved
-loop-w-preserved c =
-    let e = c.in-Some.ensures in
-    let at = c.lay_parts.auto.at in (
-      omega (arith, e.0, at),
+loop-w-preserved g c =
+    let e = c.in-Some.ensures in (
+      e.0,
       λ h.
           let s = c.loop-w.invariant.1 h in
           let r = e.1 s.rows s.laid in
@@ -23,7 +24,8 @@ loop-w-preserved c =
     )
 
 pub returns : goal.returns
-returns c =
+returns g c =
     let e : c.loop-w.w ≡ 16 = omega arith in
-    let none = c.requires.1.none (omega (arith, c.if-at-eq-MAX_UPDATES.false, c.requires.4)) in
-    (λ r. serving_done (rw e at (c.loop-w.invariant.1 none)), λ y. refl)
+    let long = c.args.triangle.now.lengths.1 in
+    let none = c.requires.0.none (omega (arith, c.args.triangle.now.most)) in
+    (λ r. serving_done (rw e at (c.loop-w.invariant.1 none)), λ y. absurd (omega arith))

@@ -8,34 +8,35 @@ use borrow.Author.Rules.{rules}
 use Rattle.ahead.proofs.lay_part.Goals as goal
 
 pub bounds-rows-p : goal.bounds-rows-p
-bounds-rows-p c =
-    let row : c.args.p < 4096 = omega (arith, c.requires.1, few-rows c.requires.0) in
-    let l = row in search rules
+bounds-rows-p g c =
+    let row : c.args.p < 4096 = omega (arith, c.requires.0, few-rows c.args.rows.now.ordered.lent) in
+    search rules
 
-pub overflow_cast-size : goal.overflow_cast-size
-overflow_cast-size c =
-    let size : get_or c.args.rows.now.sizes.now c.args.p 0 ≤ 4096 = size_few c.requires.0 c.args.p c.requires.1 in
-    let h = size in search rules
+pub offset_bounds-rows-p : goal.offset_bounds-rows-p
+offset_bounds-rows-p g c =
+    let row : c.args.p < 4096 = omega (arith, c.requires.0, few-rows c.args.rows.now.ordered.lent) in
+    search rules
 
 pub overflow_add-end : goal.overflow_add-end
-overflow_add-end c =
-    let size : get_or c.args.rows.now.sizes.now c.args.p 0 ≤ 4096 = size_few c.requires.0 c.args.p c.requires.1 in
-    let h = size in omega (arith, c.requires.2, c.requires.3)
+overflow_add-end g c =
+    let r = c.args.rows.now in
+    let size : get_or r.sizes.now c.args.p 0 ≤ 4096 = size_few r.ordered.lent r.sizes_are c.args.p c.requires.0 in
+    omega (arith, c.requires.1, c.args.triangle.now.most)
 
-pub lay_row-requires : goal.lay_row-requires
-lay_row-requires c =
-    let x = c.requires.0 in
-    (x.lent, x.positions, c.requires.1, x.sizes_are.is _ c.requires.1, omega (arith, c.if-at-end.false), omega (arith, c.if-at-end.false, c.requires.4))
+pub offset_bounds-triangle-p : goal.offset_bounds-triangle-p
+offset_bounds-triangle-p g c =
+    let row : c.args.p < 4096 = omega (arith, c.requires.0, few-rows c.args.rows.now.ordered.lent) in
+    search rules
 
-pub bounds-parts-p : goal.bounds-parts-p
-bounds-parts-p c =
-    let row : c.args.p < 4096 = omega (arith, c.requires.1, few-rows c.requires.0) in
-    let l = row in search rules
+pub bounds-triangle-p : goal.bounds-triangle-p
+bounds-triangle-p g c =
+    let row : c.args.p < 4096 = omega (arith, c.requires.0, few-rows c.args.rows.now.ordered.lent) in
+    search rules
 
 pub returns : goal.returns
-returns c =
-    let x = c.requires.0 in
-    let row : c.args.p < 4096 = omega (arith, c.requires.1, few-rows x) in
-    let is = x.sizes_are.is c.args.p c.requires.1 in
+returns g c =
+    let r = c.args.rows.now in
+    let row : c.args.p < 4096 = omega (arith, c.requires.0, few-rows r.ordered.lent) in
+    let is = r.sizes_are.is c.args.p c.requires.0 in
     let t = c.lay_row.ensures in
-    (c.if-at-end.false, λ rows h. parts_more _ _ h t.0 t.1 row (ap (◌+◌ c.args.place) is) c.if-at-end.false)
+    (c.if-end.false, λ rows h. rw t.2 (parts_more _ _ h t.0 t.1 row (ap (◌+◌ c.args.place) is) (omega (arith, c.if-end.false))))

@@ -3,12 +3,11 @@ use mathlib.Core.Path.{◌≡◌}
 use native.Mathlib.Omega.{arith}
 use Rattle.matrix.specs.Held.{held}
 use Rattle.apart.specs.Code.Marks.{around}
-use Rattle.apart.proofs.RowsOf.{rows_few}
 use Rattle.apart.proofs.Touching.{widened-kept, around-two}
 use Rattle.apart.proofs.touch_near.Goals as goal
 
 pub touch_all-requires : goal.touch_all-requires
-touch_all-requires c = λ i l. omega (arith, c.requires.1 i l, rows_few _ c.args.net.now.matrix)
+touch_all-requires c = λ i l. omega (arith, c.requires.1 i l, c.args.net.now.graph.few)
 
 pub returns-in-0 : goal.returns-in-0
 unfolding around

@@ -3,4 +3,4 @@ use Rattle.answers.proofs.RunPicks.{ran_gave}
 use Rattle.cabinet.proofs.look_in.Goals as goal
 
 pub returns : goal.returns
-returns c = ran_gave c.perform_in-done.ensures
+returns c = ran_gave c.perform_in-answer.ensures

@@ -28,12 +28,12 @@ returns-in_err-check_displacements c =
     rw up (sym (job-unmoved _ _ _ _ _ (is_made (goal.at.returns-in_err-check_displacements c).Else-not-is_matrix) _ _ c.in_err-check_displacements.ensures))
 
 pub is_plan-requires : goal.is_plan-requires
-is_plan-requires c = is_made (goal.at.is_plan-requires c).Else-not-is_matrix
+is_plan-requires c = (c.args.job.now.matrix.values.now, is_made (goal.at.is_plan-requires c).Else-not-is_matrix)
 
 pub returns-then-not-is_plan : goal.returns-then-not-is_plan
 returns-then-not-is_plan c =
-    sym (job-unsound _ _ _ _ _ (is_made (goal.at.returns-then-not-is_plan c).Else-not-is_matrix) _ c.in_ok-check_displacements.ensures (fails c.is_plan.ensures (ap not c.if-not-is_plan.true)))
+    sym (job-unsound _ _ _ _ _ (is_made (goal.at.returns-then-not-is_plan c).Else-not-is_matrix) _ c.in_ok-check_displacements.ensures (fails (c.is_plan.ensures c.args.job.now.matrix.values.now) (ap not c.if-not-is_plan.true)))
 
 pub returns : goal.returns
 returns c =
-    sym (job-taken _ _ _ _ _ (is_made (goal.at.returns c).Else-not-is_matrix) _ c.in_ok-check_displacements.ensures (holds c.is_plan.ensures (ap not c.if-not-is_plan.false)))
+    sym (job-taken _ _ _ _ _ (is_made (goal.at.returns c).Else-not-is_matrix) _ c.in_ok-check_displacements.ensures (holds (c.is_plan.ensures c.args.job.now.matrix.values.now) (ap not c.if-not-is_plan.false)))

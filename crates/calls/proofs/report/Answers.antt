@@ -1,6 +1,6 @@
 -- `report`: the accesses are counted; then the ready set, or the force list.
 use mathlib.Core.Bool.{true, not}
-use mathlib.Core.Path.{◌≡◌, refl, sym, ap, ◌∙◌}
+use mathlib.Core.Path.{◌≡◌, sym, ap, ◌∙◌}
 use Prim.Native.Nat.{ℕ, ◌/◌}
 use lib.ListN.{length, take}
 use Rattle.base.proofs.Booleans.{fails, holds}
@@ -19,16 +19,16 @@ use Rattle.calls.proofs.report.Goals as goal
 use Rattle.calls.proofs.report.Goals.{After-sizes_of, After-first_updates-first, Else-not-is_fine}
 
 planned : (c : After-sizes_of) → let p = c.args.job.now.plan in Planned (job_in c.args.job.now) p.groups.now (length p.groups.now / width) c.sizes_of.new.sizes
-planned c = planned-of c.requires.0 (c.sizes_of.ensures.0 _ (lent_of c.requires.0))
+planned c = planned-of c.requires.0 c.sizes_of.ensures.1
 
 counted : (c : After-first_updates-first) → Counted (job_in c.args.job.now) c.first_updates-first.result
-counted c = c.first_updates-first.ensures _ (planned-of c.requires.0 (c.sizes_of.ensures.0 _ (lent_of c.requires.0)))
+counted c = c.first_updates-first.ensures _ (planned-of c.requires.0 c.sizes_of.ensures.1)
 
 fine : (c : Else-not-is_fine) → is_state (job_in c.args.job.now) (state_of c.args.state c.args.sums.now) ≡ true
-fine c = counted-state c.requires.0 (c.first_updates-first.ensures _ (planned-of c.requires.0 (c.sizes_of.ensures.0 _ (lent_of c.requires.0)))) _ c.requires.1 ∙ holds c.is_fine.ensures (ap not c.if-not-is_fine.false)
+fine c = counted-state c.requires.0 (c.first_updates-first.ensures _ (planned-of c.requires.0 c.sizes_of.ensures.1)) _ c.requires.1 ∙ holds c.is_fine.ensures (ap not c.if-not-is_fine.false)
 
-pub sizes_of-requires : goal.sizes_of-requires
-sizes_of-requires c = ((_, lent_of c.requires.0), refl, refl)
+pub invariant_of-ordered : goal.invariant_of-ordered
+invariant_of-ordered c = record { lent = lent_of c.requires.0 }
 
 pub first_updates-first-requires : goal.first_updates-first-requires
 first_updates-first-requires c = (_, planned (goal.at.first_updates-first-requires c).After-sizes_of)

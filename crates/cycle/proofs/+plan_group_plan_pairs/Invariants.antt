@@ -6,8 +6,8 @@ use Rattle.cycle.proofs.+plan_group_plan_pairs.Given as goal
 
 -- stages left
 abbrev pub decreases-plan_group : goal.decreases-plan_group
-decreases-plan_group l = l.stages * (max_levels + 2)
+decreases-plan_group l = l.task.stages * (max_levels + 2)
 
 -- stages left, then levels left
 abbrev pub decreases-plan_pairs : goal.decreases-plan_pairs
-decreases-plan_pairs l = l.stages * (max_levels + 2) + length l.ends.now + 1
+decreases-plan_pairs l = l.rest.stages * (max_levels + 2) + length l.levels.now.ends.now + 1

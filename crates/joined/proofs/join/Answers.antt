@@ -15,9 +15,9 @@ use Rattle.matrix.specs.Held.{held}
 use Rattle.matrix.proofs.Matrix.{matrix_facts}
 use Rattle.joined.specs.Joined.{joined_rows, are_places}
 use Rattle.joined.specs.Code.Rows.{Sewing}
-use Rattle.compress.proofs.rows.Cut.{placed_cut}
+use Rattle.compress.proofs.entries.Listed.{listed_few}
 use Rattle.joined.proofs.Gathering.{many-rows}
-use Rattle.joined.proofs.Joining.{entries, placed_joins, first_unmade, second_unmade, misplaced, unlimited, other_length, tested_places, rows_are}
+use Rattle.joined.proofs.Joining.{in-rows, placed_joins, first_unmade, second_unmade, misplaced, unlimited, other_length, tested_places, rows_are}
 use Rattle.joined.proofs.join.Goals as goal
 
 pub returns-then-not-is_matrix : goal.returns-then-not-is_matrix
@@ -98,7 +98,7 @@ gather-requires c =
     let tested : are_places one two c.args.places.now ≡ c.put_tenants.result = tested_places one two c.args.places.now c.if-places-second.false rows c.put_tenants.ensures.test in
     let placed : are_places one two c.args.places.now ≡ true = holds (sym tested) (ap not c.if-not-put_tenants.false) in
     let sewing : Sewing one two c.args.places.now (c.args.first.now.n + c.count_from.result) = record { first = first_made; second = second-made; placed = placed; rows = rows; few = c.if-n-gt-MAX_ROWS.false } in
-    (sewing, c.put_tenants.ensures.tenants (holds refl (ap not c.if-not-put_tenants.false)), record { rows = refl; columns = refl; values = refl })
+    (sewing, c.put_tenants.ensures.tenants (holds refl (ap not c.if-not-put_tenants.false)))
 
 pub returns-in_default : goal.returns-in_default
 returns-in_default c =
@@ -112,6 +112,18 @@ returns-in_default c =
     let q = unlimited _ _ _ _ _ _ first_made second-made placed c.in_default.ensures in
     record { reply = q.0; lent_starts = q.1.0; lent_columns = q.1.1.0; lent_values = q.1.1.1 }
 
+pub lend-requires : goal.lend-requires
+lend-requires c =
+    let one : Matrix = held c.args.first.now in
+    let two : Matrix = held c.args.second.now in
+    let first_made : is_matrix one ≡ true = holds c.is_matrix.ensures (ap not c.if-not-is_matrix.false) in
+    let second-made : is_matrix two ≡ true = holds c.is_matrix-2.ensures (ap not c.if-not-is_matrix-2.false) in
+    let rows : c.args.first.now.n + c.count_from.result ≡ joined_rows one c.args.places.now = rows_are one two c.args.places.now c.count_from.ensures in
+    let tested : are_places one two c.args.places.now ≡ c.put_tenants.result = tested_places one two c.args.places.now c.if-places-second.false rows c.put_tenants.ensures.test in
+    let placed : are_places one two c.args.places.now ≡ true = holds (sym tested) (ap not c.if-not-put_tenants.false) in
+    let sewing : Sewing one two c.args.places.now (c.args.first.now.n + c.count_from.result) = record { first = first_made; second = second-made; placed = placed; rows = rows; few = c.if-n-gt-MAX_ROWS.false } in
+    in-rows _ _ _ _ sewing c.in-Some.ensures
+
 pub returns : goal.returns
 returns c =
     let one : Matrix = held c.args.first.now in
@@ -122,6 +134,5 @@ returns c =
     let tested : are_places one two c.args.places.now ≡ c.put_tenants.result = tested_places one two c.args.places.now c.if-places-second.false rows c.put_tenants.ensures.test in
     let placed : are_places one two c.args.places.now ≡ true = holds (sym tested) (ap not c.if-not-put_tenants.false) in
     let sewing : Sewing one two c.args.places.now (c.args.first.now.n + c.count_from.result) = record { first = first_made; second = second-made; placed = placed; rows = rows; few = c.if-n-gt-MAX_ROWS.false } in
-    let whole = entries _ _ _ _ sewing c.in-Some.ensures.1 c.in-Some.ensures.0 c.in-Some.ensures.2 in
-    let q = placed_joins _ _ _ _ sewing c.in-Some.ensures.1 c.in-Some.ensures.0 (placed_cut c.in-Some.m c.gather.new.rs c.gather.new.cs c.gather.new.vs whole c.place_rows.ensures) in
+    let q = placed_joins _ _ _ _ sewing c.in-Some.ensures (listed_few c.gather.new.list) (rw (c.lend.ensures.rows, c.lend.ensures.entries) at c.place_rows.ensures) in
     record { reply = q.0; lent_starts = q.1.0; lent_columns = q.1.1.0; lent_values = q.1.1.1 }

@@ -1,11 +1,10 @@
--- The entries of the joined net on and below the diagonal, row by row, in three arrays.
-use Rattle.std.specs.Prelude.{Option, Some, None, ◌≡◌, ◌⊎◌, Bool, true, false, not, ◌&&◌, cond, List, [], ◌∷◌, ◌++◌, map, ℕ, suc, ◌+◌, ◌≤◌, ◌<◌, eqb, leb, ℤ, pos, ◌+ℤ◌, length, get_or}
+-- The entries of the joined net on and below the diagonal, row by row, in a list.
+use Rattle.std.specs.Prelude.{Option, Some, None, ◌≡◌, ◌⊎◌, Bool, true, false, not, ◌&&◌, cond, List, [], ◌∷◌, ◌++◌, map, ℕ, suc, ◌+◌, ◌≤◌, ◌<◌, eqb, ltb, leb, ℤ, pos, ◌+ℤ◌, length, get_or}
 use Rattle.base.specs.Lists.{filter, all, concat, is_in, range, distinct, position_of}
 use Rattle.base.specs.Integers.{within}
 use Rattle.matrix.specs.Limits.{max_rows, max_entries, max_value}
 use Rattle.matrix.specs.Matrix.{Matrix, lookup, ascending, is_matrix}
 use Rattle.market.specs.Parse.{Triplet, triplet, is_at}
-use Rattle.compress.specs.Code.Arrays.{Arrays, triplets_of}
 use Rattle.joined.specs.Joined.{joined_rows, are_places, stored_in, stiffness, joined, in_limits}
 
 -- ---- entries of a row
@@ -36,20 +35,16 @@ abbrev pub held_at : (turn : ℕ) (marks : List ℕ) (held : List ℤ) → ℕ �
 held_at turn marks held c = cond (marked turn marks c) (get_or held c (pos 0)) (pos 0)
 
 -- no turn was later
-pub record Before (turn : ℕ) (marks : List ℕ) : Type 0 where
-  pub long : length marks ≡ max_rows
-  pub early : (c : ℕ) → get_or marks c 0 < turn
+abbrev pub Before : (turn : ℕ) (marks : List ℕ) → Type 0
+Before turn marks = (c : ℕ) → get_or marks c 0 < turn
 
 -- the second net's row is held: for each column its value there
 pub record Held (turn : ℕ) (second : ℕ → ℤ) (marks : List ℕ) (held : List ℤ) : Type 0 where
-  pub long : length marks ≡ max_rows
-  pub beside : length held ≡ max_rows
   pub late : (c : ℕ) → get_or marks c 0 ≤ turn
   pub is : (c : ℕ) → held_at turn marks held c ≡ second c
 
 -- the first net's row is marked
 pub record Seen (turn : ℕ) (first : ℕ → Bool) (seen : List ℕ) : Type 0 where
-  pub long : length seen ≡ max_rows
   pub late : (c : ℕ) → get_or seen c 0 ≤ turn
   pub is : (c : ℕ) → marked turn seen c ≡ first c
 
@@ -69,23 +64,24 @@ pub record SecondRow (places ds : List ℕ) (ws : List ℤ) : Type 0 where
 unfoldable pub tenant_of : List ℕ → ℕ → ℕ
 tenant_of xs c = cond (is_in xs c) (suc (position_of xs c)) 0
 
--- ---- entries in arrays
+-- ---- entries in a list
 
 unfoldable pub are_small : List Triplet → Bool
 are_small ts = all (λ (t : Triplet). within max_value t.value) ts
 
--- after m entries come new ones; or a value passes its limit, or they are too many
-pub record Emitted (new : List Triplet) (m : ℕ) (rs cs : List ℕ) (vs : List ℤ) (r : ℕ) (rs' cs' : List ℕ) (vs' : List ℤ) : Type 0 where
-  pub arrays : Arrays rs' cs' vs'
-  pub size : r ≤ max_entries → r ≡ m + length new
-  pub is : r ≤ max_entries → triplets_of r rs' cs' vs' ≡ triplets_of m rs cs vs ++ new
-  pub small : r ≤ max_entries → are_small new ≡ true
-  pub past : max_entries < r → (are_small new ≡ false) ⊎ (max_entries < m + length new)
+-- after some entries come new ones, whose values are within their limit
+pub record Added (new es es' : List Triplet) : Type 0 where
+  pub small : are_small new ≡ true
+  pub is : es' ≡ es ++ new
 
--- .. as the code tells it: how many there are then, none if a limit is broken
-abbrev pub Told : (new : List Triplet) (m : ℕ) (rs cs : List ℕ) (vs : List ℤ) → Option ℕ → (rs' cs' : List ℕ) (vs' : List ℤ) → Type 0
-Told new m rs cs vs (Some r) rs' cs' vs' = (r ≤ max_entries) × Emitted new m rs cs vs r rs' cs' vs'
-Told new m rs cs vs None rs' cs' vs' = Emitted new m rs cs vs (max_entries + 1) rs' cs' vs'
+-- .. or a value passes its limit, or they are too many
+abbrev pub Broken : (new es : List Triplet) → Type 0
+Broken new es = (are_small new ≡ false) ⊎ (max_entries < length es + length new)
+
+-- .. as the code tells it: none if a limit is broken
+abbrev pub Told : (new es : List Triplet) → Option (Unit {0}) → List Triplet → Type 0
+Told new es (Some u) es' = Added new es es'
+Told new es None es' = Broken new es
 
 -- ---- the whole net
 
@@ -97,13 +93,17 @@ pub record Sewing (a b : Matrix) (places : List ℕ) (n : ℕ) : Type 0 where
   pub rows : n ≡ joined_rows a places
   pub few : n ≤ max_rows
 
--- the first m entries of three arrays are those of n rows on and below the diagonal, each once, with its value
-pub record Collected (n : ℕ) (stored : ℕ → ℕ → Bool) (value : ℕ → ℕ → ℤ) (m : ℕ) (rs cs : List ℕ) (vs : List ℤ) : Type 0 where
-  pub inside : (k : ℕ) → k < m → (get_or cs k 0 ≤ get_or rs k 0) × (get_or rs k 0 < n)
-  pub small : (i j : ℕ) → j ≤ i → i < n → stored i j ≡ true → within max_value (value i j) ≡ true
-  pub cells : (i j : ℕ) → i < n → filter (is_at i j) (triplets_of m rs cs vs) ≡ cond (stored i j && leb j i) (triplet i j (value i j) ∷ []) []
+-- an entry on or below the diagonal, of n rows
+abbrev pub is_inside : ℕ → Triplet → Bool
+is_inside n t = leb t.column t.row && ltb t.row n
 
--- the arrays after the gathering: the entries of the joined net, or a limit of it is broken
-abbrev pub Gathers : (a b : Matrix) (places : List ℕ) (n : ℕ) → Option ℕ → (rs cs : List ℕ) (vs : List ℤ) → Type 0
-Gathers a b places n (Some m) rs cs vs = (m ≤ max_entries) × Collected n (stored_in a b places) (stiffness a b places) m rs cs vs × Arrays rs cs vs
-Gathers a b places n None rs cs vs = in_limits (joined a b places) ≡ false
+-- the entries are those of n rows on and below the diagonal, each once, with its value
+pub record Collected (n : ℕ) (stored : ℕ → ℕ → Bool) (value : ℕ → ℕ → ℤ) (es : List Triplet) : Type 0 where
+  pub inside : all (is_inside n) es ≡ true
+  pub small : (i j : ℕ) → j ≤ i → i < n → stored i j ≡ true → within max_value (value i j) ≡ true
+  pub cells : (i j : ℕ) → i < n → filter (is_at i j) es ≡ cond (stored i j && leb j i) (triplet i j (value i j) ∷ []) []
+
+-- the list after the gathering: the entries of the joined net, or a limit of it is broken
+abbrev pub Gathers : (a b : Matrix) (places : List ℕ) (n : ℕ) → Option (Unit {0}) → List Triplet → Type 0
+Gathers a b places n (Some u) es = Collected n (stored_in a b places) (stiffness a b places) es
+Gathers a b places n None es = in_limits (joined a b places) ≡ false

@@ -8,4 +8,7 @@ use Rattle.layout.proofs.put_leaf.Given as goal
 
 abbrev pub invariant-loop-p : goal.invariant-loop-p
 invariant-loop-p l =
-    ((j : Job) (w : ℕ) → Sized j l.sizes → Stretch j l.i w l.start l.end → l.place ≡ next_of j w l.start → Filled j l.start l.initial.row l.initial.begins l.initial.leaves → (l.next ≡ next_of j w l.p) × Filled j l.p l.row l.begins l.leaves)
+    let u = l.updates in
+    let v = l.initial.updates in
+    ((j : Job) (w : ℕ) → Sized j l.sizes → Stretch j l.i w l.start l.end → l.place ≡ next_of j w l.start → Filled j l.start v.row v.begins v.leaves → (l.next ≡ next_of j w l.p) × Filled j l.p u.row u.begins u.leaves)
+    × (u.ends ≡ v.ends)

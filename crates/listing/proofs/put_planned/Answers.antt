@@ -19,7 +19,7 @@ put_plan-requires c =
     e.reply _ _ e.lent_order e.lent_groups in
     let rows = (matrix_facts m c.requires.0).few in
     let count = left.few in
-    (omega (arith, c.plan.auto.order, length-replicate {A = ℕ} max_rows 0), omega (arith, c.plan.auto.groups, length-replicate {A = ℕ} max_fields 0), omega (arith, c.requires.1))
+    (omega (arith, c.plan.auto.order, length-replicate {A = ℕ} max_rows 0), omega arith, omega (arith, c.plan.auto.groups, length-replicate {A = ℕ} max_fields 0), omega (arith, c.requires.1))
 
 pub returns-in-Err : goal.returns-in-Err
 returns-in-Err c =

@@ -1,15 +1,11 @@
 -- Bytes put one before the other.
-use Rattle.std.proofs.Common.{◌≡◌, ℕ, suc, ◌-◌, ◌^◌, ◌<◌, ◌≤◌, List, [], ◌∷◌, ◌++◌, length, take, drop, set, nat_abs, ap, ◌∙◌, append_assoc, arith, length-append, length-set, length-take-le, drop_at}
-use lib.Seq.{set_split}
+use Rattle.std.proofs.Common.{◌≡◌, ℕ, suc, ◌-◌, ◌^◌, ◌<◌, ◌≤◌, List, [], ◌∷◌, ◌++◌, length, drop, set, nat_abs, ◌∙◌, append_assoc, arith, length-append, length-set}
 use Rattle.market.specs.Text.{decimal}
 use Rattle.words.specs.LittleEndian.{to_signed}
 use Rattle.numbers.specs.Lines.{number_line}
-use Rattle.numbers.specs.Code.Puts.{PutBefore}
+use Rattle.market.specs.Code.Puts.{PutBefore}
+use Rattle.market.proofs.digits.Spelling.{drop-set}
 use Rattle.numbers.proofs.width.Widths.{line_plain, line-negative, line-width}
-
--- what stands from a place on, once a byte is stored there
-pub drop-set : (old : List ℕ) (at b : ℕ) → at < length old → drop at (set old at b) ≡ b ∷ drop (suc at) old
-drop-set old at b h = ap (drop at) (set_split old at b h) ∙ drop_at (take at old) (b ∷ drop (suc at) old) at (length-take-le at old (omega arith))
 
 -- one byte
 pub put_one : (old : List ℕ) (end b : ℕ) → 1 ≤ end → end ≤ length old → PutBefore (b ∷ []) end (end - 1) old (set old (end - 1) b)

@@ -1,8 +1,9 @@
 -- A number's digits counted four at a time.
-use Rattle.std.proofs.Common.{◌≡◌, ℕ, ◌+◌, ◌/◌, ◌%◌, ◌^◌, ◌<◌, ◌≤◌, Bool, true, false, leb, [], ◌∷◌, ◌++◌, length, nat_abs, refl, ap, ◌∙◌, arith, length-append, leb-false, leb-true}
+use Rattle.std.proofs.Common.{◌≡◌, ℕ, ◌+◌, ◌/◌, ◌^◌, ◌<◌, ◌≤◌, Bool, true, false, leb, [], ◌∷◌, ◌++◌, length, nat_abs, refl, ap, ◌∙◌, arith, length-append, leb-false, leb-true}
 use mir.Val.{bool_byte}
 use Rattle.market.specs.Text.{decimal}
-use Rattle.market.proofs.Decimal.{decimal-one, decimal_more, decimal-few}
+use Rattle.market.proofs.Decimal.{decimal-one, decimal-few}
+use Rattle.market.proofs.digits.Spelling.{length_more}
 use Rattle.words.specs.LittleEndian.{to_signed}
 use Rattle.numbers.specs.Lines.{number_line}
 use Rattle.numbers.proofs.Bits.{low_half, high_half}
@@ -13,9 +14,6 @@ bool_small false = omega arith
 
 length-one : (x : ℕ) → x < 10 → length (decimal 19 x) ≡ 1
 length-one x h = ap length (decimal-one 18 x h)
-
-pub length_more : (x : ℕ) → 10 ≤ x → x < 10 ^ 19 → length (decimal 19 x) ≡ length (decimal 19 (x / 10)) + 1
-length_more x t h = ap length (decimal_more 18 x t h) ∙ length-append (decimal 19 (x / 10)) ((48 + x % 10) ∷ [])
 
 pub length_four : (x : ℕ) → 10000 ≤ x → x < 10 ^ 19 → length (decimal 19 x) ≡ length (decimal 19 (x / 10000)) + 4
 length_four x t h =

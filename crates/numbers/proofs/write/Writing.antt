@@ -3,7 +3,7 @@ use Rattle.std.proofs.Common.{◌≡◌, ℕ, suc, ◌+◌, ◌-◌, ◌<◌, �
 use lib.Seq.{take-length, drop-length}
 use Rattle.words.specs.LittleEndian.{stored}
 use Rattle.numbers.specs.Lines.{number_line, numbers_text}
-use Rattle.numbers.specs.Code.Puts.{PutBefore}
+use Rattle.market.specs.Code.Puts.{PutBefore}
 use Rattle.numbers.proofs.NumberLists.{text_more}
 use Rattle.numbers.proofs.write.Measuring.{bytes_to, bytes_next, bytes_none}
 

@@ -1,13 +1,7 @@
--- Bytes put into a lent text from its end on.
-use Rattle.std.specs.Prelude.{◌≡◌, Result, Ok, Err, ℕ, ◌+◌, ◌%◌, ◌^◌, Bool, true, false, List, ◌++◌, length, drop, nat_le}
+-- How many bytes a text takes, as the code answers it.
+use Rattle.std.specs.Prelude.{Result, Ok, Err, ℕ, ◌%◌, ◌^◌, Bool, true, false, nat_le}
 use Rattle.base.specs.declared.Kind.TheVariants as kind
 use Rattle.base.specs.declared.Refusal.{Refusal}
-
--- xs stands from r on up to end, and what comes after it is as it was
-pub record PutBefore (xs : List ℕ) (end r : ℕ) (old new : List ℕ) : Type 0 where
-  pub begins : r + length xs ≡ end
-  pub long : length new ≡ length old
-  pub text : drop r new ≡ xs ++ drop end old
 
 -- a text that takes so many bytes is too long
 abbrev pub short : ℕ → Refusal

@@ -37,8 +37,11 @@ size_is c =
     let n = (c.first_updates-first.ensures _ (planned-of c.requires c.upper.ensures.0)).is max_workers (omega arith) in
     omega (arith, c.size_of-size.ensures.0, n, prepared-long (job_in c.args.job.now) c.requires.accepted)
 
+pub invariant_of-ordered : goal.invariant_of-ordered
+invariant_of-ordered c = record { lent = lent_of c.requires }
+
 pub upper-requires : goal.upper-requires
-upper-requires c = (lent_of c.requires, refl, refl, get_d_zeros max_updates, refl)
+upper-requires c = (search rules, (refl, get_d_zeros max_updates))
 
 pub first_updates-first-requires : goal.first_updates-first-requires
 first_updates-first-requires c = (_, planned (goal.at.first_updates-first-requires c).After-upper)
@@ -53,7 +56,7 @@ unfolding job_of
 returns-then-out-size c = prepare_short (job_in c.args.job.now) _ (size_is (goal.at.returns-then-out-size c).After-size_of-size) c.if-out-size.true
 
 pub displace-requires : goal.displace-requires
-displace-requires c = let d = given_displaced c.requires in (d.0, d.1, d.2, refl)
+displace-requires c = given_displaced c.requires
 
 pub get-whole-requires : goal.get-whole-requires
 get-whole-requires c = planned_record (planned (goal.at.get-whole-requires c).After-upper)
@@ -70,7 +73,7 @@ unfolding job_of
 store_tables-requires c =
     let b = goal.at.store_tables-requires c in
     let g = c.requires in
-    let triangle : Triangle (job_in c.args.job.now) c.upper.new.parts c.displace.new.displaced c.upper.new.at c.upper.new.beside = triangle-of _ _ (rw (given-many g) at c.displace.ensures) c.upper.ensures.1 in
+    let triangle : Triangle (job_in c.args.job.now) c.upper.new.triangle.parts c.displace.new.displaced c.upper.new.triangle.at c.upper.new.triangle.beside = triangle-of _ _ (rw (given-many g) at c.displace.ensures) c.upper.ensures.1 in
     (_, planned b.After-upper, counted b.After-first_updates-first, triangle, refl, omega (arith, c.if-out-size.false, c.size_of-size.ensures.0, all-counted b.After-first_updates-first, c.store_head.auto.out))
 
 pub store_places-requires : goal.store_places-requires
@@ -86,7 +89,7 @@ returns c =
     let g = c.requires in
     let p = planned b.After-upper in
     let k = counted b.After-first_updates-first in
-    let triangle : Triangle (job_in c.args.job.now) c.upper.new.parts c.displace.new.displaced c.upper.new.at c.upper.new.beside = triangle-of _ _ (rw (given-many g) at c.displace.ensures) c.upper.ensures.1 in
+    let triangle : Triangle (job_in c.args.job.now) c.upper.new.triangle.parts c.displace.new.displaced c.upper.new.triangle.at c.upper.new.triangle.beside = triangle-of _ _ (rw (given-many g) at c.displace.ensures) c.upper.ensures.1 in
     let size = size_is b.After-size_of-size in
     prepare_done (job_in c.args.job.now) _ size c.if-out-size.false
     (all-written (job_in c.args.job.now) c.requires.accepted _ _ _ _ _ (omega (arith, size, c.if-out-size.false)) (omega (arith, c.size_of-size.ensures.0, all-counted b.After-first_updates-first))

@@ -11,45 +11,46 @@ use Rattle.preparing.proofs.Lists.{legible, all-updates, all-gates}
 use Rattle.preparing.proofs.Written.{tables_written}
 use borrow.Author.Rules.{rules}
 use Rattle.preparing.proofs.store_tables.Goals as goal
-use Rattle.preparing.proofs.store_tables.Goals.{After-lay}
+use Rattle.preparing.proofs.store_tables.Goals.{After-lay-tables}
 
 -- how many updates there are
-few : (c : After-lay) → get_or c.args.first 16 0 ≤ 69632
+few : (c : After-lay-tables) → get_or c.args.first 16 0 ≤ 69632
 few c = let s = c.requires in omega (arith, s.2.is max_workers (omega arith), first-room s.0 s.1.sized.accepted max_workers (omega arith))
 
-pub lay-requires : goal.lay-requires
-lay-requires c = let s = c.requires in (s.0, s.1, s.2, planned-blank s.1)
+pub lay-tables-requires : goal.lay-tables-requires
+lay-tables-requires c = let s = c.requires in (s.0, s.1, s.2, planned-blank s.1)
 
 pub all_gates-table-requires : goal.all_gates-table-requires
-all_gates-table-requires c = planned_recorded c.requires.1
+all_gates-table-requires c = let s = c.requires in planned_recorded (c.lay-tables.ensures s.0 s.1 s.2 (planned-blank s.1)).0
 
 pub store_updates-requires : goal.store_updates-requires
 store_updates-requires c =
     let s = c.requires in
-    let t = c.lay.ensures s.0 s.1 s.2 (planned-blank s.1) in
+    let t = c.lay-tables.ensures s.0 s.1 s.2 (planned-blank s.1) in
     let e = s.2.is max_workers (omega arith) in
-    (omega (arith, e, s.5), few (goal.at.store_updates-requires c).After-lay, (s.0.matrix.n, rw e (legible s.0 s.1.sized.accepted t.0 t.1 s.3)))
+    (omega (arith, e, s.5), few (goal.at.store_updates-requires c).After-lay-tables, (s.0.matrix.n, rw e (legible s.0 s.1.sized.accepted t.1 t.2 s.3)))
 
 pub overflow_mul-count : goal.overflow_mul-count
-overflow_mul-count c = let h = few (goal.at.overflow_mul-count c).After-lay in search rules
+overflow_mul-count c = let h = few (goal.at.overflow_mul-count c).After-lay-tables in search rules
 
 pub overflow_add-count : goal.overflow_add-count
-overflow_add-count c = let h = few (goal.at.overflow_add-count c).After-lay in search rules
+overflow_add-count c = let h = few (goal.at.overflow_add-count c).After-lay-tables in search rules
 
 pub store_gates-requires : goal.store_gates-requires
 store_gates-requires c =
     let s = c.requires in
-    let t = c.lay.ensures s.0 s.1 s.2 (planned-blank s.1) in
+    let t = c.lay-tables.ensures s.0 s.1 s.2 (planned-blank s.1) in
     let long = c.store_updates.auto.out in
-    (omega (arith, s.2.is max_workers (omega arith), s.5, long), omega (arith, s.4, (matrix_facts s.0.matrix s.1.sized.accepted.matrix).few), t.1.leaf_low)
+    (omega (arith, s.2.is max_workers (omega arith), s.5, long), omega (arith, s.4, (matrix_facts s.0.matrix s.1.sized.accepted.matrix).few), t.2.leaf_low)
 
 pub returns : goal.returns
 returns c =
     λ j g k t e.
     (let a = c.args in
-    let r = c.lay.ensures j g k (planned-blank g) in
+    let r = c.lay-tables.ensures j g k (planned-blank g) in
+    let tables = c.lay-tables.result in
     let q = k.is max_workers (omega arith) in
     tables_written j a.out.now _ _
-    (λ n. update_numbers n c.lay.new.row c.lay.new.begins a.entries.now.parts.now a.displaced.now a.entries.now.at.now a.entries.now.beside.now) (λ n. gate_numbers n c.lay.new.leaves c.all_gates-table.result) a.n (get_or a.first 16 0)
-    c.store_updates.ensures c.store_gates.ensures q e (all-updates j g.sized.accepted r.0 r.1 t)
-    (all-gates j g.sized.accepted r.0 r.1 t _ a.groups.now g.groups_are (planned_recorded g) c.all_gates-table.result c.all_gates-table.ensures))
+    (λ n. update_numbers n tables.row.now tables.begins.now a.entries.now.parts.now a.displaced.now a.entries.now.at.now a.entries.now.beside.now) (λ n. gate_numbers n tables.leaves.now c.all_gates-table.result) a.n (get_or a.first 16 0)
+    c.store_updates.ensures c.store_gates.ensures q e (all-updates j g.sized.accepted r.1 r.2 t)
+    (all-gates j g.sized.accepted r.1 r.2 t _ tables.groups.now r.0.groups_are (planned_recorded r.0) c.all_gates-table.result c.all_gates-table.ensures))

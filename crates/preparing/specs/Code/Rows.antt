@@ -1,4 +1,4 @@
--- Where the rows and the workers of a plan stand in its tables.
+-- The numbers of the head of a prepared list.
 use Rattle.std.specs.Prelude.{◌≡◌, List, ℕ, ◌+◌, ◌*◌, ◌<◌, length, get_or}
 use Rattle.plan.specs.Sound.{max_workers}
 use Rattle.tables.specs.Code.Laid.{updates_in}

@@ -1,59 +1,57 @@
 -- Lines whose places rise: none of them is given twice.
-use mathlib.Core.Path.{◌≡◌, refl, ◌∙◌}
-use mathlib.Core.Bool.{Bool, true, false, ◌&&◌, ◌||◌}
-use mathlib.Core.List.{List, []}
-use Prim.Native.Nat.{ℕ, zero, suc, ◌+◌, ◌-◌, ◌*◌, ◌≤◌, ◌<◌}
+use mathlib.Core.Path.{◌≡◌, refl, sym, ◌∙◌}
+use mathlib.Core.Logic.{⊎_elim}
+use mathlib.Core.Bool.{true, false}
+use mathlib.Core.List.{List, [], ◌∷◌, ◌++◌}
+use Prim.Native.Nat.{ℕ, ◌+◌, ◌*◌, ◌≤◌, ◌<◌}
 use native.Mathlib.Omega.{arith}
 use lib.Dec.{eqb}
-use lib.IntN.{ℤ, pos}
-use lib.ListN.{length, get_or, set, drop}
+use lib.IntN.{ℤ}
+use lib.ListN.{length, length-append}
 use borrow.Author.Tests.{eqb-true}
+use Rattle.base.proofs.Booleans.{and_left, and_right, or_cases, clash, is_false}
 use Rattle.std.proofs.Common.{Ok}
+use Rattle.reader.specs.declared.size.Size.{Size}
 use Rattle.reader.specs.declared.entry.Entry.{Entry}
-use Rattle.market.specs.Parse.{triplet, is_among, entries}
-use Rattle.compress.specs.Code.Arrays.{triplets_of}
+use Rattle.market.specs.Parse.{Triplet, triplet, is_at, is_among}
 use Rattle.reader.specs.Code.Entries.{EntryAt, Held, remaining}
 use Rattle.reader.proofs.marks.Triangle.{among_snoc}
-use Rattle.reader.proofs.entries.Turns.{places_more, taken-line, held_more}
+use Rattle.reader.proofs.entries.Turns.{taken-line, held_more}
 
--- the first i places come before a key
-abbrev pub Rising : List ℕ → List ℕ → ℕ → ℕ → Type 0
-Rising rs cs i low = (j : ℕ) → j < i → get_or cs j 0 * 4096 + get_or rs j 0 < low
+-- the places come before a key
+abbrev pub Rising : List Triplet → ℕ → Type 0
+Rising es low = (r c : ℕ) → is_among es r c ≡ true → c * 4096 + r < low
 
 -- a place that does not come before it is new
-rising_new : (rs cs : List ℕ) (vs : List ℤ) (i : ℕ) {low : ℕ} (r c : ℕ) → Rising rs cs i low → low ≤ c * 4096 + r → is_among (triplets_of i rs cs vs) r c ≡ false
-unfolding triplets_of
-rising_new rs cs vs zero r c g h = refl
-rising_new rs cs vs (suc i) r c g h =
-    among_snoc (triplets_of i rs cs vs) (triplet (get_or rs i 0) (get_or cs i 0) (get_or vs i (pos 0))) r c
-    ∙ rw (rising_new rs cs vs i r c (λ j l. g j (omega arith)) h) (go (eqb (get_or rs i 0) r) refl (eqb (get_or cs i 0) c) refl)
-  where
-    go : (a : Bool) → eqb (get_or rs i 0) r ≡ a → (b : Bool) → eqb (get_or cs i 0) c ≡ b → (a && b) || false ≡ false
-    go true e true f = absurd (omega (arith, h, g i (omega arith), eqb-true (get_or rs i 0) r e, eqb-true (get_or cs i 0) c f))
-    go true e false f = refl
-    go false e b f = refl
+rising_new : (es : List Triplet) {low : ℕ} (r c : ℕ) → Rising es low → low ≤ c * 4096 + r → is_among es r c ≡ false
+rising_new es r c g h = is_false (λ e. omega (arith, g r c e))
 
 -- one more line
-rising_more : (rs cs : List ℕ) {i low : ℕ} (r c : ℕ) → Rising rs cs i low → i < length rs → i < length cs → low ≤ c * 4096 + r → Rising (set rs i r) (set cs i c) (i + 1) (c * 4096 + r + 1)
-rising_more rs cs r c g a b h = places_more (λ x y. y * 4096 + x < c * 4096 + r + 1) rs cs (λ j l. omega (arith, g j l)) (omega arith) a b
+rising_more : (es : List Triplet) {low : ℕ} (r c : ℕ) (v : ℤ) → Rising es low → low ≤ c * 4096 + r → Rising (es ++ triplet r c v ∷ []) (c * 4096 + r + 1)
+rising_more es r c v g h i j e =
+    ⊎_elim
+    (λ f. omega (arith, eqb-true r i (and_left (eqb r i) (eqb c j) f), eqb-true c j (and_right (eqb r i) (eqb c j) f)))
+    (λ f. omega (arith, g i j f))
+    (or_cases (is_at i j (triplet r c v)) (is_among es i j) (sym (among_snoc es (triplet r c v) i j) ∙ e))
 
--- the state of the loop over such lines: i of the m entries are read, and the lines from p on decide
-pub record Sorted (s : List ℕ) (at n m : ℕ) (rs cs : List ℕ) (vs : List ℤ) (low p i : ℕ) : Type 0 where
-  pub held : Held n m rs cs vs i
-  pub rising : Rising rs cs i low
-  pub same : (k : ℕ) → remaining s n m k rs cs vs p i ≡ entries n m k [] (drop at s)
+-- the state of the loop over such lines: i entries are read, and the lines from p on decide
+pub record Sorted (s : List ℕ) (at : ℕ) (z : Size) (es : List Triplet) (low p i : ℕ) : Type 0 where
+  pub held : Held z.entries es
+  pub size : length es ≡ i
+  pub rising : Rising es low
+  pub same : remaining s z es p ≡ remaining s z [] at
 
-pub sorted_start : (s : List ℕ) (at n m : ℕ) (rs cs : List ℕ) (vs : List ℤ) → Held n m rs cs vs 0 → Sorted s at n m rs cs vs 0 at 0
-unfolding triplets_of
-sorted_start s at n m rs cs vs g = record { held = g; rising = λ j h. absurd (omega arith); same = λ k. let a : m - 0 ≡ m = omega arith in let b : k + 0 ≡ k = omega arith in rw (a, b) }
+pub sorted_start : (s : List ℕ) (at : ℕ) (z : Size) → Sorted s at z [] 0 at 0
+sorted_start s at z = record { held = record { count = omega arith; lower = refl }; size = refl; rising = λ r c h. absurd (clash h refl); same = refl }
 
--- one more line, whose value is w in the array
-pub sorted_more : {s : List ℕ} {at n m : ℕ} {rs cs : List ℕ} {vs : List ℤ} {low p i : ℕ} → Sorted s at n m rs cs vs low p i → i < m
-    → (e : Entry) → EntryAt s p n (Ok e) → {w : ℤ} → w ≡ e.value → low ≤ e.column * 4096 + e.row → Sorted s at n m (set rs i e.row) (set cs i e.column) (set vs i w) (e.column * 4096 + e.row + 1) e.next (i + 1)
-sorted_more {s} {at} {n} {m} {rs} {cs} {vs} {low} {p} {i} g more e l is h =
-    let a = g.held.arrays in
+-- one more line
+pub sorted_more : {s : List ℕ} {at : ℕ} {z : Size} {es : List Triplet} {low p i : ℕ} → Sorted s at z es low p i → i < z.entries
+    → (e : Entry) → EntryAt s p z.rows (Ok e) → low ≤ e.column * 4096 + e.row → Sorted s at z (es ++ triplet e.row e.column e.value ∷ []) (e.column * 4096 + e.row + 1) e.next (i + 1)
+sorted_more {s} {z = z} {es} {p = p} g more e l h =
+    let m : length es < z.entries = omega (arith, g.size) in
     record {
-      held = held_more g.held s p more e l is;
-      rising = rising_more rs cs e.row e.column g.rising (omega (arith, g.held.total, a.rows)) (omega (arith, g.held.total, a.columns)) h;
-      same = λ k. taken-line g.held s p more e l is (rising_new rs cs vs i e.row e.column g.rising h) k ∙ g.same k;
+      held = held_more s p z es m e l g.held;
+      size = rw (length-append es (triplet e.row e.column e.value ∷ []), g.size);
+      rising = rising_more es e.row e.column e.value g.rising h;
+      same = taken-line s p z es m e l (rising_new es e.row e.column g.rising h) ∙ g.same;
     }

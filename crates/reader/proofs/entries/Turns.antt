@@ -1,83 +1,61 @@
 -- One turn of a loop over entry lines, on plain values.
-use mathlib.Core.Path.{◌≡◌, refl, sym, ap, ◌∙◌}
-use mathlib.Core.Bool.{Bool, true, false}
+use mathlib.Core.Path.{◌≡◌, sym, ◌∙◌}
+use mathlib.Core.Bool.{true, false}
 use mathlib.Core.List.{List, ◌∷◌, ◌++◌, []}
 use Prim.Native.Nat.{ℕ, suc, ◌+◌, ◌-◌, ◌≤◌, ◌<◌}
 use native.Mathlib.Omega.{arith}
-use lib.Dec.{eqb}
-use lib.IntN.{ℤ}
-use lib.ListN.{length, get_or, set, drop, drop_of_length-le, length-set}
-use lib.Seq.{get_or-set_same, get_or-set_other}
-use borrow.Author.Tests.{eqb-true, eqb-false}
+use lib.ListN.{length, drop, drop_of_length-le, length-append}
+use borrow.Author.Tests.{le-leb, lt-ltb}
 use Rattle.base.specs.Refusals as why
-use Rattle.matrix.specs.Limits.{max_rows}
+use Rattle.base.proofs.Lists.{all_append}
 use Rattle.std.proofs.Common.{Ok, Err}
 use Rattle.base.specs.Verdicts.{number_of}
 use Rattle.base.specs.declared.Kind.{Kind}
+use Rattle.reader.specs.declared.size.Size.{Size}
 use Rattle.reader.specs.declared.entry.Entry.{Entry}
 use Rattle.market.specs.Parse.{Triplet, triplet, matrix_text, rejected, is_among, entries}
-use Rattle.compress.specs.Code.Arrays.{triplets_of}
-use Rattle.reader.specs.Code.Entries.{EntryAt, Held, remaining}
+use Rattle.reader.specs.Code.Entries.{EntryAt, is_lower, Held, remaining}
 use Rattle.scan.proofs.Left.{left-cons}
-use Rattle.reader.proofs.entries.Triplets.{triplets_more}
 
--- what holds of the first i places and of the next
-pub places_more : (P : ℕ → ℕ → Type 0) (rs cs : List ℕ) {i r c : ℕ} → ((j : ℕ) → j < i → P (get_or rs j 0) (get_or cs j 0)) → P r c → i < length rs → i < length cs → (j : ℕ) → j < i + 1 → P (get_or (set rs i r) j 0) (get_or (set cs i c) j 0)
-places_more P rs cs {i} {r} {c} g o a b j h = go (eqb j i) refl
-  where
-    go : (t : Bool) → eqb j i ≡ t → P (get_or (set rs i r) j 0) (get_or (set cs i c) j 0)
-    go true e = rw (eqb-true j i e, get_or-set_same rs i r 0 a, get_or-set_same cs i c 0 b) o
-    go false e =
-        let f = eqb-false j i e in
-        rw (get_or-set_other rs i j r 0 f, get_or-set_other cs i j c 0 f) (g j (omega (arith, f)))
+-- before the first line
+pub none_read : (s : List ℕ) (n m k p : ℕ) → entries n m k [] (drop p s) ≡ entries n (m - 0) (k + 0) [] (drop p s)
+none_read s n m k p = let a : m - 0 ≡ m = omega arith in let b : k + 0 ≡ k = omega arith in rw (a, b)
 
 -- nothing may follow the last line
-module _ (s : List ℕ) (p n k : ℕ) (es : List Triplet) where
-  pub too_many : p < length s → entries n 0 k es (drop p s) ≡ rejected why.bad_form k
+module _ (s : List ℕ) (p : ℕ) (z : Size) (es : List Triplet) (all-there : length es ≡ z.entries) where
+  none-left : z.entries - length es ≡ 0
+  none-left = omega arith
+
+  pub too_many : p < length s → remaining s z es p ≡ rejected why.bad_form (z.line + z.entries)
   unfolding entries
-  too_many h = rw (left-cons s p h)
+  too_many h = rw (none-left, all-there, left-cons s p h)
 
-  pub no_more : length s ≤ p → entries n 0 k es (drop p s) ≡ matrix_text n es
+  pub no_more : length s ≤ p → remaining s z es p ≡ matrix_text z.rows es
   unfolding entries
-  no_more h = rw (drop_of_length-le s h)
+  no_more h = rw (none-left, drop_of_length-le s h)
 
-module _ {n m : ℕ} {rs cs : List ℕ} {vs : List ℤ} {i : ℕ} (g : Held n m rs cs vs i) (s : List ℕ) (p : ℕ) where
-  -- all lines are read
-  pub all_read : m ≤ i → (k : ℕ) → remaining s n m k rs cs vs p i ≡ entries n 0 (k + m) (triplets_of m rs cs vs) (drop p s)
-  all_read h k =
-      let e : m - i ≡ 0 = omega arith in
-      let f : i ≡ m = omega (arith, g.count) in
-      rw e (ap (λ (j : ℕ). entries n 0 (k + j) (triplets_of j rs cs vs) (drop p s)) f)
+module _ (s : List ℕ) (p : ℕ) (z : Size) (es : List Triplet) (more : length es < z.entries) where
+  turn : z.entries - length es ≡ suc (z.entries - (length es + 1))
+  turn = omega arith
 
-  module _ (more : i < m) where
-    turn : m - i ≡ suc (m - (i + 1))
-    turn = omega arith
+  pub refused-line : (q : Kind) → EntryAt s p z.rows (Err q) → remaining s z es p ≡ rejected (number_of q) (z.line + length es)
+  refused-line q l = rw turn (l (z.entries - (length es + 1)) (z.line + length es) es)
 
-    pub refused-line : (q : Kind) → EntryAt s p n (Err q) → (k : ℕ) → remaining s n m k rs cs vs p i ≡ rejected (number_of q) (k + i)
-    refused-line q l k = rw turn (l (m - (i + 1)) (k + i) (triplets_of i rs cs vs))
+  -- a line with a place and a value
+  module _ (e : Entry) (l : EntryAt s p z.rows (Ok e)) where
+    pub again_line : is_among es e.row e.column ≡ true → remaining s z es p ≡ rejected why.bad_entry (z.line + length es)
+    again_line t = rw turn (l.2 (z.entries - (length es + 1)) (z.line + length es) es ∙ rw t)
 
-    -- a line with a place and a value
-    module _ (e : Entry) (l : EntryAt s p n (Ok e)) where
-      pub again_line : is_among (triplets_of i rs cs vs) e.row e.column ≡ true → (k : ℕ) → remaining s n m k rs cs vs p i ≡ rejected why.bad_entry (k + i)
-      again_line t k = rw turn (l.2 (m - (i + 1)) (k + i) (triplets_of i rs cs vs) ∙ rw t)
+    longer : length (es ++ triplet e.row e.column e.value ∷ []) ≡ length es + 1
+    longer = length-append es (triplet e.row e.column e.value ∷ [])
 
-      -- the value is w in the array
-      module _ {w : ℤ} (is : w ≡ e.value) where
-        pub one_more : triplets_of (i + 1) (set rs i e.row) (set cs i e.column) (set vs i w) ≡ triplets_of i rs cs vs ++ triplet e.row e.column e.value ∷ []
-        one_more = let a = g.arrays in rw is (triplets_more i e.row e.column e.value rs cs vs (omega (arith, g.total, a.rows)) (omega (arith, g.total, a.columns)) (omega (arith, g.total, a.values)))
+    pub taken-line : is_among es e.row e.column ≡ false → remaining s z (es ++ triplet e.row e.column e.value ∷ []) e.next ≡ remaining s z es p
+    taken-line t =
+        let f : z.line + (length es + 1) ≡ suc (z.line + length es) = omega arith in
+        rw (longer, f, turn) (sym (l.2 (z.entries - (length es + 1)) (z.line + length es) es ∙ rw t))
 
-        pub taken-line : is_among (triplets_of i rs cs vs) e.row e.column ≡ false → (k : ℕ) → remaining s n m k (set rs i e.row) (set cs i e.column) (set vs i w) e.next (i + 1) ≡ remaining s n m k rs cs vs p i
-        taken-line t k =
-            let f : k + (i + 1) ≡ suc (k + i) = omega arith in
-            rw (one_more, f, turn) (sym (l.2 (m - (i + 1)) (k + i) (triplets_of i rs cs vs) ∙ rw t))
-
-        pub held_more : Held n m (set rs i e.row) (set cs i e.column) (set vs i w) (i + 1)
-        held_more =
-            let a = g.arrays in
-            record {
-              rows = g.rows;
-              total = g.total;
-              count = omega arith;
-              arrays = record { rows = length-set rs i e.row ∙ a.rows; columns = length-set cs i e.column ∙ a.columns; values = length-set vs i w ∙ a.values };
-              lower = places_more (λ x y. (y ≤ x) × (x < max_rows)) rs cs g.lower (l.0, omega (arith, l.1, g.rows)) (omega (arith, g.total, a.rows)) (omega (arith, g.total, a.columns));
-            }
+    pub held_more : Held z.entries es → Held z.entries (es ++ triplet e.row e.column e.value ∷ [])
+    held_more g = record {
+      count = rw longer (omega arith);
+      lower = all_append is_lower es (triplet e.row e.column e.value ∷ []) ∙ rw (g.lower, le-leb e.column e.row l.0, lt-ltb e.row 4096 (omega (arith, l.1, z.within.rows)));
+    }

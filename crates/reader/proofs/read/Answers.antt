@@ -1,58 +1,23 @@
 -- `read` meets its contract.
-use mathlib.Core.Path.{sym, subst}
+use borrow.Author.Tests.{lt-ltb}
 use Rattle.std.proofs.lemmas.Result.{err_from_is_err_and}
-use Rattle.market.specs.Parse.{Parsed}
-use lib.Seq.{length-take-le}
-use Rattle.compress.specs.Code.Rows.{Placed}
-use Rattle.market.proofs.Accepted.{parse-accepted}
-use Rattle.reader.proofs.entries.Triplets.{accepted-entries}
+use Rattle.base.proofs.Each.{each_all}
+use lib.Dec.{ltb}
+use mathlib.Core.Bool.{◌&&◌}
+use Rattle.market.specs.Parse.{Triplet}
+use Rattle.compress.specs.Code.Entries.{listed}
+use Rattle.market.proofs.Accepted.{Inner, parse-accepted}
 use Rattle.compress.proofs.rows.Replies.{placed-rejected}
-use Rattle.compress.proofs.rows.Cut.{placed_cut, entries_cut}
 use Rattle.reader.proofs.read.Goals as goal
 
-pub slice_bounds-rs-end : goal.slice_bounds-rs-end
-slice_bounds-rs-end c =
-    let e = accepted-entries _ _ _ _ _ (parse-accepted _ _ _ c.in_ok-size.ensures.0) c.in_ok-size.ensures.1 in
-    e.places.long_rows
+pub lend-requires : goal.lend-requires
+lend-requires c =
+    let n = c.in_ok-n.n in
+    let a = parse-accepted _ _ _ c.in_ok-n.ensures in
+    record { rows = a.rows; inside = each_all (Inner n) (λ (t : Triplet). ltb t.row n && ltb t.column n) (λ t h. rw (lt-ltb t.row n h.0, lt-ltb t.column n h.1)) (listed c.parse_text.new.list) a.inner }
 
-pub slice_bounds-read-end : goal.slice_bounds-read-end
-slice_bounds-read-end c =
-    let e = accepted-entries _ _ _ _ _ (parse-accepted _ _ _ c.in_ok-size.ensures.0) c.in_ok-size.ensures.1 in
-    sym (length-take-le _ _ e.places.long_rows)
-
-pub slice_bounds-cs-end : goal.slice_bounds-cs-end
-slice_bounds-cs-end c =
-    let e = accepted-entries _ _ _ _ _ (parse-accepted _ _ _ c.in_ok-size.ensures.0) c.in_ok-size.ensures.1 in
-    e.places.long_columns
-
-pub slice_bounds-read-end-2 : goal.slice_bounds-read-end-2
-slice_bounds-read-end-2 c =
-    let e = accepted-entries _ _ _ _ _ (parse-accepted _ _ _ c.in_ok-size.ensures.0) c.in_ok-size.ensures.1 in
-    sym (length-take-le _ _ e.places.long_columns)
-
-pub slice_bounds-vs-end : goal.slice_bounds-vs-end
-slice_bounds-vs-end c =
-    let e = accepted-entries _ _ _ _ _ (parse-accepted _ _ _ c.in_ok-size.ensures.0) c.in_ok-size.ensures.1 in
-    e.long_values
-
-pub slice_bounds-read-end-3 : goal.slice_bounds-read-end-3
-slice_bounds-read-end-3 c =
-    let e = accepted-entries _ _ _ _ _ (parse-accepted _ _ _ c.in_ok-size.ensures.0) c.in_ok-size.ensures.1 in
-    sym (length-take-le _ _ e.long_values)
-
-pub place_rows-requires : goal.place_rows-requires
-place_rows-requires c = entries_cut _ _ _ _ (accepted-entries _ _ _ _ _ (parse-accepted _ _ _ c.in_ok-size.ensures.0) c.in_ok-size.ensures.1)
-
-pub returns-in_err-size : goal.returns-in_err-size
-returns-in_err-size c =
+pub returns-in_err-n : goal.returns-in_err-n
+returns-in_err-n c =
     let r = err_from_is_err_and c.from_residual.result c.from_residual.ensures.1 in
-    let p = placed-rejected c.args.starts.now c.args.columns.now c.args.values.now c.in_err-size.ensures.0 in
+    let p = placed-rejected c.args.starts.now c.args.columns.now c.args.values.now c.in_err-n.ensures in
     rw (r.1, r.2) (record { result_value = p.reply; starts_after = p.starts; columns_after = p.columns; values_after = p.values })
-
-pub returns : goal.returns
-returns c =
-    let a = c.args in
-    let e = accepted-entries _ _ _ _ _ (parse-accepted _ _ _ c.in_ok-size.ensures.0) c.in_ok-size.ensures.1 in
-    let p = subst (λ (t : Parsed). Placed t a.starts.now a.columns.now a.values.now c.place_rows.result c.place_rows.new.starts c.place_rows.new.columns c.place_rows.new.values) (sym c.in_ok-size.ensures.0)
-    (placed_cut c.in_ok-size.size.entries c.parse_text.new.rows c.parse_text.new.columns c.parse_text.new.values e c.place_rows.ensures) in
-    record { result_value = p.reply; starts_after = p.starts; columns_after = p.columns; values_after = p.values }

@@ -1,16 +1,14 @@
--- What the scan of a text comes to, beside the arrays of its entries.
-use Rattle.std.specs.Prelude.{Result, Ok, Err, List, ℕ, ◌≤◌, ℤ}
+-- What the scan of a text comes to, beside the list of its entries.
+use Rattle.std.specs.Prelude.{Result, Ok, Err, List, ℕ, ◌≤◌}
 use Rattle.matrix.specs.Limits.{max_rows, max_entries}
-use Rattle.market.specs.Parse.{Parsed, matrix_text, rejected}
-use Rattle.compress.specs.Code.Arrays.{triplets_of}
+use Rattle.market.specs.Parse.{Triplet, Parsed, matrix_text, rejected}
 use Rattle.base.specs.Verdicts.{number_of}
 use Rattle.base.specs.declared.Refusal.{Refusal}
-use Rattle.reader.specs.declared.entries.Size.{Size}
 
--- what an answer says of the text, beside the arrays
-abbrev pub parsed : Result Size Refusal → List ℕ → List ℕ → List ℤ → Parsed
-parsed (Ok m) rs cs vs = matrix_text m.rows (triplets_of m.entries rs cs vs)
-parsed (Err r) rs cs vs = rejected (number_of r.kind) r.place
+-- what an answer, the count of rows, says of the text, beside the entries
+abbrev pub parsed : Result ℕ Refusal → List Triplet → Parsed
+parsed (Ok n) es = matrix_text n es
+parsed (Err r) es = rejected (number_of r.kind) r.place
 
 -- n rows, m entries and the number of their first line are within limits
 pub record Within (n m line : ℕ) : Type 0 where

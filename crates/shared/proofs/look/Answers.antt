@@ -19,18 +19,18 @@ use Rattle.shared.proofs.look.Goals as goal
 use Rattle.shared.proofs.look.Goals.{After-sizes_of, After-first_updates-first}
 
 planned : (c : After-sizes_of) → let p = c.args.roof.now.plan in (d : Crew) → Planned (job_for (roof_in c.args.roof.now) d) p.groups.now (length p.groups.now / width) c.sizes_of.new.sizes
-planned c = roof-planned (both_moves c.args.roof.now) c.requires (c.sizes_of.ensures.0 _ (lent_of (c.requires crew0)))
+planned c = roof-planned (both_moves c.args.roof.now) c.requires c.sizes_of.ensures.1
 
 counted : (c : After-first_updates-first) → (d : Crew) → Counted (job_for (roof_in c.args.roof.now) d) c.first_updates-first.result
-counted c d = c.first_updates-first.ensures _ (roof-planned (both_moves c.args.roof.now) c.requires (c.sizes_of.ensures.0 _ (lent_of (c.requires crew0))) d)
+counted c d = c.first_updates-first.ensures _ (roof-planned (both_moves c.args.roof.now) c.requires c.sizes_of.ensures.1 d)
 
-pub sizes_of-requires : goal.sizes_of-requires
-sizes_of-requires c = ((_, lent_of (c.requires crew0)), refl, refl)
+pub invariant_of-ordered : goal.invariant_of-ordered
+invariant_of-ordered c = record { lent = lent_of (c.requires crew0) }
 
 pub first_updates-first-requires : goal.first_updates-first-requires
 first_updates-first-requires c =
     let g = c.requires crew0 in
-    (_, planned-of g (c.sizes_of.ensures.0 _ (lent_of g)))
+    (_, planned-of g c.sizes_of.ensures.1)
 
 pub are_fine-requires : goal.are_fine-requires
 unfolding roof_of job_of

@@ -2,6 +2,7 @@
 use mathlib.Core.Bool.{not}
 use mathlib.Core.Path.{refl, ap, ◌∙◌}
 use Prim.Native.Nat.{◌/◌}
+use borrow.Author.Rules.{rules}
 use lib.ListN.{length}
 use Rattle.base.proofs.Booleans.{fails, holds}
 use Rattle.base.proofs.Lists.{get_d_zeros}
@@ -27,8 +28,11 @@ planned c = roof-planned (both_moves c.args.roof.now) c.requires.0 c.upper.ensur
 counted : (c : After-first_updates-first) → (d : Crew) → Counted (job_for (roof_in c.args.roof.now) d) c.first_updates-first.result
 counted c d = c.first_updates-first.ensures _ (roof-planned (both_moves c.args.roof.now) c.requires.0 c.upper.ensures.0 d)
 
+pub invariant_of-ordered : goal.invariant_of-ordered
+invariant_of-ordered c = record { lent = lent_of (c.requires.0 crew0) }
+
 pub upper-requires : goal.upper-requires
-upper-requires c = (lent_of (c.requires.0 crew0), refl, refl, get_d_zeros max_updates, refl)
+upper-requires c = (search rules, (refl, get_d_zeros max_updates))
 
 pub first_updates-first-requires : goal.first_updates-first-requires
 first_updates-first-requires c = (_, planned-of (c.requires.0 crew0) c.upper.ensures.0)
@@ -46,10 +50,10 @@ returns-then-not-are_fine c =
     record { answers = picks-refused _ _ no _; leaves = picks-stay _ _ no _ }
 
 pub displace-requires : goal.displace-requires
-displace-requires c = let d = given_displaced (c.requires.0 crew0) in (d.0, d.1, d.2, refl)
+displace-requires c = given_displaced (c.requires.0 crew0)
 
 pub displace-requires-2 : goal.displace-requires-2
-displace-requires-2 c = let d = given_displaced (c.requires.0 crew1) in (d.0, d.1, d.2, refl)
+displace-requires-2 c = given_displaced (c.requires.0 crew1)
 
 pub take-turned-requires : goal.take-turned-requires
 unfolding roof_of job_of

@@ -6,6 +6,7 @@ use Rattle.base.specs.Replies.{in_turn}
 use Rattle.base.proofs.Booleans.{and_right}
 use Rattle.matrix.specs.Matrix.{matrix_check}
 use Rattle.plan.specs.Sound.{max_distance, is_distance, check_reply}
+use Rattle.apart.proofs.RowsOf.{is_graph}
 use Rattle.sound.proofs.check.Goals as goal
 
 pub returns-then-not-is_matrix : goal.returns-then-not-is_matrix
@@ -20,7 +21,8 @@ pub is_plan_at-requires : goal.is_plan_at-requires
 unfolding is_distance
 is_plan_at-requires c =
     let k = c.args.k in
-    (sym c.if-not-is_matrix.ensures, leb-true k max_distance (and_right (leb 1 k) (leb k max_distance) (sym c.if-not-is_distance.ensures)))
+    let m = c.args.m.now in
+    (is_graph m.n m.starts.now m.columns.now m.values.now (sym c.if-not-is_matrix.ensures) m.values.now, leb-true k max_distance (and_right (leb 1 k) (leb k max_distance) (sym c.if-not-is_distance.ensures)))
 
 pub returns-then-not-is_plan_at : goal.returns-then-not-is_plan_at
 unfolding check_reply matrix_check in_turn

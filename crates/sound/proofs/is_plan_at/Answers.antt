@@ -2,7 +2,6 @@
 use mathlib.Core.Path.{sym, ap, ◌∙◌}
 use Rattle.matrix.specs.Held.{held}
 use Rattle.sound.specs.Code.Whole.{is_whole}
-use Rattle.apart.proofs.RowsOf.{rows_few}
 use Rattle.sound.proofs.PlanTests.{order-short, no-groups, many-groups, groups-short, plan-passes}
 use Rattle.sound.proofs.is_plan_at.Goals as goal
 use Rattle.sound.proofs.is_plan_at.Goals.{
@@ -35,7 +34,7 @@ returns-then-not-is_whole c =
     sym (long ∙ rw (← whole_is))
 
 pub each_once-requires : goal.each_once-requires
-each_once-requires c = (c.if-plan-m.false, rows_few _ c.requires.0)
+each_once-requires c = (c.if-plan-m.false, c.requires.0.few)
 
 pub returns-then-not-each_once : goal.returns-then-not-each_once
 returns-then-not-each_once c =

@@ -1,5 +1,5 @@
 -- A step by the tables that a call makes, and what the code makes of it.
-use Rattle.std.specs.Prelude.{◌≡◌, ◌≢◌, Result, Ok, Err, List, ℕ, zero, suc, ◌+◌, ◌*◌, ◌-◌, ◌/◌, ◌≤◌, ◌<◌, eqb, leb, ltb, ℤ, length, get_or}
+use Rattle.std.specs.Prelude.{◌≡◌, ◌≢◌, Bool, false, Result, Ok, Err, List, ℕ, zero, suc, ◌+◌, ◌*◌, ◌-◌, ◌/◌, ◌≤◌, ◌<◌, leb, ltb, ℤ, length, get_or}
 use Rattle.base.specs.Verdicts.{number_of}
 use Rattle.base.specs.declared.Kind.{Kind}
 use Rattle.run.specs.Job.{Job}
@@ -34,12 +34,12 @@ abbrev pub update_next : (first row begins parts : List ℕ) (displaced : List �
 update_next first row begins parts displaced at beside made w = update_in parts displaced at beside (row_next first row made w) (number_next first row begins made w)
 
 -- why a step is refused, 10 before 12 before 13; 0: it is taken
-abbrev pub reason_at : (workers : ℕ) (first row leaves blocks made : List ℕ) → ℕ → ℕ
+abbrev pub reason_at : (workers : ℕ) (first row leaves : List ℕ) (blocks : List Bool) (made : List ℕ) → ℕ → ℕ
 reason_at workers first row leaves blocks made w =
-    reason (ltb w workers) (leb (2 * updates_in first w) (count made w)) (eqb (get_or blocks (get_or leaves (row_next first row made w) 0) 0) 1)
+    reason (ltb w workers) (leb (2 * updates_in first w) (count made w)) (get_or blocks (get_or leaves (row_next first row made w) 0) false)
 
 -- .. by the tables that the code holds
-abbrev pub reason_by : (workers : ℕ) → Tables → (blocks made : List ℕ) → ℕ → ℕ
+abbrev pub reason_by : (workers : ℕ) → Tables → (blocks : List Bool) (made : List ℕ) → ℕ → ℕ
 reason_by workers t blocks = reason_at workers t.first.now t.row.now t.leaves.now blocks
 
 abbrev pub update_by : Tables → Entries → (displaced : List ℤ) (made : List ℕ) → ℕ → Update
@@ -47,8 +47,12 @@ update_by t e displaced = update_next t.first.now t.row.now t.begins.now e.parts
 
 -- ---- what the code needs for a step
 
--- every worker's updates stand inside the table, those of a row from where they begin on, their entries inside the
--- tables of these, and are of two of n rows
+-- to know a step's row: every worker's updates stand inside the table, those of a row from where they begin on
+pub record RowTables (n : ℕ) (first row begins leaves : List ℕ) : Type 0 where
+  pub bounded : Bounded n first row leaves
+  pub begun : (w k : ℕ) → w < max_workers → k < updates_in first w → get_or begins (get_or row (get_or first w 0 + k) 0) 0 ≤ get_or first w 0 + k
+
+-- .. and its update: their entries stand inside the tables of these, and are of two of n rows
 pub record StepTables (n : ℕ) (first row begins parts leaves at : List ℕ) (beside : List ℤ) : Type 0 where
   pub bounded : Bounded n first row leaves
   pub at_low : (k : ℕ) → get_or at k 0 < n
@@ -64,6 +68,9 @@ pub record UpdatesAhead (j : Job) (made : List ℕ) (picks : ℕ) (first row beg
       → update_next first row begins parts displaced at beside new w ≡ next j new w
 
 -- .. by the tables that the code holds
+abbrev pub RowsBy : (n : ℕ) → Tables → Type 0
+RowsBy n t = RowTables n t.first.now t.row.now t.begins.now t.leaves.now
+
 abbrev pub StepsBy : (n : ℕ) → Tables → Entries → Type 0
 StepsBy n t e = StepTables n t.first.now t.row.now t.begins.now e.parts.now t.leaves.now e.at.now e.beside.now
 

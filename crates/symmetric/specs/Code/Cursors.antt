@@ -2,7 +2,7 @@
 use Rattle.std.specs.Prelude.{◌≡◌, Bool, true, false, ◌&&◌, List, ℕ, ◌+◌, ◌≤◌, ◌<◌, eqb, ltb, pos, length, get_or}
 use Rattle.base.specs.Lists.{all, range}
 use Rattle.matrix.specs.Matrix.{Matrix, columns_of, ascending}
-use Rattle.matrix.specs.Code.Checks.{shaped, symmetric, place_in}
+use Rattle.matrix.specs.Code.Checks.{symmetric, place_in}
 
 -- row i's columns ascend and are below n
 abbrev pub climbing_row : Matrix → ℕ → Bool
@@ -35,13 +35,7 @@ pub record Cursors (m : Matrix) (i : ℕ) (cursors : List ℕ) : Type 0 where
   pub met : (j : ℕ) → j < i → Met m i j (get_or cursors j 0)
   pub exact : regular m ≡ true → (j : ℕ) → j < i → get_or cursors j 0 ≡ get_or m.starts j 0 + place_in (columns_of m j) i
 
--- what meeting the entries of row i with their mirrors asks
-pub record MeetOk (m : Matrix) (i : ℕ) (cursors : List ℕ) : Type 0 where
-  pub shape : shaped m ≡ true
-  pub below : i < m.n
-  pub placed : Cursors m i cursors
-
--- what it answers, and leaves in the cursors
+-- what meeting the entries of row i with their mirrors answers, and leaves in the cursors
 pub record RowMet (m : Matrix) (i : ℕ) (met : Bool) (cursors : List ℕ) : Type 0 where
   pub yes : met ≡ true → Cursors m (i + 1) cursors
   pub missed : met ≡ false → regular m ≡ false

@@ -1,7 +1,7 @@
 -- The tables that a call makes of an accepted job, once, before its first step: every worker's updates, and where its
 -- leaves end.
 use Rattle.std.specs.Prelude.{◌≡◌, Bool, true, false, ◌||◌, List, [], ◌∷◌, ℕ, suc, ◌+◌, ◌*◌, ◌-◌, ◌≤◌, ◌<◌, eqb, length, get_or, drop}
-use Rattle.base.specs.Lists.{bit, sum_below}
+use Rattle.base.specs.Lists.{sum_below}
 use Rattle.matrix.specs.Limits.{max_rows, max_entries}
 use Rattle.plan.specs.Groups.{Group, of_fields}
 use Rattle.plan.specs.Sound.{max_workers, max_groups}
@@ -97,7 +97,7 @@ BoundedIn n t = Bounded n t.first.now t.row.now t.leaves.now
 
 -- ---- waits
 
--- for each leaf whether a worker whose next row lies in it waits: 1 or 0
-pub record Waits (j : Job) (made : List ℕ) (blocks : List ℕ) : Type 0 where
+-- for each leaf whether a worker whose next row lies in it waits
+pub record Waits (j : Job) (made : List ℕ) (blocks : List Bool) : Type 0 where
   pub long : length blocks ≡ max_groups
-  pub is : (i q : ℕ) → Leaf j i → q < j.matrix.n → holds (group_at j i) q ≡ true → get_or blocks i 0 ≡ bit (blocked (finished j made) q (tree j.plan.groups) (tree j.plan.groups))
+  pub is : (i q : ℕ) → Leaf j i → q < j.matrix.n → holds (group_at j i) q ≡ true → get_or blocks i false ≡ blocked (finished j made) q (tree j.plan.groups) (tree j.plan.groups)

@@ -6,7 +6,7 @@ use Rattle.run.specs.Updates.{Update}
 use Rattle.run.specs.State.{State}
 use Rattle.run.specs.Machine.{onward}
 use Rattle.waits.specs.Code.Waits.{Current}
-use Rattle.steps.specs.Code.Steps.{state_with}
+use Rattle.steps.specs.declared.course.Work.{Work}
 use Rattle.steps.specs.Code.AtHand.{Entered, AccessMade}
 use Rattle.crews.specs.Crews.{Crew, other, crew_number, Two, own_of}
 use Rattle.turns.specs.Code.Turned.{misnamed}
@@ -15,9 +15,13 @@ use Rattle.turns.specs.Code.Turned.{misnamed}
 abbrev pub both : {A : Type 0} → List (List A) → Two (List A)
 both xs = record { of0 = get_or xs 0 []; of1 = get_or xs 1 [] }
 
--- the states of both, beside the lent lists of sums
-abbrev pub states_in : (made : List (List ℕ)) (held : List (List ℤ)) (sums0 sums1 : List ℤ) → Two State
-states_in made held sums0 sums1 = record { of0 = state_with (get_or made 0 []) (get_or held 0 []) sums0; of1 = state_with (get_or made 1 []) (get_or held 1 []) sums1 }
+-- what crew c's steps are taken by
+abbrev pub work_for : (work0 work1 : Work) → Crew → Work
+work_for work0 work1 = own_of (record { of0 = work0; of1 = work1 })
+
+-- .. with the displacements of each
+abbrev pub both_moves : (work0 work1 : Work) → Two (List ℤ)
+both_moves work0 work1 = record { of0 = work0.displaced.now; of1 = work1.displaced.now }
 
 -- The pick with this byte is refused with this number, or its update is at hand: nothing else of the worker's is.
 pub record Begun (cause : Crew → (made : List ℕ) → ℕ → ℕ) (update : Crew → (made : List ℕ) → ℕ → Update) (made : Two (List ℕ)) (byte workers number : ℕ)
@@ -34,7 +38,7 @@ pub record AccessFor (byte : ℕ) (S : Two State) (targets : Two (List ℕ)) (ad
   pub targets_kept : (c : Crew) → byte / max_workers ≡ crew_number c → own_of targets' (other c) ≡ own_of targets (other c)
 
 -- who is blocked is known after that access, of its crew alone; false: the groups that were
-pub record RenewedFor (count : ℕ) (groups ends : List ℕ) (made : Two (List ℕ)) (byte : ℕ) (renewed : Bool) (blocks stops blocks' stops' : Two (List ℕ)) : Type 0 where
+pub record RenewedFor (count : ℕ) (groups ends : List ℕ) (made : Two (List ℕ)) (byte : ℕ) (renewed : Bool) (blocks : Two (List Bool)) (stops : Two (List ℕ)) (blocks' : Two (List Bool)) (stops' : Two (List ℕ)) : Type 0 where
   pub current : (c : Crew) → byte / max_workers ≡ crew_number c → (before : List ℕ) → own_of made c ≡ onward before (byte % max_workers)
       → Current count groups ends before (own_of blocks c) (own_of stops c) → Current count groups ends (own_of made c) (own_of blocks' c) (own_of stops' c)
   pub same : (c : Crew) → byte / max_workers ≡ crew_number c → renewed ≡ false → own_of blocks' c ≡ own_of blocks c

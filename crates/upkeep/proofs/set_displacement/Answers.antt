@@ -4,7 +4,7 @@ use mathlib.Core.Bool.{true, false}
 use mathlib.Core.List.{List}
 use Prim.Native.Nat.{◌≤◌}
 use native.Mathlib.Omega.{arith}
-use lib.IntN.{ℤ, pos, nat_abs, ◌-ℤ◌}
+use lib.IntN.{ℤ, pos, nat_abs}
 use lib.ListN.{get_or}
 use mir.Syntax.{w32, w64}
 use mir.Val.{SFits}
@@ -21,6 +21,7 @@ use Rattle.matrix.proofs.Rows.{columns-part, values-part, columns-in, values_in}
 use Rattle.upkeep.specs.Upkeep.{KeptForces, Change, kept_in, new_displacement}
 use Rattle.upkeep.specs.KeptCurrent.{Current}
 use Rattle.upkeep.proofs.Displacing.{current, unchecked, unnamed, unsmall, fine, refused-answers, accepted-answers, addable, displaced_forces, move-named, move_unnamed, move-is-small, move-changed}
+use Rattle.upkeep.proofs.Positioned.{stepped}
 use Rattle.upkeep.proofs.set_displacement.Goals as goal
 
 abbrev moved : KeptForces → List ℤ
@@ -77,7 +78,7 @@ add_row-requires c =
     let near : nat_abs c.args.to ≤ max_displacement = leb-true (nat_abs c.args.to) max_displacement small in
     let step_fits : SFits w64 c.difference-step.result = search rules in
     let old : SFits w32 (get_or c.args.displacements.now c.args.row (pos 0)) = search rules in
-    let step_is : c.difference-step.result ≡ c.args.to -ℤ get_or c.args.displacements.now c.args.row (pos 0) = simp (to_z-of_z c.ranges.to, to_z-of_z old) at c.difference-step.ensures in
+    let step_is = stepped c.ranges.to old c.difference-step.ensures in
     simp (to_z-of_z step_fits)
     (rw step_is (addable given.matrix _ _ (current given 0 c.in_ok-check_current.ensures) c.args.row c.if-m-i.false c.args.to columns values near))
 
@@ -97,7 +98,7 @@ returns c =
     let small : within max_displacement c.args.to ≡ true = cc in
     let step_fits : SFits w64 c.difference-step.result = search rules in
     let old : SFits w32 (get_or c.args.displacements.now c.args.row (pos 0)) = search rules in
-    let step_is : c.difference-step.result ≡ c.args.to -ℤ get_or c.args.displacements.now c.args.row (pos 0) = simp (to_z-of_z c.ranges.to, to_z-of_z old) at c.difference-step.ensures in
+    let step_is = stepped c.ranges.to old c.difference-step.ensures in
     let added = simp (to_z-of_z step_fits) at c.add_row.ensures in
     let q = accepted-answers given change moved
     (fine given change is-current (move-named given.matrix _ _ c.if-m-i.false) (move-is-small given.matrix _ _ small))

@@ -17,7 +17,7 @@ use Rattle.upkeep.specs.Upkeep.{KeptForces, Change, kept_in, new_value}
 use Rattle.upkeep.proofs.BothSums.{both-same}
 use Rattle.upkeep.proofs.Displacing.{current, unchecked, unnamed, unsmall, fine, refused-answers, accepted-answers}
 use Rattle.upkeep.proofs.Altering.{alter_named, alter_is-small, altered-forces, alter_values, alter_forces}
-use Rattle.upkeep.proofs.Positioned.{known}
+use Rattle.upkeep.proofs.Positioned.{known, stepped}
 use Rattle.upkeep.proofs.set_entry.Goals as goal
 
 abbrev valued : KeptForces → List ℤ
@@ -69,7 +69,7 @@ times-first-requires c =
     let k = known c.in_ok-check_current.ensures c.in-Some.ensures c.ranges.to c.is_within.ensures c.if-not-is_within.false in
     let step_fits : SFits w64 c.difference-step.result = search rules in
     let narrow : SFits w32 (get_or c.args.values.now c.in-Some.p (pos 0)) = search rules in
-    let step_is : c.difference-step.result ≡ c.args.to -ℤ get_or c.args.values.now c.in-Some.p (pos 0) = simp (to_z-of_z {w = w32} c.ranges.to, to_z-of_z {w = w32} narrow) at c.difference-step.ensures in
+    let step_is = stepped c.ranges.to narrow c.difference-step.ensures in
     simp (to_z-of_z {w = w64} step_fits) (rw step_is k.step_small)
 
 pub bounds-displacements-i : goal.bounds-displacements-i
@@ -80,7 +80,7 @@ times-second-requires c =
     let k = known c.in_ok-check_current.ensures c.in-Some.ensures c.ranges.to c.is_within.ensures c.if-not-is_within.false in
     let step_fits : SFits w64 c.difference-step.result = search rules in
     let narrow : SFits w32 (get_or c.args.values.now c.in-Some.p (pos 0)) = search rules in
-    let step_is : c.difference-step.result ≡ c.args.to -ℤ get_or c.args.values.now c.in-Some.p (pos 0) = simp (to_z-of_z {w = w32} c.ranges.to, to_z-of_z {w = w32} narrow) at c.difference-step.ensures in
+    let step_is = stepped c.ranges.to narrow c.difference-step.ensures in
     simp (to_z-of_z {w = w64} step_fits) (rw step_is k.step_small)
 
 pub add_both-requires : goal.add_both-requires
@@ -88,7 +88,7 @@ add_both-requires c =
     let k = known c.in_ok-check_current.ensures c.in-Some.ensures c.ranges.to c.is_within.ensures c.if-not-is_within.false in
     let step_fits : SFits w64 c.difference-step.result = search rules in
     let narrow : SFits w32 (get_or c.args.values.now c.in-Some.p (pos 0)) = search rules in
-    let step_is : c.difference-step.result ≡ c.args.to -ℤ get_or c.args.values.now c.in-Some.p (pos 0) = simp (to_z-of_z {w = w32} c.ranges.to, to_z-of_z {w = w32} narrow) at c.difference-step.ensures in
+    let step_is = stepped c.ranges.to narrow c.difference-step.ensures in
     let moved : ℕ → ℤ = λ r. get_or c.args.displacements.now r (pos 0) in
     let step : ℤ = c.args.to -ℤ get_or c.args.values.now c.in-Some.p (pos 0) in
     let first-sum : c.times-first.result ≡ step *ℤ moved c.args.column = let e = simp (to_z-of_z {w = w64} step_fits, to_z-of_z {w = w32} (k.moved-fits c.args.column)) at c.times-first.ensures in
@@ -121,7 +121,7 @@ returns c =
     let k = known c.in_ok-check_current.ensures c.in-Some.ensures c.ranges.to c.is_within.ensures c.if-not-is_within.false in
     let step_fits : SFits w64 c.difference-step.result = search rules in
     let narrow : SFits w32 (get_or c.args.values.now c.in-Some.p (pos 0)) = search rules in
-    let step_is : c.difference-step.result ≡ c.args.to -ℤ get_or c.args.values.now c.in-Some.p (pos 0) = simp (to_z-of_z {w = w32} c.ranges.to, to_z-of_z {w = w32} narrow) at c.difference-step.ensures in
+    let step_is = stepped c.ranges.to narrow c.difference-step.ensures in
     let moved : ℕ → ℤ = λ r. get_or c.args.displacements.now r (pos 0) in
     let step : ℤ = c.args.to -ℤ get_or c.args.values.now c.in-Some.p (pos 0) in
     let first-sum : c.times-first.result ≡ step *ℤ moved c.args.column = let e = simp (to_z-of_z {w = w64} step_fits, to_z-of_z {w = w32} (k.moved-fits c.args.column)) at c.times-first.ensures in

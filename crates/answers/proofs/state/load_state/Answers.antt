@@ -8,9 +8,6 @@ use Rattle.words.specs.LittleEndian.{number, signed, signed_number}
 use Rattle.lent.proofs.Loads.{loaded_whole}
 use Rattle.answers.proofs.state.load_state.Goals as goal
 
-pub returns-then-bytes-ne-STATE_BYTES : goal.returns-then-bytes-ne-STATE_BYTES
-returns-then-bytes-ne-STATE_BYTES c whole = absurd (c.if-bytes-ne-STATE_BYTES.true whole)
-
 pub slice_bounds-load-end : goal.slice_bounds-load-end
 slice_bounds-load-end c = sym (length-take-le 64 c.args.bytes.now (omega (arith, c.if-bytes-ne-STATE_BYTES.false)))
 

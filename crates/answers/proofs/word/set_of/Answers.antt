@@ -5,27 +5,14 @@ use native.Mathlib.Omega.{arith}
 use Rattle.std.proofs.Common.{Ok}
 use Rattle.calls.specs.Performed.{as_answer}
 use Rattle.calls.specs.declared.Response.TheVariants.{Previewed}
-use Rattle.answers.specs.Runs.{set_in}
-use Rattle.answers.proofs.RunPicks.{no_preview, set-none}
 use Rattle.answers.proofs.word.set_of.Goals as goal
 use Rattle.answers.proofs.word.set_of.Goals.{In-Previewed}
 
 parts : (c : In-Previewed) → let p = c.in-Previewed in as_answer c.args.answer [] ≡ as_answer (Ok (Previewed p.field-0 p.field-1 p.bits p.count)) []
 parts c = rw (c.in-Ok.is, c.in-Previewed.is) refl
 
-pub returns-in_default : goal.returns-in_default
-unfolding set_in
-returns-in_default c forces = rw c.in_default.is refl
-
-pub returns-in_default-seen : goal.returns-in_default-seen
-returns-in_default-seen c forces = rw c.in-Ok.is (set-none (Ok c.in-Ok.seen) (no_preview c.in-Ok.seen c.in_default-seen.not-Previewed) forces)
-
 pub overflow_mul-result : goal.overflow_mul-result
 overflow_mul-result c = let g = c.requires _ _ _ _ _ (parts (goal.at.overflow_mul-result c).In-Previewed) in omega (arith, g.count_low)
 
 pub overflow_add-result : goal.overflow_add-result
 overflow_add-result c = let g = c.requires _ _ _ _ _ (parts (goal.at.overflow_add-result c).In-Previewed) in omega (arith, g.count_low, g.bits_low)
-
-pub returns : goal.returns
-unfolding set_in
-returns c forces = rw (c.in-Ok.is, c.in-Previewed.is)

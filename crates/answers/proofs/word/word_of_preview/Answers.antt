@@ -5,14 +5,5 @@ use mathlib.Core.List.{[]}
 use Rattle.answers.proofs.RunPicks.{preview-fits}
 use Rattle.answers.proofs.word.word_of_preview.Goals as goal
 
-pub word_of-requires : goal.word_of-requires
-word_of-requires c = c.requires
-
-pub set_of-requires : goal.set_of-requires
-set_of-requires c = c.requires.1
-
 pub overflow_add-result : goal.overflow_add-result
 overflow_add-result c = ⊎_elim (λ none. search rules) (λ fits. search rules) (preview-fits _ c.requires.1 (c.word_of.ensures []) (c.set_of.ensures []))
-
-pub returns : goal.returns
-returns c forces = rw (c.word_of.ensures forces, c.set_of.ensures forces)

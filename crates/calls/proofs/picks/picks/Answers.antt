@@ -30,12 +30,12 @@ is_short-requires c = let g = c.requires.0 in (shape _ (matrix_tidy _ g.accepted
 
 pub laid_picks-requires : goal.laid_picks-requires
 laid_picks-requires c =
-    (c.requires.0, c.requires.1, record { blank = get_d_zeros max_rows; even = refl; some = search rules; most = search rules; few = λ l. c.is_short.ensures c.if-is_short.true })
+    (search rules, (c.requires.0, c.requires.1, get_d_zeros max_rows, get_d_zeros max_rows, λ l. c.is_short.ensures c.if-is_short.true))
 
 pub laid_picks-requires-2 : goal.laid_picks-requires-2
 laid_picks-requires-2 c =
     let s = same (goal.at.laid_picks-requires-2 c).Joined-is_short in
-    (c.requires.0, rw s.1 c.requires.1, record { blank = get_d_zeros max_updates; even = refl; some = search rules; most = search rules; few = λ l. absurd (omega arith) })
+    (search rules, (c.requires.0, rw s.1 c.requires.1, get_d_zeros max_rows, get_d_zeros max_updates, λ l. absurd (omega arith)))
 
 pub unwrap-requires : goal.unwrap-requires
 unwrap-requires c = fits _ _ _ c.laid_picks-2.result c.laid_picks-2.ensures

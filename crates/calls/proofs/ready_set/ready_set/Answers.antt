@@ -1,16 +1,24 @@
 -- `ready_set`: the rows of the updates, then one bit a worker.
 use Rattle.machine.proofs.ReadyBits.{ready-bits}
 use Rattle.machine.proofs.PlannedTables.{planned-blank, planned_recorded, whole-few}
+use Rattle.steps.proofs.GivenTables.{row_tables-most}
 use Rattle.calls.proofs.ready_set.ready_set.Goals as goal
 
-pub lay-requires : goal.lay-requires
-lay-requires c = let s = c.requires in (_, s.1, s.2, planned-blank s.1)
+pub lay-tables-requires : goal.lay-tables-requires
+lay-tables-requires c = let s = c.requires in (_, s.1, s.2, planned-blank s.1)
+
+pub of-requires : goal.of-requires
+of-requires c =
+    let s = c.requires in
+    let t = c.lay-tables.ensures _ s.1 s.2 (planned-blank s.1) in
+    (whole-few t.0, planned_recorded t.0, row_tables-most _ t.1 t.2)
 
 pub ready_workers-bits-requires : goal.ready_workers-bits-requires
 ready_workers-bits-requires c =
     let s = c.requires in
-    (whole-few s.1, planned_recorded s.1, (_, (c.lay.ensures _ s.1 s.2 (planned-blank s.1)).1))
+    rw c.of.ensures.0 (c.of.ensures.2, planned_recorded (c.lay-tables.ensures _ s.1 s.2 (planned-blank s.1)).0)
 
 pub returns : goal.returns
 returns c j zs g k =
-    ready-bits j _ _ (c.ready_workers-bits.ensures j _ g.sized.accepted g.groups_are (c.lay.ensures j g k (planned-blank g)).0)
+    let t = c.lay-tables.ensures j g k (planned-blank g) in
+    ready-bits j _ _ ((rw c.of.ensures.0 at c.ready_workers-bits.ensures) j _ g.sized.accepted t.0.groups_are t.1)

@@ -1,7 +1,8 @@
-use mathlib.Core.Path.{sym}
+use borrow.Author.Rules.{rules}
+use mathlib.Core.Path.{◌≡◌, sym}
 use mathlib.Core.Bool.{Bool, not, ◌&&◌}
 use native.Mathlib.Omega.{arith}
-use Prim.Native.Nat.{ℕ, ◌+◌}
+use Prim.Native.Nat.{ℕ}
 use lib.Dec.{leb}
 use lib.IntN.{ℤ, pos}
 use lib.ListN.{length, get_or}
@@ -9,35 +10,39 @@ use mir.Syntax.{w32}
 use mir.Val.{SFits}
 use mir.Facts.{to_z-of_z}
 use Rattle.joined.specs.Code.Rows.{marked}
-use Rattle.joined.proofs.Emitting.{emitted_none, emitted_same}
+use Rattle.joined.proofs.Emitting.{added_none, added_same}
 use Rattle.joined.proofs.Cells.{cells-none}
 use Rattle.joined.proofs.Turns.{turn-next, turn_stop}
 use Rattle.joined.proofs.row.put_second.Goals as goal
 
 pub loop-k-init : goal.loop-k-init
 loop-k-init c =
-    let column : ℕ → ℕ = λ k. get_or c.args.places.now (get_or c.args.columns.now k 0) 0 in
-    let value : ℕ → ℤ = λ k. get_or c.args.values.now k (pos 0) in
-    let passes : ℕ → Bool = λ j. leb j c.args.i && not (marked (c.args.i + 1) c.args.seen.now j) in
-    (c.requires.3, emitted_same (sym (cells-none c.args.i passes column value)) (emitted_none c.requires.4 c.requires.3))
+    let row = c.args.row.now in
+    let column : ℕ → ℕ = λ k. get_or row.places.now (get_or row.columns.now k 0) 0 in
+    let value : ℕ → ℤ = λ k. get_or row.values.now k (pos 0) in
+    let passes : ℕ → Bool = λ j. leb j c.args.i && not (marked c.args.tables.now.turn c.args.tables.now.seen j) in
+    added_same (sym (cells-none c.args.i passes column value)) (added_none _)
 
-pub returns-in_err-count : goal.returns-in_err-count
-returns-in_err-count c =
-    let column : ℕ → ℕ = λ k. get_or c.args.places.now (get_or c.args.columns.now k 0) 0 in
-    let value : ℕ → ℤ = λ k. get_or c.args.values.now k (pos 0) in
-    let passes : ℕ → Bool = λ j. leb j c.args.i && not (marked (c.args.i + 1) c.args.seen.now j) in
-    let value-fits : SFits w32 (value c.loop-k.k) = record { sfits = omega arith } in
-    let m = c.loop-k-test.true in
+pub returns-in_err-put_new : goal.returns-in_err-put_new
+returns-in_err-put_new c =
+    let row = c.args.row.now in
+    let column : ℕ → ℕ = λ k. get_or row.places.now (get_or row.columns.now k 0) 0 in
+    let value : ℕ → ℤ = λ k. get_or row.values.now k (pos 0) in
+    let passes : ℕ → Bool = λ j. leb j c.args.i && not (marked c.args.tables.now.turn c.args.tables.now.seen j) in
+    let value-fits : SFits w32 (get_or row.values.now c.loop-k.k (pos 0)) = search rules in
     rw c.from_residual.ensures
-    (turn_stop c.args.i passes column value (c.loop-k.k + 1)
-    (turn-next c.args.i passes column value c.loop-k.k c.loop-k.invariant.1 c.loop-k.invariant.0 (to_z-of_z value-fits) c.in_err-count.ensures)
-    (omega arith) (length c.args.columns.now) (omega arith))
+    (turn_stop c.args.i passes column value c.loop-k.k c.loop-k.invariant (to_z-of_z value-fits) c.in_err-put_new.ensures (length row.columns.now) (omega (arith, c.loop-k-test.true)))
 
 pub loop-k-preserved : goal.loop-k-preserved
 loop-k-preserved c =
-    let column : ℕ → ℕ = λ k. get_or c.args.places.now (get_or c.args.columns.now k 0) 0 in
-    let value : ℕ → ℤ = λ k. get_or c.args.values.now k (pos 0) in
-    let passes : ℕ → Bool = λ j. leb j c.args.i && not (marked (c.args.i + 1) c.args.seen.now j) in
-    let value-fits : SFits w32 (value c.loop-k.k) = record { sfits = omega arith } in
-    let m = c.loop-k-test.true in
-    (c.in_ok-count.ensures.0, turn-next c.args.i passes column value c.loop-k.k c.loop-k.invariant.1 c.loop-k.invariant.0 (to_z-of_z value-fits) c.in_ok-count.ensures.1)
+    let row = c.args.row.now in
+    let column : ℕ → ℕ = λ k. get_or row.places.now (get_or row.columns.now k 0) 0 in
+    let value : ℕ → ℤ = λ k. get_or row.values.now k (pos 0) in
+    let passes : ℕ → Bool = λ j. leb j c.args.i && not (marked c.args.tables.now.turn c.args.tables.now.seen j) in
+    let value-fits : SFits w32 (get_or row.values.now c.loop-k.k (pos 0)) = search rules in
+    turn-next c.args.i passes column value c.loop-k.k c.loop-k.invariant (to_z-of_z value-fits) c.in_ok-put_new.ensures
+
+pub returns : goal.returns
+returns c =
+    let e : c.loop-k.k ≡ length c.args.row.now.columns.now = omega arith in
+    rw (← e) c.loop-k.invariant

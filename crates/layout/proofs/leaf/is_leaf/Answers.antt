@@ -1,4 +1,4 @@
--- `run::leaf::is_leaf` meets its contract: only the next record can be the first child.
+-- `leaf::is_leaf` meets its contract: only the next record can be the first child.
 use mathlib.Core.Path.{sym, ap, ◌∙◌}
 use mathlib.Core.Bool.{not}
 use lib.Dec.{eqb}
@@ -7,10 +7,10 @@ use Rattle.layout.proofs.NextRecord.{last_none, next-child}
 use borrow.Author.Rules.{rules}
 use Rattle.layout.proofs.leaf.is_leaf.Goals as goal
 
-pub returns-then-count-next : goal.returns-then-count-next
-returns-then-count-next c =
-    ap not (sym (last_none c.args.count c.args.groups.now c.requires.1 c.args.i (search rules)))
+pub returns-then-groups-next : goal.returns-then-groups-next
+returns-then-groups-next c =
+    ap not (sym (last_none _ c.args.groups.now c.requires.0 c.args.i (search rules)))
 
 pub returns : goal.returns
 returns c =
-    ap not (ap (λ (g : Group). eqb g.parent c.args.i) c.get-h.ensures ∙ sym (next-child c.args.count c.args.groups.now c.requires.1 c.args.i (search rules)))
+    ap not (ap (λ (g : Group). eqb g.parent c.args.i) c.get-h.ensures ∙ sym (next-child _ c.args.groups.now c.requires.0 c.args.i (search rules)))

@@ -14,16 +14,13 @@ pub loop-w-init : goal.loop-w-init
 unfolding passing bits
 loop-w-init c = λ j begins ends e laid waits. refl
 
-pub refusal-requires : goal.refusal-requires
-refusal-requires c = c.requires
-
 pub loop-w-preserved : goal.loop-w-preserved
 loop-w-preserved c =
     let a = c.args in
     let w = c.loop-w.w in
     λ j begins ends e laid waits.
     (let free : c.is_ok-is_ready.result ≡ eqb (refusal j a.made.now w) 0 =
-    c.is_ok-is_ready.ensures.value ∙ told_none _ ∙ ap (λ (k : ℕ). eqb k 0) (c.refusal.ensures ∙ table-reason j laid a.made.now a.blocks.now waits a.workers e c.requires.0 w) in
+    c.is_ok-is_ready.ensures.value ∙ told_none _ ∙ ap (λ (k : ℕ). eqb k 0) (c.refusal.ensures ∙ table-reason j laid a.made.now a.blocks.now waits a.course.now.workers e a.course.now.few w) in
     rw (c.loop-w.invariant j begins ends e laid waits) (bits-turn (λ v. eqb (refusal j a.made.now v) 0) w c.is_ok-is_ready.result (omega arith) free))
 
 pub returns : goal.returns

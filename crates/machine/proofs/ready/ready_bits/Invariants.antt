@@ -12,5 +12,5 @@ use Rattle.machine.proofs.ready.ready_bits.Given as goal
 
 abbrev pub invariant-loop-w : goal.invariant-loop-w
 invariant-loop-w l =
-    (j : Job) (begins ends : List ℕ) → l.workers ≡ job.workers j → Laid j l.tables.first.now l.tables.row.now begins l.tables.leaves.now ends → Waits j l.made l.blocks
+    (j : Job) (begins ends : List ℕ) → l.course.workers ≡ job.workers j → Laid j l.course.tables.first.now l.course.tables.row.now begins l.course.tables.leaves.now ends → Waits j l.made l.blocks
     → l.set ≡ bits (passing (λ v. eqb (refusal j l.made v) 0) l.w)

@@ -16,13 +16,13 @@ put_digits-first-requires c =
     rw c.magnitude.ensures (magnitude_small c.args.bits c.ranges.bits.fits, omega (arith, c.requires, w), simp length-set (omega (arith, c.requires, w)))
 
 pub returns-then-bits-lt-LEAST : goal.returns-then-bits-lt-LEAST
-returns-then-bits-lt-LEAST c = put_plain c.args.bits c.args.text.now c.magnitude.ensures c.requires.0 c.requires.1 c.put_digits-first.ensures c.if-bits-lt-LEAST.true
+returns-then-bits-lt-LEAST c = put_plain c.args.bits c.args.text.now c.magnitude.ensures c.requires.0 c.requires.1 c.put_digits-first.ensures.digits c.if-bits-lt-LEAST.true
 
 pub overflow_sub-sign : goal.overflow_sub-sign
-overflow_sub-sign c = sign_room c.args.bits c.args.text.now c.magnitude.ensures c.requires.0 c.requires.1 c.put_digits-first.ensures c.if-bits-lt-LEAST.false
+overflow_sub-sign c = sign_room c.args.bits c.args.text.now c.magnitude.ensures c.requires.0 c.requires.1 c.put_digits-first.ensures.digits c.if-bits-lt-LEAST.false
 
 pub bounds-text-sign : goal.bounds-text-sign
-bounds-text-sign c = omega (arith, sign_room c.args.bits c.args.text.now c.magnitude.ensures c.requires.0 c.requires.1 c.put_digits-first.ensures c.if-bits-lt-LEAST.false, sign_inside c.args.bits c.args.text.now c.magnitude.ensures c.requires.0 c.requires.1 c.put_digits-first.ensures c.if-bits-lt-LEAST.false)
+bounds-text-sign c = omega (arith, sign_room c.args.bits c.args.text.now c.magnitude.ensures c.requires.0 c.requires.1 c.put_digits-first.ensures.digits c.if-bits-lt-LEAST.false, sign_inside c.args.bits c.args.text.now c.magnitude.ensures c.requires.0 c.requires.1 c.put_digits-first.ensures.digits c.if-bits-lt-LEAST.false)
 
 pub returns : goal.returns
-returns c = put_negative c.args.bits c.args.text.now c.magnitude.ensures c.requires.0 c.requires.1 c.put_digits-first.ensures c.if-bits-lt-LEAST.false
+returns c = put_negative c.args.bits c.args.text.now c.magnitude.ensures c.requires.0 c.requires.1 c.put_digits-first.ensures.digits c.if-bits-lt-LEAST.false

@@ -12,8 +12,8 @@ use Rattle.planner.proofs.whole.plan_rows.Goals as goal
 pub number-requires : goal.number-requires
 number-requires c = omega (arith, c.requires.0, c.args.graph.now.rows.small)
 
-pub overflow_cast-whole : goal.overflow_cast-whole
-overflow_cast-whole c = omega (arith, c.args.graph.now.rows.small)
+pub overflow_cast-group : goal.overflow_cast-group
+overflow_cast-group c = omega (arith, c.args.graph.now.rows.small)
 
 pub plan_group-count-requires : goal.plan_group-count-requires
 plan_group-count-requires c =
@@ -27,7 +27,7 @@ sort_rows-requires c =
     let far : (1 ≤ a.policy.reach) × (a.policy.reach ≤ max_distance) = (a.policy.some, c.requires.1) in
     let numbers : c.number.new.order ≡ range 0 g.m.n = c.number.ensures ∙ ap (range 0) c.requires.0 in
     let held : Holds (numbered_plan g (policy_of a.policy) far a.workers) 0 a.records.now c.plan_group-count.new.order c.plan_group-count.new.records c.plan_group-count.result = rw numbers at c.plan_group-count.ensures in
-    ((leaf-held g (policy_of a.policy) far a.workers held c.if-count-eq1.true).0, a.policy.some)
+    (leaf-held g (policy_of a.policy) far a.workers held c.if-count-eq1.true).0
 
 pub returns-then-count-eq1 : goal.returns-then-count-eq1
 returns-then-count-eq1 c =

@@ -1,7 +1,11 @@
 -- `read_entries` meets its contract: what is left of the text decides, after the lines that rise.
 use mathlib.Core.Path.{sym, ◌∙◌}
+use native.Mathlib.Omega.{arith}
+use Rattle.compress.specs.Code.Entries.{listed}
+use Rattle.compress.proofs.entries.Listed.{length_listed}
 use Rattle.reader.proofs.entries.read_entries.Goals as goal
 
-pub returns-then-reached-m : goal.returns-then-reached-m
-returns-then-reached-m c =
-    (sym (c.read_sorted-reached.ensures.1 c.args.line) ∙ c.read_marked.ensures.0, c.read_marked.ensures.1)
+pub returns : goal.returns
+returns c =
+    let l = c.read_sorted-reached.new.list in
+    sym c.read_sorted-reached.ensures.same ∙ c.ended.ensures (listed l) (omega (arith, length_listed l, c.read_sorted-reached.ensures.held.count, c.if-list-size.false))

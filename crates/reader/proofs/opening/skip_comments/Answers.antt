@@ -1,4 +1,4 @@
-use mathlib.Core.Path.{◌≡◌, refl, sym, ap, ◌∙◌}
+use mathlib.Core.Path.{◌≡◌, sym, ap, ◌∙◌}
 use mathlib.Core.Bool.{false}
 use Prim.Native.Nat.{ℕ, ◌≤◌, ◌<◌, ◌+◌}
 use native.Mathlib.Numerals.{add-one}
@@ -10,9 +10,6 @@ use Rattle.market.specs.Parse.{place, comments}
 use Rattle.reader.specs.Code.Opening.{LineEnds}
 use Rattle.reader.proofs.opening.Comments.{no_comment, a_comment, no_line}
 use Rattle.reader.proofs.opening.skip_comments.Goals as goal
-
-pub loop-i-init : goal.loop-i-init
-loop-i-init c = (omega arith, c.requires.1, omega arith, refl)
 
 pub returns-then-b-ne37 : goal.returns-then-b-ne37
 returns-then-b-ne37 c =
@@ -26,18 +23,6 @@ returns-in_default c =
     let h = c.loop-i-test.true in
     let r : LineEnds s c.loop-i.i None = c.in_default.ensures in
     record { rest = c.loop-i.invariant.3 ∙ a_comment s c.loop-i.i c.loop-i.line h c.if-b-ne37.false ∙ r.rest c.loop-i.line ∙ ap (place c.loop-i.line) (sym (drop-length s)); small = omega arith }
-
-pub overflow_add-line : goal.overflow_add-line
-overflow_add-line c =
-    omega (arith, c.well_formed, c.requires.0, c.requires.1)
-
-pub loop-i-smaller : goal.loop-i-smaller
-loop-i-smaller c =
-    let ended : let s = c.args.s.now in let e = c.in-Some.e in (comments false c.loop-i.line (drop c.loop-i.i s) ≡ comments false (c.loop-i.line + 1) (drop e s)) × (c.loop-i.i < e) × (e ≤ length s) = let s = c.args.s.now in
-    let h = c.loop-i-test.true in
-    let r : LineEnds s c.loop-i.i (Some c.in-Some.e) = c.in-Some.ensures in
-    (a_comment s c.loop-i.i c.loop-i.line h c.if-b-ne37.false ∙ r.rest c.loop-i.line ∙ ap (λ (k : ℕ). comments false k (drop c.in-Some.e s)) (sym (add-one c.loop-i.line)), r.later.0, r.later.1) in
-    let e = ended in omega arith
 
 pub loop-i-preserved : goal.loop-i-preserved
 loop-i-preserved c =

@@ -33,12 +33,12 @@ returns-in_err-check_displacements-2 c =
     rw up (sym (roof_unmoved1 _ _ _ _ _ (is_made (goal.at.returns-in_err-check_displacements-2 c).Else-not-is_matrix) _ c.in_ok-check_displacements.ensures _ _ c.in_err-check_displacements-2.ensures))
 
 pub is_plan-requires : goal.is_plan-requires
-is_plan-requires c = is_made (goal.at.is_plan-requires c).Else-not-is_matrix
+is_plan-requires c = (c.args.roof.now.matrix.values.now, is_made (goal.at.is_plan-requires c).Else-not-is_matrix)
 
 pub returns-then-not-is_plan : goal.returns-then-not-is_plan
 returns-then-not-is_plan c =
-    sym (roof_unsound _ _ _ _ _ (is_made (goal.at.returns-then-not-is_plan c).Else-not-is_matrix) _ c.in_ok-check_displacements.ensures _ c.in_ok-check_displacements-2.ensures (fails c.is_plan.ensures (ap not c.if-not-is_plan.true)))
+    sym (roof_unsound _ _ _ _ _ (is_made (goal.at.returns-then-not-is_plan c).Else-not-is_matrix) _ c.in_ok-check_displacements.ensures _ c.in_ok-check_displacements-2.ensures (fails (c.is_plan.ensures c.args.roof.now.matrix.values.now) (ap not c.if-not-is_plan.true)))
 
 pub returns : goal.returns
 returns c =
-    sym (roof_taken _ _ _ _ _ (is_made (goal.at.returns c).Else-not-is_matrix) _ c.in_ok-check_displacements.ensures _ c.in_ok-check_displacements-2.ensures (holds c.is_plan.ensures (ap not c.if-not-is_plan.false)))
+    sym (roof_taken _ _ _ _ _ (is_made (goal.at.returns c).Else-not-is_matrix) _ c.in_ok-check_displacements.ensures _ c.in_ok-check_displacements-2.ensures (holds (c.is_plan.ensures c.args.roof.now.matrix.values.now) (ap not c.if-not-is_plan.false)))

@@ -16,19 +16,17 @@ pub loop-w-init : goal.loop-w-init
 unfolding passing bits
 loop-w-init c = λ q s c ends e laid a b waits. refl
 
-pub is_free-free-requires : goal.is_free-free-requires
-is_free-free-requires c = (omega (arith, c.loop-w-test.true, c.requires.0), c.requires.0, c.requires.1)
-
 pub loop-w-preserved : goal.loop-w-preserved
 loop-w-preserved c =
     let a = c.args in
-    let t = a.tables.now in
+    let k = a.course.now in
+    let t = k.tables in
     let w = c.loop-w.w in
     λ q s d ends e laid ea eb waits.
-    (let is : unless_away (reason_at a.workers t.first.now t.row.now t.leaves.now a.blocks.now a.made.now w) (inside_at t.first.now t.row.now t.begins.now a.theirs.now w) ≡ crew_refusal q s d w =
-    rw (← ea, ← eb) (free-is q s d laid a.workers e c.requires.0 a.blocks.now (rw ea waits) w (omega (arith, c.requires.0))) in
+    (let is : unless_away (reason_at k.workers t.first.now t.row.now t.leaves.now a.blocks.now a.made.now w) (inside_at t.first.now t.row.now t.begins.now a.theirs.now w) ≡ crew_refusal q s d w =
+    rw (← ea, ← eb) (free-is q s d laid k.workers e k.few a.blocks.now (rw ea waits) w (omega (arith, k.few))) in
     let free : c.is_free-free.result ≡ eqb (crew_refusal q s d w) 0 = c.is_free-free.ensures ∙ ap (λ (k : ℕ). eqb k 0) is in
-    rw (c.loop-w.invariant q s d ends e laid ea eb waits) (bits-turn (λ v. eqb (crew_refusal q s d v) 0) w c.is_free-free.result (omega (arith, c.requires.0)) free))
+    rw (c.loop-w.invariant q s d ends e laid ea eb waits) (bits-turn (λ v. eqb (crew_refusal q s d v) 0) w c.is_free-free.result (omega (arith, k.few)) free))
 
 pub returns : goal.returns
 unfolding crew_ready ready

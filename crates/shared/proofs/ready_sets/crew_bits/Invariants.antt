@@ -13,6 +13,6 @@ use Rattle.shared.proofs.ready_sets.crew_bits.Given as goal
 
 abbrev pub invariant-loop-w : goal.invariant-loop-w
 invariant-loop-w l =
-    (q : Roof) (s : Two State) (c : Crew) (ends : List ℕ) → l.workers ≡ job.workers (job_for q c)
-    → ((d : Crew) → Laid (job_for q d) l.tables.first.now l.tables.row.now l.tables.begins.now l.tables.leaves.now ends)
+    (q : Roof) (s : Two State) (c : Crew) (ends : List ℕ) → l.course.workers ≡ job.workers (job_for q c)
+    → ((d : Crew) → Laid (job_for q d) l.course.tables.first.now l.course.tables.row.now l.course.tables.begins.now l.course.tables.leaves.now ends)
     → (own_of s c).made ≡ l.made → (own_of s (other c)).made ≡ l.theirs → Waits (job_for q c) l.made l.blocks → l.set ≡ bits (passing (λ v. eqb (crew_refusal q s c v) 0) l.w)

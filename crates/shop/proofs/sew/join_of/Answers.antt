@@ -1,21 +1,18 @@
 -- `join_of` meets its contract, by the reply.
 use mathlib.Core.Path.{◌≡◌, refl, sym, ap, ◌∙◌}
-use mathlib.Core.List.{List, ◌++◌}
+use mathlib.Core.List.{List}
 use Prim.Native.Nat.{ℕ}
 use native.Mathlib.Omega.{arith}
-use lib.ListN.{length, take, drop, replicate, length-replicate}
+use lib.ListN.{length, replicate, length-replicate}
 use lib.Seq.{length-take-le}
 use Rattle.base.specs.Verdicts.{reply_of}
 use Rattle.std.proofs.Common.{Result}
 use Rattle.base.specs.declared.Refusal.{Refusal}
 use Rattle.matrix.specs.Held.{held}
-use Rattle.matrix.specs.Matrix.{Matrix}
 use Rattle.matrix.specs.Code.Room.{max_starts}
 use Rattle.lent.specs.Word.{word}
 use Rattle.lent.proofs.Answers.{begins_at, begins-fits, begins-size}
-use Rattle.joined.specs.Joined.{join_reply}
-use Rattle.shop.specs.Lent.{join_in}
-use Rattle.shop.proofs.Joins.{same-reply, Held, join-refused, join-held, join-stored}
+use Rattle.shop.proofs.Joins.{same-reply, join-refused, join-into, join-stored}
 use Rattle.shop.proofs.sew.join_of.Goals as goal
 
 -- the array of row starts before the joining
@@ -36,90 +33,55 @@ slice_bounds-join-end-5 c = sym (length-take-le c.min-values_room.result c.args.
 
 pub returns-in_default : goal.returns-in_default
 returns-in_default c =
-    let first : Matrix = held c.args.first.now in
-    let second : Matrix = held c.args.second.now in
-    let same : let a = c.args in join_reply first second a.places.now (length (take c.min-starts_room.result no_starts)) (length (take c.min-columns_room.result a.column_list.now)) (length (take c.min-values_room.result a.value_list.now)) ≡ join_in first second a.places.now a.row_starts.now a.columns.now a.values.now
-    = let a = c.args in same-reply first second a.places.now no_starts a.column_list.now a.value_list.now a.row_starts.now a.columns.now a.values.now starts-long c.requires.0 c.requires.1 c.min-starts_room.ensures c.min-columns_room.ensures c.min-values_room.ensures in
-    let said = sym c.in_default.is in
-    join-refused same (ap reply_of said ∙ c.join-answer.ensures.reply) (c.word_of.ensures ∙ ap (λ (r : Result ℕ Refusal). word (reply_of r)) (sym said))
+    let a = c.args in
+    let p = a.pieces.now in
+    join-refused (same-reply (held p.first) (held p.second) p.places.now no_starts a.column_list.now a.value_list.now a.row_starts.now a.columns.now a.values.now starts-long c.requires.0 c.requires.1 c.min-starts_room.ensures c.min-columns_room.ensures c.min-values_room.ensures)
+    c.in_default.ensures.reply (c.word_of.ensures ∙ ap (λ (r : Result ℕ Refusal). word (reply_of r)) c.in_default.is)
 
 pub bounds-starts-rows : goal.bounds-starts-rows
 bounds-starts-rows c =
-    let first : Matrix = held c.args.first.now in
-    let second : Matrix = held c.args.second.now in
-    let same : let a = c.args in join_reply first second a.places.now (length (take c.min-starts_room.result no_starts)) (length (take c.min-columns_room.result a.column_list.now)) (length (take c.min-values_room.result a.value_list.now)) ≡ join_in first second a.places.now a.row_starts.now a.columns.now a.values.now
-    = let a = c.args in same-reply first second a.places.now no_starts a.column_list.now a.value_list.now a.row_starts.now a.columns.now a.values.now starts-long c.requires.0 c.requires.1 c.min-starts_room.ensures c.min-columns_room.ensures c.min-values_room.ensures in
-    let kept : let l = c.join-answer.new in let a = c.args in Held first second a.places.now a.row_starts.now a.columns.now a.values.now c.in-Ok.n (l.starts ++ drop c.min-starts_room.result no_starts) (l.columns ++ drop c.min-columns_room.result a.column_list.now) (l.values ++ drop c.min-values_room.result a.value_list.now) = let e = c.join-answer.ensures in
-    join-held same (ap reply_of (sym c.in-Ok.is) ∙ e.reply) _ _ _ e.lent_starts e.lent_columns e.lent_values _ _ _ in
-    omega (arith, kept.few)
+    let e = c.join-answer.ensures in
+    let h = join-into no_starts c.args.column_list.now c.args.value_list.now starts-long c.requires c.min-starts_room.ensures c.min-columns_room.ensures c.min-values_room.ensures c.in-Ok.ensures.reply e.lent_starts e.lent_columns e.lent_values in
+    omega (arith, h.few)
 
--- ---- the storing
 pub slice_bounds-starts-end-2 : goal.slice_bounds-starts-end-2
 slice_bounds-starts-end-2 c =
-    let first : Matrix = held c.args.first.now in
-    let second : Matrix = held c.args.second.now in
-    let same : let a = c.args in join_reply first second a.places.now (length (take c.min-starts_room.result no_starts)) (length (take c.min-columns_room.result a.column_list.now)) (length (take c.min-values_room.result a.value_list.now)) ≡ join_in first second a.places.now a.row_starts.now a.columns.now a.values.now
-    = let a = c.args in same-reply first second a.places.now no_starts a.column_list.now a.value_list.now a.row_starts.now a.columns.now a.values.now starts-long c.requires.0 c.requires.1 c.min-starts_room.ensures c.min-columns_room.ensures c.min-values_room.ensures in
-    let kept : let l = c.join-answer.new in let a = c.args in Held first second a.places.now a.row_starts.now a.columns.now a.values.now c.in-Ok.n (l.starts ++ drop c.min-starts_room.result no_starts) (l.columns ++ drop c.min-columns_room.result a.column_list.now) (l.values ++ drop c.min-values_room.result a.value_list.now) = let e = c.join-answer.ensures in
-    join-held same (ap reply_of (sym c.in-Ok.is) ∙ e.reply) _ _ _ e.lent_starts e.lent_columns e.lent_values _ _ _ in
-    begins-fits kept.starts_begin
+    let e = c.join-answer.ensures in
+    let h = join-into no_starts c.args.column_list.now c.args.value_list.now starts-long c.requires c.min-starts_room.ensures c.min-columns_room.ensures c.min-values_room.ensures c.in-Ok.ensures.reply e.lent_starts e.lent_columns e.lent_values in
+    begins-fits h.starts_begin
 
 pub slice_bounds-store-end : goal.slice_bounds-store-end
 slice_bounds-store-end c =
-    let first : Matrix = held c.args.first.now in
-    let second : Matrix = held c.args.second.now in
-    let same : let a = c.args in join_reply first second a.places.now (length (take c.min-starts_room.result no_starts)) (length (take c.min-columns_room.result a.column_list.now)) (length (take c.min-values_room.result a.value_list.now)) ≡ join_in first second a.places.now a.row_starts.now a.columns.now a.values.now
-    = let a = c.args in same-reply first second a.places.now no_starts a.column_list.now a.value_list.now a.row_starts.now a.columns.now a.values.now starts-long c.requires.0 c.requires.1 c.min-starts_room.ensures c.min-columns_room.ensures c.min-values_room.ensures in
-    let kept : let l = c.join-answer.new in let a = c.args in Held first second a.places.now a.row_starts.now a.columns.now a.values.now c.in-Ok.n (l.starts ++ drop c.min-starts_room.result no_starts) (l.columns ++ drop c.min-columns_room.result a.column_list.now) (l.values ++ drop c.min-values_room.result a.value_list.now) = let e = c.join-answer.ensures in
-    join-held same (ap reply_of (sym c.in-Ok.is) ∙ e.reply) _ _ _ e.lent_starts e.lent_columns e.lent_values _ _ _ in
-    begins-size kept.starts_begin
+    let e = c.join-answer.ensures in
+    let h = join-into no_starts c.args.column_list.now c.args.value_list.now starts-long c.requires c.min-starts_room.ensures c.min-columns_room.ensures c.min-values_room.ensures c.in-Ok.ensures.reply e.lent_starts e.lent_columns e.lent_values in
+    begins-size h.starts_begin
 
 pub slice_bounds-store-end-2 : goal.slice_bounds-store-end-2
 slice_bounds-store-end-2 c =
-    let first : Matrix = held c.args.first.now in
-    let second : Matrix = held c.args.second.now in
-    let same : let a = c.args in join_reply first second a.places.now (length (take c.min-starts_room.result no_starts)) (length (take c.min-columns_room.result a.column_list.now)) (length (take c.min-values_room.result a.value_list.now)) ≡ join_in first second a.places.now a.row_starts.now a.columns.now a.values.now
-    = let a = c.args in same-reply first second a.places.now no_starts a.column_list.now a.value_list.now a.row_starts.now a.columns.now a.values.now starts-long c.requires.0 c.requires.1 c.min-starts_room.ensures c.min-columns_room.ensures c.min-values_room.ensures in
-    let kept : let l = c.join-answer.new in let a = c.args in Held first second a.places.now a.row_starts.now a.columns.now a.values.now c.in-Ok.n (l.starts ++ drop c.min-starts_room.result no_starts) (l.columns ++ drop c.min-columns_room.result a.column_list.now) (l.values ++ drop c.min-values_room.result a.value_list.now) = let e = c.join-answer.ensures in
-    join-held same (ap reply_of (sym c.in-Ok.is) ∙ e.reply) _ _ _ e.lent_starts e.lent_columns e.lent_values _ _ _ in
-    begins-fits (begins_at kept.columns_begin refl)
+    let e = c.join-answer.ensures in
+    let h = join-into no_starts c.args.column_list.now c.args.value_list.now starts-long c.requires c.min-starts_room.ensures c.min-columns_room.ensures c.min-values_room.ensures c.in-Ok.ensures.reply e.lent_starts e.lent_columns e.lent_values in
+    begins-fits (begins_at h.columns_begin refl)
 
 pub slice_bounds-store-end-3 : goal.slice_bounds-store-end-3
 slice_bounds-store-end-3 c =
-    let first : Matrix = held c.args.first.now in
-    let second : Matrix = held c.args.second.now in
-    let same : let a = c.args in join_reply first second a.places.now (length (take c.min-starts_room.result no_starts)) (length (take c.min-columns_room.result a.column_list.now)) (length (take c.min-values_room.result a.value_list.now)) ≡ join_in first second a.places.now a.row_starts.now a.columns.now a.values.now
-    = let a = c.args in same-reply first second a.places.now no_starts a.column_list.now a.value_list.now a.row_starts.now a.columns.now a.values.now starts-long c.requires.0 c.requires.1 c.min-starts_room.ensures c.min-columns_room.ensures c.min-values_room.ensures in
-    let kept : let l = c.join-answer.new in let a = c.args in Held first second a.places.now a.row_starts.now a.columns.now a.values.now c.in-Ok.n (l.starts ++ drop c.min-starts_room.result no_starts) (l.columns ++ drop c.min-columns_room.result a.column_list.now) (l.values ++ drop c.min-values_room.result a.value_list.now) = let e = c.join-answer.ensures in
-    join-held same (ap reply_of (sym c.in-Ok.is) ∙ e.reply) _ _ _ e.lent_starts e.lent_columns e.lent_values _ _ _ in
-    begins-size (begins_at kept.columns_begin refl)
+    let e = c.join-answer.ensures in
+    let h = join-into no_starts c.args.column_list.now c.args.value_list.now starts-long c.requires c.min-starts_room.ensures c.min-columns_room.ensures c.min-values_room.ensures c.in-Ok.ensures.reply e.lent_starts e.lent_columns e.lent_values in
+    begins-size (begins_at h.columns_begin refl)
 
 pub slice_bounds-store-end-4 : goal.slice_bounds-store-end-4
 slice_bounds-store-end-4 c =
-    let first : Matrix = held c.args.first.now in
-    let second : Matrix = held c.args.second.now in
-    let same : let a = c.args in join_reply first second a.places.now (length (take c.min-starts_room.result no_starts)) (length (take c.min-columns_room.result a.column_list.now)) (length (take c.min-values_room.result a.value_list.now)) ≡ join_in first second a.places.now a.row_starts.now a.columns.now a.values.now
-    = let a = c.args in same-reply first second a.places.now no_starts a.column_list.now a.value_list.now a.row_starts.now a.columns.now a.values.now starts-long c.requires.0 c.requires.1 c.min-starts_room.ensures c.min-columns_room.ensures c.min-values_room.ensures in
-    let kept : let l = c.join-answer.new in let a = c.args in Held first second a.places.now a.row_starts.now a.columns.now a.values.now c.in-Ok.n (l.starts ++ drop c.min-starts_room.result no_starts) (l.columns ++ drop c.min-columns_room.result a.column_list.now) (l.values ++ drop c.min-values_room.result a.value_list.now) = let e = c.join-answer.ensures in
-    join-held same (ap reply_of (sym c.in-Ok.is) ∙ e.reply) _ _ _ e.lent_starts e.lent_columns e.lent_values _ _ _ in
-    begins-fits (begins_at kept.values_begin refl)
+    let e = c.join-answer.ensures in
+    let h = join-into no_starts c.args.column_list.now c.args.value_list.now starts-long c.requires c.min-starts_room.ensures c.min-columns_room.ensures c.min-values_room.ensures c.in-Ok.ensures.reply e.lent_starts e.lent_columns e.lent_values in
+    begins-fits (begins_at h.values_begin refl)
 
 pub slice_bounds-store-end-5 : goal.slice_bounds-store-end-5
 slice_bounds-store-end-5 c =
-    let first : Matrix = held c.args.first.now in
-    let second : Matrix = held c.args.second.now in
-    let same : let a = c.args in join_reply first second a.places.now (length (take c.min-starts_room.result no_starts)) (length (take c.min-columns_room.result a.column_list.now)) (length (take c.min-values_room.result a.value_list.now)) ≡ join_in first second a.places.now a.row_starts.now a.columns.now a.values.now
-    = let a = c.args in same-reply first second a.places.now no_starts a.column_list.now a.value_list.now a.row_starts.now a.columns.now a.values.now starts-long c.requires.0 c.requires.1 c.min-starts_room.ensures c.min-columns_room.ensures c.min-values_room.ensures in
-    let kept : let l = c.join-answer.new in let a = c.args in Held first second a.places.now a.row_starts.now a.columns.now a.values.now c.in-Ok.n (l.starts ++ drop c.min-starts_room.result no_starts) (l.columns ++ drop c.min-columns_room.result a.column_list.now) (l.values ++ drop c.min-values_room.result a.value_list.now) = let e = c.join-answer.ensures in
-    join-held same (ap reply_of (sym c.in-Ok.is) ∙ e.reply) _ _ _ e.lent_starts e.lent_columns e.lent_values _ _ _ in
-    begins-size (begins_at kept.values_begin refl)
+    let e = c.join-answer.ensures in
+    let h = join-into no_starts c.args.column_list.now c.args.value_list.now starts-long c.requires c.min-starts_room.ensures c.min-columns_room.ensures c.min-values_room.ensures c.in-Ok.ensures.reply e.lent_starts e.lent_columns e.lent_values in
+    begins-size (begins_at h.values_begin refl)
 
 pub returns : goal.returns
 returns c =
-    let first : Matrix = held c.args.first.now in
-    let second : Matrix = held c.args.second.now in
-    let same : let a = c.args in join_reply first second a.places.now (length (take c.min-starts_room.result no_starts)) (length (take c.min-columns_room.result a.column_list.now)) (length (take c.min-values_room.result a.value_list.now)) ≡ join_in first second a.places.now a.row_starts.now a.columns.now a.values.now
-    = let a = c.args in same-reply first second a.places.now no_starts a.column_list.now a.value_list.now a.row_starts.now a.columns.now a.values.now starts-long c.requires.0 c.requires.1 c.min-starts_room.ensures c.min-columns_room.ensures c.min-values_room.ensures in
-    let kept : let l = c.join-answer.new in let a = c.args in Held first second a.places.now a.row_starts.now a.columns.now a.values.now c.in-Ok.n (l.starts ++ drop c.min-starts_room.result no_starts) (l.columns ++ drop c.min-columns_room.result a.column_list.now) (l.values ++ drop c.min-values_room.result a.value_list.now) = let e = c.join-answer.ensures in
-    join-held same (ap reply_of (sym c.in-Ok.is) ∙ e.reply) _ _ _ e.lent_starts e.lent_columns e.lent_values _ _ _ in
-    join-stored kept refl c.word_of-2.ensures c.store.ensures c.store-2.ensures c.store-3.ensures
+    let e = c.join-answer.ensures in
+    let h = join-into no_starts c.args.column_list.now c.args.value_list.now starts-long c.requires c.min-starts_room.ensures c.min-columns_room.ensures c.min-values_room.ensures c.in-Ok.ensures.reply e.lent_starts e.lent_columns e.lent_values in
+    join-stored h refl c.word_of-2.ensures c.store.ensures c.store-2.ensures c.store-3.ensures

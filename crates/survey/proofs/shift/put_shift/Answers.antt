@@ -18,8 +18,8 @@ pub loop-j-preserved : goal.loop-j-preserved
 loop-j-preserved c =
     let a = c.args in
     let f : SFits w32 c.with_sign.result = search rules in
-    let g : SFits w32 c.value_at.result = search rules in
-    let is : c.with_sign.result ≡ with_sign a.t (lookup c.loop-j.j a.columns.now a.values.now) = (simp (to_z-of_z g) at c.with_sign.ensures) ∙ ap (with_sign a.t) c.value_at.ensures in (
+    let g : SFits w32 c.value.result = search rules in
+    let is : c.with_sign.result ≡ with_sign a.t (lookup c.loop-j.j a.columns.now a.values.now) = (simp (to_z-of_z g) at c.with_sign.ensures) ∙ ap (with_sign a.t) c.value.ensures in (
       c.past-k.ensures,
       rw (to_z-of_z f, is, c.loop-j.invariant.1) (filled_next (λ j. with_sign a.t (lookup j a.columns.now a.values.now)) a.out.now (pos 0) c.loop-j.j (omega (arith, c.requires.long))),
     )

@@ -2,9 +2,6 @@
 use borrow.Author.Tests.{lt-ltb, le-ltb}
 use Rattle.turns.proofs.inside.is_inside.Goals as goal
 
-pub accesses-requires : goal.accesses-requires
-accesses-requires c = (c.requires.0, c.requires.1.2.bounded.rising)
-
 pub returns-then-accesses-done : goal.returns-then-accesses-done
 returns-then-accesses-done c = rw (← c.accesses.ensures, le-ltb _ _ c.if-accesses-done.true)
 

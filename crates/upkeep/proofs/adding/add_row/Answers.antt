@@ -1,5 +1,4 @@
 use mathlib.Core.Path.{◌≡◌}
-use native.Mathlib.Omega.{arith}
 use lib.IntN.{pos}
 use lib.ListN.{get_or, take}
 use borrow.Author.Rules.{rules}
@@ -7,7 +6,7 @@ use mir.Syntax.{w32, w64}
 use mir.Val.{SFits, to_z, of_z}
 use mir.Facts.{to_z-of_z}
 use Rattle.upkeep.specs.Code.Sums.{Added}
-use Rattle.upkeep.proofs.RowAdded.{none_passed, Turn, turn_as, one-passed, all-passed}
+use Rattle.upkeep.proofs.RowAdded.{none_passed, Turn, turn_as, one-passed}
 use Rattle.upkeep.proofs.adding.add_row.Goals as goal
 
 pub loop-k-init : goal.loop-k-init
@@ -39,8 +38,3 @@ loop-k-preserved c =
     let narrow : SFits w32 (get_or c.args.values.now c.loop-k.k (pos 0)) = search rules in
     simp (step_is, to_z-of_z {w = w32} narrow, to_z-of_z t.value, to_z-of_z t.more, to_z-of_z t.was, to_z-of_z t.sum)
     (one-passed _ _ _ _ c.requires c.loop-k.forces c.loop-k.k passed c.loop-k-test.true)
-
-pub returns : goal.returns
-returns c =
-    let passed : let a = c.args in Added (take c.loop-k.k a.columns.now) (take c.loop-k.k a.values.now) a.step a.forces.now c.loop-k.forces = rw (to_z-of_z {w = w64} c.ranges.step) at c.loop-k.invariant in
-    all-passed _ _ _ _ c.requires c.loop-k.forces c.loop-k.k passed (omega arith)

@@ -9,8 +9,8 @@ use Rattle.machine.proofs.state.State.walk.Given as goal
 abbrev pub invariant-loop-k : goal.invariant-loop-k
 invariant-loop-k l =
     (l.k ≤ length l.schedule) × (l.taken ≤ l.k) × (length l.sums ≡ length l.initial.sums)
-    × Running (record { crew = l.workers; tables = l.tables; entries = l.entries; displaced = l.displaced })
-    l.rule (state_with l.initial.made l.initial.held l.initial.sums) l.schedule l.taken l.k (state_with l.made l.held l.sums) l.blocks l.stops l.targets l.adds
+    × Running l.work l.rule (state_with l.initial.made l.initial.held l.initial.sums) l.schedule l.taken l.k (state_with l.made l.held l.sums)
+    l.blocked.blocks l.blocked.stops l.hands.targets l.hands.adds
 
 abbrev pub decreases-loop-k : goal.decreases-loop-k
 decreases-loop-k l = length l.schedule - l.k

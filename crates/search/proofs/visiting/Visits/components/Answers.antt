@@ -7,8 +7,8 @@ use Rattle.search.proofs.visiting.Visits.components.Goals as goal
 pub loop-i-init : goal.loop-i-init
 loop-i-init c =
     let a = c.args in
-    let g = a.graph.now in
-    (between_start (adj g) a.reach g.m.n a.own.now a.own.now a.self.now.marks a.self.now.queue g.rows.small (omega arith) (omega arith) c.requires.1 c.requires.2, kept_refl a.self.now.marks)
+    let g = a.scope.now.graph in
+    (between_start (adj g) a.scope.now.reach g.m.n a.own.now a.own.now a.self.now.marks a.self.now.queue g.rows.small (omega arith) (omega arith) c.requires.1 c.requires.2, kept_refl a.self.now.marks)
 
 pub returns : goal.returns
 returns c =

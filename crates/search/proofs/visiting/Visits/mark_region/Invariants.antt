@@ -5,4 +5,4 @@ use Rattle.search.proofs.MarkedRegion.{Rings}
 use Rattle.search.proofs.visiting.Visits.mark_region.Given as goal
 
 abbrev pub invariant-loop-j : goal.invariant-loop-j
-invariant-loop-j l = Rings (adj l.graph) l.graph.m.n l.own (l.j - 2) l.self.marks l.self.queue l.lo l.hi
+invariant-loop-j l = Rings (adj l.scope.graph) l.scope.graph.m.n l.own (l.j - 2) l.self.marks l.self.queue l.lo l.hi

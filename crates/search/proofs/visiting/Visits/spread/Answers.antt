@@ -7,18 +7,18 @@ use Rattle.search.proofs.visiting.Visits.spread.Goals as goal
 pub loop-lo-init : goal.loop-lo-init
 loop-lo-init c = spreading_start (adj c.args.graph.now) c.requires
 
-pub overflow_add-d : goal.overflow_add-d
-overflow_add-d c =
+pub overflow_add-reached : goal.overflow_add-reached
+overflow_add-reached c =
     let f = c.loop-lo.invariant.frontier in
     record { fits = omega (arith, f.enough, f.ready.small) }
 
 pub next_level-tail-requires : goal.next_level-tail-requires
 next_level-tail-requires c =
     let f = c.loop-lo.invariant.frontier in
-    (f.ready, f.low, λ e. omega arith, frontier-front f)
+    (f.ready, f.low, frontier-front f)
 
-pub overflow_add-d-in-loop-lo : goal.overflow_add-d-in-loop-lo
-overflow_add-d-in-loop-lo c =
+pub overflow_add-d : goal.overflow_add-d
+overflow_add-d c =
     let f = c.loop-lo.invariant.frontier in
     record { fits = omega (arith, f.enough, f.ready.small) }
 

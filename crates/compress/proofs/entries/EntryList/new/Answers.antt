@@ -1,0 +1,6 @@
+-- `EntryList::new` meets its contract.
+use Rattle.compress.proofs.entries.Listed.{triplets_none}
+use Rattle.compress.proofs.entries.EntryList.new.Goals as goal
+
+pub returns : goal.returns
+returns c = triplets_none _ _ _

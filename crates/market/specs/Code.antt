@@ -1,0 +1,2 @@
+-- What the contracts of inner functions speak of: no promise rests on it.
+pub mod Puts

@@ -1,9 +1,0 @@
--- `put_digits` meets its contract: each turn puts the last digit that is left.
-use Rattle.numbers.proofs.put.Spelling.{Spelling}
-use Rattle.numbers.proofs.put.put_digits.Given as goal
-
-abbrev pub invariant-loop-x : goal.invariant-loop-x
-invariant-loop-x l = Spelling l.v l.end l.initial.text l.text l.x l.i
-
-abbrev pub decreases-loop-x : goal.decreases-loop-x
-decreases-loop-x l = l.x

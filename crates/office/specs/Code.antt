@@ -1,3 +1,0 @@
--- What the contracts of inner functions speak of: no promise rests on it.
-pub mod Fit
-pub mod Cells
