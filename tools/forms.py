@@ -26,6 +26,17 @@ def files():
             yield path, f.read()
 
 
+def inside(text, start):
+    """What stands between the first round bracket from a place on and the one that closes it, with both."""
+    first = text.find("(", start)
+    depth = 0
+    for i in range(first, len(text)):
+        depth += (text[i] == "(") - (text[i] == ")")
+        if depth == 0:
+            return text[first:i + 1]
+    return text[first:]
+
+
 def functions():
     """Each function: where it stands, its name, its parameters' names, its clauses, its body."""
     head = re.compile(r"^( *)(?:pub(?:\(\w+\))? )?(?:const )?(?:extern \"C\" )?fn (\w+)", re.M)
@@ -35,8 +46,8 @@ def functions():
             whole = text[m.start():end if end > 0 else len(text)]
             opens = re.search(r"\n" + m.group(1) + r"\{\n", whole)
             signature, body = (whole[:opens.start()], whole[opens.end():]) if opens else (whole, "")
-            parameters = signature.split("requires")[0].split("ensures")[0]
-            names = re.findall(r"(?:^|[(,\n])\s*(?:mut )?(&?(?:mut )?self|\w+)\s*(?::|(?=[,)]))", parameters[parameters.find("("):])
+            parameters = inside(whole, m.end() - m.start())
+            names = re.findall(r"(?:^|[(,\n])\s*(?:mut )?(&?(?:mut )?self|\w+)\s*(?::|(?=[,)]))", parameters)
             line = text.count("\n", 0, m.start()) + 1
             yield f"{path}:{line}", m.group(2), names, signature, body
 
