@@ -34,6 +34,20 @@ fn as_cpp() {
     build_and_run("header", "g++", &["-x", "c++"]);
 }
 
+/// A program without a C library links the archive, with no more than a `memcpy` and a `memset` of its own.
+#[test]
+fn without_a_c_library() {
+    let arguments = [
+        "-std=c11",
+        "-ffreestanding",
+        "-nostdlib",
+        "-static",
+        "-fno-stack-protector",
+        "-fno-tree-loop-distribute-patterns",
+    ];
+    build_and_run("bare", "gcc", &arguments);
+}
+
 /// Every refusal has a sentence of its own, which ends in its number; a later one is said to be unknown.
 #[test]
 fn sentences() {

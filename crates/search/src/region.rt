@@ -1,8 +1,9 @@
 // The region of a group, ring after ring: a ring's rows are one join further from the group than those before.
-ghost use Rattle.std.specs.Prelude.{◌≡◌, true, map, ℕ, ◌-◌, ◌<◌, ◌≤◌, length, get_or};
+ghost use Rattle.std.specs.Prelude.{◌≡◌, true, map, ℕ, ◌++◌, ◌-◌, ◌<◌, ◌≤◌, length, get_or, drop};
 ghost use Rattle.std.proofs.Math.Seq.{slice};
 ghost use Rattle.base.specs.Lists.{is_in, concat, bit};
 ghost use Rattle.base.specs.Near.{near};
+ghost use Rattle.matrix.specs.Limits.{max_rows};
 ghost use Rattle.matrix.specs.Matrix.{columns_of};
 ghost use Rattle.levels.specs.Code.Graph.{pattern_of, adj};
 ghost use Rattle.search.specs.Code.Marks.{unreached, Marked};
@@ -11,6 +12,17 @@ use crate::marking::{OUTSIDE, UNREACHED, mark};
 use crate::scope::Scope;
 use crate::visiting::{Change, Visits};
 use levels::graph::Graph;
+use matrix::limits::MAX_ROWS;
+
+// The group's rows, put at the front of the queue: by a loop, which asks C for no `memmove`, as `copy_from_slice` does.
+fn queue_rows(own: &[u32], queue: &mut [u32; MAX_ROWS])
+    requires { length own.now ≤ max_rows }
+    ensures { queue.new ≡ own.now ++ drop (length own.now) queue.old }
+{
+    for (i, v) in own.iter().enumerate() {
+        queue[i] = *v;
+    }
+}
 
 impl Visits {
     // The stored columns of the ring that stands in the queue from lo to hi get mark 1.
@@ -39,7 +51,7 @@ impl Visits {
         if hi == graph.m.n {
             return;
         }
-        self.queue[..hi].copy_from_slice(own);
+        queue_rows(own, &mut self.queue);
         let found = Change {
             from: OUTSIDE,
             to: UNREACHED,

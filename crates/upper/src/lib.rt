@@ -73,6 +73,15 @@ fn join_all<const N: usize>(
     }
 }
 
+// Where the parts begin, copied: by a loop, which asks C for no `memmove`, as `copy_from_slice` and an assignment do.
+fn copy_parts(parts: &[u32; MAX_ROWS], sizes: &mut [u32; MAX_ROWS])
+    ensures { sizes.new ≡ parts.now }
+{
+    for (p, part) in parts.iter().enumerate() {
+        sizes[p] = *part;
+    }
+}
+
 // The position of each row, how many entries each has, and the upper triangle: for each row its own position and the
 // later adjacent ones, beside their entries, from where its part begins. There is room for that of every matrix.
 pub fn lay_upper<const N: usize>(
@@ -88,7 +97,7 @@ pub fn lay_upper<const N: usize>(
 {
     positions(ordered.order, ordered.m.n, position);
     begin_parts(ordered, &mut triangle.parts);
-    sizes.copy_from_slice(&triangle.parts);
+    copy_parts(&triangle.parts, sizes);
     join_all(ordered, position, sizes, triangle);
     part_sizes(ordered.m.n, &triangle.parts, sizes);
 }

@@ -1,12 +1,12 @@
--- A list copied over another, element by element from the front.
-use mathlib.Core.Path.{◌≡◌, ap, ◌∙◌}
+-- A list copied over another, element by element: from the front, or from a place to a place.
+use mathlib.Core.Path.{◌≡◌, sym, ap, ap₂, ◌∙◌}
 use mathlib.Core.List.{List, [], ◌∷◌, ◌++◌, append_assoc}
 use Prim.Native.Nat.{ℕ, zero, suc, ◌+◌, ◌≤◌, ◌<◌, min}
 use native.Mathlib.Nat.{add-zero, add-suc, suc-add, le_of_lt, zero-min, min-zero, suc-min-suc}
 use native.Mathlib.Numerals.{add-one}
 use native.Mathlib.Omega.{arith}
-use lib.ListN.{length, get_or, set, take, drop}
-use lib.Seq.{sets, sets-eq, drop-cons, set_at, take-suc, length-take-le}
+use lib.ListN.{length, get_or, set, take, drop, length-drop}
+use lib.Seq.{sets, sets-eq, drop-cons, set_at, take-suc, get_or-drop, length-take-le}
 use Rattle.words.specs.LittleEndian.{stored}
 
 module _ {A : Type 0} where
@@ -34,3 +34,14 @@ module _ {A : Type 0} where
   sets-front new old h =
       let none : 0 + length new ≡ length new = omega arith in
       sets-eq new old 0 (omega arith) ∙ ap (λ (k : ℕ). new ++ drop k old) none
+
+-- one byte more, from a place to a place
+pub copy_more : (to from : List ℕ) (at start k : ℕ) → start + k < length from
+    → set (sets to at (take k (drop start from))) (at + k) (get_or from (start + k) 0) ≡ sets to at (take (k + 1) (drop start from))
+copy_more to from at start k h =
+    let X : List ℕ = drop start from in
+    let l : k < length X = rw (length-drop start from) (omega arith) in
+    let size : length (take k X) ≡ k = length-take-le k X (omega arith) in
+    sym
+    (ap (λ (j : ℕ). sets to at (take j X)) (add-one k) ∙ ap (sets to at) (take-suc X k 0 l) ∙ sets-append to at (take k X) (get_or X k 0 ∷ [])
+    ∙ ap₂ (λ (i v : ℕ). set (sets to at (take k X)) (at + i) v) size (get_or-drop start from k 0))

@@ -9,8 +9,8 @@ use Rattle.upper.proofs.lay_upper.Goals as goal
 use Rattle.upper.proofs.lay_upper.Goals.{After-join_all}
 
 -- the parts are where the next places began
-begun : {g : _} (c : After-join_all g) → c.join_all.new.triangle.parts ≡ c.copy_from_slice.new.self
-begun c = c.join_all.ensures.2 ∙ sym c.copy_from_slice.ensures.after
+begun : {g : _} (c : After-join_all g) → c.join_all.new.triangle.parts ≡ c.copy_parts.new.sizes
+begun c = c.join_all.ensures.2 ∙ sym c.copy_parts.ensures
 
 pub positions-requires : goal.positions-requires
 positions-requires g c =
@@ -20,8 +20,7 @@ positions-requires g c =
 pub join_all-requires : goal.join_all-requires
 join_all-requires g c =
     let begun = c.begin_parts.ensures in
-    let same : c.copy_from_slice.new.self ≡ c.begin_parts.new.parts = c.copy_from_slice.ensures.after in
-    rw same
+    rw c.copy_parts.ensures
     (search rules, (c.positions.ensures, begun, upper_none _ _ (matrix_facts _ c.args.ordered.now.lent.ordered.matrix).some begun.long (omega (arith, c.requires.0)) c.requires.1 (omega (arith, c.requires.0))))
 
 pub part_sizes-requires : goal.part_sizes-requires

@@ -21,15 +21,15 @@ returns-then-hi-graph c =
     let a = c.args in
     all-within (rows_graph a.scope.now.graph.rows) a.own.now (all-below a.own.now c.requires.0) a.self.now.marks c.requires.1 (sym c.requires.2 ∙ c.if-hi-graph.true) (a.scope.now.reach - 1)
 
-pub slice_bounds-copy_from_slice-end : goal.slice_bounds-copy_from_slice-end
-slice_bounds-copy_from_slice-end c =
+pub queue_rows-requires : goal.queue_rows-requires
+queue_rows-requires c =
     let a = c.args in
     omega (arith, a.scope.now.graph.rows.small, two-marks a.scope.now.graph.m.n a.self.now.marks (is_in a.own.now) c.requires.1, c.requires.2)
 
 pub loop-j-init : goal.loop-j-init
 loop-j-init c =
     let a = c.args in
-    rw c.copy_from_slice.ensures.after (rings_start (rows_graph a.scope.now.graph.rows) a.own.now (all-below a.own.now c.requires.0) a.self.now.marks a.self.now.queue a.scope.now.graph.rows.small (omega arith) (omega arith) c.requires.1 c.requires.2)
+    rw c.queue_rows.ensures (rings_start (rows_graph a.scope.now.graph.rows) a.own.now (all-below a.own.now c.requires.0) a.self.now.marks a.self.now.queue a.scope.now.graph.rows.small (omega arith) (omega arith) c.requires.1 c.requires.2)
 
 pub next_level-tail-requires : goal.next_level-tail-requires
 next_level-tail-requires c =
