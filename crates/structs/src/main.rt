@@ -2,6 +2,15 @@
 // A plan with a group twice, or with a wrong depth, is not sound, and a slice is too short for the plan of more rows.
 #![tactic(auto)]
 
+ghost use Rattle.std.specs.Prelude.{◌≡◌, map, ◌*◌, length};
+ghost use Rattle.base.specs.Replies.{lent};
+ghost use Rattle.base.specs.Verdicts.{reply_of, reply_of_check};
+ghost use Rattle.matrix.specs.Held.{held};
+ghost use Rattle.plan.specs.Groups.{width, flat, group_of};
+ghost use Rattle.plan.specs.Sound.{check_reply};
+ghost use Rattle.race.specs.Planner.{plan, plan_reply};
+ghost use Rattle.groups.specs.Structs.{of_group};
+
 use base::Refusal;
 use matrix::lists::Matrix;
 use plan::fields::Group;
@@ -9,6 +18,28 @@ use std::io;
 
 // The distance that a run asks for.
 const DISTANCE: u32 = 2;
+
+// The plan of a matrix in a list of groups.
+fn plan_in(
+    m: &Matrix,
+    workers: u32,
+    p: u32,
+    order: &mut [u32],
+    list: &mut [Group],
+) -> Result<u32, Refusal>
+    ensures reply { reply_of result ≡ plan_reply (held m.now) workers p 2 (length order.old) (width * length list.old) }
+    ensures lent_groups { list.new ≡ lent (plan_reply (held m.now) workers p 2 (length order.old) (width * length list.old))
+        (map of_group (plan (held m.now) workers p 2).groups) list.old }
+{
+    groups::plan(m, workers, p, DISTANCE, order, list)
+}
+
+// The check of a plan.
+fn check_in(m: &Matrix, order: &[u32], list: &[Group]) -> Result<(), Refusal>
+    ensures { reply_of_check result ≡ check_reply (held m.now) order.now (flat (map group_of list.now)) (length list.now) 2 }
+{
+    groups::check(m, order, list, DISTANCE)
+}
 
 // Writes an answer's line.
 fn put_answer(rt: &impl Print, answer: Result<u32, Refusal>) -> io::Result<()> {
@@ -55,7 +86,7 @@ fn chain_values() -> [i32; 22] {
 
 // Checks a plan, and writes the answer's line.
 fn put_check(rt: &impl Print, m: &Matrix, order: &[u32], groups: &[Group]) -> io::Result<()> {
-    let answer = groups::check(m, order, groups, DISTANCE);
+    let answer = check_in(m, order, groups);
     put_answer(rt, answer.map(|()| 0))
 }
 
@@ -80,7 +111,7 @@ fn chain(rt: &impl Print) -> io::Result<()> {
     };
     let mut order = [0u32; 8];
     let mut list = [none(); 5];
-    let answer = groups::plan(&m, 2, 60, DISTANCE, &mut order, &mut list);
+    let answer = plan_in(&m, 2, 60, &mut order, &mut list);
     put_answer(rt, answer)?;
     for g in list {
         put_group(rt, g)?;
@@ -97,7 +128,7 @@ fn unjoined(rt: &impl Print) -> io::Result<()> {
         values: &[],
     };
     let mut order = [0u32; 16];
-    let answer = groups::plan(&m, 4, 60, DISTANCE, &mut order, &mut [none(); 5]);
+    let answer = plan_in(&m, 4, 60, &mut order, &mut [none(); 5]);
     put_answer(rt, answer)
 }
 
