@@ -1,5 +1,5 @@
 -- The rows of a matrix: where they lie, what their columns are, and that they are a graph, whatever its values are.
-use mathlib.Core.Path.{◌≡◌, refl, sym, subst}
+use mathlib.Core.Path.{◌≡◌, refl, sym, ◌∙◌, subst, fun_ext}
 use mathlib.Core.Bool.{true}
 use mathlib.Core.List.{List}
 use Prim.Native.Nat.{ℕ, ◌+◌, ◌<◌}
@@ -9,6 +9,7 @@ use lib.Seq.{slice}
 use Rattle.base.proofs.Lists.{in_get}
 use Rattle.base.proofs.Graph.{Graph}
 use Rattle.matrix.specs.Matrix.{Matrix, part_of, columns_of, neighbours, is_matrix, matrix_of}
+use Rattle.matrix.specs.Code.Pattern.{pattern}
 use Rattle.matrix.proofs.Matrix.{matrix_facts, column-low, graph}
 use Rattle.matrix.proofs.Checks.{matrix_tidy}
 use Rattle.matrix.proofs.Rows.{columns-in, columns-part}
@@ -19,6 +20,11 @@ row_is m u l = sym (columns-part m u l)
 
 pub graph_of : (m : Matrix) → IsGraph m → Graph (neighbours m) m.n
 graph_of m g = record { below = g.below; both = g.both }
+
+-- adjacency does not look at values
+pub neighbours-pattern : (n : ℕ) (starts columns : List ℕ) (values : List ℤ) → neighbours (matrix_of n starts columns values) ≡ neighbours (pattern n starts columns)
+unfolding neighbours columns_of part_of
+neighbours-pattern n starts columns values = fun_ext (λ i. refl)
 
 -- the rows of a matrix are so beside other values too
 module _ (n : ℕ) (starts columns : List ℕ) (values : List ℤ) (is : is_matrix (matrix_of n starts columns values) ≡ true) (others : List ℤ) where
@@ -33,8 +39,7 @@ module _ (n : ℕ) (starts columns : List ℕ) (values : List ℤ) (is : is_matr
   same-columns u = refl
 
   same-graph : Graph (neighbours m) n → Graph (neighbours m') n
-  unfolding neighbours columns_of part_of
-  same-graph g = g
+  same-graph = subst (λ (adj : ℕ → List ℕ). Graph adj n) (neighbours-pattern n starts columns values ∙ sym (neighbours-pattern n starts columns others))
 
   pub is_graph : IsGraph m'
   is_graph = record {

@@ -3,6 +3,7 @@ use mathlib.Core.Path.{◌≡◌, sym, subst}
 use mathlib.Core.Bool.{Bool, true, false, true≢false}
 use mathlib.Core.List.{List, map}
 use Prim.Native.Nat.{ℕ, ◌+◌, ◌≤◌, ◌<◌}
+use native.Mathlib.Omega.{arith}
 use lib.ListN.{length, get_or, take}
 use lib.Seq.{take_all}
 use Rattle.base.specs.Lists.{concat}
@@ -15,10 +16,11 @@ use Rattle.apart.proofs.Touching.{touched_none, touched-all-next, touched-all-st
 pub record Widening (m : Matrix) (low mine : ℕ) (f : ℕ → List ℕ) (rows : List ℕ) (first s : Marks) (j : ℕ) : Type 0 where
   pub touched : Touched low mine (concat (map f (take j rows))) first.given s.given true
   pub opened : Opened m mine s
+  pub within : j ≤ length rows
 
 module _ {m : Matrix} {low mine : ℕ} {f : ℕ → List ℕ} {rows : List ℕ} {first : Marks} where
   pub widening_start : Opened m mine first → Widening m low mine f rows first first 0
-  widening_start o = record { touched = touched_none low mine first.given; opened = o }
+  widening_start o = record { touched = touched_none low mine first.given; opened = o; within = omega arith }
 
   module _ {s : Marks} {j : ℕ} (w : Widening m low mine f rows first s j) where
     module _ (l : j < length rows) {s' : Marks} {r : Bool} (t : Widened m low mine (f (get_or rows j 0)) s s' r) where
@@ -30,7 +32,7 @@ module _ {m : Matrix} {low mine : ℕ} {f : ℕ → List ℕ} {rows : List ℕ} 
       widening_stops q = record { touched = touched-all-stops low mine rows j l f first.given s.given s'.given w.touched (row false q); after = λ h. absurd (true≢false (sym h)) }
 
       pub widening_next : r ≡ true → Widening m low mine f rows first s' (j + 1)
-      widening_next q = record { touched = touched-all-next low mine rows j l f first.given s.given s'.given true w.touched (row true q); opened = t.after q }
+      widening_next q = record { touched = touched-all-next low mine rows j l f first.given s.given s'.given true w.touched (row true q); opened = t.after q; within = omega arith }
 
     pub widening_end : length rows ≤ j → Widened m low mine (concat (map f rows)) first s true
     widening_end l = record {

@@ -9,13 +9,13 @@ ghost use Rattle.std.specs.Prelude.{ℕ, ◌+◌, ◌-◌, ◌/◌, ◌^◌, ◌
 ghost use Rattle.matrix.specs.Held.{held};
 ghost use Rattle.plan.specs.Groups.{group_of};
 ghost use Rattle.plan.specs.Sound.{max_groups, max_distance, children, like_apart};
-ghost use Rattle.plan.specs.Code.Checks.{below_whole, of_colour, colour_of};
+ghost use Rattle.plan.specs.Code.Checks.{below_whole, of_colour};
 ghost use Rattle.apart.specs.Code.Subject.{rows_of, far_of};
 ghost use Rattle.apart.specs.Code.Marks.{around, around_like, Opened, Widened, Fresh, Compared, UpTo, Judged};
 
 use marks::{Marks, Pen, touch_all};
 use net::{Net, Subject};
-use plan::fields::{Colour, Group};
+use plan::fields::Group;
 use reach::{Near, Wide, touch_each};
 use shape::tiling::next_child;
 
@@ -52,12 +52,12 @@ fn compare_rows(net: &Net, marks: &mut Marks, rows: &[u32], k: usize, pen: Pen) 
 }
 
 // The group's rows are compared, if it has the colour: its stretch of the first n places of the order.
-fn compare_like(subject: &Subject, marks: &mut Marks, g: Group, colour: Colour, pen: Pen) -> bool
+fn compare_like(subject: &Subject, marks: &mut Marks, g: Group, colour: u32, pen: Pen) -> bool
     requires { Fresh pen.mine marks.old }
-    ensures { Compared pen.low pen.mine (around_like (held subject.now.net.m) (rows_of subject.now) (subject.now.k / 2) (colour_of colour) (group_of g))
-        (around_like (held subject.now.net.m) (rows_of subject.now) (subject.now.k - subject.now.k / 2) (colour_of colour) (group_of g)) marks.old marks.new result }
+    ensures { Compared pen.low pen.mine (around_like (held subject.now.net.m) (rows_of subject.now) (subject.now.k / 2) colour (group_of g))
+        (around_like (held subject.now.net.m) (rows_of subject.now) (subject.now.k - subject.now.k / 2) colour (group_of g)) marks.old marks.new result }
 {
-    if g.colour != colour.number() {
+    if g.colour != colour {
         return true;
     }
     let n = subject.net.m.n;
@@ -79,12 +79,12 @@ pub fn apart_below(
     subject: &Subject,
     marks: &mut Marks,
     parent: usize,
-    colour: Colour,
+    colour: u32,
     low: u32,
 ) -> bool
     requires { (parent < subject.now.plan.count) × UpTo low marks.old × (low + max_groups < 2 ^ 32) }
     ensures { Judged (like_apart (far_of subject.now) (rows_of subject.now)
-        (of_colour (colour_of colour) (children parent (below_whole subject.now.plan.count subject.now.plan.groups.now)))) (low + max_groups) marks.new result }
+        (of_colour colour (children parent (below_whole subject.now.plan.count subject.now.plan.groups.now)))) (low + max_groups) marks.new result }
 {
     let plan = &subject.plan;
     let mut next = next_child(plan, parent, parent + 1);

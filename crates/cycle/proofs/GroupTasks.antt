@@ -53,6 +53,10 @@ module _ {set : Setting} {stages index : ℕ} {T records : List ℕ} {g : Group}
   pub index_few : index + 1 < 2 ^ 32
   index_few = omega (arith, record_room, task.few)
 
+  -- too few levels are not sorted by
+  pub unsorted : {m : ℕ} {stretch ends : List ℕ} → Sorted adj policy.reach n (2 * policy.reach) T m stretch ends → m < 2 * policy.reach → stretch ≡ T
+  unsorted {m} s l = s.order_is ∙ rw (lt-leb (2 * policy.reach) m l)
+
   -- its record is put, and it is not split
   module _ {records' : List ℕ} (put : take (width * (index + 1)) records' ≡ take (width * index) records ++ fields_of (group_of g)) where
     pub held-stages : stages ≡ 0 → Holds (plan_group adj n policy stages index (group_of g) T) index records T records' (index + 1)
@@ -63,9 +67,8 @@ module _ {set : Setting} {stages index : ℕ} {T records : List ℕ} {g : Group}
 
     pub held-levels : {m : ℕ} {stretch ends : List ℕ} → Sorted adj policy.reach n (2 * policy.reach) T m stretch ends → m < 2 * policy.reach
         → Holds (plan_group adj n policy stages index (group_of g) T) index records stretch records' (index + 1)
-    held-levels {m} {stretch} s l =
-        let as-before : stretch ≡ T = s.order_is ∙ rw (lt-leb (2 * policy.reach) m l) in
-        subst (λ (xs : List ℕ). Holds (plan_group adj n policy stages index (group_of g) T) index records xs records' (index + 1)) (sym as-before)
+    held-levels s l =
+        subst (λ (xs : List ℕ). Holds (plan_group adj n policy stages index (group_of g) T) index records xs records' (index + 1)) (sym (unsorted s l))
         (holds_unsplit adj n policy stages index (group_of g) T records records' put (leaf-levels adj n policy stages index (group_of g) T (omega (arith, s.levels_are))))
 
   -- ---- after the sort

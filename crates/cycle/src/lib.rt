@@ -17,9 +17,10 @@ ghost use Rattle.cycle.specs.Code.Cycle.{GroupTask, PairsTask, group_plan, pairs
 use extents::{Policy, Share, cut, next_extent};
 use loads::level_loads;
 use plan::fields::{Group, put};
-use rest::Rest;
+pub use rest::Rest;
+use search::visiting::Visits;
 use setting::Setting;
-use sort::{MAX_LEVELS, Workspace, level_sort};
+use sort::{MAX_LEVELS, level_sort};
 use taken::Taken;
 
 // A group that is split: its record's index, its depth, where it starts, its workers and its load.
@@ -92,16 +93,21 @@ fn next_pair(levels: &Levels, policy: Policy, rest: Rest) -> Pair
 }
 
 // A group's record, then its pairs, if it is split; the answer is the index past its records. The order is cut for each
-// group and the records never are: so they are no one struct, which every call would take apart and make anew.
+// group and the records never are: so they are no one struct, which every call would take apart and make anew. Lent for
+// it, whatever they hold: room for all rows, as they ascend and as they are tried as roots, in lists that need be no
+// longer, and what a search works in.
 #[cycle(plan_group_plan_pairs)]
 pub fn plan_group(
     setting: &Setting,
     order: &mut [u32],
     records: &mut [u32],
-    work: &mut Workspace,
+    own: &mut [u32],
+    roots: &mut [u32],
+    visits: &mut Visits,
     task: Task,
 ) -> u32
-    requires { GroupTask setting.now task.stages task.index order.old records.old task.group }
+    requires { GroupTask setting.now task.stages task.index order.old records.old task.group
+        × (setting.now.ranked.graph.m.n ≤ length own.old) × (setting.now.ranked.graph.m.n ≤ length roots.old) }
     ensures { Holds (group_plan setting.now task.stages task.index task.group order.old) task.index records.old order.new records.new result }
 {
     let Task {
@@ -122,9 +128,9 @@ pub fn plan_group(
         &setting.ranked,
         order,
         &mut ends,
-        &mut work.own,
-        &mut work.roots,
-        &mut work.visits,
+        own,
+        roots,
+        visits,
         reach,
         2 * reach,
     );
@@ -155,7 +161,7 @@ pub fn plan_group(
         left,
         stages: stages - 1,
     };
-    plan_pairs(setting, order, &levels, records, work, rest)
+    plan_pairs(setting, order, &levels, records, own, roots, visits, rest)
 }
 
 // The pairs of a group in the levels that are left: the next pair's red group, its blue group, and the pairs after it.
@@ -165,11 +171,14 @@ fn plan_pairs(
     order: &mut [u32],
     levels: &Levels,
     records: &mut [u32],
-    work: &mut Workspace,
+    own: &mut [u32],
+    roots: &mut [u32],
+    visits: &mut Visits,
     rest: Rest,
 ) -> u32
     requires { PairsTask setting.now rest.stages order.old levels.now.ends.now levels.now.loads.now records.old rest.up rest.left
-        (levels_in rest.left.done levels.now.ends.now order.old) }
+        (levels_in rest.left.done levels.now.ends.now order.old)
+        × (setting.now.ranked.graph.m.n ≤ length own.old) × (setting.now.ranked.graph.m.n ≤ length roots.old) }
     ensures { Holds (pairs_plan (adj setting.now.ranked.graph) setting.now.ranked.graph.m.n (policy_of setting.now.policy) rest.stages rest.up rest.left
         (levels_in rest.left.done levels.now.ends.now order.old)) rest.left.index records.old order.new records.new result }
 {
@@ -187,13 +196,13 @@ fn plan_pairs(
         index: rest.left.index,
         stages: rest.stages,
     };
-    let i = plan_group(setting, &mut order[..a], records, work, red);
+    let i = plan_group(setting, &mut order[..a], records, own, roots, visits, red);
     let blue = Task {
         group: taken.blue(),
         index: i,
         stages: rest.stages,
     };
-    let j = plan_group(setting, &mut order[a..b], records, work, blue);
+    let j = plan_group(setting, &mut order[a..b], records, own, roots, visits, blue);
     if k == levels.ends.len() {
         return j;
     }
@@ -206,5 +215,14 @@ fn plan_pairs(
         left: taken.after(j),
         stages: rest.stages,
     };
-    plan_pairs(setting, &mut order[b..], &later, records, work, next)
+    plan_pairs(
+        setting,
+        &mut order[b..],
+        &later,
+        records,
+        own,
+        roots,
+        visits,
+        next,
+    )
 }

@@ -5,7 +5,7 @@ use crate::{Left, Parent};
 
 // How often its children may be split, too.
 #[derive(Clone, Copy)]
-pub(crate) struct Rest {
+pub struct Rest {
     pub up: Parent,
     pub left: Left,
     pub stages: u32,

@@ -18,7 +18,16 @@ use plan::MAX_DEPTH;
 use plan::fields::{Colour, Group, MAX_FIELDS};
 use search::visiting::Visits;
 use sort::degrees::{Ranked, put_degrees};
-use sort::{MAX_LEVELS, Workspace, level_sort};
+use sort::{MAX_LEVELS, level_sort};
+
+// What the sorts work in: room for the rows, as they ascend and as they are tried as roots, and for the visits of a
+// search.
+#[derive(Drop)]
+struct Workspace {
+    own: [u32; MAX_ROWS],
+    roots: [u32; MAX_ROWS],
+    visits: Visits,
+}
 
 // A group at depth 0 may be split so often.
 const STAGES: u32 = MAX_DEPTH as u32;
@@ -94,7 +103,15 @@ pub fn plan_rows(
             queue: [0; MAX_ROWS],
         },
     };
-    let count = plan_group(&setting, order, records, &mut work, whole);
+    let count = plan_group(
+        &setting,
+        order,
+        records,
+        &mut work.own,
+        &mut work.roots,
+        &mut work.visits,
+        whole,
+    );
     if count == 1 {
         sort_rows(&ranked, order, &mut work, policy);
     }

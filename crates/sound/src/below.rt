@@ -28,10 +28,10 @@ fn sound_below(subject: &Subject, marks: &mut Marks, parent: usize, low: u32) ->
     if !tiled_below(&subject.plan, parent) {
         return false;
     }
-    if !apart_below(subject, marks, parent, Colour::Red, low) {
+    if !apart_below(subject, marks, parent, Colour::Red.number(), low) {
         return false;
     }
-    apart_below(subject, marks, parent, Colour::Blue, low + MARKS)
+    apart_below(subject, marks, parent, Colour::Blue.number(), low + MARKS)
 }
 
 // So do the children of every group. Each group and colour has marks of its own, above those of the groups before it.

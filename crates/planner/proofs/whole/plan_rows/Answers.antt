@@ -3,6 +3,7 @@ use mathlib.Core.Path.{◌≡◌, ap, ◌∙◌}
 use Prim.Native.Nat.{◌≤◌}
 use native.Mathlib.Omega.{arith}
 use Rattle.base.specs.Lists.{range}
+use Rattle.matrix.specs.Limits.{max_rows}
 use Rattle.plan.specs.Sound.{max_distance}
 use Rattle.extents.specs.Code.Scans.{policy_of}
 use Rattle.cycle.specs.Code.Records.{Holds}
@@ -18,7 +19,8 @@ overflow_cast-group c = omega (arith, c.args.graph.now.rows.small)
 pub plan_group-count-requires : goal.plan_group-count-requires
 plan_group-count-requires c =
     let numbers : c.number.new.order ≡ range 0 c.args.graph.now.m.n = c.number.ensures ∙ ap (range 0) c.requires.0 in
-    rw numbers (whole_task _ c.args.workers c.args.records.now c.requires.2 (omega arith))
+    let few : c.args.graph.now.m.n ≤ max_rows = c.args.graph.now.rows.small in
+    (rw numbers (whole_task _ c.args.workers c.args.records.now c.requires.2 (omega arith)), few, few)
 
 pub sort_rows-requires : goal.sort_rows-requires
 sort_rows-requires c =

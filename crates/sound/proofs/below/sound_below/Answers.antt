@@ -16,7 +16,8 @@ returns-then-not-apart_below c =
     let s = c.args.subject.now in
     let p = s.plan in
     let two-colours = sound-colours (far_of s) (rows_of s) (record_at p.groups.now c.args.parent) (children c.args.parent (below_whole p.count p.groups.now)) (sym c.if-not-tiled_below.ensures) in
-    record { is = sym (two-colours ∙ rw (← c.if-not-apart_below.ensures.is)); marked = λ e. absurd (true≢false (sym e)) }
+    let reds = rw c.number.ensures at c.if-not-apart_below.ensures.is in
+    record { is = sym (two-colours ∙ rw (← reds)); marked = λ e. absurd (true≢false (sym e)) }
 
 pub apart_below-requires-2 : goal.apart_below-requires-2
 apart_below-requires-2 c = (c.requires.0, c.if-not-apart_below.ensures.marked refl, omega (arith, c.requires.2))
@@ -26,4 +27,6 @@ returns c =
     let s = c.args.subject.now in
     let p = s.plan in
     let two-colours = sound-colours (far_of s) (rows_of s) (record_at p.groups.now c.args.parent) (children c.args.parent (below_whole p.count p.groups.now)) (sym c.if-not-tiled_below.ensures) in
-    record { is = c.apart_below-2.ensures.is ∙ sym (two-colours ∙ rw (← c.if-not-apart_below.ensures.is)); marked = c.apart_below-2.ensures.marked }
+    let reds = rw c.number.ensures at c.if-not-apart_below.ensures.is in
+    let blues = rw c.number-2.ensures at c.apart_below-2.ensures.is in
+    record { is = blues ∙ sym (two-colours ∙ rw (← reds)); marked = c.apart_below-2.ensures.marked }
