@@ -13,7 +13,6 @@ use Rattle.matrix.proofs.Matrix.{displacements-many}
 use Rattle.matrix.specs.Matrix.{Matrix, matrix_of}
 use Rattle.plan.specs.Groups.{width, plan_of, records, flat}
 use Rattle.plan.specs.Sound.{max_workers, each_once}
-use Rattle.plan.proofs.FlatRecords.{length-records, flat-records, records-flat}
 use Rattle.run.specs.Job.{Job, job_of, Accepted, workers}
 use Rattle.run.specs.Machine.{over, is_state}
 use Rattle.run.specs.State.{State}
@@ -23,6 +22,7 @@ use Rattle.tables.specs.Code.Laid.{Counted}
 use Rattle.upper.proofs.PlacedRows.{row_low}
 use Rattle.layout.specs.Code.UpdateTable.{Given}
 use Rattle.layout.proofs.GivenRows.{lent_of, few-rows}
+use Rattle.layout.proofs.PlannedCut.{cut, cut-count, cut-records}
 use Rattle.machine.specs.Code.Tests.{all_below, fine, done}
 use Rattle.machine.proofs.TableWaits.{table-over, table-state}
 use Rattle.calls.proofs.JobChecked.{job-given}
@@ -44,27 +44,15 @@ job-order m x order groups count = refl
 -- ---- the plan's records, cut from a longer list
 
 module _ (groups : List ℕ) (count : ℕ) (fits : width * count ≤ length groups) where
-  abbrev cut : List ℕ
-  cut = take (width * count) groups
-
-  pub cut-count : length cut / width ≡ count
-  cut-count = omega (arith, length-take (width * count) groups)
-
-  -- they are the plan's
-  cut-records : records count cut ≡ records count groups
-  cut-records =
-      rw (← flat-records count groups fits, ← append-nil (flat (records count groups)))
-      (ap (λ (k : ℕ). records k (flat (records count groups) ++ [])) (sym (length-records count groups)) ∙ records-flat (records count groups) [])
-
-  pub cut-job : (m : Matrix) (x : List ℤ) (order : List ℕ) → job_of m x order cut (length cut / width) ≡ job_of m x order groups count
+  pub cut-job : (m : Matrix) (x : List ℤ) (order : List ℕ) → job_of m x order (cut groups count fits) (length (cut groups count fits) / width) ≡ job_of m x order groups count
   unfolding job_of plan_of
-  cut-job m x order = rw (cut-count, cut-records) refl
+  cut-job m x order = rw (cut-count groups count fits, cut-records groups count fits) refl
 
-  pub cut-given : {n : ℕ} {starts columns : List ℕ} {values x : List ℤ} {order : List ℕ} → Given n starts columns values x order groups count → Given n starts columns values x order cut (length cut / width)
+  pub cut-given : {n : ℕ} {starts columns : List ℕ} {values x : List ℤ} {order : List ℕ} → Given n starts columns values x order groups count → Given n starts columns values x order (cut groups count fits) (length (cut groups count fits) / width)
   cut-given g = record {
     accepted = subst Accepted (sym (cut-job _ _ _)) g.accepted;
     order_long = g.order_long;
-    groups_long = omega (arith, cut-count, length-take (width * count) groups);
+    groups_long = omega (arith, cut-count groups count fits, length-take (width * count) groups);
   }
 
 -- ---- the job in lent lists

@@ -11,12 +11,13 @@ use crate::{Call, Job, Response, stop_of};
 use ahead::{lay_ahead, lay_sizes};
 use base::{Kind, Refusal};
 use layout::counts::first_updates;
-use layout::lay;
-use layout::updates::{SizedPlan, Updates};
+use layout::lay_tables;
+use layout::updates::Updates;
 use machine::ready::ready_workers;
 use machine::state::State;
 use matrix::limits::MAX_ROWS;
 use plan::MAX_GROUPS;
+use plan::fields::WIDTH;
 use steps::course::{Course, Work};
 use tables::{Entries, MAX_UPDATES};
 use upper::order::displace;
@@ -48,11 +49,8 @@ pub(crate) fn laid_picks<const N: usize>(
     let mut position = [0u32; MAX_ROWS];
     let mut sizes = [0u32; MAX_ROWS];
     lay_sizes(&ordered, &mut position, &mut sizes, triangle);
-    let plan = SizedPlan {
-        groups: job.plan.groups,
-        sizes: &sizes,
-    };
-    let first = first_updates(&plan);
+    let groups = job.plan.groups;
+    let first = first_updates(groups, groups.len() / WIDTH, &sizes);
     if !state.is_fine(first) {
         return Some(Err(Refusal {
             kind: Kind::NotState,
@@ -65,7 +63,7 @@ pub(crate) fn laid_picks<const N: usize>(
         leaves: [0u16; MAX_ROWS],
         ends: [0u32; MAX_GROUPS],
     };
-    let tables = lay(plan.groups, plan.sizes, &first, &mut updates);
+    let tables = lay_tables(groups, &sizes, &first, &mut updates);
     let counts = state.made;
     let rows = Rows {
         ordered,

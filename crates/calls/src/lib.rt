@@ -128,7 +128,7 @@ fn report(
         groups: job.plan.groups,
         sizes: &sizes,
     };
-    let first = first_updates(&plan);
+    let first = first_updates(plan.groups, plan.groups.len() / WIDTH, plan.sizes);
     if !state.is_fine(first) {
         return Err(Refusal {
             kind: Kind::NotState,

@@ -7,7 +7,7 @@ ghost use Rattle.layout.specs.Code.SizedPlan.{PlannedBy};
 ghost use Rattle.calls.specs.Performed.{as_answer};
 
 use crate::Response;
-use layout::lay;
+use layout::lay_tables;
 use layout::updates::{SizedPlan, Updates};
 use machine::ready::ready_workers;
 use machine::state::State;
@@ -27,7 +27,7 @@ pub(crate) fn ready_set(state: State, plan: &SizedPlan, first: [u32; FIRSTS]) ->
         leaves: [0u16; MAX_ROWS],
         ends: [0u32; MAX_GROUPS],
     };
-    let tables = lay(plan.groups, plan.sizes, &first, &mut updates);
+    let tables = lay_tables(plan.groups, plan.sizes, &first, &mut updates);
     let made = state.made;
     let bits = ready_workers(&made, &Course::of(&tables, MAX_ROWS));
     Response::Ready(bits, u32::count_ones(bits as u32))

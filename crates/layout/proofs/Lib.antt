@@ -5,6 +5,7 @@ pub mod LeafRows
 pub mod CountRows
 pub mod FilledRows
 pub mod GivenRows
+pub mod PlannedCut
 pub mod CountUpdatesNames
 pub mod LeafUpdatesNames
 pub mod LayNames

@@ -6,7 +6,7 @@ ghost use Rattle.plan.specs.Sound.{max_workers};
 ghost use Rattle.run.specs.Job.{Job};
 ghost use Rattle.run.specs.Updates.{up_to};
 ghost use Rattle.tables.specs.Code.Laid.{max_updates, Counted};
-ghost use Rattle.layout.specs.Code.UpdateTable.{Sized, Stretch, Numbers};
+ghost use Rattle.layout.specs.Code.UpdateTable.{Sized, Planned, Stretch, Numbers};
 ghost use Rattle.layout.specs.Code.SizedPlan.{PlannedBy};
 
 use crate::leaf::is_leaf;
@@ -57,10 +57,14 @@ fn cumulate(mut first: [u32; FIRSTS]) -> [u32; FIRSTS]
     first
 }
 
-// Where each worker's updates begin, and where the last one's end.
-pub fn first_updates(plan: &SizedPlan) -> [u32; FIRSTS]
-    requires { (j : Job) × PlannedBy j plan.now }
-    ensures { (j : Job) → PlannedBy j plan.now → Counted j result }
+// Where each worker's updates begin, and where the last one's end, by the first `count` records of a list.
+pub fn first_updates(groups: &[u32], count: usize, sizes: &[u32; MAX_ROWS]) -> [u32; FIRSTS]
+    requires { (j : Job) × Planned j groups.now count sizes.now }
+    ensures { (j : Job) → Planned j groups.now count sizes.now → Counted j result }
 {
-    cumulate(count_updates(plan))
+    let plan = SizedPlan {
+        groups: &groups[..WIDTH * count],
+        sizes,
+    };
+    cumulate(count_updates(&plan))
 }

@@ -82,9 +82,31 @@ fn fill(plan: &SizedPlan, first: &[u32; FIRSTS], updates: &mut Updates)
     }
 }
 
-// .. as the tables of a run. The records and the sizes come one by one: tables lent for less long than a `SizedPlan` is
-// could not be made from one behind a reference.
-pub fn lay<'a>(
+// Lays the updates of all workers, by where each one's begin and by the first `count` records of a list.
+pub fn lay(
+    groups: &[u32],
+    count: usize,
+    sizes: &[u32; MAX_ROWS],
+    first: &[u32; FIRSTS],
+    updates: &mut Updates,
+)
+    requires { (j : Job) × Planned j groups.now count sizes.now × Counted j first.now
+        × Blank j.matrix.n updates.old.row updates.old.begins updates.old.leaves updates.old.ends }
+    ensures { (j : Job) → Planned j groups.now count sizes.now → Counted j first.now
+        → Blank j.matrix.n updates.old.row updates.old.begins updates.old.leaves updates.old.ends
+        → Laid j first.now updates.new.row updates.new.begins updates.new.leaves updates.new.ends
+        × Bounded j.matrix.n first.now updates.new.row updates.new.leaves }
+{
+    let plan = SizedPlan {
+        groups: &groups[..WIDTH * count],
+        sizes,
+    };
+    fill(&plan, first, updates);
+}
+
+// Lays them by all records of a list, and lends them as the tables of a run. The records and the sizes come one by one:
+// tables lent for less long than a `SizedPlan` is could not be made from one behind a reference.
+pub fn lay_tables<'a>(
     groups: &'a [u32],
     sizes: &'a [u32; MAX_ROWS],
     first: &'a [u32; FIRSTS],
@@ -96,8 +118,7 @@ pub fn lay<'a>(
         → Blank j.matrix.n updates.old.row updates.old.begins updates.old.leaves updates.old.ends
         → Planned j result.groups.now (length result.groups.now / width) sizes.now × LaidIn j result × BoundedIn j.matrix.n result }
 {
-    let plan = SizedPlan { groups, sizes };
-    fill(&plan, first, updates);
+    lay(groups, groups.len() / WIDTH, sizes, first, updates);
     Tables {
         groups,
         ends: &updates.ends,

@@ -1,4 +1,4 @@
--- The record that a run's state is handed in and handed back as, beside the lent list of sums.
+-- The record that a run's state is handed over as, beside the lent list of sums.
 use Rattle.std.specs.Prelude.{List, ℤ}
 use Rattle.run.specs.State as run
 use Rattle.machine.specs.declared.state.State.{State}

@@ -1,4 +1,4 @@
-// A run's state: one record, handed in and handed back.
+// A run's state: one record.
 ghost use Rattle.std.specs.Prelude.{◌≡◌, ℕ, ◌/◌, ◌≤◌, ◌<◌, pos, length, replicate};
 ghost use Rattle.plan.specs.Sound.{max_workers};
 ghost use Rattle.plan.specs.Groups.{width, records};
@@ -92,7 +92,14 @@ impl State {
         for (k, pick) in schedule.iter().enumerate() {
             let w = *pick as usize;
             let step = match enter(work, &made, w, &blocked.blocks, &mut hands) {
-                Ok(()) => access(&mut made, &mut held, sums, w, &mut hands),
+                Ok(()) => access(
+                    &mut made,
+                    &mut held,
+                    sums,
+                    w,
+                    &mut hands.targets,
+                    &hands.adds,
+                ),
                 Err(kind) => Err(kind),
             };
             match step {

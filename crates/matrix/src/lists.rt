@@ -29,8 +29,8 @@ impl<'a> Matrix<'a> {
     }
 }
 
-// The part of a list that belongs to row i.
-fn part_of<'a, T>(starts: &[u32], list: &'a [T], i: usize) -> &'a [T]
+// The part of a list that belongs to row i. The row starts may be lent for less long than the list.
+pub fn part_of<'a, T>(starts: &[u32], list: &'a [T], i: usize) -> &'a [T]
     requires { RowIn starts.now (length list.now) i }
     ensures { result.now ≡ slice (get_or starts.now i 0) (get_or starts.now (i + 1) 0) list.now }
 {

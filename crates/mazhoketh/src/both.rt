@@ -7,10 +7,10 @@ ghost use Rattle.lent.specs.Bytes.{matrix_in};
 ghost use Rattle.lent.specs.Word.{word};
 ghost use Rattle.quarters.specs.Both.{states_in, answer_both_in, reply_to_both, PicksBothAnswered};
 
-use answers::bytes::RunBytes;
+use answers::state::sums_of;
 use lent::nets::NetBytes;
 use lent::plans::PlanBytes;
-use quarters::bytes::RoofBytes;
+use quarters::bytes::{RoofBytes, load_crews};
 use quarters::{picks_both_in, ready_both_in};
 
 // A list of picks for both, made one load or store at a time.
@@ -90,13 +90,10 @@ pub fn mzk_ready_both(
             count: group_count,
         },
     };
-    let run0 = RunBytes {
-        state: state0,
-        sums: sums0,
-    };
-    let run1 = RunBytes {
-        state: state1,
-        sums: sums1,
-    };
-    ready_both_in(&roof, &run0, &run1)
+    ready_both_in(
+        &roof,
+        load_crews(state0, state1),
+        sums_of(state0, sums0),
+        sums_of(state1, sums1),
+    )
 }

@@ -1,11 +1,10 @@
 // What each group waits for of one worker, by two passes over the records: how many accesses it must have made.
-ghost use Rattle.std.specs.Prelude.{◌≡◌, ◌/◌, length};
-ghost use Rattle.plan.specs.Groups.{width};
+ghost use Rattle.std.specs.Prelude.{◌≡◌};
 ghost use Rattle.waits.specs.Code.Waits.{Recorded};
 ghost use Rattle.preparing.specs.Code.Gates.{own_end, last_if, red_last, gate_if, RedEnds, Gated, Gates};
 
 use plan::MAX_GROUPS;
-use plan::fields::{Colour, WIDTH, get};
+use plan::fields::{Colour, get};
 
 // The end of a leaf, if it is worker v's.
 fn own_end(first: usize, v: usize, end: u32) -> u32
@@ -44,14 +43,14 @@ fn gate_if(above: u32, colour: u32, reds: u32) -> u32
 }
 
 // For each group the last end of a leaf of worker v in its red children, from the last record to the first.
-fn red_ends(groups: &[u32], ends: &[u32; MAX_GROUPS], v: usize) -> [u32; MAX_GROUPS]
-    requires { Recorded (length groups.now / width) groups.now }
-    ensures { RedEnds (length groups.now / width) groups.now ends.now v result }
+fn red_ends(groups: &[u32], count: usize, ends: &[u32; MAX_GROUPS], v: usize) -> [u32; MAX_GROUPS]
+    requires { Recorded count groups.now }
+    ensures { RedEnds count groups.now ends.now v result }
 {
     let mut parents = [0u8; MAX_GROUPS];
     let mut lasts = [0u32; MAX_GROUPS];
     let mut reds = [0u32; MAX_GROUPS];
-    for i in (1..groups.len() / WIDTH).rev() {
+    for i in (1..count).rev() {
         let g = get(groups, i);
         let parent = g.parent as usize;
         let last = last_if(parents[i], lasts[i], own_end(g.first as usize, v, ends[i]));
@@ -63,12 +62,12 @@ fn red_ends(groups: &[u32], ends: &[u32; MAX_GROUPS], v: usize) -> [u32; MAX_GRO
 }
 
 // The gates by these, from the first record to the last.
-fn gates_down(groups: &[u32], reds: &[u32; MAX_GROUPS]) -> [u32; MAX_GROUPS]
-    requires { Recorded (length groups.now / width) groups.now }
-    ensures { Gated (length groups.now / width) groups.now reds.now result }
+fn gates_down(groups: &[u32], count: usize, reds: &[u32; MAX_GROUPS]) -> [u32; MAX_GROUPS]
+    requires { Recorded count groups.now }
+    ensures { Gated count groups.now reds.now result }
 {
     let mut gates = [0u32; MAX_GROUPS];
-    for i in 1..groups.len() / WIDTH {
+    for i in 1..count {
         let g = get(groups, i);
         let parent = g.parent as usize;
         gates[i] = gate_if(gates[parent], g.colour, reds[parent]);
@@ -77,10 +76,15 @@ fn gates_down(groups: &[u32], reds: &[u32; MAX_GROUPS]) -> [u32; MAX_GROUPS]
 }
 
 // For each group how many accesses worker v must have made before its rows are worked.
-pub fn worker_gates(groups: &[u32], ends: &[u32; MAX_GROUPS], v: usize) -> [u32; MAX_GROUPS]
-    requires { Recorded (length groups.now / width) groups.now }
-    ensures { Gates (length groups.now / width) groups.now ends.now v result }
+pub fn worker_gates(
+    groups: &[u32],
+    count: usize,
+    ends: &[u32; MAX_GROUPS],
+    v: usize,
+) -> [u32; MAX_GROUPS]
+    requires { Recorded count groups.now }
+    ensures { Gates count groups.now ends.now v result }
 {
-    let reds = red_ends(groups, ends, v);
-    gates_down(groups, &reds)
+    let reds = red_ends(groups, count, ends, v);
+    gates_down(groups, count, &reds)
 }

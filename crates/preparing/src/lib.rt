@@ -27,7 +27,7 @@ use base::{Kind, Refusal};
 use calls::{Job, check_job};
 use fill::{store_gates, store_numbers, store_updates};
 use layout::counts::first_updates;
-use layout::lay;
+use layout::lay_tables;
 use layout::updates::{SizedPlan, Updates};
 use matrix::limits::MAX_ROWS;
 use plan::fields::{WIDTH, get};
@@ -82,8 +82,8 @@ fn store_tables(
         leaves: [0u16; MAX_ROWS],
         ends: [0u32; MAX_GROUPS],
     };
-    let tables = lay(plan.groups, plan.sizes, &first, &mut updates);
-    let table = all_gates(tables.groups, tables.ends);
+    let tables = lay_tables(plan.groups, plan.sizes, &first, &mut updates);
+    let table = all_gates(tables.groups, tables.groups.len() / WIDTH, tables.ends);
     let count = first[MAX_WORKERS] as usize;
     store_updates(out, HEAD, count, &tables, entries, displaced);
     store_gates(out, HEAD + count * UPDATE, n, tables.leaves, &table);
@@ -121,7 +121,7 @@ fn store_job(job: &Job, out: &mut [u8]) -> Result<u32, Refusal>
         groups: job.plan.groups,
         sizes: &sizes,
     };
-    let first = first_updates(&plan);
+    let first = first_updates(plan.groups, plan.groups.len() / WIDTH, plan.sizes);
     let size = size_of(rows, first[MAX_WORKERS]);
     if out.len() < size {
         return Err(Refusal {

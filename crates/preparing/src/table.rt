@@ -1,6 +1,5 @@
 // The gates of all groups and workers in one table, sixteen numbers a group.
-ghost use Rattle.std.specs.Prelude.{◌≡◌, ◌*◌, ◌/◌, ◌<◌, length};
-ghost use Rattle.plan.specs.Groups.{width};
+ghost use Rattle.std.specs.Prelude.{◌≡◌, ◌*◌, ◌<◌, length};
 ghost use Rattle.plan.specs.Sound.{max_workers, max_groups};
 ghost use Rattle.waits.specs.Code.Waits.{Recorded};
 ghost use Rattle.preparing.specs.Code.Gates.{Column, AllGates};
@@ -21,13 +20,13 @@ fn put_column(gates: &[u32; MAX_GROUPS], v: usize, table: &mut [u32; GATES])
 }
 
 // The gates of all workers, worker by worker.
-pub fn all_gates(groups: &[u32], ends: &[u32; MAX_GROUPS]) -> [u32; GATES]
-    requires { Recorded (length groups.now / width) groups.now }
-    ensures { AllGates max_workers (length groups.now / width) groups.now ends.now result }
+pub fn all_gates(groups: &[u32], count: usize, ends: &[u32; MAX_GROUPS]) -> [u32; GATES]
+    requires { Recorded count groups.now }
+    ensures { AllGates max_workers count groups.now ends.now result }
 {
     let mut table = [0u32; GATES];
     for v in 0..MAX_WORKERS {
-        let gates = worker_gates(groups, ends, v);
+        let gates = worker_gates(groups, count, ends, v);
         put_column(&gates, v, &mut table);
     }
     table

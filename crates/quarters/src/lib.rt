@@ -6,15 +6,15 @@ pub mod bytes;
 mod word;
 
 ghost use Rattle.std.specs.Prelude.{◌≡◌};
+ghost use Rattle.crews.specs.Crews.{Two};
 ghost use Rattle.crews.specs.Calls.{picks_both, ready_sets, after_both_lent};
 ghost use Rattle.words.specs.LittleEndian.{unsigned};
 ghost use Rattle.lent.specs.Word.{word};
 ghost use Rattle.lent.specs.Code.Nets.{net_of};
-ghost use Rattle.answers.specs.Code.Lent.{bytes_of};
+ghost use Rattle.answers.specs.Runs.{Bytes};
 ghost use Rattle.quarters.specs.Both.{states_in, answer_both_in, reply_to_both, PicksBothAnswered};
-ghost use Rattle.quarters.specs.Code.Loaded.{movements_of};
+ghost use Rattle.quarters.specs.Code.Loaded.{CrewsLent, movements_of};
 
-use answers::bytes::RunBytes;
 use answers::state::load_sums;
 use answers::stored::store_picks;
 use answers::word::word_of;
@@ -24,7 +24,9 @@ use lent::nets::SizedNet;
 use matrix::limits::{MAX_CELLS, MAX_ROWS, MAX_STARTS};
 use plan::fields::MAX_FIELDS;
 use shared::{Roof, picks_both, ready_both};
+use turns::Crews;
 use word::word_of_sets;
+use words::lists::load;
 
 // A list of picks for both. The lists are decoded as far as any roof can reach. States and sums are stored as the
 // picks that were taken left them, each crew's over its own. They are written, so they come by themselves.
@@ -76,10 +78,11 @@ pub fn picks_both_in(
     word_of(answer)
 }
 
-// The ready sets of both.
-pub fn ready_both_in(roof: &RoofBytes, run0: &RunBytes, run1: &RunBytes) -> u64
-    ensures { result ≡ word (reply_to_both (answer_both_in (net_of roof.now.net) (movements_of roof.now) (unsigned 4 roof.now.plan.order.now) (unsigned 4 roof.now.plan.groups.now) roof.now.plan.count
-        (record { of0 = bytes_of run0.now; of1 = bytes_of run1.now }) ready_sets)) }
+// The ready sets of both, whose states are decoded already.
+pub fn ready_both_in(roof: &RoofBytes, crews: Crews, sums0: &[u8], sums1: &[u8]) -> u64
+    ensures { (b : Two Bytes) → CrewsLent crews sums0.now sums1.now b
+        → result ≡ word (reply_to_both (answer_both_in (net_of roof.now.net) (movements_of roof.now) (unsigned 4 roof.now.plan.order.now) (unsigned 4 roof.now.plan.groups.now) roof.now.plan.count
+        b ready_sets)) }
 {
     let mut starts = [0u32; MAX_STARTS];
     let mut columns = [0u32; MAX_CELLS];
@@ -90,8 +93,8 @@ pub fn ready_both_in(roof: &RoofBytes, run0: &RunBytes, run1: &RunBytes) -> u64
     let mut groups = [0u32; MAX_FIELDS];
     let mut new0 = [0i64; MAX_STARTS];
     let mut new1 = [0i64; MAX_STARTS];
-    let kept0 = load_sums(run0.state, run0.sums, &mut new0);
-    let kept1 = load_sums(run1.state, run1.sums, &mut new1);
+    let kept0 = load(sums0, &mut new0);
+    let kept1 = load(sums1, &mut new1);
     let net = SizedNet::<MAX_CELLS> { net: roof.net };
     let decoded = Roof {
         matrix: net.decode(&mut starts, &mut columns, &mut values),
@@ -99,7 +102,6 @@ pub fn ready_both_in(roof: &RoofBytes, run0: &RunBytes, run1: &RunBytes) -> u64
         displacements1: decode(roof.movements1, &mut displacements1),
         plan: roof.plan.decode(&mut order, &mut groups),
     };
-    let crews = load_crews(run0.state, run1.state);
     let sets = ready_both(&decoded, crews, &new0[..kept0], &new1[..kept1]);
     word_of_sets(sets)
 }

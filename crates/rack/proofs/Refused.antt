@@ -60,7 +60,7 @@ module _ (list state sums : List ℕ) where
           sym (by_state ∙ rw (eq-eqb (length sums / 8) (lists_in list).rows e) (ap (λ (t : Bool). cond t 0 11) (ap (λ (l : List ℕ). counts_fine_by (tables_in list) l max_workers) (sym m) ∙ sym f)))
 
   -- a refused call
-  refused_all : refusal_in list state sums ≢ 0 → (c : Call) → denied (refusal_in list state sums) 0 ≡ answer_kept list state sums c
+  pub refused_all : refusal_in list state sums ≢ 0 → (c : Call) → denied (refusal_in list state sums) 0 ≡ answer_kept list state sums c
   unfolding refusal_in answer_kept answer_prepared prepared_check answer_by state_check_by in_turn
   refused_all d c = go (is_prepared list) refl is_whole refl is_state refl
     where

@@ -75,7 +75,7 @@ fn take_picks(
         groups: roof.plan.groups,
         sizes: &sizes,
     };
-    let first = first_updates(&plan);
+    let first = first_updates(plan.groups, plan.groups.len() / WIDTH, plan.sizes);
     if !are_fine(*crews, first) {
         return Err(Refusal {
             kind: Kind::NotState,
@@ -152,7 +152,7 @@ fn look(roof: &Roof, crews: Crews) -> Result<Sets, Refusal>
         groups: roof.plan.groups,
         sizes: &sizes,
     };
-    let first = first_updates(&plan);
+    let first = first_updates(plan.groups, plan.groups.len() / WIDTH, plan.sizes);
     if !are_fine(crews, first) {
         return Err(Refusal {
             kind: Kind::NotState,

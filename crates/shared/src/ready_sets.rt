@@ -5,12 +5,13 @@ ghost use Rattle.run.specs.State.{State};
 ghost use Rattle.run.specs.Machine.{bits};
 ghost use Rattle.tables.specs.Code.Laid.{Counted, Laid, Waits};
 ghost use Rattle.layout.specs.Code.SizedPlan.{PlannedBy};
+ghost use Rattle.steps.specs.Code.Steps.{RowsBy};
 ghost use Rattle.crews.specs.Crews.{Crew, other, Two, own_of, Roof, job_for, crew_ready};
 ghost use Rattle.crews.specs.Calls.{ready_both};
 ghost use Rattle.shared.specs.Performed.{as_sets};
 
 use crate::Sets;
-use layout::lay;
+use layout::lay_tables;
 use layout::updates::{SizedPlan, Updates};
 use matrix::limits::MAX_ROWS;
 use plan::{MAX_GROUPS, MAX_WORKERS};
@@ -26,6 +27,7 @@ fn crew_bits(
     theirs: &[u32; MAX_WORKERS],
     blocks: &[bool; MAX_GROUPS],
 ) -> u16
+    requires { RowsBy course.now.rows course.now.tables }
     ensures { (q : Roof) (s : Two State) (c : Crew) (ends : List ℕ) → course.now.workers ≡ job.workers (job_for q c)
         → ((d : Crew) → Laid (job_for q d) course.now.tables.first.now course.now.tables.row.now course.now.tables.begins.now course.now.tables.leaves.now ends)
         → (own_of s c).made ≡ made.now → (own_of s (other c)).made ≡ theirs.now → Waits (job_for q c) made.now blocks.now → result ≡ bits (crew_ready q s c) }
@@ -50,7 +52,7 @@ pub(crate) fn ready_sets(crews: Crews, plan: &SizedPlan, first: [u32; FIRSTS]) -
         leaves: [0u16; MAX_ROWS],
         ends: [0u32; MAX_GROUPS],
     };
-    let tables = lay(plan.groups, plan.sizes, &first, &mut updates);
+    let tables = lay_tables(plan.groups, plan.sizes, &first, &mut updates);
     let course = Course::of(&tables, MAX_ROWS);
     let records = course.records();
     let made0 = crews.of0.made;

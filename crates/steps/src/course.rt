@@ -4,7 +4,8 @@ ghost use Rattle.plan.specs.Sound.{max_workers};
 ghost use Rattle.plan.specs.Groups.{width};
 ghost use Rattle.plan.specs.Code.Checks.{record_at};
 ghost use Rattle.waits.specs.Code.Waits.{Recorded};
-ghost use Rattle.steps.specs.Code.Steps.{RowsBy, StepsBy};
+ghost use Rattle.tables.specs.Code.Laid.{BoundedIn};
+ghost use Rattle.steps.specs.Code.Steps.{StepsBy};
 
 use matrix::limits::MAX_ROWS;
 use plan::MAX_WORKERS;
@@ -19,7 +20,7 @@ pub struct Course<'a> {
     pub rows: usize,
     pub workers: usize,
     ghost few: { workers ≤ max_workers },
-    ghost laid: { RowsBy rows tables },
+    ghost laid: { BoundedIn rows tables },
 }
 
 // .. with the entries of the matrix, and a displacement for each row.
@@ -46,7 +47,7 @@ impl<'a> Course<'a> {
     // The course by laid tables of at most so many rows, with the workers of the whole.
     pub fn of(tables: &Tables<'a>, rows: usize) -> Course<'a>
         requires { ((record_at tables.now.groups.now 0).workers ≤ max_workers) × Recorded (length tables.now.groups.now / width) tables.now.groups.now
-            × RowsBy rows tables.now }
+            × BoundedIn rows tables.now }
         ensures { (result.tables ≡ tables.now) × (result.rows ≡ rows) × (result.workers ≡ (record_at tables.now.groups.now 0).workers) }
     {
         Course {

@@ -92,25 +92,25 @@ pub fn access(
     held: &mut [i64; MAX_WORKERS],
     sums: &mut [i64],
     w: usize,
-    hands: &mut Hands,
+    targets: &mut [usize; MAX_WORKERS],
+    adds: &[i64; MAX_WORKERS],
 ) -> Result<(), Kind>
-    requires { (w < max_workers) × (count made.old w < 2 * max_updates) × (get_or hands.old.targets w 0 < length sums.old) }
-    ensures made { AccessMade (state_with made.old held.old sums.old) w hands.old.targets hands.old.adds (told result)
-        (state_with made.new held.new sums.new) hands.new.targets }
-    ensures adds { hands.new.adds ≡ hands.old.adds }
+    requires { (w < max_workers) × (count made.old w < 2 * max_updates) × (get_or targets.old w 0 < length sums.old) }
+    ensures { AccessMade (state_with made.old held.old sums.old) w targets.old adds.now (told result)
+        (state_with made.new held.new sums.new) targets.new }
 {
-    let t = hands.targets[w];
+    let t = targets[w];
     if made[w] % 2 == 0 {
         held[w] = sums[t];
         made[w] += 1;
         return Ok(());
     }
-    let Some(sum) = held[w].checked_add(hands.adds[w]) else {
+    let Some(sum) = held[w].checked_add(adds[w]) else {
         return Err(Kind::Overflow);
     };
     sums[t] = sum;
     made[w] += 1;
-    hands.targets[w] = NONE;
+    targets[w] = NONE;
     Ok(())
 }
 

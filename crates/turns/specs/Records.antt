@@ -1,4 +1,4 @@
--- The record that two crews' states are handed in and handed back as, beside the lent lists of sums.
+-- The record that two crews' states are handed over as, beside the lent lists of sums.
 use Rattle.std.specs.Prelude.{List, ℤ}
 use Rattle.run.specs.State as run
 use Rattle.machine.specs.Record.{state_of}

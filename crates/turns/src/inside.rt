@@ -1,20 +1,21 @@
 // Whether a worker is inside a row, and whether it is ready for the other crew.
-ghost use Rattle.std.specs.Prelude.{◌≡◌, ◌<◌, eqb};
+ghost use Rattle.std.specs.Prelude.{◌≡◌, List, ℕ, ◌<◌, eqb};
 ghost use Rattle.plan.specs.Sound.{max_workers};
 ghost use Rattle.crews.specs.Crews.{unless_away};
+ghost use Rattle.steps.specs.Code.Steps.{RowTables, RowsBy};
 ghost use Rattle.steps.specs.Code.Work as steps;
-ghost use Rattle.turns.specs.Code.Inside.{inside_in};
+ghost use Rattle.turns.specs.Code.Inside.{inside_at, inside_in};
 
 use plan::{MAX_GROUPS, MAX_WORKERS};
 use steps::course::Course;
 use steps::{accesses, refusal};
+use tables::Tables;
 
 // Worker w has an access left, and has made one in the row of that access.
-pub fn is_inside(course: &Course, made: &[u32; MAX_WORKERS], w: usize) -> bool
-    requires { w < max_workers }
-    ensures { result ≡ inside_in course.now made.now w }
+pub fn is_inside(tables: &Tables, made: &[u32; MAX_WORKERS], w: usize) -> bool
+    requires { (w < max_workers) × ((n : ℕ) × (leaves : List ℕ) × RowTables n tables.now.first.now tables.now.row.now tables.now.begins.now leaves) }
+    ensures { result ≡ inside_at tables.now.first.now tables.now.row.now tables.now.begins.now made.now w }
 {
-    let tables = &course.tables;
     let done = made[w];
     if accesses(tables.first, w) <= done {
         return false;
@@ -32,10 +33,10 @@ pub fn is_free(
     w: usize,
     blocks: &[bool; MAX_GROUPS],
 ) -> bool
-    requires { w < max_workers }
+    requires { (w < max_workers) × RowsBy course.now.rows course.now.tables }
     ensures { result ≡ eqb (unless_away (steps.cause_in course.now blocks.now made.now w) (inside_in course.now other.now w)) 0 }
 {
-    if is_inside(course, other, w) {
+    if is_inside(&course.tables, other, w) {
         return false;
     }
     refusal(course, made, w, blocks).is_ok()

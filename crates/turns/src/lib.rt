@@ -21,7 +21,7 @@ ghost use Rattle.turns.specs.Code.Turned.{turned_of};
 
 use base::Kind;
 use both::{BothBlocked, BothHands};
-use layout::lay;
+use layout::lay_tables;
 use layout::updates::{SizedPlan, Updates};
 use machine::state::State;
 use matrix::limits::MAX_ROWS;
@@ -136,7 +136,7 @@ impl Crews {
             leaves: [0u16; MAX_ROWS],
             ends: [0u32; MAX_GROUPS],
         };
-        let tables = lay(plan.groups, plan.sizes, &first, &mut updates);
+        let tables = lay_tables(plan.groups, plan.sizes, &first, &mut updates);
         let course = Course::of(&tables, sums0.len());
         let work0 = Work {
             course,

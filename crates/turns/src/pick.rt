@@ -74,10 +74,24 @@ pub(crate) fn access_for(
     let w = who % MAX_WORKERS;
     if who < MAX_WORKERS {
         let own = &mut crews.of0;
-        return access(&mut own.made, &mut own.held, sums0, w, &mut hands.of0);
+        return access(
+            &mut own.made,
+            &mut own.held,
+            sums0,
+            w,
+            &mut hands.of0.targets,
+            &hands.of0.adds,
+        );
     }
     let own = &mut crews.of1;
-    access(&mut own.made, &mut own.held, sums1, w, &mut hands.of1)
+    access(
+        &mut own.made,
+        &mut own.held,
+        sums1,
+        w,
+        &mut hands.of1.targets,
+        &hands.of1.adds,
+    )
 }
 
 // After the access of a pick: finds anew who is blocked in its crew's run, if its worker's count has reached its stop.

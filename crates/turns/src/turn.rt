@@ -29,7 +29,7 @@ pub(crate) fn begin(
         return Ok(());
     }
     standstill(&work.course, made, w, blocks)?;
-    if is_inside(&work.course, other, w) {
+    if is_inside(&work.course.tables, other, w) {
         return Err(Kind::Elsewhere);
     }
     look_up(work, made, w, hands);

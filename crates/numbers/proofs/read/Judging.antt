@@ -51,10 +51,10 @@ module _ (s : List ℕ) where
           rest = judging_next n;
         }
 
-    judging_past : IsPast (number_on (drop at s)) → listed s ≡ faulty why.bad_entry (count + 1)
+    pub judging_past : IsPast (number_on (drop at s)) → listed s ≡ faulty why.bad_entry (count + 1)
     judging_past n = j.rest ∙ listed-number j.done (drop at s) n.value n.size n.of ∙ rw n.past (ap (faulty why.bad_entry) (omega (arith, j.many)))
 
-    judging_broken : at < length s → number_on (drop at s) ≡ no → listed s ≡ faulty why.bad_form (count + 1)
+    pub judging_broken : at < length s → number_on (drop at s) ≡ no → listed s ≡ faulty why.bad_form (count + 1)
     judging_broken h e =
         let c = left-cons s at h in
         j.rest ∙ rw c (listed-broken j.done (get_or s at 0) (drop (at + 1) s) (rw c at e) ∙ ap (faulty why.bad_form) (omega (arith, j.many)))

@@ -13,7 +13,7 @@ use Rattle.tables.specs.Code.Laid.{Counted}
 use Rattle.layout.specs.Code.UpdateTable.{Planned}
 use Rattle.layout.proofs.GivenRows.{lent_of, planned-of}
 use Rattle.layout.proofs.UpdateRoom.{rising-of}
-use Rattle.steps.proofs.GivenTables.{job_displaced, row_tables}
+use Rattle.steps.proofs.GivenTables.{job_displaced}
 use Rattle.ahead.proofs.StepsAhead.{ahead_tables, ahead-updates}
 use Rattle.machine.proofs.PlannedTables.{planned-blank, planned_recorded, whole-few}
 use Rattle.run.specs.Answers.{picked, is_ready}
@@ -49,9 +49,9 @@ pub returns-then-not-is_fine : goal.returns-then-not-is_fine
 returns-then-not-is_fine g c zs =
     taken_refused _ _ _ _ (counted-state c.requires.0 (counted (goal.at.returns-then-not-is_fine g c).After-first_updates-first) _ c.requires.1 ∙ fails c.is_fine.ensures (ap not c.if-not-is_fine.true))
 
-pub lay-tables-requires : goal.lay-tables-requires
-lay-tables-requires g c =
-    let b = goal.at.lay-tables-requires g c in
+pub lay_tables-tables-requires : goal.lay_tables-tables-requires
+lay_tables-tables-requires g c =
+    let b = goal.at.lay_tables-tables-requires g c in
     (_, planned b.After-lay_sizes, counted b.After-first_updates-first, planned-blank (planned b.After-lay_sizes))
 
 pub lay_ahead-requires : goal.lay_ahead-requires
@@ -59,7 +59,7 @@ unfolding job_of
 lay_ahead-requires g c =
     let b = goal.at.lay_ahead-requires g c in
     let p = planned b.After-lay_sizes in
-    let t = c.lay-tables.ensures _ p (counted b.After-first_updates-first) (planned-blank p) in
+    let t = c.lay_tables-tables.ensures _ p (counted b.After-first_updates-first) (planned-blank p) in
     (search rules, (c.lay_sizes.ensures.2, (_, t.2), c.requires.4))
 
 -- there is no room
@@ -74,8 +74,8 @@ unfolding job_of
 of-course-requires g c =
     let b = goal.at.of-course-requires g c in
     let p = planned b.After-lay_sizes in
-    let t = c.lay-tables.ensures _ p (counted b.After-first_updates-first) (planned-blank p) in
-    (whole-few t.0, planned_recorded t.0, rw c.requires.1 (row_tables _ t.1 t.2))
+    let t = c.lay_tables-tables.ensures _ p (counted b.After-first_updates-first) (planned-blank p) in
+    (whole-few t.0, planned_recorded t.0, rw c.requires.1 t.2)
 
 pub invariant_of-work : goal.invariant_of-work
 unfolding job_of plan_of
@@ -83,7 +83,7 @@ invariant_of-work g c =
     let b = goal.at.invariant_of-work g c in
     let p = planned b.After-lay_sizes in
     let room = c.lay_ahead.new.triangle in
-    let t = c.lay-tables.ensures _ p (counted b.After-first_updates-first) (planned-blank p) in
+    let t = c.lay_tables-tables.ensures _ p (counted b.After-first_updates-first) (planned-blank p) in
     let r = c.lay_ahead.ensures.0 (holds refl (ap not c.if-not-lay_ahead.false)) in
     record { placed = rw (c.of-course.ensures.0, c.of-course.ensures.1, c.requires.1) (ahead_tables _ t.1 r t.2 (omega (arith, room.lengths)) (omega (arith, room.lengths, room.most))) }
 
@@ -91,7 +91,7 @@ pub walk-walked-requires : goal.walk-walked-requires
 walk-walked-requires g c =
     let b = goal.at.walk-walked-requires g c in
     let p = planned b.After-lay_sizes in
-    let t = c.lay-tables.ensures _ p (counted b.After-first_updates-first) (planned-blank p) in
+    let t = c.lay_tables-tables.ensures _ p (counted b.After-first_updates-first) (planned-blank p) in
     let e = c.of-course.ensures in
     (sym e.1, rw e.0 e.2, rw e.0 (planned_recorded t.0))
 
@@ -99,7 +99,7 @@ pub ready_workers-ready-requires : goal.ready_workers-ready-requires
 ready_workers-ready-requires g c =
     let b = goal.at.ready_workers-ready-requires g c in
     let p = planned b.After-lay_sizes in
-    let t = c.lay-tables.ensures _ p (counted b.After-first_updates-first) (planned-blank p) in
+    let t = c.lay_tables-tables.ensures _ p (counted b.After-first_updates-first) (planned-blank p) in
     let e = c.of-course.ensures in
     rw e.0 (e.2, planned_recorded t.0)
 
@@ -109,7 +109,7 @@ returns g c zs =
     let b = goal.at.returns g c in
     let p = planned b.After-lay_sizes in
     let h = c.requires.0 in
-    let t = c.lay-tables.ensures _ p (counted b.After-first_updates-first) (planned-blank p) in
+    let t = c.lay_tables-tables.ensures _ p (counted b.After-first_updates-first) (planned-blank p) in
     let r = c.lay_ahead.ensures.0 (holds refl (ap not c.if-not-lay_ahead.false)) in
     let ahead = ahead-updates _ t.1 r (job_displaced _ _ _ _ _ _ _ (rw (given-many h) at c.displace.ensures)) in
     let fine = counted-state h (counted b.After-first_updates-first) _ c.requires.1 ∙ holds c.is_fine.ensures (ap not c.if-not-is_fine.false) in

@@ -4,21 +4,21 @@ use Rattle.machine.proofs.PlannedTables.{planned-blank, planned_recorded, whole-
 use Rattle.steps.proofs.GivenTables.{row_tables-most}
 use Rattle.calls.proofs.ready_set.ready_set.Goals as goal
 
-pub lay-tables-requires : goal.lay-tables-requires
-lay-tables-requires c = let s = c.requires in (_, s.1, s.2, planned-blank s.1)
+pub lay_tables-tables-requires : goal.lay_tables-tables-requires
+lay_tables-tables-requires c = let s = c.requires in (_, s.1, s.2, planned-blank s.1)
 
 pub of-requires : goal.of-requires
 of-requires c =
     let s = c.requires in
-    let t = c.lay-tables.ensures _ s.1 s.2 (planned-blank s.1) in
-    (whole-few t.0, planned_recorded t.0, row_tables-most _ t.1 t.2)
+    let t = c.lay_tables-tables.ensures _ s.1 s.2 (planned-blank s.1) in
+    (whole-few t.0, planned_recorded t.0, (row_tables-most _ t.1 t.2).bounded)
 
 pub ready_workers-bits-requires : goal.ready_workers-bits-requires
 ready_workers-bits-requires c =
     let s = c.requires in
-    rw c.of.ensures.0 (c.of.ensures.2, planned_recorded (c.lay-tables.ensures _ s.1 s.2 (planned-blank s.1)).0)
+    rw c.of.ensures.0 (c.of.ensures.2, planned_recorded (c.lay_tables-tables.ensures _ s.1 s.2 (planned-blank s.1)).0)
 
 pub returns : goal.returns
 returns c j zs g k =
-    let t = c.lay-tables.ensures j g k (planned-blank g) in
+    let t = c.lay_tables-tables.ensures j g k (planned-blank g) in
     ready-bits j _ _ ((rw c.of.ensures.0 at c.ready_workers-bits.ensures) j _ g.sized.accepted t.0.groups_are t.1)

@@ -16,6 +16,9 @@ pub loop-w-init : goal.loop-w-init
 unfolding passing bits
 loop-w-init c = λ q s c ends e laid a b waits. refl
 
+pub is_free-free-requires : goal.is_free-free-requires
+is_free-free-requires c = (omega (arith, c.args.course.now.few), c.requires)
+
 pub loop-w-preserved : goal.loop-w-preserved
 loop-w-preserved c =
     let a = c.args in

@@ -15,11 +15,11 @@ returns-then-who-lt-MAX_WORKERS c =
     let l = c.if-who-lt-MAX_WORKERS.true in
     record {
       made = record {
-        made = λ d n. rw (of-low l d n) c.access.ensures.made;
+        made = λ d n. rw (of-low l d n) c.access.ensures;
         state_kept = λ d n. rw (of-low l d n) refl;
         targets_kept = λ d n. rw (of-low l d n) refl;
       };
-      adds0 = c.access.ensures.adds;
+      adds0 = refl;
       adds1 = refl;
     }
 
@@ -33,10 +33,10 @@ returns c =
     let l = c.if-who-lt-MAX_WORKERS.false in
     record {
       made = record {
-        made = λ d n. rw (of_high l d n) c.access-2.ensures.made;
+        made = λ d n. rw (of_high l d n) c.access-2.ensures;
         state_kept = λ d n. rw (of_high l d n) refl;
         targets_kept = λ d n. rw (of_high l d n) refl;
       };
       adds0 = refl;
-      adds1 = c.access-2.ensures.adds;
+      adds1 = refl;
     }

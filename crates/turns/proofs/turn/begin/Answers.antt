@@ -32,6 +32,9 @@ returns-in_err-standstill c =
       hand = c.requires.1;
     }
 
+pub is_inside-requires : goal.is_inside-requires
+is_inside-requires c = let k = c.args.work.now.placed in (c.requires.0, (_, _, record { bounded = k.bounded; begun = k.begun }))
+
 pub returns-then-is_inside : goal.returns-then-is_inside
 returns-then-is_inside c =
     record {

@@ -36,7 +36,7 @@ renew-requires c =
     let picked : Picked c.args.work.now c.loop-k.blocked.blocks
     (state_with c.loop-k.made c.loop-k.held c.loop-k.sums) (get_or c.args.schedule.now c.loop-k.k 0) (told c.match-enter.step)
     (state_with c.match-enter.made c.match-enter.held c.match-enter.sums) c.match-enter.hands.targets c.match-enter.hands.adds = elim c.match-enter.branch [
-      | in-Ok w ↦ rw (w.sums-is, w.made-is, w.held-is, w.hands-is, w.step-is, w.access-step.ensures.adds) (entered-made c.loop-k.invariant.3 c.enter.ensures (rw w.in-Ok.is refl) w.access-step.ensures.made)
+      | in-Ok w ↦ rw (w.sums-is, w.made-is, w.held-is, w.hands-is, w.step-is) (entered-made c.loop-k.invariant.3 c.enter.ensures (rw w.in-Ok.is refl) w.access-step.ensures)
       | in-Err w ↦ rw (w.sums-is, w.made-is, w.held-is, w.hands-is, w.step-is) (rw w.in-Err.is at (entered-refused c.loop-k.invariant.3 c.enter.ensures (rw w.in-Err.is (not_told w.in-Err.kind))))
     ] in
     let k = c.args.work.now.course in
@@ -48,7 +48,7 @@ returns-then-not-passes c =
     let picked : Picked c.args.work.now c.loop-k.blocked.blocks
     (state_with c.loop-k.made c.loop-k.held c.loop-k.sums) (get_or c.args.schedule.now c.loop-k.k 0) (told c.match-enter.step)
     (state_with c.match-enter.made c.match-enter.held c.match-enter.sums) c.match-enter.hands.targets c.match-enter.hands.adds = elim c.match-enter.branch [
-      | in-Ok w ↦ rw (w.sums-is, w.made-is, w.held-is, w.hands-is, w.step-is, w.access-step.ensures.adds) (entered-made c.loop-k.invariant.3 c.enter.ensures (rw w.in-Ok.is refl) w.access-step.ensures.made)
+      | in-Ok w ↦ rw (w.sums-is, w.made-is, w.held-is, w.hands-is, w.step-is) (entered-made c.loop-k.invariant.3 c.enter.ensures (rw w.in-Ok.is refl) w.access-step.ensures)
       | in-Err w ↦ rw (w.sums-is, w.made-is, w.held-is, w.hands-is, w.step-is) (rw w.in-Err.is at (entered-refused c.loop-k.invariant.3 c.enter.ensures (rw w.in-Err.is (not_told w.in-Err.kind))))
     ] in
     let halted = rw c.in-Err-step.is at picked in
@@ -60,7 +60,7 @@ loop-k-preserved c =
     let picked : Picked c.args.work.now c.loop-k.blocked.blocks
     (state_with c.loop-k.made c.loop-k.held c.loop-k.sums) (get_or c.args.schedule.now c.loop-k.k 0) (told c.match-enter.step)
     (state_with c.match-enter.made c.match-enter.held c.match-enter.sums) c.match-enter.hands.targets c.match-enter.hands.adds = elim c.match-enter.branch [
-      | in-Ok w ↦ rw (w.sums-is, w.made-is, w.held-is, w.hands-is, w.step-is, w.access-step.ensures.adds) (entered-made c.loop-k.invariant.3 c.enter.ensures (rw w.in-Ok.is refl) w.access-step.ensures.made)
+      | in-Ok w ↦ rw (w.sums-is, w.made-is, w.held-is, w.hands-is, w.step-is) (entered-made c.loop-k.invariant.3 c.enter.ensures (rw w.in-Ok.is refl) w.access-step.ensures)
       | in-Err w ↦ rw (w.sums-is, w.made-is, w.held-is, w.hands-is, w.step-is) (rw w.in-Err.is at (entered-refused c.loop-k.invariant.3 c.enter.ensures (rw w.in-Err.is (not_told w.in-Err.kind))))
     ] in
     let sums-long : length c.match-enter.sums ≡ length c.args.sums.now = search rules in
