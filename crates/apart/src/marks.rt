@@ -38,7 +38,7 @@ fn touch(marks: &mut [u32; MAX_ROWS], z: usize, pen: Pen) -> bool
 }
 
 // So do the rows of a list, two a turn: a turn for each is slower where the linker puts it across a line of the cache.
-pub(crate) fn touch_all(marks: &mut [u32; MAX_ROWS], rows: &[u32], pen: Pen) -> bool
+pub fn touch_all(marks: &mut [u32; MAX_ROWS], rows: &[u32], pen: Pen) -> bool
     requires { (j : ℕ) → j < length rows.now → get_or rows.now j 0 < max_rows }
     ensures { Touched pen.low pen.mine rows.now marks.old marks.new result }
 {
@@ -59,7 +59,7 @@ pub(crate) fn touch_all(marks: &mut [u32; MAX_ROWS], rows: &[u32], pen: Pen) -> 
 }
 
 // So do row u and the rows adjacent to it.
-pub(crate) fn touch_row(net: &Net, marks: &mut [u32; MAX_ROWS], u: usize, pen: Pen) -> bool
+pub fn touch_row(net: &Net, marks: &mut [u32; MAX_ROWS], u: usize, pen: Pen) -> bool
     requires { u < net.now.m.n }
     ensures { Touched pen.low pen.mine (closed (held net.now.m) u) marks.old marks.new result }
 {

@@ -2,6 +2,8 @@
 #![tactic(auto)]
 
 mod below;
+#[cfg(test)]
+mod tests;
 
 ghost use Rattle.std.specs.Prelude.{◌≡◌, true, List, ◌≤◌, ℤ};
 ghost use Rattle.base.specs.Verdicts.{reply_of_check};
