@@ -18,6 +18,14 @@ pub record Widening (m : Matrix) (low mine : ℕ) (f : ℕ → List ℕ) (rows :
   pub opened : Opened m mine s
   pub within : j ≤ length rows
 
+-- once as many rows as there are, or more, are touched, all are
+pub widened_rows : {m : Matrix} {low mine : ℕ} (f : ℕ → List ℕ) (rows : List ℕ) {first s : Marks} {j : ℕ} → Touched low mine (concat (map f (take j rows))) first.given s.given true
+    → Opened m mine s → length rows ≤ j → Widened m low mine (concat (map f rows)) first s true
+widened_rows {low = low} {mine = mine} f rows {first} {s} {j} t o l = record {
+  touched = subst (λ (xs : List ℕ). Touched low mine (concat (map f xs)) first.given s.given true) (take_all j rows l) t;
+  after = λ _. o;
+}
+
 module _ {m : Matrix} {low mine : ℕ} {f : ℕ → List ℕ} {rows : List ℕ} {first : Marks} where
   pub widening_start : Opened m mine first → Widening m low mine f rows first first 0
   widening_start o = record { touched = touched_none low mine first.given; opened = o; within = omega arith }
@@ -35,7 +43,4 @@ module _ {m : Matrix} {low mine : ℕ} {f : ℕ → List ℕ} {rows : List ℕ} 
       widening_next q = record { touched = touched-all-next low mine rows j l f first.given s.given s'.given true w.touched (row true q); opened = t.after q; within = omega arith }
 
     pub widening_end : length rows ≤ j → Widened m low mine (concat (map f rows)) first s true
-    widening_end l = record {
-      touched = subst (λ (xs : List ℕ). Touched low mine (concat (map f xs)) first.given s.given true) (take_all j rows l) w.touched;
-      after = λ _. w.opened;
-    }
+    widening_end = widened_rows f rows w.touched w.opened
