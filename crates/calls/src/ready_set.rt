@@ -13,7 +13,7 @@ use machine::ready::ready_workers;
 use machine::state::State;
 use matrix::limits::MAX_ROWS;
 use plan::MAX_GROUPS;
-use steps::course::Course;
+use steps::course::{Course, RowCourse};
 use tables::{FIRSTS, MAX_UPDATES};
 
 // The bits of a state, and the count of those set.
@@ -29,6 +29,10 @@ pub(crate) fn ready_set(state: State, plan: &SizedPlan, first: [u32; FIRSTS]) ->
     };
     let tables = lay_tables(plan.groups, plan.sizes, &first, &mut updates);
     let made = state.made;
-    let bits = ready_workers(&made, &Course::of(&tables, MAX_ROWS));
+    // The updates of a row stand from where it begins on, also where nobody asks who is inside one.
+    let by_rows = RowCourse {
+        course: Course::of(&tables, MAX_ROWS),
+    };
+    let bits = ready_workers(&made, &by_rows.course);
     Response::Ready(bits, u32::count_ones(bits as u32))
 }

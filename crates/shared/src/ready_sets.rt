@@ -5,7 +5,6 @@ ghost use Rattle.run.specs.State.{State};
 ghost use Rattle.run.specs.Machine.{bits};
 ghost use Rattle.tables.specs.Code.Laid.{Counted, Laid, Waits};
 ghost use Rattle.layout.specs.Code.SizedPlan.{PlannedBy};
-ghost use Rattle.steps.specs.Code.Steps.{RowsBy};
 ghost use Rattle.crews.specs.Crews.{Crew, other, Two, own_of, Roof, job_for, crew_ready};
 ghost use Rattle.crews.specs.Calls.{ready_both};
 ghost use Rattle.shared.specs.Performed.{as_sets};
@@ -15,24 +14,24 @@ use layout::lay_tables;
 use layout::updates::{SizedPlan, Updates};
 use matrix::limits::MAX_ROWS;
 use plan::{MAX_GROUPS, MAX_WORKERS};
-use steps::course::Course;
+use steps::course::{Course, RowCourse};
 use tables::{FIRSTS, MAX_UPDATES};
 use turns::Crews;
 use turns::inside::is_free;
 
 // Sixteen bits, bit w for worker w, of the crew with these counts; the other crew has its own.
 fn crew_bits(
-    course: &Course,
+    by_rows: &RowCourse,
     made: &[u32; MAX_WORKERS],
     theirs: &[u32; MAX_WORKERS],
     blocks: &[bool; MAX_GROUPS],
 ) -> u16
-    requires { RowsBy course.now.rows course.now.tables }
-    ensures { (q : Roof) (s : Two State) (c : Crew) (ends : List ℕ) → course.now.workers ≡ job.workers (job_for q c)
-        → ((d : Crew) → Laid (job_for q d) course.now.tables.first.now course.now.tables.row.now course.now.tables.begins.now course.now.tables.leaves.now ends)
+    ensures { (q : Roof) (s : Two State) (c : Crew) (ends : List ℕ) → by_rows.now.course.workers ≡ job.workers (job_for q c)
+        → ((d : Crew) → Laid (job_for q d) by_rows.now.course.tables.first.now by_rows.now.course.tables.row.now by_rows.now.course.tables.begins.now by_rows.now.course.tables.leaves.now ends)
         → (own_of s c).made ≡ made.now → (own_of s (other c)).made ≡ theirs.now → Waits (job_for q c) made.now blocks.now → result ≡ bits (crew_ready q s c) }
 {
     let mut set: u16 = 0;
+    let course = &by_rows.course;
     for w in 0..course.workers {
         let free = is_free(course, made, theirs, w, blocks);
         set |= (free as u16) << w;
@@ -53,16 +52,18 @@ pub(crate) fn ready_sets(crews: Crews, plan: &SizedPlan, first: [u32; FIRSTS]) -
         ends: [0u32; MAX_GROUPS],
     };
     let tables = lay_tables(plan.groups, plan.sizes, &first, &mut updates);
-    let course = Course::of(&tables, MAX_ROWS);
-    let records = course.records();
+    let by_rows = RowCourse {
+        course: Course::of(&tables, MAX_ROWS),
+    };
+    let records = by_rows.course.records();
     let made0 = crews.of0.made;
     let made1 = crews.of1.made;
     let mut blocks0 = [false; MAX_GROUPS];
     records.find_blocked(&made0, &mut blocks0);
     let mut blocks1 = [false; MAX_GROUPS];
     records.find_blocked(&made1, &mut blocks1);
-    let bits0 = crew_bits(&course, &made0, &made1, &blocks0);
-    let bits1 = crew_bits(&course, &made1, &made0, &blocks1);
+    let bits0 = crew_bits(&by_rows, &made0, &made1, &blocks0);
+    let bits1 = crew_bits(&by_rows, &made1, &made0, &blocks1);
     Sets {
         bits0,
         count0: u32::count_ones(bits0 as u32),

@@ -5,7 +5,7 @@ ghost use Rattle.plan.specs.Groups.{width};
 ghost use Rattle.plan.specs.Code.Checks.{record_at};
 ghost use Rattle.waits.specs.Code.Waits.{Recorded};
 ghost use Rattle.tables.specs.Code.Laid.{BoundedIn};
-ghost use Rattle.steps.specs.Code.Steps.{StepsBy};
+ghost use Rattle.steps.specs.Code.Steps.{RowsBy, StepsBy};
 
 use matrix::limits::MAX_ROWS;
 use plan::MAX_WORKERS;
@@ -23,7 +23,14 @@ pub struct Course<'a> {
     ghost laid: { BoundedIn rows tables },
 }
 
-// .. with the entries of the matrix, and a displacement for each row.
+// A course in which no update of a row stands before where the row's updates begin: so it tells who is inside a row.
+#[derive(Clone, Copy)]
+pub struct RowCourse<'a> {
+    pub course: Course<'a>,
+    ghost laid: { RowsBy course.rows course.tables },
+}
+
+// A course with the entries of the matrix, and a displacement for each row.
 #[derive(Clone, Copy)]
 pub struct Work<'a> {
     pub course: Course<'a>,

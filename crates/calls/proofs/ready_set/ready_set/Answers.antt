@@ -13,6 +13,12 @@ of-requires c =
     let t = c.lay_tables-tables.ensures _ s.1 s.2 (planned-blank s.1) in
     (whole-few t.0, planned_recorded t.0, (row_tables-most _ t.1 t.2).bounded)
 
+pub invariant_of-by_rows : goal.invariant_of-by_rows
+invariant_of-by_rows c =
+    let s = c.requires in
+    let t = c.lay_tables-tables.ensures _ s.1 s.2 (planned-blank s.1) in
+    record { laid = rw (c.of.ensures.0, c.of.ensures.1) (row_tables-most _ t.1 t.2) }
+
 pub ready_workers-bits-requires : goal.ready_workers-bits-requires
 ready_workers-bits-requires c =
     let s = c.requires in

@@ -17,12 +17,12 @@ unfolding passing bits
 loop-w-init c = λ q s c ends e laid a b waits. refl
 
 pub is_free-free-requires : goal.is_free-free-requires
-is_free-free-requires c = (omega (arith, c.args.course.now.few), c.requires)
+is_free-free-requires c = (omega (arith, c.args.by_rows.now.course.few), c.args.by_rows.now.laid)
 
 pub loop-w-preserved : goal.loop-w-preserved
 loop-w-preserved c =
     let a = c.args in
-    let k = a.course.now in
+    let k = a.by_rows.now.course in
     let t = k.tables in
     let w = c.loop-w.w in
     λ q s d ends e laid ea eb waits.

@@ -11,37 +11,31 @@ use Rattle.shared.proofs.ready_sets.ready_sets.Goals as goal
 pub lay_tables-tables-requires : goal.lay_tables-tables-requires
 lay_tables-tables-requires c = let s = c.requires in (_, s.1 crew0, s.2 crew0, planned-blank (s.1 crew0))
 
-pub of-course-requires : goal.of-course-requires
-of-course-requires c =
+pub of-requires : goal.of-requires
+of-requires c =
     let s = c.requires in
     let t = c.lay_tables-tables.ensures _ (s.1 crew0) (s.2 crew0) (planned-blank (s.1 crew0)) in
     (whole-few t.0, planned_recorded t.0, (row_tables-most _ t.1 t.2).bounded)
 
+pub invariant_of-by_rows : goal.invariant_of-by_rows
+invariant_of-by_rows c =
+    let s = c.requires in
+    let t = c.lay_tables-tables.ensures _ (s.1 crew0) (s.2 crew0) (planned-blank (s.1 crew0)) in
+    record { laid = rw (c.of.ensures.0, c.of.ensures.1) (row_tables-most _ t.1 t.2) }
+
 pub records-records-requires : goal.records-records-requires
 records-records-requires c =
     let s = c.requires in
-    rw c.of-course.ensures.0 (planned_recorded (c.lay_tables-tables.ensures _ (s.1 crew0) (s.2 crew0) (planned-blank (s.1 crew0))).0)
-
-pub crew_bits-bits0-requires : goal.crew_bits-bits0-requires
-crew_bits-bits0-requires c =
-    let s = c.requires in
-    let t = c.lay_tables-tables.ensures _ (s.1 crew0) (s.2 crew0) (planned-blank (s.1 crew0)) in
-    rw (c.of-course.ensures.0, c.of-course.ensures.1) (row_tables-most _ t.1 t.2)
-
-pub crew_bits-bits1-requires : goal.crew_bits-bits1-requires
-crew_bits-bits1-requires c =
-    let s = c.requires in
-    let t = c.lay_tables-tables.ensures _ (s.1 crew0) (s.2 crew0) (planned-blank (s.1 crew0)) in
-    rw (c.of-course.ensures.0, c.of-course.ensures.1) (row_tables-most _ t.1 t.2)
+    rw c.of.ensures.0 (planned_recorded (c.lay_tables-tables.ensures _ (s.1 crew0) (s.2 crew0) (planned-blank (s.1 crew0))).0)
 
 pub returns : goal.returns
 unfolding ready_both
 returns c q s g k e0 e1 =
-    let t = c.of-course.ensures.0 in
+    let t = c.of.ensures.0 in
     let r = c.records-records.ensures in
     let plan = λ (d : Crew). (c.lay_tables-tables.ensures _ (g d) (k d) (planned-blank (g d))).0 in
     let laid = λ (d : Crew). (c.lay_tables-tables.ensures _ (g d) (k d) (planned-blank (g d))).1 in
-    let crew = λ (d : Crew). c.of-course.ensures.2 ∙ whole-crew (job_for q d) _ _ (planned_recorded (plan d)).some (plan d).groups_are in
+    let crew = λ (d : Crew). c.of.ensures.2 ∙ whole-crew (job_for q d) _ _ (planned_recorded (plan d)).some (plan d).groups_are in
     let waits0 = waits-of _ (g crew0).sized.accepted _ _ (plan crew0).groups_are (laid crew0) _ _ (rw (r.0, r.1, t) at c.find_blocked.ensures) (planned_recorded (plan crew0)) in
     let waits1 = waits-of _ (g crew1).sized.accepted _ _ (plan crew1).groups_are (laid crew1) _ _ (rw (r.0, r.1, t) at c.find_blocked-2.ensures) (planned_recorded (plan crew1)) in
     ap₂ (λ (a b : ReadySet). sets (record { of0 = a; of1 = b }))
