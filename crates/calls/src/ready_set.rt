@@ -29,7 +29,7 @@ pub(crate) fn ready_set(state: State, plan: &SizedPlan, first: [u32; FIRSTS]) ->
     };
     let tables = lay_tables(plan.groups, plan.sizes, &first, &mut updates);
     let made = state.made;
-    // The updates of a row stand from where it begins on, also where nobody asks who is inside one.
+    // A `RowCourse`, so that the begins are proved right here too, though the ready set of one crew looks at none.
     let by_rows = RowCourse {
         course: Course::of(&tables, MAX_ROWS),
     };
